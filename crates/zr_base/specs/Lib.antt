@@ -1,0 +1,4 @@
+pub mod Extents
+pub mod Trees
+pub mod Words
+pub mod Refusals

@@ -1,0 +1,5 @@
+pub mod Counts
+pub mod Disks
+pub mod Moments
+pub mod Doings
+pub mod Protected
