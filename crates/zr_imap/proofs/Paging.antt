@@ -1,8 +1,9 @@
 -- Where an entry stands in pages of 170, and what one more entry or page does to them.
 use Rattle.std.proofs.Common.{◌≡◌, ◌⊎◌, inl, inr, ℕ, zero, suc, ◌+◌, ◌-◌, ◌*◌, ◌<◌, ◌≤◌, ◌^◌, List, [], ◌∷◌, ◌++◌, length, set, refl, sym, ◌∙◌, ap, arith, append_assoc, length-append, subst}
 use Rattle.std.proofs.lemmas.List.{append-nil, get_or_append_left, get_or-append-add}
+use Rattle.std.proofs.lemmas.List.Sums.{sum_by-cons}
 use Rattle.zr_base.specs.declared.space.Entry.{Entry}
-use Rattle.zr_rules.specs.Mappings.{entry_at, IsRisingFrom}
+use Rattle.zr_rules.specs.Mappings.{entry_at, IsEntry, IsRisingFrom, mapped_units}
 use Rattle.zr_imap.specs.Pages.{all_of, page_at, ArePages}
 
 -- where entry r of page k stands among all
@@ -119,3 +120,15 @@ pushed_to pages new n e are len some room is = subst (λ (to : List (List Entry)
 
 pub is_total : (pages : List (List Entry)) (n : ℕ) → ArePages pages → n ≡ length pages → (pages ≡ []) ⊎ (length (page_at pages (n - 1)) ≡ 170) → length (all_of pages) ≡ 170 * n
 is_total pages n are len full = let more = opens_to pages (pages ++ [] ∷ []) n are len full refl in omega (arith, more.total, len)
+
+mapped_cons : (x : Entry) (xs : List Entry) → mapped_units (x ∷ xs) ≡ x.len + mapped_units xs
+mapped_cons x xs = sum_by-cons (λ (e : Entry). e.len) x xs
+
+-- the units of a rising mapping lie below 2 ^ 62
+pub mapped_few : (low : ℕ) (xs : List Entry) → IsRisingFrom low xs → low ≤ 2 ^ 62 → mapped_units xs + low ≤ 2 ^ 62
+mapped_few low [] m le = omega arith
+mapped_few low (x ∷ xs) m le = let ends : x.src + x.len ≤ 2 ^ 62 = m.1.source in omega (arith, mapped_few (x.src + x.len) xs m.2 ends, m.0, mapped_cons x xs)
+
+pub mapped_more : (xs : List Entry) (e : Entry) → mapped_units (xs ++ e ∷ []) ≡ mapped_units xs + e.len
+mapped_more [] e = omega arith
+mapped_more (x ∷ xs) e = omega (arith, mapped_more xs e, mapped_cons x xs, mapped_cons x (xs ++ e ∷ []))

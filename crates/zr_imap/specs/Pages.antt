@@ -1,7 +1,7 @@
 -- Entries in pages of 170, of which only the last may have fewer.
 use Rattle.std.specs.Prelude.{◌≡◌, ℕ, ◌+◌, ◌-◌, ◌*◌, ◌≤◌, ◌<◌, List, [], ◌∷◌, ◌++◌, length, min, slice_index_or}
 use Rattle.zr_base.specs.declared.space.Entry.{Entry}
-use Rattle.zr_rules.specs.Mappings.{IsRising}
+use Rattle.zr_rules.specs.Mappings.{IsRising, mapped_units}
 
 -- the entries, and how many more take no memory
 pub record Mapping : Type 0 where
@@ -32,11 +32,12 @@ pub record IsPage (len capacity : ℕ) : Type 0 where
   pub most : len ≤ 170
   pub room : 170 ≤ capacity
 
--- the pages of a mapping, and the number of its entries
-pub record IsMapping (pages : List (List Entry)) (count : ℕ) : Type 0 where
+-- the pages of a mapping, and the numbers of its entries and of their units
+pub record IsMapping (pages : List (List Entry)) (count mapped : ℕ) : Type 0 where
   pub are_pages : ArePages pages
   pub rising : IsRising (all_of pages)
   pub counted : count ≡ length (all_of pages)
+  pub added : mapped ≡ mapped_units (all_of pages)
 
 -- the last page has room for an entry more
 pub record HasSpace (pages : List (List Entry)) (count : ℕ) : Type 0 where

@@ -3,8 +3,8 @@
 //! All pages but the last are full, so entry `i` is found by one division. A mapping grows by one entry at a time and no
 //! entry ever moves. Room for more is made as empty pages that stand ready, so that an entry for units that were
 //! already copied can't be refused for want of memory.
-ghost use Rattle.std.specs.Prelude.{◌≡◌, ℕ, ◌+◌, ◌-◌, ◌<◌, ◌≤◌, ◌++◌, ◌∷◌, [], length, false, MatchOption, OnOk, OnErr, IsOk, vec_len, vec_capacity};
-ghost use Rattle.zr_rules.specs.Mappings.{IsRising, IsAfterAll, IsEntry, entry_at, has_source, HasSourceAt};
+ghost use Rattle.std.specs.Prelude.{◌^◌, ◌≡◌, ℕ, ◌+◌, ◌-◌, ◌<◌, ◌≤◌, ◌++◌, ◌∷◌, [], length, false, MatchOption, OnOk, OnErr, IsOk, vec_len, vec_capacity};
+ghost use Rattle.zr_rules.specs.Mappings.{IsRising, IsAfterAll, IsEntry, entry_at, has_source, HasSourceAt, mapped_units};
 ghost use Rattle.zr_imap.specs.Searches.{IsLogarithmic};
 ghost use Rattle.zr_imap.specs.Pages.{ArePages, HasSpace, all_of, spare_of};
 
@@ -23,6 +23,7 @@ pub struct Imap {
     alloc: Global,
     pages: Vec<Page>,
     count: usize,
+    mapped: u64,
     ready: Vec<Page>,
 }
 
@@ -34,7 +35,7 @@ impl Model for Imap {
 
     ghost view = { λ a. record { entries = all_of a.pages.items; spare = spare_of (vec_len a.pages) a.count (vec_len a.ready) (vec_capacity a.pages - vec_len a.pages) } };
 
-    ghost invariant = { λ a. IsMapping a.pages.items a.count };
+    ghost invariant = { λ a. IsMapping a.pages.items a.count a.mapped };
 }
 
 impl Imap {
@@ -46,6 +47,7 @@ impl Imap {
             alloc,
             pages: Vec::new(alloc),
             count: 0,
+            mapped: 0,
             ready: Vec::new(alloc),
         }
     }
@@ -56,6 +58,14 @@ impl Imap {
         ensures rising { IsRising self.now.entries }
     {
         self.count
+    }
+
+    /// How many units have an entry. It is kept, and not counted.
+    pub fn units(&self) -> u64
+        ensures units { result ≡ mapped_units self.now.entries }
+        ensures bound { result ≤ 2 ^ 62 }
+    {
+        self.mapped
     }
 
     /// Entry `i`.
@@ -77,6 +87,7 @@ impl Imap {
     {
         push_in(self.alloc, &mut self.pages, &mut self.ready, e)?;
         self.count += 1;
+        self.mapped += e.len as u64;
         Ok(())
     }
 
