@@ -3,7 +3,7 @@ use Rattle.std.proofs.Common.{◌≡◌, ◌⊎◌, inl, inr, ℕ, zero, suc, �
 use Rattle.std.proofs.lemmas.List.{append-nil, get_or_append_left, get_or-append-add}
 use Rattle.std.proofs.lemmas.List.Sums.{sum_by-cons}
 use Rattle.zr_base.specs.declared.space.Entry.{Entry}
-use Rattle.zr_rules.specs.Mappings.{entry_at, IsEntry, IsRisingFrom, mapped_units}
+use Rattle.zr_rules.specs.Mappings.{entry_at, IsRisingFrom, mapped_units}
 use Rattle.zr_imap.specs.Pages.{all_of, page_at, ArePages}
 
 -- where entry r of page k stands among all

@@ -1,5 +1,5 @@
 -- A search by halves in a rising list of entries.
-use Rattle.std.proofs.Common.{◌≡◌, ◌≢◌, ℕ, zero, suc, ◌+◌, ◌-◌, ◌*◌, ◌^◌, ◌<◌, ◌≤◌, max, Bool, true, false, ◌||◌, List, [], ◌∷◌, ◌++◌, length, take, drop, refl, sym, arith, nat_le, nat_lt, Some, ◌∙◌, ⊎_elim, ap₂}
+use Rattle.std.proofs.Common.{◌≡◌, ◌≢◌, ℕ, zero, suc, ◌+◌, ◌-◌, ◌*◌, ◌^◌, ◌<◌, ◌≤◌, max, Bool, true, false, ◌||◌, List, [], ◌∷◌, ◌++◌, length, take, drop, refl, sym, arith, nat_le, nat_lt, Some, ◌∙◌, ⊎_elim, ap, ap₂}
 use Rattle.std.proofs.lemmas.Bool.Decides.{nat_tests}
 use Rattle.std.proofs.lemmas.Bool.{or_parts, or_from, and_from, and_left, and_right, le-leb, lt-leb, lt-ltb, le-ltb, cases_lt}
 use Rattle.std.proofs.Math.Nat.{mul-le-mul_left, pow-suc}
@@ -205,3 +205,14 @@ has_source-all u [] h = refl
 has_source-all u (x ∷ xs) h =
     or_from (in_source x u) (has_source xs u) (or_parts (in_source x u) (has_source (take (length xs) xs) u) h).0
     (has_source-all u xs (or_parts (in_source x u) (has_source (take (length xs) xs) u) h).1)
+
+-- each entry is behind those before it
+pub after_front : (low i : ℕ) (xs : List Entry) → IsRisingFrom low xs → i < length xs → IsAfterAll (take i xs) (entry_at xs i)
+after_front low i [] m i_in = absurd (omega arith)
+after_front low zero (x ∷ xs) m i_in = tt
+after_front low (suc i) (x ∷ xs) m i_in = (low_le_src (x.src + x.len) i xs m.2 (omega arith), after_front (x.src + x.len) i xs m.2 (omega arith))
+
+pub take_one_more : (i : ℕ) (xs : List Entry) → i < length xs → take (suc i) xs ≡ take i xs ++ entry_at xs i ∷ []
+take_one_more i [] i_in = absurd (omega arith)
+take_one_more zero (x ∷ xs) i_in = refl
+take_one_more (suc i) (x ∷ xs) i_in = ap (λ (es : List Entry). x ∷ es) (take_one_more i xs (omega arith))

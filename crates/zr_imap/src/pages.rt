@@ -3,7 +3,7 @@
 //! All pages but the last are full, so entry `i` is found by one division. A mapping grows by one entry at a time and no
 //! entry ever moves. Room for more is made as empty pages that stand ready, so that an entry for units that were
 //! already copied can't be refused for want of memory.
-ghost use Rattle.std.specs.Prelude.{◌^◌, ◌≡◌, ℕ, ◌+◌, ◌-◌, ◌<◌, ◌≤◌, ◌++◌, ◌∷◌, [], length, false, MatchOption, OnOk, OnErr, IsOk, vec_len, vec_capacity};
+ghost use Rattle.std.specs.Prelude.{◌^◌, ◌≡◌, ℕ, ◌+◌, ◌-◌, ◌<◌, ◌≤◌, ◌++◌, ◌∷◌, [], length, false, MatchOption, IfOk, OnOk, OnErr, IsOk, vec_len, vec_capacity};
 ghost use Rattle.zr_rules.specs.Mappings.{IsRising, IsAfterAll, IsEntry, entry_at, has_source, HasSourceAt, mapped_units};
 ghost use Rattle.zr_imap.specs.Searches.{IsLogarithmic};
 ghost use Rattle.zr_imap.specs.Pages.{ArePages, HasSpace, all_of, spare_of};
@@ -15,7 +15,7 @@ use std::alloc::Global;
 use std::cmp::Ordering;
 use std::marker::Model;
 use std::sync::ledger::Ledger;
-use zr_base::{Entry, NoMemory};
+use zr_base::{Entry, Items, NoMemory};
 
 /// The mapping of a device, whose entries rise by source and do not overlap.
 #[derive(Drop)]
@@ -52,6 +52,29 @@ impl Imap {
         }
     }
 
+    /// A mapping of these entries, in their order.
+    pub fn from_entries(alloc: Global, entries: &[Entry]) -> Result<Imap, NoMemory>
+        requires { IsRising entries.now }
+        ensures { IfOk result (λ map. map.entries ≡ entries.now) }
+    {
+        let mut map = Imap::new(alloc);
+        for entry in entries {
+            map.push(*entry)?;
+        }
+        Ok(map)
+    }
+
+    /// All entries, in order.
+    pub fn to_entries(&self, alloc: Global) -> Result<Items<Entry>, NoMemory>
+        ensures { IfOk result (λ entries. entries ≡ self.now.entries) }
+    {
+        let mut entries = Items::new(alloc);
+        for i in 0..self.len() {
+            entries.push(self.entry(i))?;
+        }
+        Ok(entries)
+    }
+
     /// How many entries there are. They rise and do not overlap.
     pub fn len(&self) -> usize
         ensures count { result ≡ length self.now.entries }
@@ -64,6 +87,7 @@ impl Imap {
     pub fn units(&self) -> u64
         ensures units { result ≡ mapped_units self.now.entries }
         ensures bound { result ≤ 2 ^ 62 }
+        ensures rising { IsRising self.now.entries }
     {
         self.mapped
     }
@@ -71,7 +95,9 @@ impl Imap {
     /// Entry `i`.
     pub fn entry(&self, i: usize) -> Entry
         requires { i < length self.now.entries }
-        ensures { result ≡ entry_at self.now.entries i }
+        ensures value { result ≡ entry_at self.now.entries i }
+        ensures lawful { IsEntry result }
+        ensures rising { IsRising self.now.entries }
     {
         entry_in(self.pages.as_slice(), i)
     }
@@ -129,8 +155,10 @@ impl Imap {
 /// The entry at an index of all pages.
 fn entry_in(pages: &[Page], i: usize) -> Entry
     requires pages { ArePages pages.now }
+    requires rising { IsRising (all_of pages.now) }
     requires index { i < length (all_of pages.now) }
-    ensures { result ≡ entry_at (all_of pages.now) i }
+    ensures value { result ≡ entry_at (all_of pages.now) i }
+    ensures lawful { IsEntry result }
 {
     pages[i / PAGE].as_slice()[i % PAGE]
 }
