@@ -1,0 +1,7 @@
+pub mod Parts
+pub mod Runs
+pub mod Guards
+pub mod ByteByByte
+pub mod Kept
+pub mod Puts
+pub mod Sound

@@ -3,3 +3,4 @@ pub mod Disks
 pub mod Moments
 pub mod Doings
 pub mod Protected
+pub mod Memory

@@ -48,7 +48,12 @@ abbrev pub Attaches : List ℕ → Result ℕ DeskErr → World → World → Ty
 Attaches path (Ok slot) = Steps (λ old new. (bytes : List ℕ) × (new ≡ with_disk old path bytes))
 Attaches path (Err e) = IsStill
 
--- the front of what was left is taken, and nothing only at the end
+-- the front of what was left is taken, at however many moments, at each of which a front of it is
+pub record IsTaken (front : List ℕ) (old new : World) : Type 0 where
+  pub left : (left : List ℕ) × (old.now.left ≡ front ++ left) × (new.now ≡ taken_to old.now left)
+  pub since : Throughout (λ stand. (left : List ℕ) × (stand ≡ taken_to old.now left)) old new
+
+-- what is answered stands in front of the buffer
 abbrev pub Takes : List ℕ → Result ℕ DeskErr → World → World → Type 0
-Takes out (Ok n) = Steps (λ old new. (left : List ℕ) × (old.left ≡ take n out ++ left) × (new ≡ taken_to old left))
+Takes out (Ok n) = IsTaken (take n out)
 Takes out (Err e) = IsStill

@@ -36,6 +36,14 @@ impl<T: Drop> From<AllocFailed<T>> for DeskErr {
     }
 }
 
+impl From<zr_base::NoMemory> for DeskErr {
+    ghost from_gives = { λ _ e. e ≡ NoMemory };
+
+    fn from(_error: zr_base::NoMemory) -> DeskErr {
+        DeskErr::NoMemory
+    }
+}
+
 /// Disks, which are named by slot: 0, 1 and so on in the order in which they were attached. Places and lengths are in
 /// bytes.
 pub trait Shelf {

@@ -10,5 +10,14 @@
 #![tactic(auto)]
 
 mod desk;
+mod images;
+mod mem_desk;
+mod memory;
+mod sure_desk;
+#[cfg(test)]
+mod tests;
 
 pub use desk::{Desk, DeskErr, Shelf};
+pub use mem_desk::MemDesk;
+pub use memory::{Asked, Call, Deed, DiskFile, History, Memory};
+pub use sure_desk::SureDesk;

@@ -1,0 +1,297 @@
+//! The desk over files, standard input and standard output.
+//!
+//! This is the trusted edge of the program: what a file holds is not told, and a disk is the open file with the size
+//! that it had when it was attached. A read or write goes to its offset and loops until all bytes are there, since the
+//! system may do a part of what it was asked; an end of file inside the range is a fault. A flush makes each attached
+//! file durable. Each fault raises one of four counts, which stand still at the end of `u64`.
+ghost use Rattle.std.specs.Prelude.{◌≡◌, ◌<◌, ◌≤◌, ◌+◌, ◌-◌, ◌^◌, map, length, min};
+
+use std::alloc::Global;
+use std::fs::{self, File, OpenFile, OpenOptions};
+use std::io::{self, ErrorKind, Read, Seek, SeekFrom, Write};
+use std::path::Path;
+use zr_shelf::{Desk, DeskErr, Shelf};
+
+/// An open device file, and the bytes that it had when it was attached.
+#[derive(Drop)]
+pub struct DeviceFile {
+    pub size: u64,
+    file: File,
+}
+
+/// Device files, standard input and standard output, with a count of the faults of each.
+#[derive(Drop)]
+pub struct FileDesk {
+    rt: HostRuntime,
+    devices: Vec<DeviceFile>,
+    disk_faults: u64,
+    attach_faults: u64,
+    input_faults: u64,
+    output_faults: u64,
+    ghost few: { length devices.items < 2 ^ 32 },
+}
+
+impl FileDesk {
+    ghost use Rattle.std.specs.Prelude.{[]};
+
+    /// A desk with no device yet.
+    pub fn new(rt: HostRuntime) -> FileDesk
+        ensures none { result.devices.items ≡ [] }
+    {
+        let alloc: Global = rt.alloc();
+        FileDesk {
+            rt,
+            devices: Vec::new(alloc),
+            disk_faults: 0,
+            attach_faults: 0,
+            input_faults: 0,
+            output_faults: 0,
+        }
+    }
+}
+
+/// Fills `out` from the offset on.
+fn read_at(file: &mut File, at: u64, out: &mut [u8]) -> io::Result<()> {
+    file.seek(SeekFrom::Start(at))?;
+    let mut done = 0;
+    for _ in 0..u64::MAX {
+        if done == out.len() {
+            return Ok(());
+        }
+        match file.read(&mut out[done..]) {
+            Ok(0) => return Err(io::Error::from(ErrorKind::UnexpectedEof)),
+            Ok(count) => done += count,
+            Err(error) if error.kind() == ErrorKind::Interrupted => {}
+            Err(error) => return Err(error),
+        }
+    }
+    Err(io::Error::from(ErrorKind::Interrupted))
+}
+
+/// Sends or stores all the bytes, where the writer stands.
+fn write_whole(writer: &mut impl Write, bytes: &[u8]) -> io::Result<()> {
+    let mut done = 0;
+    for _ in 0..u64::MAX {
+        if done == bytes.len() {
+            return Ok(());
+        }
+        match writer.write(&bytes[done..]) {
+            Ok(0) => return Err(io::Error::from(ErrorKind::WriteZero)),
+            Ok(count) => done += count,
+            Err(error) if error.kind() == ErrorKind::Interrupted => {}
+            Err(error) => return Err(error),
+        }
+    }
+    Err(io::Error::from(ErrorKind::Interrupted))
+}
+
+/// Writes the bytes from the offset on.
+fn write_at(file: &mut File, at: u64, bytes: &[u8]) -> io::Result<()> {
+    file.seek(SeekFrom::Start(at))?;
+    write_whole(file, bytes)
+}
+
+/// Makes every file durable.
+fn sync_each(devices: &[DeviceFile]) -> io::Result<()> {
+    for device in devices {
+        device.file.sync_all()?;
+    }
+    Ok(())
+}
+
+/// Makes the entry of a path in its folder durable. A folder is opened for reading as a file is, and synced through
+/// that handle.
+fn sync_folder(rt: &HostRuntime, path: &str) -> io::Result<()> {
+    let folder = match Path::new(path).parent() {
+        Some(parent) if !parent.as_str().is_empty() => parent,
+        _ => Path::new("."),
+    };
+    let handle = OpenOptions::new().read(true).open(rt, folder)?;
+    handle.sync_all()
+}
+
+/// Makes a file of that many zero bytes, and makes it last.
+fn fill_new(rt: &HostRuntime, path: &str, file: &File, size: u64) -> io::Result<()> {
+    file.set_len(size)?;
+    file.sync_all()?;
+    sync_folder(rt, path)
+}
+
+/// Makes a file of that many zero bytes, or leaves none.
+fn make_new(rt: &HostRuntime, path: &str, size: u64) -> io::Result<File> {
+    let file = OpenOptions::new()
+        .read(true)
+        .write(true)
+        .create_new(true)
+        .open(rt, path)?;
+    if let Err(error) = fill_new(rt, path, &file, size) {
+        let _ = fs::remove_file(rt, path);
+        return Err(error);
+    }
+    Ok(file)
+}
+
+/// Opens a file as it is. Where there is none and a size is given, makes one of that many zero bytes.
+fn open_or_make(rt: &HostRuntime, path: &str, make: Option<u64>) -> io::Result<DeviceFile> {
+    let opened = OpenOptions::new().read(true).write(true).open(rt, path);
+    let file = match (opened, make) {
+        (Err(error), Some(size)) if error.kind() == ErrorKind::NotFound => {
+            make_new(rt, path, size)?
+        }
+        (opened, _) => opened?,
+    };
+    let size = file.metadata()?.len();
+    Ok(DeviceFile { size, file })
+}
+
+impl Shelf for FileDesk {
+    ghost use Rattle.std.specs.Prelude.{[]};
+    ghost use Rattle.zr_shelf.specs.Counts.{Counts};
+
+    ghost sizes = { λ d. map (λ f. f.size) d.devices.items };
+
+    ghost counts = { λ d. record { disk = d.disk_faults; attach = d.attach_faults; input = d.input_faults; output = d.output_faults } };
+
+    ghost tells = { λ d. ⊥ };
+
+    ghost moment = { λ d. 0 };
+
+    ghost world = { λ d. record { now = record { paths = []; durable = []; writes = []; seen = []; left = []; sent = [] }; past = [] } };
+
+    ghost sound = { λ d told. absurd told };
+
+    fn slots(&self) -> u32 {
+        self.devices.len() as u32
+    }
+
+    fn size(&self, slot: u32) -> u64 {
+        self.devices[slot as usize].size
+    }
+
+    fn read(&mut self, slot: u32, at: u64, out: &mut [u8]) -> Result<(), DeskErr> {
+        match read_at(&mut self.devices[slot as usize].file, at, out) {
+            Ok(()) => Ok(()),
+            Err(_) => {
+                self.disk_faults = self.disk_faults.saturating_add(1);
+                Err(DeskErr::Failed)
+            }
+        }
+    }
+
+    fn write(&mut self, slot: u32, at: u64, bytes: &[u8]) -> Result<(), DeskErr> {
+        match write_at(&mut self.devices[slot as usize].file, at, bytes) {
+            Ok(()) => Ok(()),
+            Err(_) => {
+                self.disk_faults = self.disk_faults.saturating_add(1);
+                Err(DeskErr::Failed)
+            }
+        }
+    }
+
+    fn flush(&mut self) -> Result<(), DeskErr> {
+        match sync_each(&self.devices) {
+            Ok(()) => Ok(()),
+            Err(_) => {
+                self.disk_faults = self.disk_faults.saturating_add(1);
+                Err(DeskErr::Failed)
+            }
+        }
+    }
+}
+
+impl Desk for FileDesk {
+    fn attach(&mut self, path: &str, make: Option<u64>) -> Result<u32, DeskErr> {
+        let slot = self.slots();
+        if slot == u32::MAX {
+            return Err(DeskErr::NoMemory);
+        }
+        self.devices.reserve(1)?;
+        match open_or_make(&self.rt, path, make) {
+            Ok(device) => {
+                self.devices.push_reserved(device);
+                Ok(slot)
+            }
+            Err(_) => {
+                self.attach_faults = self.attach_faults.saturating_add(1);
+                Err(DeskErr::Failed)
+            }
+        }
+    }
+
+    fn take(&mut self, out: &mut [u8]) -> Result<usize, DeskErr> {
+        match self.rt.stdin().read(out) {
+            Ok(count) => Ok(count),
+            Err(_) => {
+                self.input_faults = self.input_faults.saturating_add(1);
+                Err(DeskErr::Failed)
+            }
+        }
+    }
+
+    fn give(&mut self, bytes: &[u8]) -> Result<(), DeskErr> {
+        match write_whole(&mut self.rt.stdout(), bytes) {
+            Ok(()) => Ok(()),
+            Err(_) => {
+                self.output_faults = self.output_faults.saturating_add(1);
+                Err(DeskErr::Failed)
+            }
+        }
+    }
+}
+
+#[cfg(test)]
+mod tests {
+    use super::*;
+    use std::test::Fail;
+
+    const PATH: &str = "device";
+
+    // The four bytes at a place, where they are read.
+    fn four_at(desk: &mut FileDesk, at: u64) -> Option<[u8; 4]> {
+        let mut out = [0u8; 4];
+        if desk.slots() != 1 || at > 8 || desk.size(0) < at + 4 {
+            return None;
+        }
+        match desk.read(0, at, &mut out) {
+            Ok(()) => Some(out),
+            Err(_) => None,
+        }
+    }
+
+    // Writes four bytes at 4 and flushes.
+    fn store(desk: &mut FileDesk) -> Result<(), Fail> {
+        if desk.slots() != 1 || desk.size(0) != 12 {
+            return Err(Fail::new("not the file that was made"));
+        }
+        if desk.write(0, 4, b"zpol").is_err() || desk.flush().is_err() {
+            return Err(Fail::new("not stored"));
+        }
+        Ok(())
+    }
+
+    #[test]
+    fn a_file_keeps_what_was_flushed(rt: HostRuntime) -> Result<(), Fail> {
+        let _ = fs::remove_file(&rt, PATH);
+        let mut desk = FileDesk::new(rt);
+        assert!(rt; desk.attach(PATH, None) == Err(DeskErr::Failed));
+        assert_eq!(rt; desk.attach_faults, 1);
+        assert!(rt; desk.attach(PATH, Some(12)) == Ok(0));
+        assert_eq!(rt; four_at(&mut desk, 8), Some([0, 0, 0, 0]));
+        store(&mut desk)?;
+        drop(desk);
+
+        let mut desk = FileDesk::new(rt);
+        assert!(rt; desk.attach(PATH, Some(4)) == Ok(0), "taken as it is");
+        assert_eq!(rt; desk.size(0), 12);
+        assert_eq!(rt; four_at(&mut desk, 4), Some(*b"zpol"));
+        fs::write(&rt, PATH, "short")?;
+        assert_eq!(rt;
+            four_at(&mut desk, 4),
+            None,
+            "the end of the file is in the range"
+        );
+        assert_eq!(rt; desk.disk_faults, 1);
+        fs::remove_file(&rt, PATH)?;
+        Ok(())
+    }
+}

@@ -1,0 +1,9 @@
+use Rattle.std.proofs.Common.{◌≡◌, ◌≤◌, length, take}
+use Rattle.zr_shelf.proofs.images.add_others.Given as goal
+
+abbrev pub invariant-loop-file : goal.invariant-loop-file
+invariant-loop-file l = record {
+  count : l.disks ≡ length l.fn.image.items;
+  within : l.disks ≤ length l.image.items;
+  front : take l.disks l.image.items ≡ l.fn.image.items;
+}

@@ -1,0 +1,6 @@
+use Rattle.std.proofs.Common.{take}
+use Rattle.zr_shelf.specs.Memory.{start, run, IsShown}
+use Rattle.zr_shelf.proofs.images.image_after.Given as goal
+
+abbrev pub invariant-loop-call : goal.invariant-loop-call
+invariant-loop-call l = IsShown (run (start l.history.input.items) (take l.call-index l.calls)).now l.seen.items l.image.items

@@ -1,0 +1,16 @@
+use Rattle.std.proofs.Common.{◌∙◌, ap}
+use Rattle.std.proofs.lemmas.Result.{err_from_is_err_and}
+use Rattle.zr_shelf.specs.Memory.{world_of}
+use Rattle.zr_shelf.specs.declared.mem_desk.MemDesk.{MemDesk}
+use Rattle.zr_shelf.proofs.Runs.{still}
+use Rattle.zr_shelf.proofs.mem_desk.MemDeskShelf.write.Goals as goal
+
+pub returns-in_err-write-clause-world : goal.returns-in_err-write-clause-world
+returns-in_err-write-clause-world c =
+    let p = err_from_is_err_and c.from_residual.result c.from_residual.ensures.1 in
+    rw (p.1, p.2) (λ told. still _ _ (c.in_err-write.ensures.err ∙ ap (λ (d : MemDesk). world_of d.memory.history) c.is_due.ensures))
+
+pub returns-in_err-write-2-clause-world : goal.returns-in_err-write-2-clause-world
+returns-in_err-write-2-clause-world c =
+    let p = err_from_is_err_and c.from_residual-in_err-write-2.result c.from_residual-in_err-write-2.ensures.1 in
+    rw (p.1, p.2) (λ told. still _ _ (c.in_err-write-2.ensures.err ∙ ap (λ (d : MemDesk). world_of d.memory.history) c.is_due.ensures))

@@ -1,0 +1,171 @@
+//! A desk in memory that fails at the calls that it is told.
+ghost use Rattle.std.specs.Prelude.{◌≡◌, ◌++◌, ◌∷◌, [], OnOk, OnErr, IfOk, string_bytes, min, ◌+◌, ◌-◌, ◌^◌};
+ghost use Rattle.zr_shelf.specs.Memory.{world_of, start, stand_at, IsImage};
+
+use crate::desk::{Desk, DeskErr, Shelf};
+use crate::memory::{DiskFile, Memory};
+use std::alloc::Global;
+use zr_base::NoMemory;
+
+/// Files, an input and an output in memory. Calls of `read`, `write`, `flush`, `attach`, `take` and `give` are counted
+/// from 1, and those with the numbers that it was given fail.
+#[derive(Drop)]
+pub struct MemDesk {
+    pub memory: Memory,
+    pub fails: Vec<u64>,
+    pub disk_faults: u64,
+    pub attach_faults: u64,
+    pub input_faults: u64,
+    pub output_faults: u64,
+}
+
+impl MemDesk {
+    /// A desk with this input and no file. The calls of these numbers fail; they come in any order.
+    pub fn new(alloc: Global, input: Vec<u8>, fails: Vec<u64>) -> MemDesk
+        ensures world { world_of result.memory.history ≡ start input.items }
+        ensures folder { result.memory.folder.items ≡ [] }
+        ensures moment { result.memory.made ≡ 0 }
+    {
+        MemDesk::over(Memory::new(alloc, input, Vec::new(alloc)), fails)
+    }
+
+    fn over(memory: Memory, fails: Vec<u64>) -> MemDesk
+        ensures { result.memory ≡ memory }
+    {
+        MemDesk {
+            memory,
+            fails,
+            disk_faults: 0,
+            attach_faults: 0,
+            input_faults: 0,
+            output_faults: 0,
+        }
+    }
+
+    /// A new desk whose files are an image. Nothing of them is pending, and no call fails.
+    pub fn reopen(alloc: Global, image: Vec<DiskFile>, input: Vec<u8>) -> Result<MemDesk, NoMemory>
+        ensures world { IfOk result (λ desk. world_of desk.memory.history ≡ start input.items) }
+        ensures folder { IfOk result (λ desk. desk.memory.folder ≡ image) }
+    {
+        Ok(MemDesk::over(Memory::new(alloc, input, image), Vec::new(alloc)))
+    }
+
+    /// Adds a file that `attach` finds.
+    pub fn put_disk(&mut self, path: &str, bytes: Vec<u8>) -> Result<(), NoMemory>
+        ensures folder { OnOk result ((file : DiskFile) × (string_bytes file.path ≡ path.now) × (file.bytes ≡ bytes) × (self.new.memory.folder.items ≡ self.old.memory.folder.items ++ file ∷ [])) }
+        ensures err { OnErr result (self.new.memory.folder.items ≡ self.old.memory.folder.items) }
+        ensures world { world_of self.new.memory.history ≡ world_of self.old.memory.history }
+    {
+        self.memory.put_disk(path, bytes)
+    }
+
+    /// The bytes that were sent so far.
+    pub fn sent(&self) -> &[u8]
+        ensures { result.now ≡ (world_of self.now.memory.history).now.sent }
+    {
+        self.memory.sent()
+    }
+
+    /// One image of a crash at that moment. The numbers of the choice say of each pending write in order whether it is
+    /// old (0), new (1), or new in its first half and old in the rest (2); one that is missing or above 2 counts as 0.
+    /// The disks that were attached by then come first, by slot, and then the files that were not.
+    pub fn image_at(&self, moment: u64, choice: &[u8]) -> Result<Vec<DiskFile>, NoMemory>
+        ensures { IfOk result (λ image. IsImage (stand_at self.now.memory.history moment) image.items) }
+    {
+        self.memory.image_at(moment, choice)
+    }
+
+    /// How many calls were made so far.
+    pub fn moment(&self) -> u64
+        ensures { result ≡ self.now.memory.made }
+    {
+        self.memory.made
+    }
+
+    // Counts a call, and answers whether it is to fail.
+    fn is_due(&mut self) -> bool
+        ensures { self.new ≡ record self.old { memory = record self.old.memory { made = min (self.old.memory.made + 1) (2 ^ 64 - 1) } } }
+    {
+        let number = self.memory.count();
+        self.fails.contains(&number)
+    }
+}
+
+impl Shelf for MemDesk {
+    ghost use Rattle.zr_shelf.specs.Counts.{Counts};
+    ghost use Rattle.zr_shelf.specs.Memory.{sizes_of};
+
+    ghost sizes = { λ d. sizes_of d.memory.disks.items };
+
+    ghost counts = { λ d. record { disk = d.disk_faults; attach = d.attach_faults; input = d.input_faults; output = d.output_faults } };
+
+    ghost tells = { λ d. Unit {0} };
+
+    ghost moment = { λ d. d.memory.made };
+
+    ghost world = { λ d. world_of d.memory.history };
+
+    ghost sound = { λ d told. d.memory.sound };
+
+    fn slots(&self) -> u32 {
+        self.memory.slots()
+    }
+
+    fn size(&self, slot: u32) -> u64 {
+        self.memory.size(slot)
+    }
+
+    fn read(&mut self, slot: u32, at: u64, out: &mut [u8]) -> Result<(), DeskErr> {
+        if self.is_due() {
+            self.disk_faults = self.disk_faults.saturating_add(1);
+            return Err(DeskErr::Failed);
+        }
+        self.memory.read(slot, at, out);
+        Ok(())
+    }
+
+    fn write(&mut self, slot: u32, at: u64, bytes: &[u8]) -> Result<(), DeskErr> {
+        if self.is_due() {
+            self.memory.write(slot, at, bytes, false)?;
+            self.disk_faults = self.disk_faults.saturating_add(1);
+            return Err(DeskErr::Failed);
+        }
+        Ok(self.memory.write(slot, at, bytes, true)?)
+    }
+
+    fn flush(&mut self) -> Result<(), DeskErr> {
+        if self.is_due() {
+            self.disk_faults = self.disk_faults.saturating_add(1);
+            return Err(DeskErr::Failed);
+        }
+        Ok(self.memory.flush()?)
+    }
+}
+
+impl Desk for MemDesk {
+    // It also fails where the path has no file and `make` is None.
+    fn attach(&mut self, path: &str, make: Option<u64>) -> Result<u32, DeskErr> {
+        let due = self.is_due();
+        if due || (make.is_none() && !self.memory.has_file(path)) {
+            self.attach_faults = self.attach_faults.saturating_add(1);
+            return Err(DeskErr::Failed);
+        }
+        Ok(self.memory.attach(path, make.unwrap_or(0))?)
+    }
+
+    fn take(&mut self, out: &mut [u8]) -> Result<usize, DeskErr> {
+        if self.is_due() {
+            self.input_faults = self.input_faults.saturating_add(1);
+            return Err(DeskErr::Failed);
+        }
+        Ok(self.memory.take(out))
+    }
+
+    fn give(&mut self, bytes: &[u8]) -> Result<(), DeskErr> {
+        if self.is_due() {
+            self.output_faults = self.output_faults.saturating_add(1);
+            return Err(DeskErr::Failed);
+        }
+        Ok(self.memory.give(bytes)?)
+    }
+}

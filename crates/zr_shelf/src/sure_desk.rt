@@ -1,0 +1,128 @@
+//! A desk in memory that never fails.
+ghost use Rattle.std.specs.Prelude.{◌≡◌, ◌++◌, ◌∷◌, [], OnOk, OnErr, IfOk, string_bytes};
+ghost use Rattle.zr_shelf.specs.Memory.{world_of, start, stand_at, IsImage};
+
+use crate::desk::{Desk, DeskErr, Shelf};
+use crate::memory::{DiskFile, Memory};
+use std::alloc::Global;
+use zr_base::NoMemory;
+
+/// Files, an input and an output in memory, of which no call fails but for want of memory.
+#[derive(Drop)]
+pub struct SureDesk {
+    pub memory: Memory,
+}
+
+impl SureDesk {
+    /// A desk with this input and no file.
+    pub fn new(alloc: Global, input: Vec<u8>) -> SureDesk
+        ensures world { world_of result.memory.history ≡ start input.items }
+        ensures folder { result.memory.folder.items ≡ [] }
+        ensures moment { result.memory.made ≡ 0 }
+    {
+        SureDesk {
+            memory: Memory::new(alloc, input, Vec::new(alloc)),
+        }
+    }
+
+    /// A new desk whose files are an image. Nothing of them is pending.
+    pub fn reopen(alloc: Global, image: Vec<DiskFile>, input: Vec<u8>) -> Result<SureDesk, NoMemory>
+        ensures world { IfOk result (λ desk. world_of desk.memory.history ≡ start input.items) }
+        ensures folder { IfOk result (λ desk. desk.memory.folder ≡ image) }
+    {
+        Ok(SureDesk {
+            memory: Memory::new(alloc, input, image),
+        })
+    }
+
+    /// Adds a file that `attach` finds.
+    pub fn put_disk(&mut self, path: &str, bytes: Vec<u8>) -> Result<(), NoMemory>
+        ensures folder { OnOk result ((file : DiskFile) × (string_bytes file.path ≡ path.now) × (file.bytes ≡ bytes) × (self.new.memory.folder.items ≡ self.old.memory.folder.items ++ file ∷ [])) }
+        ensures err { OnErr result (self.new.memory.folder.items ≡ self.old.memory.folder.items) }
+        ensures world { world_of self.new.memory.history ≡ world_of self.old.memory.history }
+    {
+        self.memory.put_disk(path, bytes)
+    }
+
+    /// The bytes that were sent so far.
+    pub fn sent(&self) -> &[u8]
+        ensures { result.now ≡ (world_of self.now.memory.history).now.sent }
+    {
+        self.memory.sent()
+    }
+
+    /// One image of a crash at that moment. The numbers of the choice say of each pending write in order whether it is
+    /// old (0), new (1), or new in its first half and old in the rest (2); one that is missing or above 2 counts as 0.
+    /// The disks that were attached by then come first, by slot, and then the files that were not.
+    pub fn image_at(&self, moment: u64, choice: &[u8]) -> Result<Vec<DiskFile>, NoMemory>
+        ensures { IfOk result (λ image. IsImage (stand_at self.now.memory.history moment) image.items) }
+    {
+        self.memory.image_at(moment, choice)
+    }
+
+    /// How many calls were made so far.
+    pub fn moment(&self) -> u64
+        ensures { result ≡ self.now.memory.made }
+    {
+        self.memory.made
+    }
+}
+
+impl Shelf for SureDesk {
+    ghost use Rattle.zr_shelf.specs.Counts.{Counts};
+    ghost use Rattle.zr_shelf.specs.Memory.{sizes_of};
+
+    ghost sizes = { λ d. sizes_of d.memory.disks.items };
+
+    ghost counts = { λ d. record { disk = 0; attach = 0; input = 0; output = 0 } };
+
+    ghost tells = { λ d. Unit {0} };
+
+    ghost moment = { λ d. d.memory.made };
+
+    ghost world = { λ d. world_of d.memory.history };
+
+    ghost sound = { λ d told. d.memory.sound };
+
+    fn slots(&self) -> u32 {
+        self.memory.slots()
+    }
+
+    fn size(&self, slot: u32) -> u64 {
+        self.memory.size(slot)
+    }
+
+    fn read(&mut self, slot: u32, at: u64, out: &mut [u8]) -> Result<(), DeskErr> {
+        self.memory.count();
+        self.memory.read(slot, at, out);
+        Ok(())
+    }
+
+    fn write(&mut self, slot: u32, at: u64, bytes: &[u8]) -> Result<(), DeskErr> {
+        self.memory.count();
+        Ok(self.memory.write(slot, at, bytes, true)?)
+    }
+
+    fn flush(&mut self) -> Result<(), DeskErr> {
+        self.memory.count();
+        Ok(self.memory.flush()?)
+    }
+}
+
+impl Desk for SureDesk {
+    // It makes an empty disk where the path has no file and `make` is None.
+    fn attach(&mut self, path: &str, make: Option<u64>) -> Result<u32, DeskErr> {
+        self.memory.count();
+        Ok(self.memory.attach(path, make.unwrap_or(0))?)
+    }
+
+    fn take(&mut self, out: &mut [u8]) -> Result<usize, DeskErr> {
+        self.memory.count();
+        Ok(self.memory.take(out))
+    }
+
+    fn give(&mut self, bytes: &[u8]) -> Result<(), DeskErr> {
+        self.memory.count();
+        Ok(self.memory.give(bytes)?)
+    }
+}
