@@ -101,3 +101,16 @@ module _ (allowed : PendingWrite → Type 0) where
   pub does_flush : (r : Result (Unit {0}) DeskErr) (a b : World) → Flushes r a b → DoesOnly allowed a b
   does_flush (Ok done) a b call = one_step a b call.past (flush call.step)
   does_flush (Err e) a b call = does_still a b call
+
+-- calls of which more is allowed
+pub does_weaker : (allowed more : PendingWrite → Type 0) (old new : World) → ((w : PendingWrite) → allowed w → more w) → DoesOnly allowed old new → DoesOnly more old new
+does_weaker allowed more old new f does = record { more = does.more; joins = does.joins; linked = all does.more old.now does.linked }
+  where
+    one : (old new : Stand) → Follows allowed old new → Follows more old new
+    one old new (stood is) = stood is
+    one old new (wrote w may written) = wrote w (f w may) written
+    one old new (flush is) = flush is
+
+    all : (stands : List Stand) (first : Stand) → IsLinked allowed stands first → IsLinked more stands first
+    all [] first linked = tt
+    all (s ∷ stands) first linked = (one (latest stands first) s linked.0, all stands first linked.1)

@@ -2,6 +2,8 @@ pub mod Parts
 pub mod Runs
 pub mod Guards
 pub mod ByteByByte
+pub mod Doings
+pub mod Publish
 pub mod Kept
 pub mod Puts
 pub mod Sound

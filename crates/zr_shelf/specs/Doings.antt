@@ -23,3 +23,19 @@ pub record DoesOnly (allowed : PendingWrite → Type 0) (old new : World) : Type
   pub more : List Stand
   pub joins : new.now ∷ new.past ≡ more ++ old.now ∷ old.past
   pub linked : IsLinked allowed more old.now
+
+-- one call on the disks that flushes nothing
+pub data Adds (allowed : PendingWrite → Type 0) (old new : Stand) : Type 0 where
+  added_none : new ≡ old → Adds allowed old new
+  added : (w : PendingWrite) → allowed w → IsWritten old w new → Adds allowed old new
+
+-- each follows the one before without a flush
+abbrev pub IsAdded : (PendingWrite → Type 0) → List Stand → Stand → Type 0
+IsAdded allowed [] first = Unit {0}
+IsAdded allowed (stand ∷ more) first = Adds allowed (latest more first) stand × IsAdded allowed more first
+
+-- from old to new there was no flush and no write but those that are allowed
+pub record WritesOnly (allowed : PendingWrite → Type 0) (old new : World) : Type 0 where
+  pub more : List Stand
+  pub joins : new.now ∷ new.past ≡ more ++ old.now ∷ old.past
+  pub added : IsAdded allowed more old.now

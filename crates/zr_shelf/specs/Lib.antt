@@ -3,4 +3,5 @@ pub mod Disks
 pub mod Moments
 pub mod Doings
 pub mod Protected
+pub mod Publish
 pub mod Memory

@@ -59,12 +59,8 @@ fn write_image(image: &mut Vec<DiskFile>, asked: &Asked, len: usize)
     ensures bytes { IsSameOutside (as_pending asked.now ∷ []) (bytes_of image.old.items) (bytes_of image.new.items) }
     ensures paths { paths_of image.new.items ≡ paths_of image.old.items }
 {
-    put(
-        image,
-        asked.slot as usize,
-        asked.at as usize,
-        &asked.bytes[..len],
-    );
+    let at = asked.at as usize;
+    put(image, asked.slot as usize, at, &asked.bytes[..len]);
 }
 
 /// A disk more on both.
