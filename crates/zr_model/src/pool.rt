@@ -53,7 +53,7 @@ pub trait Pool {
     /// The pool as one of plain objects.
     ghost state: { Self → State };
 
-    /// Does a command. None where it may not stand here: then nothing is done.
+    /// Does a command. None where it may not stand here.
     fn command<S: Shelf>(
         &mut self,
         alloc: Global,

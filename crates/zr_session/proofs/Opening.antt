@@ -1,5 +1,5 @@
 -- What a run came to, by its status.
-use Rattle.std.proofs.Common.{◌≡◌, ◌≢◌, inr, ℕ, List, [], ◌∷◌, ◌++◌, length, refl, sym, ap, subst, ◌∙◌, arith, get_or, false, ◌==◌}
+use Rattle.std.proofs.Common.{◌≡◌, ◌≢◌, ◌≤◌, inr, ℕ, List, [], ◌∷◌, ◌++◌, length, refl, sym, ap, subst, ◌∙◌, arith, get_or, false, ◌==◌}
 use Rattle.std.proofs.lemmas.Bool.{eqb-false}
 use Rattle.zr_shelf.specs.Disks.{Stand, with_disk}
 use Rattle.zr_model.specs.Answers.{TellsBadLine, TellsFault}
@@ -64,3 +64,14 @@ at_disk_fault end path old new s h = subst (λ e. IsOpenedTo e path old new) (is
 
 pub not_empty : {X : Type 0} (xs : List X) → false ≡ (length xs == 0) → length xs ≢ 0
 not_empty xs e = eqb-false _ 0 (sym e)
+
+pub known_status : (e : End) → (status_of e ≤ 9) × (status_of e ≢ 6)
+known_status Answered = (omega arith, λ h. absurd (omega arith))
+known_status BadWords = (omega arith, λ h. absurd (omega arith))
+known_status InputFault = (omega arith, λ h. absurd (omega arith))
+known_status OutputFault = (omega arith, λ h. absurd (omega arith))
+known_status DiskFault = (omega arith, λ h. absurd (omega arith))
+known_status BadLine = (omega arith, λ h. absurd (omega arith))
+known_status AttachFault = (omega arith, λ h. absurd (omega arith))
+known_status InputLimit = (omega arith, λ h. absurd (omega arith))
+known_status NoMemory = (omega arith, λ h. absurd (omega arith))

@@ -15,3 +15,6 @@ mod session;
 mod table;
 
 pub use session::run;
+
+#[cfg(test)]
+mod tests;

@@ -2,7 +2,7 @@
 //!
 //! A run takes at most 2^32 bytes. It ends by itself where the input does, at a `quit`, or at the first line or call
 //! that does not let it go on.
-ghost use Rattle.std.specs.Prelude.{◌≡◌, ◌⊎◌, ◌∷◌, [], ◌+◌, ◌<◌, ◌≤◌, ◌^◌, ℕ, length, map, IfOk, IfErr, OnOk};
+ghost use Rattle.std.specs.Prelude.{◌≡◌, ◌≢◌, ◌⊎◌, ◌∷◌, [], ◌+◌, ◌<◌, ◌≤◌, ◌^◌, ℕ, length, map, IfOk, IfErr, OnOk};
 ghost use Rattle.std.specs.String.{string_bytes};
 ghost use Rattle.zr_shelf.specs.Counts.{NoneFell, HasRisen};
 ghost use Rattle.zr_shelf.specs.Disks.{Stand};
@@ -125,6 +125,8 @@ fn open_session<D: Desk>(alloc: Global, path: &str, make: Option<u64>, desk: &mu
 /// The words are one device, and there is at least one chooser. Input is taken in pieces of at most 65,536 bytes.
 pub fn run<D: Desk>(alloc: Global, words: &[String], desk: &mut D, choosers: &[Chooser]) -> u8
     requires { D.sizes desk.old ≡ [] }
+    // The program ends with one of these statuses: damage is met by no pool in memory.
+    ensures known { (result ≤ 9) × (result ≢ 6) }
     // At status 0 what was sent are the answers of a pool of plain objects to all lines, or to those before a `quit`.
     ensures done { D.tells desk.old → result ≡ 0 → RunsTo IsDone (length choosers.now) (map string_bytes words.now) (D.world desk.old).now (D.world desk.new).now }
     // At status 1 the words are no command line, and nothing was done at all.
