@@ -40,12 +40,10 @@ pub fn longest_on(devs: &[Device]) -> u64
     let mut longest = 0;
     for d in 0..devs.len() {
         let dev = &devs[d];
-        if !dev.is_on() {
+        if !dev.is_on() || dev.longest() <= longest {
             continue;
         }
-        if dev.longest() > longest {
-            longest = dev.longest();
-        }
+        longest = dev.longest();
     }
     longest
 }

@@ -94,6 +94,13 @@ impl RangeSet {
         has_all(self.runs.as_slice(), e)
     }
 
+    /// Whether the set has no unit of the extent. Logarithmic in the extents.
+    pub fn is_apart(&self, e: Extent) -> bool
+        ensures { IsTrue result ↔ HasNone self.now.extents e }
+    {
+        has_none(self.runs.as_slice(), e)
+    }
+
     /// How many units the set has. It is kept, not counted.
     #[tactic(auto, using(crate::proofs::Edits::count_bound))]
     pub fn units(&self) -> u64
@@ -265,6 +272,16 @@ fn has_all(runs: &[Extent], e: Extent) -> bool
         run.start <= e.start && e.len <= run.start + run.len - e.start
     } else {
         false
+    }
+}
+
+fn has_none(runs: &[Extent], e: Extent) -> bool
+    requires { IsMaximal runs.now }
+    ensures { IsTrue result ↔ HasNone runs.now e }
+{
+    match first_part(runs, e.start) {
+        None => true,
+        Some(part) => e.len <= part.start - e.start,
     }
 }
 
