@@ -5,5 +5,6 @@
 //! each law is the contract of a function with an empty body.
 #![tactic(auto)]
 
+pub mod lines;
 pub mod space;
 pub mod uses;

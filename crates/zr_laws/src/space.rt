@@ -5,6 +5,7 @@ ghost use Rattle.zr_base.specs.Trees as trees;
 ghost use Rattle.zr_rules.specs.Choices.{named_run};
 ghost use Rattle.zr_rules.specs.Condense.{folded, condensed};
 ghost use Rattle.zr_rules.specs.Devices.{devices_of};
+ghost use Rattle.zr_rules.specs.Frontiers.{IsRouted};
 ghost use Rattle.zr_rules.specs.Logs.{change_words, entry_words, taken_after};
 ghost use Rattle.zr_rules.specs.Owed.{owed, slop};
 ghost use Rattle.zr_rules.specs.Resolve.{resolved_units, passed_units, IsRanked};
@@ -74,3 +75,18 @@ pub fn the_runs_of_the_policies()
     ensures scarce { named_run (policy.Dynamic 32 4) 2 (record { start = 0; len = 5 } ∷ (record { start = 10; len = 2 } ∷ [])) ≡ Some 1 }
     ensures none { named_run policy.First 6 (record { start = 0; len = 5 } ∷ (record { start = 10; len = 2 } ∷ [])) ≡ None }
 {}
+
+/// A freed extent of a leaving device of which 10 units are synced and 10 more in flight is cut into three parts.
+pub fn a_freed_extent_is_cut()
+    ensures {
+        IsRouted 10 20 (record { start = 5; len = 20 }) (Some (record { start = 5; len = 5 })) (Some (record { start = 10; len = 10 }))
+            (Some (record { start = 20; len = 5 }))
+    }
+{
+}
+
+/// A freed extent above the open frontier has one part.
+pub fn a_freed_extent_above_the_frontier()
+    ensures { IsRouted 10 20 (record { start = 30; len = 2 }) None None (Some (record { start = 30; len = 2 })) }
+{
+}
