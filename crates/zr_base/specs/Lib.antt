@@ -2,3 +2,4 @@ pub mod Extents
 pub mod Trees
 pub mod Words
 pub mod Refusals
+pub mod Readers

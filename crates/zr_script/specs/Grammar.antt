@@ -17,35 +17,48 @@ abbrev pub IsAlone : Command → List (List ℕ) → Command → Type 0
 IsAlone meant words command = (words ≡ []) × (command ≡ meant)
 
 -- one number follows
-abbrev pub HasNumber : (ℕ → Command) → List (List ℕ) → Command → Type 0
-HasNumber meant words command = (a : List ℕ) × (n : ℕ) × (words ≡ a ∷ []) × IsNumber a n × (command ≡ meant n)
+abbrev pub IsOneNumber : List (List ℕ) → ℕ → Type 0
+IsOneNumber words n = (a : List ℕ) × (words ≡ a ∷ []) × IsNumber a n
 
--- a path follows
-abbrev pub HasPath : (List ℕ → Command) → List (List ℕ) → Command → Type 0
-HasPath meant words command = (path : List ℕ) × (words ≡ path ∷ []) × IsTrue (is_path path) × (command ≡ meant path)
+-- one path follows
+abbrev pub IsOnePath : List (List ℕ) → List ℕ → Type 0
+IsOnePath words path = (words ≡ path ∷ []) × IsTrue (is_path path)
+
+-- three numbers follow: an object, and where in it and how much
+abbrev pub IsRange : List (List ℕ) → ℕ → ℕ → ℕ → Type 0
+IsRange words id off len = (a b c : List ℕ) × (words ≡ a ∷ b ∷ c ∷ []) × IsNumber a id × IsNumber b off × IsNumber c len
 
 -- the name, the identity and the devices of a new pool follow
-abbrev pub HasPool : (List ℕ → ℕ → List (List ℕ) → Command) → List (List ℕ) → Command → Type 0
-HasPool meant words command =
-    (name number : List ℕ) × (guid : ℕ) × (devs : List (List ℕ)) × (words ≡ name ∷ number ∷ devs)
-    × IsTrue (is_name name) × IsGuid number guid × IsTrue (are_paths devs) × (command ≡ meant name guid devs)
+abbrev pub IsPool : List (List ℕ) → List ℕ → ℕ → List (List ℕ) → Type 0
+IsPool words name guid devs = (a : List ℕ) × (words ≡ name ∷ a ∷ devs) × IsTrue (is_name name) × IsGuid a guid × IsTrue (are_paths devs)
+
+-- a pool of the newest version
+abbrev pub IsCreateNew : List (List ℕ) → Command → Type 0
+IsCreateNew words (cmd.Create name guid devs) = IsPool words name guid devs
+IsCreateNew words _ = ⊥
+
+-- a pool of version 1
+abbrev pub IsCreateOld : List (List ℕ) → Command → Type 0
+IsCreateOld words (cmd.CreateOld name guid devs) = IsPool words name guid devs
+IsCreateOld words _ = ⊥
 
 -- Each kind of line, by the words behind its keyword.
 abbrev pub IsCreate : List (List ℕ) → Command → Type 0
-IsCreate words command =
-    HasPool cmd.Create words command ⊎ ((rest : List (List ℕ)) × (words ≡ codes "-1" ∷ rest) × HasPool cmd.CreateOld rest command)
+IsCreate words command = IsCreateNew words command ⊎ ((rest : List (List ℕ)) × (words ≡ codes "-1" ∷ rest) × IsCreateOld rest command)
 
 abbrev pub IsImport : List (List ℕ) → Command → Type 0
-IsImport words command =
-    IsAlone cmd.Import words command ⊎ ((words ≡ codes "rewind" ∷ []) × (command ≡ cmd.ImportRewind))
-    ⊎ ((rest : List (List ℕ)) × (words ≡ codes "txg" ∷ rest) × HasNumber cmd.ImportTxg rest command)
+IsImport words cmd.Import = words ≡ []
+IsImport words cmd.ImportRewind = words ≡ codes "rewind" ∷ []
+IsImport words (cmd.ImportTxg txg) = (a : List ℕ) × (words ≡ codes "txg" ∷ a ∷ []) × IsNumber a txg
+IsImport words _ = ⊥
 
 abbrev pub IsMake : List (List ℕ) → Command → Type 0
 IsMake words (cmd.Make id units) = (a b : List ℕ) × (words ≡ a ∷ b ∷ []) × IsNumber a id × IsNumber b units
 IsMake words _ = ⊥
 
 abbrev pub IsDrop : List (List ℕ) → Command → Type 0
-IsDrop words command = HasNumber cmd.Drop words command
+IsDrop words (cmd.Drop id) = IsOneNumber words id
+IsDrop words _ = ⊥
 
 abbrev pub IsWrite : List (List ℕ) → Command → Type 0
 IsWrite words (cmd.Write id off bytes) = (a b c : List ℕ) × (words ≡ a ∷ b ∷ c ∷ []) × IsNumber a id × IsNumber b off × IsHex c bytes
@@ -56,46 +69,62 @@ IsFill words (cmd.Fill id off len byte) = (a b c d : List ℕ) × (words ≡ a �
 IsFill words _ = ⊥
 
 abbrev pub IsPunch : List (List ℕ) → Command → Type 0
-IsPunch words (cmd.Punch id off len) = (a b c : List ℕ) × (words ≡ a ∷ b ∷ c ∷ []) × IsNumber a id × IsNumber b off × IsNumber c len
+IsPunch words (cmd.Punch id off len) = IsRange words id off len
 IsPunch words _ = ⊥
 
 abbrev pub IsRead : List (List ℕ) → Command → Type 0
-IsRead words (cmd.Read id off len) = (a b c : List ℕ) × (words ≡ a ∷ b ∷ c ∷ []) × IsNumber a id × IsNumber b off × IsNumber c len
+IsRead words (cmd.Read id off len) = IsRange words id off len
 IsRead words _ = ⊥
 
 abbrev pub IsSum : List (List ℕ) → Command → Type 0
-IsSum words command = HasNumber cmd.Sum words command
+IsSum words (cmd.Sum id) = IsOneNumber words id
+IsSum words _ = ⊥
 
 abbrev pub IsAdd : List (List ℕ) → Command → Type 0
-IsAdd words command = HasPath cmd.Add words command
+IsAdd words (cmd.Add dev) = IsOnePath words dev
+IsAdd words _ = ⊥
 
 abbrev pub IsRemove : List (List ℕ) → Command → Type 0
-IsRemove words command =
-    HasPath cmd.Remove words command ⊎ ((words ≡ codes "-s" ∷ []) × (command ≡ cmd.Cancel))
-    ⊎ ((rest : List (List ℕ)) × (words ≡ codes "-n" ∷ rest) × HasPath cmd.Estimate rest command)
+IsRemove words (cmd.Remove dev) = IsOnePath words dev
+IsRemove words (cmd.Estimate dev) = (words ≡ codes "-n" ∷ dev ∷ []) × IsTrue (is_path dev)
+IsRemove words cmd.Cancel = words ≡ codes "-s" ∷ []
+IsRemove words _ = ⊥
 
 abbrev pub IsCheckpoint : List (List ℕ) → Command → Type 0
-IsCheckpoint words command = IsAlone cmd.Checkpoint words command ⊎ ((words ≡ codes "-d" ∷ []) × (command ≡ cmd.Discard))
+IsCheckpoint words cmd.Checkpoint = words ≡ []
+IsCheckpoint words cmd.Discard = words ≡ codes "-d" ∷ []
+IsCheckpoint words _ = ⊥
 
 abbrev pub IsStep : List (List ℕ) → Command → Type 0
-IsStep words command =
-    ((words ≡ codes "evac" ∷ []) × (command ≡ cmd.StepEvac)) ⊎ ((words ≡ codes "discard" ∷ []) × (command ≡ cmd.StepDiscard))
-    ⊎ ((words ≡ codes "condense" ∷ []) × (command ≡ cmd.StepCondense))
+IsStep words cmd.StepEvac = words ≡ codes "evac" ∷ []
+IsStep words cmd.StepDiscard = words ≡ codes "discard" ∷ []
+IsStep words cmd.StepCondense = words ≡ codes "condense" ∷ []
+IsStep words _ = ⊥
 
 abbrev pub IsMap : List (List ℕ) → Command → Type 0
-IsMap words command = HasNumber cmd.Map words command
+IsMap words (cmd.Map index) = IsOneNumber words index
+IsMap words _ = ⊥
+
+-- the keyword that a word is, where it begins no line on objects, devices or roots
+unfoldable pub step_keyword_of : List ℕ → Option Keyword
+step_keyword_of word =
+    if bytes_eq word (codes "step") then Some StepWord else (if bytes_eq word (codes "list") then Some ListWord else (if bytes_eq word (codes "status") then Some StatusWord else (
+    if bytes_eq word (codes "map") then Some MapWord else (if bytes_eq word (codes "audit") then Some AuditWord else (if bytes_eq word (codes "upgrade") then Some UpgradeWord else (
+    if bytes_eq word (codes "quit") then Some QuitWord else None))))))
+
+-- the keyword that a word is, where it begins no line on objects
+unfoldable pub pool_keyword_of : List ℕ → Option Keyword
+pool_keyword_of word =
+    if bytes_eq word (codes "create") then Some CreateWord else (if bytes_eq word (codes "import") then Some ImportWord else (if bytes_eq word (codes "export") then Some ExportWord else (
+    if bytes_eq word (codes "sync") then Some SyncWord else (if bytes_eq word (codes "add") then Some AddWord else (if bytes_eq word (codes "remove") then Some RemoveWord else (
+    if bytes_eq word (codes "checkpoint") then Some CheckpointWord else step_keyword_of word))))))
 
 -- the keyword that a word is
 unfoldable pub keyword_of : List ℕ → Option Keyword
 keyword_of word =
-    if bytes_eq word (codes "create") then Some CreateWord else (if bytes_eq word (codes "import") then Some ImportWord else (if bytes_eq word (codes "export") then Some ExportWord else (
     if bytes_eq word (codes "make") then Some MakeWord else (if bytes_eq word (codes "drop") then Some DropWord else (if bytes_eq word (codes "write") then Some WriteWord else (
     if bytes_eq word (codes "fill") then Some FillWord else (if bytes_eq word (codes "punch") then Some PunchWord else (if bytes_eq word (codes "read") then Some ReadWord else (
-    if bytes_eq word (codes "sum") then Some SumWord else (if bytes_eq word (codes "sync") then Some SyncWord else (if bytes_eq word (codes "add") then Some AddWord else (
-    if bytes_eq word (codes "remove") then Some RemoveWord else (if bytes_eq word (codes "checkpoint") then Some CheckpointWord else (if bytes_eq word (codes "step") then Some StepWord else (
-    if bytes_eq word (codes "list") then Some ListWord else (if bytes_eq word (codes "status") then Some StatusWord else (if bytes_eq word (codes "map") then Some MapWord else (
-    if bytes_eq word (codes "audit") then Some AuditWord else (if bytes_eq word (codes "upgrade") then Some UpgradeWord else (if bytes_eq word (codes "quit") then Some QuitWord else (
-    None)))))))))))))))))))))
+    if bytes_eq word (codes "sum") then Some SumWord else pool_keyword_of word))))))
 
 -- the words behind a keyword are a spelling of the command
 abbrev pub IsArguments : Option Keyword → List (List ℕ) → Command → Type 0

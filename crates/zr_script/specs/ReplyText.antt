@@ -8,6 +8,8 @@ use Rattle.zr_base.specs.declared.space.DevState.TheVariants as state
 use Rattle.zr_base.specs.declared.refusal.Refusal.{Refusal}
 use Rattle.zr_base.specs.declared.refusal.Refusal.TheVariants as refusal
 use Rattle.zr_base.specs.Refusals.{number_of}
+use Rattle.zr_script.specs.declared.replies.Word.{Word}
+use Rattle.zr_script.specs.declared.replies.Word.TheVariants as word
 use Rattle.zr_script.specs.declared.reply.Reply.{Reply}
 use Rattle.zr_script.specs.declared.reply.Reply.TheVariants as reply
 use Rattle.zr_script.specs.declared.reply.ListLine.{ListLine}
@@ -15,14 +17,23 @@ use Rattle.zr_script.specs.declared.reply.CkptLine.{CkptLine}
 use Rattle.zr_script.specs.declared.reply.CkptLine.TheVariants as ckpt
 use Rattle.zr_script.specs.declared.reply.StatusLines.{StatusLines}
 use Rattle.zr_script.specs.declared.reply.MapLine.{MapLine}
-use Rattle.zr_script.specs.declared.reply.MapLine.TheVariants as map_line
+use Rattle.zr_script.specs.declared.reply.MapLine.TheVariants as mapped
 use Rattle.zr_script.specs.declared.reply.AuditLine.{AuditLine}
+
+-- a word as it is printed
+abbrev pub word_text : Word → List ℕ
+word_text (word.Text bytes) = bytes.now
+word_text (word.Number n) = decimal n
+word_text (word.Hex bytes) = encode_lower bytes.now
+
+-- words with a space before each
+abbrev pub with_spaces : List (List ℕ) → List ℕ
+with_spaces words = flat_map (λ text. 32 ∷ text) words
 
 -- words with single spaces between them
 abbrev pub spaced : List (List ℕ) → List ℕ
 spaced [] = []
-spaced (word ∷ []) = word
-spaced (word ∷ more) = word ++ 32 ∷ spaced more
+spaced (first ∷ others) = first ++ with_spaces others
 
 -- a line with its line feed
 abbrev pub line : List (List ℕ) → List ℕ
@@ -32,35 +43,54 @@ line words = spaced words ++ 10 ∷ []
 abbrev pub field : List ℕ → ℕ → List (List ℕ)
 field name n = name ∷ decimal n ∷ []
 
--- the words of a refusal, and its fields
+-- what a refusal says
+abbrev pub refusal_text : Refusal → List ℕ
+refusal_text refusal.NoPoolOpen = codes "no pool open"
+refusal_text refusal.PoolIsOpen = codes "pool is open"
+refusal_text refusal.NoSuchObject = codes "no such object"
+refusal_text refusal.ObjectExists = codes "object exists"
+refusal_text refusal.OutOfRange = codes "out of range"
+refusal_text (refusal.NoRun needed longest) = codes "no run"
+refusal_text (refusal.NoRoom needed free) = codes "no room"
+refusal_text refusal.NoSuchDevice = codes "no such device"
+refusal_text refusal.NotInService = codes "device not in service"
+refusal_text refusal.OnlyDevice = codes "only device"
+refusal_text refusal.RemovalInProgress = codes "removal in progress"
+refusal_text refusal.NoRemoval = codes "no removal"
+refusal_text refusal.CheckpointExists = codes "checkpoint exists"
+refusal_text refusal.DiscardingCheckpoint = codes "discarding checkpoint"
+refusal_text refusal.NoCheckpoint = codes "no checkpoint"
+refusal_text (refusal.TooMany limit) = codes "too many"
+refusal_text (refusal.DeviceInUse slot) = codes "device in use"
+refusal_text (refusal.DeviceSize size) = codes "device size"
+refusal_text refusal.NothingToDo = codes "nothing to do"
+refusal_text (refusal.Damaged at expected found) = codes "damaged"
+refusal_text (refusal.MissingDevice index added) = codes "missing device"
+refusal_text refusal.NoPoolOnDevices = codes "no pool on the devices"
+refusal_text (refusal.TwoPools first second) = codes "two pools or two copies"
+refusal_text (refusal.BadRoot rule) = codes "bad root"
+refusal_text (refusal.GroupNotKept oldest) = codes "group not kept"
+refusal_text (refusal.UnknownVersion found) = codes "version"
+
+-- the names and values that a refusal tells
+abbrev pub refusal_fields : Refusal → List (List ℕ)
+refusal_fields (refusal.NoRun needed longest) = field (codes "needed") needed ++ field (codes "longest") longest
+refusal_fields (refusal.NoRoom needed free) = field (codes "needed") needed ++ field (codes "free") free
+refusal_fields (refusal.TooMany limit) = field (codes "limit") limit
+refusal_fields (refusal.DeviceInUse slot) = field (codes "slot") slot
+refusal_fields (refusal.DeviceSize size) = field (codes "size") size
+refusal_fields (refusal.Damaged at expected found) =
+    field (codes "device") at.dev ++ field (codes "unit") at.start ++ codes "expected" ∷ encode_lower expected ∷ codes "found" ∷ encode_lower found ∷ []
+refusal_fields (refusal.MissingDevice index added) = field (codes "index") index ++ field (codes "txg") added
+refusal_fields (refusal.TwoPools first second) = field (codes "slot") first ++ field (codes "slot") second
+refusal_fields (refusal.BadRoot rule) = field (codes "rule") rule
+refusal_fields (refusal.GroupNotKept oldest) = field (codes "oldest") oldest
+refusal_fields (refusal.UnknownVersion found) = field (codes "found") found
+refusal_fields _ = []
+
+-- the words of a refusal
 abbrev pub refusal_words : Refusal → List (List ℕ)
-refusal_words refusal.NoPoolOpen = codes "no pool open" ∷ []
-refusal_words refusal.PoolIsOpen = codes "pool is open" ∷ []
-refusal_words refusal.NoSuchObject = codes "no such object" ∷ []
-refusal_words refusal.ObjectExists = codes "object exists" ∷ []
-refusal_words refusal.OutOfRange = codes "out of range" ∷ []
-refusal_words (refusal.NoRun needed longest) = codes "no run" ∷ field (codes "needed") needed ++ field (codes "longest") longest
-refusal_words (refusal.NoRoom needed free) = codes "no room" ∷ field (codes "needed") needed ++ field (codes "free") free
-refusal_words refusal.NoSuchDevice = codes "no such device" ∷ []
-refusal_words refusal.NotInService = codes "device not in service" ∷ []
-refusal_words refusal.OnlyDevice = codes "only device" ∷ []
-refusal_words refusal.RemovalInProgress = codes "removal in progress" ∷ []
-refusal_words refusal.NoRemoval = codes "no removal" ∷ []
-refusal_words refusal.CheckpointExists = codes "checkpoint exists" ∷ []
-refusal_words refusal.DiscardingCheckpoint = codes "discarding checkpoint" ∷ []
-refusal_words refusal.NoCheckpoint = codes "no checkpoint" ∷ []
-refusal_words (refusal.TooMany limit) = codes "too many" ∷ field (codes "limit") limit
-refusal_words (refusal.DeviceInUse slot) = codes "device in use" ∷ field (codes "slot") slot
-refusal_words (refusal.DeviceSize size) = codes "device size" ∷ field (codes "size") size
-refusal_words refusal.NothingToDo = codes "nothing to do" ∷ []
-refusal_words (refusal.Damaged at expected found) =
-    codes "damaged" ∷ field (codes "device") at.dev ++ field (codes "unit") at.start ++ codes "expected" ∷ encode_lower expected ∷ codes "found" ∷ encode_lower found ∷ []
-refusal_words (refusal.MissingDevice index added) = codes "missing device" ∷ field (codes "index") index ++ field (codes "txg") added
-refusal_words refusal.NoPoolOnDevices = codes "no pool on the devices" ∷ []
-refusal_words (refusal.TwoPools first second) = codes "two pools or two copies" ∷ field (codes "slot") first ++ field (codes "slot") second
-refusal_words (refusal.BadRoot rule) = codes "bad root" ∷ field (codes "rule") rule
-refusal_words (refusal.GroupNotKept oldest) = codes "group not kept" ∷ field (codes "oldest") oldest
-refusal_words (refusal.UnknownVersion found) = codes "version" ∷ field (codes "found") found
+refusal_words r = refusal_text r ∷ refusal_fields r
 
 abbrev pub state_word : DevState → List ℕ
 state_word state.On = codes "on"
@@ -75,9 +105,9 @@ path_word (Some path) = path
 abbrev pub list_line : ListLine → List ℕ
 list_line l = line (codes "dev" ∷ decimal l.index ∷ path_word l.path ∷ state_word l.state ∷ decimal l.units ∷ decimal l.allocated ∷ decimal l.checkpointed ∷ decimal l.deferred ∷ decimal l.free ∷ [])
 
-abbrev pub map_text : MapLine → List ℕ
-map_text (map_line.Entry e obsolete) = line (codes "entry" ∷ decimal e.src ∷ decimal e.len ∷ decimal e.dev ∷ decimal e.dst ∷ decimal obsolete ∷ [])
-map_text (map_line.Fresh e) = line (codes "fresh" ∷ decimal e.start ∷ decimal e.len ∷ [])
+abbrev pub map_line : MapLine → List ℕ
+map_line (mapped.Entry e obsolete) = line (codes "entry" ∷ decimal e.src ∷ decimal e.len ∷ decimal e.dev ∷ decimal e.dst ∷ decimal obsolete ∷ [])
+map_line (mapped.Fresh e) = line (codes "fresh" ∷ decimal e.start ∷ decimal e.len ∷ [])
 
 abbrev pub audit_line : AuditLine → List ℕ
 audit_line l = line (codes "dev" ∷ decimal l.index ∷ codes "walked" ∷ decimal l.walked ∷ codes "allocated" ∷ decimal l.allocated ∷ [])
@@ -95,10 +125,14 @@ abbrev pub condense_line : Option (ℕ × ℕ × ℕ) → List ℕ
 condense_line None = line (codes "condense" ∷ codes "none" ∷ [])
 condense_line (Some c) = line (codes "condense" ∷ decimal c.0 ∷ codes "at" ∷ decimal c.1 ∷ codes "of" ∷ decimal c.2 ∷ [])
 
+abbrev pub open_line : StatusLines → List ℕ
+open_line s = line (codes "open" ∷ s.name ∷ decimal s.guid ∷ codes "txg" ∷ decimal s.txg ∷ [])
+
+abbrev pub room_line : StatusLines → List ℕ
+room_line s = line (codes "room" ∷ decimal s.free ∷ codes "owed" ∷ decimal s.owed ∷ codes "slop" ∷ decimal s.slop ∷ [])
+
 abbrev pub status_text : StatusLines → List ℕ
-status_text s =
-    line (codes "open" ∷ s.name ∷ decimal s.guid ∷ codes "txg" ∷ decimal s.txg ∷ []) ++ removal_line s.removal ++ checkpoint_line s.checkpoint ++ condense_line s.condense
-    ++ line (codes "room" ∷ decimal s.free ∷ codes "owed" ∷ decimal s.owed ∷ codes "slop" ∷ decimal s.slop ∷ [])
+status_text s = open_line s ++ removal_line s.removal ++ checkpoint_line s.checkpoint ++ condense_line s.condense ++ room_line s
 
 abbrev pub end_line : List ℕ
 end_line = line (codes "end" ∷ [])
@@ -118,7 +152,7 @@ reply_text (reply.Kept n) = line (codes "kept" ∷ decimal n ∷ [])
 reply_text reply.Ended = line (codes "done" ∷ [])
 reply_text (reply.List lines) = flat_map list_line lines ++ end_line
 reply_text (reply.Status lines) = status_text lines ++ end_line
-reply_text (reply.Map lines) = flat_map map_text lines ++ end_line
+reply_text (reply.Map lines) = flat_map map_line lines ++ end_line
 reply_text (reply.Audit lines) = flat_map audit_line lines ++ end_line
 reply_text (reply.No r) = line (codes "refused" ∷ decimal (number_of r) ∷ refusal_words r)
 

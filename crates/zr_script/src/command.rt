@@ -1,7 +1,11 @@
 //! What a line of a script asks, and what a word of the command line is for.
+//!
+//! A command is plain data: two spellings of the same bytes, in either case of their digits, are one command.
 use zr_base::{Blob, Items};
 
-/// One line of a script.
+/// One line of a script. Places and lengths in an object are in bytes, the `units` of an object's blocks in units of
+/// 4,096 bytes, and a device is named by its path. A number may be any below 2^64 here: what it may be for the pool at
+/// hand is told by a refusal.
 #[derive(Drop)]
 pub enum Command {
     Create {
@@ -9,6 +13,7 @@ pub enum Command {
         guid: u64,
         devs: Items<Blob>,
     },
+    /// `create -1`, which makes a pool of version 1.
     CreateOld {
         name: Blob,
         guid: u64,
@@ -27,6 +32,7 @@ pub enum Command {
     Drop {
         id: u64,
     },
+    /// 1 to 4,096 bytes.
     Write {
         id: u64,
         off: u64,
@@ -58,11 +64,14 @@ pub enum Command {
     Remove {
         dev: Blob,
     },
+    /// `remove -n`.
     Estimate {
         dev: Blob,
     },
+    /// `remove -s`.
     Cancel,
     Checkpoint,
+    /// `checkpoint -d`.
     Discard,
     StepEvac,
     StepDiscard,
@@ -77,7 +86,7 @@ pub enum Command {
     Quit,
 }
 
-/// The first word of a line.
+/// The first word of a line. It says how the words behind it are read.
 pub enum Keyword {
     CreateWord,
     ImportWord,
@@ -102,7 +111,7 @@ pub enum Keyword {
     QuitWord,
 }
 
-/// One option of the command line, or one device.
+/// One option of the command line, or one device with the bytes of the file that is made where there is none.
 #[derive(Drop)]
 pub enum Argument {
     Policy { name: Blob },

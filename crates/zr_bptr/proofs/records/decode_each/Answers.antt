@@ -1,0 +1,6 @@
+use Rattle.std.proofs.Common.{[]}
+use Rattle.zr_bptr.proofs.Leaves.{no_each_record}
+use Rattle.zr_bptr.proofs.records.decode_each.Goals as goal
+
+pub returns-in_default : goal.returns-in_default
+returns-in_default c = no_each_record c.args.pieces.now c.loop-piece.piece-index [] c.loop-piece-test.true c.in_default.ensures

@@ -1,0 +1,3 @@
+pub mod Geometry
+pub mod Blocks
+pub mod Fields
