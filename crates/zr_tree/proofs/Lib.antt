@@ -1,0 +1,9 @@
+pub mod Spelled
+pub mod Frames
+pub mod Sums
+pub mod Holes
+pub mod Below
+pub mod Each
+pub mod Raise
+pub mod Walking
+pub mod Others

@@ -1,0 +1,121 @@
+-- A tree becomes a part of a taller one.
+use Rattle.std.proofs.Common.{◌≡◌, ◌≢◌, ◌/◌, ◌%◌, ◌^◌, ◌<◌, ◌≤◌, ◌⊎◌, inl, inr, ℕ, suc, List, [], ◌∷◌, ◌++◌, length, set, append-nil, refl, sym, ◌∙◌, ap, arith, get_or-set_other, get_or-set_same}
+use Rattle.std.specs.Prelude.{All}
+use Rattle.std.specs.List.{sum_by, flat_map}
+use Rattle.std.proofs.lemmas.List.Sums.{sum_by-append}
+use Rattle.std.proofs.Math.Nat.{div-eq_of_lt, pow-le-pow_right}
+use Rattle.std.proofs.lemmas.Bool.{cases_eq, cases_lt}
+use Rattle.std.proofs.lemmas.Bool.Decides.{nat_tests}
+use Rattle.std.proofs.lemmas.List.Elements.{All-tail}
+use Rattle.zr_bptr.specs.declared.Bptr.{Bptr}
+use Rattle.zr_bptr.specs.declared.Ptr.{Ptr}
+use Rattle.zr_bptr.specs.declared.Ptr.TheVariants.{Hole}
+use Rattle.zr_bptr.specs.declared.Tree.{Tree}
+use Rattle.zr_store.specs.Store.{Stored, Swaps, AreStored, IsOnce, one_at}
+use Rattle.zr_tree.specs.Trees.{slot, digit, leaf_at, blocks, own, updated, tree_at, tree_blocks, AllAt, IsOpen, Sets, SetsEach, Raises, SetsTree}
+use Rattle.zr_tree.proofs.Frames.{Agree, frame, each_blocks, each_leaves, hole_leaf}
+use Rattle.zr_tree.proofs.Holes.{hole_slot, holes_blocks, div-suc, inside}
+use Rattle.zr_tree.proofs.Each.{updated_append, updated_other}
+
+-- what came by the first may go by the second
+pub joined : (a b c : Stored) (out mid into : List Bptr) → Swaps a b out mid → Swaps b c mid into → IsOnce b → Swaps a c out into
+joined a b c out mid into first second once = record {
+  stored = λ weight. let e = first.stored weight in let f = second.stored weight in omega (arith, e, f);
+  kept = λ x free held.
+      let e = first.stored (one_at x.at) in
+      let o = once x.at in
+      second.kept x (omega (arith, e, o, free, held)) (omega (arith, e, free, held)) ∙ first.kept x free held;
+}
+
+-- the first of the pointers is that of the tree, and the others are holes
+first_blocks : (s : Stored) (level : ℕ) (hs : List Ptr) (p : Ptr) → 0 < length hs → All (λ h. h ≡ Hole) hs → flat_map (blocks s level) (set hs 0 p) ≡ blocks s level p ++ []
+first_blocks s level [] p lt h = absurd (omega arith)
+first_blocks s level (x ∷ hs) p lt h = ap (λ (bs : List Bptr). blocks s level p ++ bs) (holes_blocks s level hs (All-tail (λ q. q ≡ Hole) x hs h))
+
+first_only : (s : Stored) (level : ℕ) (hs : List Ptr) (p : Ptr) → 0 < length hs → All (λ h. h ≡ Hole) hs → flat_map (blocks s level) (set hs 0 p) ≡ blocks s level p
+first_only s level hs p lt h = first_blocks s level hs p lt h ∙ append-nil (blocks s level p)
+
+-- the tree blocks below the first pointer are stored
+pub first_stored : (below : ℕ) (low : List (ℕ × Ptr)) (s0 s1 : Stored) (t : Tree) (p1 : Ptr) (hs : List Ptr) → 0 < length hs → All (λ h. h ≡ Hole) hs → Raises below low s0 s1 t p1 → AreStored (tree_blocks s0 t) s0 → AreStored (flat_map (blocks s1 below) (set hs 0 p1)) s1
+first_stored below low s0 s1 t p1 hs size all_holes first held weight =
+    let q = ap (sum_by weight) (first_only s1 below hs p1 size all_holes) in
+    let f = first.swaps.stored weight in
+    let d = held weight in
+    omega (arith, q, f, d)
+
+-- past the height there is nothing
+pub outside : (s : Stored) (t : Tree) (index level : ℕ) → t.height ≤ level → index / 32 ^ level ≢ 0 → tree_at s t index ≡ Hole
+outside s t index level le ne = elim (cases_lt index (32 ^ t.height)) [
+  | inl lt ↦ absurd (ne (div-eq_of_lt (omega (arith, lt, pow-le-pow_right {n = 32} (omega arith) {i = t.height} {j = level} le))))
+  | inr ge ↦ grind (arith, nat_tests)
+]
+
+module _ (below : ℕ) (changes low high : List (ℕ × Ptr)) (s0 s1 s2 s3 : Stored) (t : Tree) (p1 p : Ptr) (hs ps : List Ptr) (size : 0 < length hs) (all_holes : All (λ h. h ≡ Hole) hs) (parts : low ++ high ≡ changes) (short : t.height ≤ below)
+    (first : Raises below low s0 s1 t p1) (each : SetsEach below 0 high s1 s2 (set hs 0 p1) ps) (open_p : IsOpen s3 below p ps) (put : Swaps s2 s3 [] (own p)) (at : AllAt below 0 low)
+    (held : AreStored (tree_blocks s0 t) s0) (once : IsOnce s1) where
+  qs_blocks : flat_map (blocks s1 below) (set hs 0 p1) ≡ blocks s1 below p1
+  qs_blocks = first_only s1 below hs p1 size all_holes
+
+  agree : Agree s2 s3 (flat_map (blocks s2 below) ps)
+  agree = record {
+    same = λ b h.
+        let e = each.swaps.stored (one_at b.at) in
+        let q = ap (sum_by (one_at b.at)) qs_blocks in
+        let f = first.swaps.stored (one_at b.at) in
+        let d = held (one_at b.at) in
+        put.kept b refl (omega (arith, e, q, f, d, h));
+  }
+
+  new_blocks : blocks s3 (suc below) p ≡ own p ++ flat_map (blocks s2 below) ps
+  new_blocks = open_p.tree_blocks ∙ ap (λ (xs : List Bptr). own p ++ xs) (each_blocks s2 s3 below (λ x h. frame s2 s3 below x h) ps agree)
+
+  second : Swaps s1 s3 (blocks s1 below p1) (blocks s3 (suc below) p)
+  second = record {
+    stored = λ weight.
+        let e = each.swaps.stored weight in
+        let q = ap (sum_by weight) qs_blocks in
+        let n = ap (sum_by weight) new_blocks ∙ sum_by-append weight (own p) (flat_map (blocks s2 below) ps) in
+        let u = put.stored weight in
+        omega (arith, e, q, n, u);
+    kept = λ b free stored.
+        let q = ap (sum_by (one_at b.at)) qs_blocks in
+        let e = each.swaps.stored (one_at b.at) in
+        put.kept b refl (omega (arith, e, q, free, stored)) ∙ each.swaps.kept b (omega (arith, q, free)) stored;
+  }
+
+  below_leaf : (index : ℕ) → index / 32 ^ suc below ≡ 0 → (digit below index ≡ 0) ⊎ (digit below index ≢ 0) → updated high index (leaf_at s1 below (slot (set hs 0 p1) (digit below index)) index) ≡ updated changes index (tree_at s0 t index)
+  below_leaf index here (inl eq) =
+      let up = div-suc index below in
+      let low_here : index / 32 ^ below ≡ 0 = omega (arith, up, here, eq) in
+      ap (λ (q : Ptr). updated high index (leaf_at s1 below q index)) (ap (slot (set hs 0 p1)) eq ∙ get_or-set_same hs 0 p1 Hole size)
+      ∙ ap (updated high index) (first.leaves index low_here)
+      ∙ sym (updated_append low high index (tree_at s0 t index))
+      ∙ ap (λ (cs : List (ℕ × Ptr)). updated cs index (tree_at s0 t index)) parts
+  below_leaf index here (inr ne) =
+      let past : index / 32 ^ below ≢ 0 = λ e. ne (ap (λ (n : ℕ). n % 32) e) in
+      ap (λ (q : Ptr). updated high index (leaf_at s1 below q index)) (get_or-set_other hs 0 (digit below index) p1 Hole ne ∙ hole_slot hs (digit below index) all_holes)
+      ∙ ap (updated high index) (hole_leaf s1 below index ∙ sym (outside s0 t index below short past) ∙ sym (updated_other below 0 low index (tree_at s0 t index) at past))
+      ∙ sym (updated_append low high index (tree_at s0 t index))
+      ∙ ap (λ (cs : List (ℕ × Ptr)). updated cs index (tree_at s0 t index)) parts
+
+  pub raised : Raises (suc below) changes s0 s3 t p
+  raised = record {
+    leaves = λ index here.
+        open_p.leaves index ∙ each_leaves s2 s3 below (λ x h. frame s2 s3 below x h) ps agree (digit below index) index ∙ each.leaves index here
+        ∙ below_leaf index here (cases_eq (digit below index) 0);
+    swaps = joined s0 s1 s3 (tree_blocks s0 t) (blocks s1 below p1) (blocks s3 (suc below) p) first.swaps second once;
+  }
+
+-- at its own height
+pub same_height : (changes : List (ℕ × Ptr)) (s0 s1 : Stored) (t : Tree) (p : Ptr) → Sets t.height 0 changes s0 s1 t.root p → Raises t.height changes s0 s1 t p
+same_height changes s0 s1 t p sets = record { leaves = λ index here. sets.leaves index here ∙ ap (updated changes index) (sym (inside s0 t index here)); swaps = sets.swaps }
+
+-- from the block at the top to the tree
+pub whole : (changes : List (ℕ × Ptr)) (s0 s1 : Stored) (t u : Tree) → t.height ≤ u.height → AllAt u.height 0 changes → Raises u.height changes s0 s1 t u.root → SetsTree changes s0 s1 t u
+whole changes s0 s1 t u grows room raises = record {
+  leaves = λ index. elim (cases_eq (index / 32 ^ u.height) 0) [
+    | inl here ↦ inside s1 u index here ∙ raises.leaves index here
+    | inr past ↦ let o = outside s0 t index u.height grows past in outside s1 u index u.height (omega arith) past ∙ sym (updated_other u.height 0 changes index (tree_at s0 t index) room past ∙ o)
+  ];
+  swaps = raises.swaps;
+}

@@ -1,0 +1,91 @@
+use Rattle.std.proofs.Common.{◌≡◌, ◌∙◌, ◌-◌, ◌/◌, ◌%◌, ◌^◌, ◌<◌, ℕ, List, suc, length, get_or, take, drop, set, sym, subst, arith, rules, length-drop}
+use Rattle.std.specs.List.{flat_map}
+use Rattle.std.proofs.Math.Seq.{take-add}
+use Rattle.std.proofs.lemmas.Bool.{eqb-false}
+use Rattle.std.proofs.lemmas.List.{get_or_default, take_all}
+use Rattle.zr_bptr.specs.declared.Ptr.{Ptr}
+use Rattle.zr_bptr.specs.declared.Ptr.TheVariants.{Hole}
+use Rattle.zr_store.specs.Store.{Stored, AreStored}
+use Rattle.zr_tree.specs.Trees.{AllAt, Sets, SetsEach, IsOpen, blocks}
+use Rattle.zr_tree.proofs.Below.{leaf_set, below_stored, own_stored, copied}
+use Rattle.zr_tree.proofs.Each.{one_more, child_stored, row_of}
+use Rattle.zr_tree.proofs.sets.+set.Goals as goal
+
+pub set_below-returns-then-level-eq0-clause-sets : goal.set_below-returns-then-level-eq0-clause-sets
+set_below-returns-then-level-eq0-clause-sets g t c = λ told held.
+    let ne = eqb-false (length c.args.changes.now) 0 (sym c.is_empty.ensures ∙ c.if-is_empty.false) in
+    let size : length c.args.changes.now ≡ suc (length c.args.changes.now - 1) = omega (arith, ne) in
+    subst (λ (n : ℕ). Sets n c.args.place c.args.changes.now (g.B.Blocks.holds c.args.store.now) (g.B.Blocks.holds c.args.store.now) c.args.p.now (get_or c.args.changes.now (length c.args.changes.now - 1) (0, Hole)).1) (sym c.if-level-eq0.true)
+    (leaf_set c.args.place (length c.args.changes.now - 1) c.args.changes.now (g.B.Blocks.holds c.args.store.now) c.args.p.now (0, Hole) (subst (λ (n : ℕ). AllAt n c.args.place c.args.changes.now) c.if-level-eq0.true c.requires.here) size)
+
+pub set_below-returns-clause-sets : goal.set_below-returns-clause-sets
+set_below-returns-clause-sets g t c = λ told held.
+    let below = c.args.level - 1 in
+    let place = c.args.place in
+    let changes = c.args.changes.now in
+    let q = c.args.p.now in
+    let p = c.in_ok-new.new in
+    let qs = c.in_ok-pointers.pointers.items in
+    let ps = c.set_each.new.pointers.items in
+    let s0 = g.B.Blocks.holds c.args.store.now in
+    let s0b = g.B.Blocks.holds c.open_block.new.store in
+    let s1 = g.B.Blocks.holds c.set_each.new.store in
+    let s2 = g.B.Blocks.holds c.put_block.new.store in
+    let s3 = g.B.Blocks.holds c.free_block.new.store in
+    let same = c.open_block.ensures.same told in
+    let told1 = c.open_block.ensures.told told in
+    let told2 = c.set_each.ensures.told told1 in
+    let told3 = c.put_block.ensures.told told2 in
+    let level_is : c.args.level ≡ suc (c.args.level - 1) = omega arith in
+    let held_suc = subst (λ (n : ℕ). AreStored (blocks s0 n q) s0) level_is held in
+    let open_q = c.in_ok-pointers.ensures.open told in
+    let each_b = c.in_ok-set_each.ensures.sets told1 (subst (λ (u : Stored). AreStored (flat_map (blocks u below) qs) u) (sym same) (below_stored below s0 q qs open_q held_suc)) in
+    let each = subst (λ (u : Stored). SetsEach below place changes u s1 qs ps) same each_b in
+    let open_p = subst (λ (xs : List Ptr). IsOpen s2 below p xs) c.as_slice.ensures.value (c.in_ok-new.ensures.open told2) in
+    let put = c.in_ok-new.ensures.swaps told2 in
+    let free = c.in_ok-free_block.ensures.swaps told3 (own_stored below place changes s0 s1 s2 q p qs ps open_q each put held_suc) in
+    let once = g.met.B.Blocks.once c.put_block.new.store told3 in
+    subst (λ (n : ℕ). Sets n place changes s0 s3 q p) (sym level_is) (copied below place changes s0 s1 s2 s3 q p qs ps open_q each open_p put free held_suc once)
+
+pub set_each-loop-from-preserved : goal.set_each-loop-from-preserved
+set_each-loop-from-preserved g t c = record {
+  within = search rules;
+  low = search rules;
+  count = search rules;
+  fit = search rules;
+  told = search rules;
+  later = search rules;
+  sets = λ told held.
+      let below = c.args.level - 1 in
+      let place = c.args.place in
+      let changes = c.args.changes.now in
+      let child = c.place_of-child.result in
+      let from = c.loop-from.from in
+      let n = c.run_len-n.result in
+      let rest_is : take (length changes - from) (drop from changes) ≡ drop from changes = take_all (length changes - from) (drop from changes) (omega (arith, length-drop from changes)) in
+      let here = take n (drop from changes) in
+      let old = c.index.result.now in
+      let p = c.in_ok-new.new in
+      let qs = c.args.pointers.now.items in
+      let ps = c.loop-from.pointers.items in
+      let s0 = g.B.Blocks.holds c.args.store.now in
+      let s1 = g.B.Blocks.holds c.loop-from.store in
+      let s2 = g.B.Blocks.holds c.set_below.new.store in
+      let count = c.loop-from.invariant.count in
+      let so_far = c.loop-from.invariant.sets told held in
+      let told1 = c.loop-from.invariant.told told in
+      let within : child % 32 < length ps = omega (arith, count) in
+      let old_is = c.index.ensures ∙ get_or_default ps (child % 32) old Hole within in
+      let stored = child_stored below place (child % 32) (take from changes) s0 s1 qs ps within so_far held in
+      let one_b = c.in_ok-new.ensures.sets told1 (subst (λ (q : Ptr). AreStored (blocks s1 below q) s1) (sym old_is) stored) in
+      let one_c = subst (λ (xs : List (ℕ × Ptr)). Sets below child (take n xs) s1 s2 old p) rest_is one_b in
+      let one = subst (λ (q : Ptr). Sets below child here s1 s2 q p) old_is one_c in
+      let at = subst (λ (xs : List (ℕ × Ptr)). AllAt below child (take n xs)) rest_is c.run_len-n.ensures.here in
+      let child_is = subst (λ (xs : List (ℕ × Ptr)). child ≡ (get_or xs 0 (0, Hole)).0 / 32 ^ below) rest_is c.place_of-child.ensures in
+      let lt : from < length changes = omega arith in
+      let high = c.requires.here from (0, Hole) lt in
+      let level_is : c.args.level ≡ suc (c.args.level - 1) = omega arith in
+      let row : child / 32 ≡ place = row_of below place child c.args.level from changes level_is child_is high in
+      subst (λ (done : List (ℕ × Ptr)). SetsEach below place done s0 s2 qs (set ps (child % 32) p)) (sym (take-add from n changes))
+      (one_more below place child (take from changes) here s0 s1 s2 qs ps p count so_far one held (g.met.B.Blocks.once c.loop-from.store told1) at row);
+}

@@ -1,0 +1,28 @@
+use Rattle.std.proofs.Common.{◌≡◌, ◌+◌, ◌*◌, ◌-◌, ◌≤◌, length, take}
+use Rattle.std.specs.Prelude.{All}
+use Rattle.zr_tree.specs.Blocks.{FitsAt}
+use Rattle.std.specs.List.{flat_map}
+use Rattle.zr_store.specs.Store.{AreStored}
+use Rattle.zr_store.specs.Causes.{IsLater}
+use Rattle.zr_tree.specs.Trees.{SetsEach, blocks}
+use Rattle.zr_tree.proofs.sets.+set.Given as goal
+
+abbrev pub decreases-set_below : goal.decreases-set_below
+decreases-set_below g l = 2 * l.level
+
+abbrev pub decreases-set_each : goal.decreases-set_each
+decreases-set_each g l = 2 * l.level - 1
+
+abbrev pub invariant-set_each-loop-from : goal.invariant-set_each-loop-from
+invariant-set_each-loop-from g l = record {
+  within : l.from ≤ length l.changes;
+  low : l.below + 1 ≡ l.level;
+  count : length l.pointers.items ≡ 32;
+  fit : All (FitsAt l.below) l.pointers.items;
+  told : g.B.Blocks.tells l.fn.store → g.B.Blocks.tells l.store;
+  later : IsLater (g.B.Blocks.counts l.fn.store) (g.B.Blocks.counts l.store);
+  sets : g.B.Blocks.tells l.fn.store → AreStored (flat_map (blocks (g.B.Blocks.holds l.fn.store) l.below) l.fn.pointers.items) (g.B.Blocks.holds l.fn.store) → SetsEach l.below l.place (take l.from l.changes) (g.B.Blocks.holds l.fn.store) (g.B.Blocks.holds l.store) l.fn.pointers.items l.pointers.items;
+}
+
+abbrev pub decreases-set_each-loop-from : goal.decreases-set_each-loop-from
+decreases-set_each-loop-from g l = length l.changes - l.from

@@ -1,0 +1,52 @@
+use Rattle.std.proofs.Common.{◌≡◌, ◌-◌, ◌<◌, ◌≤◌, ◌++◌, ℕ, List, suc, length, take, drop, set, sym, subst, arith, length-drop}
+use Rattle.std.proofs.lemmas.Result.{IfOk-weaker}
+use Rattle.std.proofs.lemmas.List.{take_all, take-append-drop}
+use Rattle.zr_bptr.specs.declared.Ptr.{Ptr}
+use Rattle.zr_store.specs.Store.{AreStored}
+use Rattle.zr_tree.specs.Trees.{Sets, SetsEach, IsOpen, Raises, blocks}
+use Rattle.zr_tree.proofs.Raise.{raised, same_height, first_stored}
+use Rattle.zr_tree.proofs.trees.+raise.Goals as goal
+
+pub returns-then-level-t-clause-raises : goal.returns-then-level-t-clause-raises
+returns-then-level-t-clause-raises g r c = λ told held.
+    let s0 = g.B.Blocks.holds c.args.store.now in
+    let s1 = g.B.Blocks.holds c.set_below.new.store in
+    let t = c.args.t.now in
+    let changes = c.args.changes.now in
+    let held_level = subst (λ (n : ℕ). AreStored (blocks s0 n t.root) s0) (sym c.if-level-t.true) held in
+    IfOk-weaker c.set_below.result _ _ (λ p sets.
+    subst (λ (n : ℕ). Raises n changes s0 s1 t p) (sym c.if-level-t.true) (same_height changes s0 s1 t p (subst (λ (n : ℕ). Sets n 0 changes s0 s1 t.root p) c.if-level-t.true sets))) (c.set_below.ensures.sets told held_level)
+
+pub returns-clause-raises : goal.returns-clause-raises
+returns-clause-raises g r c = λ told held.
+    let below = c.args.level - 1 in
+    let t = c.args.t.now in
+    let changes = c.args.changes.now in
+    let n = c.run_len-n.result in
+    let low = take n changes in
+    let rest = take (length changes - n) (drop n changes) in
+    let high = drop n changes in
+    let p1 = c.in_ok-low.low in
+    let hs = c.in_ok-pointers.pointers.items in
+    let ps = c.set_each.new.pointers.items in
+    let s0 = g.B.Blocks.holds c.args.store.now in
+    let s1 = g.B.Blocks.holds c.raise.new.store in
+    let s2 = g.B.Blocks.holds c.set_each.new.store in
+    let s3 = g.B.Blocks.holds c.put_block.new.store in
+    let told1 = c.raise.ensures.told told in
+    let told2 = c.set_each.ensures.told told1 in
+    let count = c.in_ok-pointers.ensures.count in
+    let size : 0 < length hs = omega (arith, count) in
+    let all_holes = c.in_ok-pointers.ensures.holes in
+    let level_is : c.args.level ≡ suc (c.args.level - 1) = omega arith in
+    let short : t.height ≤ below = omega arith in
+    let rest_is : rest ≡ high = take_all (length changes - n) high (omega (arith, length-drop n changes)) in
+    let first = c.in_ok-low.ensures.raises told held in
+    let each = subst (λ (xs : List (ℕ × Ptr)). SetsEach below 0 xs s1 s2 (set hs 0 p1) ps) rest_is (c.in_ok-set_each.ensures.sets told1 (first_stored below low s0 s1 t p1 hs size all_holes first held)) in
+    let once = g.met.B.Blocks.once c.raise.new.store told1 in
+    let at = c.run_len-n.ensures.here in
+    let parts : low ++ high ≡ changes = take-append-drop n changes in
+    let p = c.in_ok-root.root in
+    let open_p = subst (λ (xs : List Ptr). IsOpen s3 below p xs) c.as_slice.ensures.value (c.in_ok-root.ensures.open told2) in
+    let put = c.in_ok-root.ensures.swaps told2 in
+    subst (λ (l : ℕ). Raises l changes s0 s3 t p) (sym level_is) (raised below changes low high s0 s1 s2 s3 t p1 p hs ps size all_holes parts short first each open_p put at held once)

@@ -1,0 +1,133 @@
+-- What a tree in a store means.
+use Rattle.std.specs.Prelude.{◌≡◌, ◌/◌, ◌%◌, ◌^◌, ◌≤◌, nat_eq, nat_lt, if◌then◌else◌, ℕ, zero, suc, List, [], ◌∷◌, ◌++◌, slice_index_or, All, Result, IsErrOf}
+use Rattle.std.specs.List.{flat_map}
+use Rattle.zr_base.specs.declared.space.Dva.{Dva}
+use Rattle.zr_bptr.specs.declared.Bptr.{Bptr}
+use Rattle.zr_bptr.specs.declared.Ptr.{Ptr}
+use Rattle.zr_bptr.specs.declared.Ptr.TheVariants.{Hole, At}
+use Rattle.zr_bptr.specs.declared.Tree.{Tree}
+use Rattle.zr_tree.specs.Blocks.{FitsAt}
+use Rattle.zr_tree.specs.Blocks.{pointers_in, IsNoBlock}
+use Rattle.zr_store.specs.declared.StoreErr.{StoreErr}
+use Rattle.zr_store.specs.declared.StoreErr.TheVariants.{Malformed}
+use Rattle.zr_store.specs.Store.{Stored, Swaps, AreStored}
+
+-- the pointers in a tree block above this level
+abbrev pub kids : Stored → ℕ → Bptr → List Ptr
+kids s below b = pointers_in (s.bytes b)
+
+-- the pointer at a place, a hole where there is none
+abbrev pub slot : List Ptr → ℕ → Ptr
+slot pointers k = slice_index_or pointers k Hole
+
+-- which of the 32 pointers above this level leads to a block
+abbrev pub digit : ℕ → ℕ → ℕ
+digit below index = index / 32 ^ below % 32
+
+-- the leaf pointer at an index below this pointer
+abbrev pub leaf_at : Stored → ℕ → Ptr → ℕ → Ptr
+leaf_at s zero p index = p
+leaf_at s (suc below) Hole index = Hole
+leaf_at s (suc below) (At b) index = leaf_at s below (slot (kids s below b) (digit below index)) index
+
+-- the tree blocks at and below this pointer
+abbrev pub blocks : Stored → ℕ → Ptr → List Bptr
+blocks s zero p = []
+blocks s (suc below) Hole = []
+blocks s (suc below) (At b) = b ∷ flat_map (blocks s below) (kids s below b)
+
+-- the tree blocks and the leaves, each block before what lies below it
+abbrev pub reach : Stored → ℕ → Ptr → List Bptr
+reach s zero Hole = []
+reach s zero (At b) = b ∷ []
+reach s (suc below) Hole = []
+reach s (suc below) (At b) = b ∷ flat_map (reach s below) (kids s below b)
+
+-- what a tree means: a leaf pointer at each index
+abbrev pub tree_at : Stored → Tree → ℕ → Ptr
+tree_at s t index = if nat_lt index (32 ^ t.height) then leaf_at s t.height t.root index else Hole
+
+-- the same with the changes
+abbrev pub updated : List (ℕ × Ptr) → ℕ → Ptr → Ptr
+updated [] index p = p
+updated (change ∷ changes) index p = updated changes index (if nat_eq change.0 index then change.1 else p)
+
+-- each index lies at this place of the blocks of a level
+abbrev pub AllAt : ℕ → ℕ → List (ℕ × Ptr) → Type 0
+AllAt level place = All (λ change. change.0 / 32 ^ level ≡ place)
+
+abbrev pub AreLeaves : List (ℕ × Ptr) → Type 0
+AreLeaves = All (λ change. FitsAt 0 change.1)
+
+-- the block itself
+abbrev pub own : Ptr → List Bptr
+own Hole = []
+own (At b) = b ∷ []
+
+-- the 32 pointers of the block, all holes for a hole
+pub record IsOpen (s : Stored) (below : ℕ) (p : Ptr) (pointers : List Ptr) : Type 0 where
+  pub leaves : (index : ℕ) → leaf_at s (suc below) p index ≡ leaf_at s below (slot pointers (digit below index)) index
+  pub tree_blocks : blocks s (suc below) p ≡ own p ++ flat_map (blocks s below) pointers
+
+-- the pointer p stands for q, with the changes made, and the store has its tree blocks in place of q's
+pub record Sets (level place : ℕ) (changes : List (ℕ × Ptr)) (old new : Stored) (q p : Ptr) : Type 0 where
+  pub leaves : (index : ℕ) → index / 32 ^ level ≡ place → leaf_at new level p index ≡ updated changes index (leaf_at old level q index)
+  pub swaps : Swaps old new (blocks old level q) (blocks new level p)
+
+-- the same for the 32 pointers of a block above this level
+pub record SetsEach (below place : ℕ) (changes : List (ℕ × Ptr)) (old new : Stored) (qs ps : List Ptr) : Type 0 where
+  pub leaves : (index : ℕ) → index / 32 ^ suc below ≡ place → leaf_at new below (slot ps (digit below index)) index ≡ updated changes index (leaf_at old below (slot qs (digit below index)) index)
+  pub swaps : Swaps old new (flat_map (blocks old below) qs) (flat_map (blocks new below) ps)
+
+-- the tree blocks of a tree
+abbrev pub tree_blocks : Stored → Tree → List Bptr
+tree_blocks s t = blocks s t.height t.root
+
+-- its blocks, the leaves among them
+abbrev pub tree_reach : Stored → Tree → List Bptr
+tree_reach s t = reach s t.height t.root
+
+-- a block of this level in place of the tree, whose leaves have the changes
+pub record Raises (level : ℕ) (changes : List (ℕ × Ptr)) (old new : Stored) (t : Tree) (p : Ptr) : Type 0 where
+  pub leaves : (index : ℕ) → index / 32 ^ level ≡ 0 → leaf_at new level p index ≡ updated changes index (tree_at old t index)
+  pub swaps : Swaps old new (tree_blocks old t) (blocks new level p)
+
+-- the tree u is t with the changes, and the store has u's tree blocks in place of t's
+pub record SetsTree (changes : List (ℕ × Ptr)) (old new : Stored) (t u : Tree) : Type 0 where
+  pub leaves : (index : ℕ) → tree_at new u index ≡ updated changes index (tree_at old t index)
+  pub swaps : Swaps old new (tree_blocks old t) (tree_blocks new u)
+
+-- the least height from this one on that has room for the changes
+pub record IsHeightFor (from : ℕ) (changes : List (ℕ × Ptr)) (height : ℕ) : Type 0 where
+  pub grows : from ≤ height
+  pub room : AllAt height 0 changes
+  pub least : (lower : ℕ) → from ≤ lower → AllAt lower 0 changes → height ≤ lower
+
+-- a front of these was marked
+pub record MarksFront (old new pointers : List Bptr) : Type 0 where
+  pub front : List Bptr
+  pub rest : List Bptr
+  pub marked : new ≡ old ++ front
+  pub parts : front ++ rest ≡ pointers
+
+-- the tree means what it meant
+pub record KeepsTree (old new : Stored) (t : Tree) : Type 0 where
+  pub same_blocks : tree_blocks new t ≡ tree_blocks old t
+  pub same_reach : tree_reach new t ≡ tree_reach old t
+  pub leaves : (index : ℕ) → tree_at new t index ≡ tree_at old t index
+
+-- so does each tree whose blocks are stored beside those that were given back
+abbrev pub KeepsOthers : Stored → Stored → List Bptr → Type 0
+KeepsOthers old new out = (other : Tree) → AreStored (out ++ tree_blocks old other) old → KeepsTree old new other
+
+-- a block with this address and this sum is no tree block of its level
+pub record HasBadBlock (s : Stored) (at : Dva) (expected : List ℕ) : Type 0 where
+  pub block : Bptr
+  pub below : ℕ
+  pub address : block.at ≡ at
+  pub checksum : block.sum ≡ expected
+  pub bad : IsNoBlock below block.fill (s.bytes block)
+
+-- `Malformed` comes only where there is such a block
+abbrev pub IsBadOnly : {T : Type 0} → Stored → Result T StoreErr → Type 0
+IsBadOnly s result = (at : Dva) (expected : List ℕ) → IsErrOf result (Malformed at expected) → HasBadBlock s at expected

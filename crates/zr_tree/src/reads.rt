@@ -1,0 +1,100 @@
+//! Reading: the pointers of a tree block, and the leaf pointer at an index.
+//!
+//! The time is linear in the height, which is at most 5.
+ghost use Rattle.std.specs.Prelude.{◌≡◌, ◌+◌, ◌*◌, ◌-◌, ◌/◌, ◌%◌, ◌^◌, ◌<◌, ◌≤◌, List, ℕ, length, All, IfOk};
+ghost use Rattle.zr_tree.specs.Blocks.{FitsAt};
+ghost use Rattle.zr_store.specs.Causes.{HasCause};
+ghost use Rattle.zr_bptr.specs.Spelling.{IsTree};
+ghost use Rattle.zr_tree.specs.Trees.{kids, leaf_at, tree_at, IsBadOnly};
+
+use crate::blocks::decode_pointers;
+use std::alloc::Global;
+use zr_bptr::{Bptr, Ptr, Tree};
+use zr_store::{Blocks, StoreErr};
+
+/// The place of an index among the blocks of a level.
+pub(crate) fn place_of(index: u64, level: u32) -> u64
+    requires { level ≤ 5 }
+    ensures { result ≡ index / 32 ^ level }
+{
+    match level {
+        0 => index,
+        1 => index / 32,
+        2 => index / 1024,
+        3 => index / 32768,
+        4 => index / 1048576,
+        _ => index / 33554432,
+    }
+}
+
+/// The pointers of a tree block.
+pub(crate) fn read_block<B: Blocks>(
+    alloc: Global,
+    store: &mut B,
+    below: u32,
+    b: &Bptr,
+) -> Result<Vec<Ptr>, StoreErr>
+    requires { below < 5 }
+    ensures cause { HasCause (B.counts store.old) (B.counts store.new) result }
+    ensures told { B.tells store.old → B.tells store.new }
+    ensures same { B.tells store.old → B.holds store.new ≡ B.holds store.old }
+    ensures malformed { B.tells store.old → IsBadOnly (B.holds store.old) result }
+    ensures count { IfOk result (λ pointers. length pointers.items ≡ 32) }
+    ensures fit { IfOk result (λ pointers. All (FitsAt below) pointers.items) }
+    ensures means { B.tells store.old → IfOk result (λ pointers. pointers.items ≡ kids (B.holds store.old) below b.now) }
+{
+    let bytes = store.get(alloc, b)?;
+    match decode_pointers(alloc, below, b.fill, bytes.as_slice())? {
+        None => Err(StoreErr::Malformed {
+            at: b.at,
+            expected: b.sum,
+        }),
+        Some(pointers) => Ok(pointers),
+    }
+}
+
+pub(crate) fn get_below<B: Blocks>(
+    alloc: Global,
+    store: &mut B,
+    level: u32,
+    p: &Ptr,
+    index: u64,
+) -> Result<Ptr, StoreErr>
+    requires tall { level ≤ 5 }
+    requires fits { FitsAt level p.now }
+    ensures cause { HasCause (B.counts store.old) (B.counts store.new) result }
+    ensures told { B.tells store.old → B.tells store.new }
+    ensures same { B.tells store.old → B.holds store.new ≡ B.holds store.old }
+    ensures malformed { B.tells store.old → IsBadOnly (B.holds store.old) result }
+    ensures fits { IfOk result (FitsAt 0) }
+    ensures leaf { B.tells store.old → IfOk result (λ leaf. leaf ≡ leaf_at (B.holds store.old) level p.now index) }
+{
+    if level == 0 {
+        return Ok(*p);
+    }
+    match p {
+        Ptr::Hole => Ok(Ptr::Hole),
+        Ptr::At(b) => {
+            let below = level - 1;
+            let pointers = read_block(alloc, store, below, b)?;
+            let next = pointers[(place_of(index, below) % 32) as usize];
+            get_below(alloc, store, below, &next, index)
+        }
+    }
+}
+
+/// The leaf pointer at an index.
+pub fn get<B: Blocks>(alloc: Global, store: &mut B, t: &Tree, index: u64) -> Result<Ptr, StoreErr>
+    requires tree { IsTree t.now }
+    ensures cause { HasCause (B.counts store.old) (B.counts store.new) result }
+    ensures told { B.tells store.old → B.tells store.new }
+    ensures same { B.tells store.old → B.holds store.new ≡ B.holds store.old }
+    ensures malformed { B.tells store.old → IsBadOnly (B.holds store.old) result }
+    ensures fits { IfOk result (FitsAt 0) }
+    ensures leaf { B.tells store.old → IfOk result (λ leaf. leaf ≡ tree_at (B.holds store.old) t.now index) }
+{
+    if place_of(index, t.height) != 0 {
+        return Ok(Ptr::Hole);
+    }
+    get_below(alloc, store, t.height, &t.root, index)
+}

@@ -1,0 +1,94 @@
+//! Whole trees: a change may make a tree taller, and trees beside it stay.
+//!
+//! A taller tree is put from its low part up, so that no block is put and given back at once.
+ghost use Rattle.std.specs.Prelude.{◌≡◌, ◌+◌, ◌*◌, ◌-◌, ◌/◌, ◌%◌, ◌^◌, ◌<◌, ◌≤◌, ◌↔◌, List, ℕ, length, All, IfOk, OnOk, IsTrue};
+ghost use Rattle.zr_tree.specs.Blocks.{FitsAt};
+ghost use Rattle.zr_bptr.specs.declared.Bptr.{Bptr};
+ghost use Rattle.zr_bptr.specs.declared.Tree.{Tree};
+ghost use Rattle.zr_store.specs.Store.{Stored, AreStored, hits};
+ghost use Rattle.zr_store.specs.Causes.{HasCause};
+ghost use Rattle.zr_bptr.specs.Spelling.{IsTree};
+ghost use Rattle.zr_tree.specs.Trees.{tree_blocks, AllAt, AreLeaves, Raises, SetsTree, IsHeightFor, KeepsTree, KeepsOthers};
+
+use crate::reads::place_of;
+use crate::sets::{holes, put_block, run_len, set_below, set_each};
+use std::alloc::Global;
+use zr_bptr::{Ptr, Tree};
+use zr_store::{Blocks, StoreErr};
+
+fn has_room(level: u32, changes: &[(u64, Ptr)]) -> bool
+    requires { level ≤ 5 }
+    ensures { IsTrue result ↔ AllAt level 0 changes.now }
+{
+    changes.iter().all(|change| place_of(change.0, level) == 0)
+}
+
+fn height_for(from: u32, changes: &[(u64, Ptr)]) -> u32
+    requires from { from ≤ 5 }
+    requires below { All (λ change. change.0 < 2 ^ 25) changes.now }
+    ensures tall { result ≤ 5 }
+    ensures height { IsHeightFor from changes.now result }
+{
+    let mut height = from;
+    while height < 5 && !has_room(height, changes) {
+        height += 1;
+    }
+    height
+}
+
+// The pointer for a changed tree, at a level at or above its height.
+fn raise<B: Blocks>(
+    alloc: Global,
+    store: &mut B,
+    t: &Tree,
+    level: u32,
+    changes: &[(u64, Ptr)],
+) -> Result<Ptr, StoreErr>
+    requires tree { IsTree t.now }
+    requires high { t.now.height ≤ level }
+    requires tall { level ≤ 5 }
+    requires here { AllAt level 0 changes.now }
+    requires leaves { AreLeaves changes.now }
+    ensures cause { HasCause (B.counts store.old) (B.counts store.new) result }
+    ensures told { B.tells store.old → B.tells store.new }
+    ensures fits { IfOk result (FitsAt level) }
+    ensures raises { B.tells store.old → AreStored (tree_blocks (B.holds store.old) t.now) (B.holds store.old) → IfOk result (Raises level changes.now (B.holds store.old) (B.holds store.new) t.now) }
+{
+    if level == t.height {
+        return set_below(alloc, store, level, 0, &t.root, changes);
+    }
+    let n = run_len(changes, level - 1, 0);
+    let low = raise(alloc, store, t, level - 1, &changes[..n])?;
+    let mut pointers = holes(alloc)?;
+    pointers[0] = low;
+    set_each(alloc, store, level, 0, &mut pointers, &changes[n..])?;
+    let root = put_block(alloc, store, level - 1, pointers.as_slice())?;
+    Ok(root)
+}
+
+/// Changes leaf pointers. The old tree blocks are given back.
+pub fn set_all<B: Blocks>(
+    alloc: Global,
+    store: &mut B,
+    t: &Tree,
+    changes: &[(u64, Ptr)],
+) -> Result<Tree, StoreErr>
+    requires tree { IsTree t.now }
+    requires below { All (λ change. change.0 < 2 ^ 25) changes.now }
+    requires leaves { AreLeaves changes.now }
+    ensures cause { HasCause (B.counts store.old) (B.counts store.new) result }
+    ensures told { B.tells store.old → B.tells store.new }
+    ensures tree { IfOk result IsTree }
+    ensures height { IfOk result (λ u. IsHeightFor t.now.height changes.now u.height) }
+    ensures sets { B.tells store.old → AreStored (tree_blocks (B.holds store.old) t.now) (B.holds store.old) → IfOk result (SetsTree changes.now (B.holds store.old) (B.holds store.new) t.now) }
+    ensures others { B.tells store.old → AreStored (tree_blocks (B.holds store.old) t.now) (B.holds store.old) → OnOk result (KeepsOthers (B.holds store.old) (B.holds store.new) (tree_blocks (B.holds store.old) t.now)) }
+{
+    let height = height_for(t.height, changes);
+    let root = raise(alloc, store, t, height, changes)?;
+    Ok(Tree { root, height })
+}
+
+/// Stores that agree on the blocks of a tree give it one meaning.
+pub fn frame()
+    ensures { (old new : Stored) (t : Tree) → ((b : Bptr) → 0 < hits (tree_blocks old t) b.at → new.bytes b ≡ old.bytes b) → KeepsTree old new t }
+{}

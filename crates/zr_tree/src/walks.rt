@@ -1,0 +1,120 @@
+//! Walks over all blocks of a tree, each block before what lies below it.
+//!
+//! A marked walk asks before it goes below a block, so that a damaged tree that leads back to itself comes to an end.
+ghost use Rattle.std.specs.Prelude.{◌≡◌, ◌+◌, ◌-◌, ◌<◌, ◌≤◌, ◌++◌, ◌∷◌, [], List, ℕ, All, OnOk, OnErr, IfOk, IsTrue, if◌then◌else◌};
+ghost use Rattle.zr_bptr.specs.declared.Bptr.{Bptr};
+ghost use Rattle.zr_tree.specs.Blocks.{FitsAt};
+ghost use Rattle.zr_store.specs.Causes.{HasCause};
+ghost use Rattle.zr_bptr.specs.Spelling.{IsTree};
+ghost use Rattle.zr_tree.specs.Trees.{reach, tree_reach, MarksFront, IsBadOnly};
+
+use crate::reads::read_block;
+use std::alloc::{AllocError, Global};
+use zr_bptr::{Bptr, Ptr, Tree};
+use zr_store::{Blocks, StoreErr};
+
+fn walk_below<B: Blocks>(
+    alloc: Global,
+    store: &mut B,
+    level: u32,
+    p: &Ptr,
+    out: &mut Vec<Bptr>,
+) -> Result<(), StoreErr>
+    requires { level ≤ 5 }
+    ensures cause { HasCause (B.counts store.old) (B.counts store.new) result }
+    ensures told { B.tells store.old → B.tells store.new }
+    ensures same { B.tells store.old → B.holds store.new ≡ B.holds store.old }
+    ensures malformed { B.tells store.old → IsBadOnly (B.holds store.old) result }
+    ensures reach { B.tells store.old → OnOk result (out.new.items ≡ out.old.items ++ reach (B.holds store.old) level p.now) }
+{
+    match p {
+        Ptr::Hole => Ok(()),
+        Ptr::At(b) => {
+            out.push(*b)?;
+            if level == 0 {
+                return Ok(());
+            }
+            let pointers = read_block(alloc, store, level - 1, b)?;
+            for next in pointers.iter() {
+                walk_below(alloc, store, level - 1, next, out)?;
+            }
+            Ok(())
+        }
+    }
+}
+
+/// The tree blocks and the leaves, each block before what lies below it.
+pub fn walk<B: Blocks>(alloc: Global, store: &mut B, t: &Tree) -> Result<Vec<Bptr>, StoreErr>
+    requires { IsTree t.now }
+    ensures cause { HasCause (B.counts store.old) (B.counts store.new) result }
+    ensures told { B.tells store.old → B.tells store.new }
+    ensures same { B.tells store.old → B.holds store.new ≡ B.holds store.old }
+    ensures malformed { B.tells store.old → IsBadOnly (B.holds store.old) result }
+    ensures reach { B.tells store.old → IfOk result (λ pointers. pointers.items ≡ tree_reach (B.holds store.old) t.now) }
+{
+    let mut out = Vec::new(alloc);
+    walk_below(alloc, store, t.height, &t.root, &mut out)?;
+    Ok(out)
+}
+
+/// Is asked for each pointer of a walk before the walk goes below it.
+pub trait Mark {
+    /// The pointers for which the answer was true, in order.
+    ghost marked: { Self → List Bptr };
+
+    fn mark(&mut self, p: &Bptr) -> Result<bool, AllocError>
+        ensures ok { IfOk result (λ yes. marked self.new ≡ (if yes then marked self.old ++ p.now ∷ [] else marked self.old)) }
+        ensures err { OnErr result (marked self.new ≡ marked self.old) };
+}
+
+fn walk_marked_below<B: Blocks, M: Mark>(
+    alloc: Global,
+    store: &mut B,
+    level: u32,
+    p: &Ptr,
+    m: &mut M,
+) -> Result<bool, StoreErr>
+    requires { level ≤ 5 }
+    ensures cause { HasCause (B.counts store.old) (B.counts store.new) result }
+    ensures told { B.tells store.old → B.tells store.new }
+    ensures same { B.tells store.old → B.holds store.new ≡ B.holds store.old }
+    ensures malformed { B.tells store.old → IsBadOnly (B.holds store.old) result }
+    ensures front { B.tells store.old → MarksFront (M.marked m.old) (M.marked m.new) (reach (B.holds store.old) level p.now) }
+    ensures all { B.tells store.old → IfOk result (λ yes. IsTrue yes → M.marked m.new ≡ M.marked m.old ++ reach (B.holds store.old) level p.now) }
+{
+    let b = match p {
+        Ptr::Hole => return Ok(true),
+        Ptr::At(b) => b,
+    };
+    if !m.mark(b)? {
+        return Ok(false);
+    }
+    if level == 0 {
+        return Ok(true);
+    }
+    let pointers = read_block(alloc, store, level - 1, b)?;
+    for next in pointers.iter() {
+        if !walk_marked_below(alloc, store, level - 1, next, m)? {
+            return Ok(false);
+        }
+    }
+    Ok(true)
+}
+
+/// Goes through a tree as far as each mark answers true.
+pub fn walk_marked<B: Blocks, M: Mark>(
+    alloc: Global,
+    store: &mut B,
+    t: &Tree,
+    m: &mut M,
+) -> Result<bool, StoreErr>
+    requires { IsTree t.now }
+    ensures cause { HasCause (B.counts store.old) (B.counts store.new) result }
+    ensures told { B.tells store.old → B.tells store.new }
+    ensures same { B.tells store.old → B.holds store.new ≡ B.holds store.old }
+    ensures malformed { B.tells store.old → IsBadOnly (B.holds store.old) result }
+    ensures front { B.tells store.old → MarksFront (M.marked m.old) (M.marked m.new) (tree_reach (B.holds store.old) t.now) }
+    ensures all { B.tells store.old → IfOk result (λ yes. IsTrue yes → M.marked m.new ≡ M.marked m.old ++ tree_reach (B.holds store.old) t.now) }
+{
+    walk_marked_below(alloc, store, t.height, &t.root, m)
+}
