@@ -140,6 +140,7 @@ impl Slabs {
         requires few { want ≤ 256 }
         ensures placed { IfOk result (IsPlacement (free_of self.old) chooser.now.policy want) }
         ensures taken { IfOk result (λ at. Takes self.old self.new at.dev (extent_of at)) }
+        ensures in_range { IfOk result (λ at. at.start + at.len < 2 ^ 40) }
         ensures needed { IfErr result (λ e. e.needed ≡ want) }
         ensures shorter { IfErr result (λ e. e.longest < want) }
         ensures none { IfErr result (λ e. HasNoPlacement (free_of self.old) want e.longest) }
