@@ -160,10 +160,11 @@ pub record SpellsUber (block : List ℕ) (u : Uber) : Type 0 where
   pub lawful : IsUber u
   pub spelling : block ≡ uber_block u
 
--- the block has the mark and the sum of a root, but a version that this program does not know
+-- the block has the mark and the sum of a root of the pool, but a version that this program does not know
 pub record SpellsNewer (block : List ℕ) (guid version txg : ℕ) : Type 0 where
   pub unknown : (version ≢ 1) × (version ≢ 2)
+  pub version_fits : version < 2 ^ 64
+  pub txg_fits : txg < 2 ^ 64
   pub rest : List ℕ
-  pub size : length rest ≡ 4064
-  pub spelling : block ≡ codes "zr-uber1" ++ words (version ∷ txg ∷ guid ∷ []) ++ rest
+  pub spelling : block ≡ (codes "zr-uber1" ++ words (version ∷ txg ∷ guid ∷ [])) ++ rest
   pub sum : drop 4064 block ≡ sha256 (take 4064 block)
