@@ -2,16 +2,17 @@
 use Rattle.std.proofs.Common.{◌≡◌, ◌+◌, ◌<◌, ℕ, zero, suc, List, [], ◌∷◌, ◌++◌, length, get_or, refl, sym, ◌∙◌, ap, arith, nat_eq, true, Bool, eq-eqb}
 use Rattle.std.specs.Prelude.{All, if◌then◌else◌}
 use Rattle.std.specs.List.{sum_by, flat_map}
-use Rattle.std.proofs.lemmas.List.Sums.{sum_by-append}
+use Rattle.std.proofs.lemmas.List.Sums.{sum_by-append, sum_by-cons}
 use Rattle.std.proofs.lemmas.List.Elements.{All-head, All-tail}
 use Rattle.zr_bptr.specs.declared.Bptr.{Bptr}
 use Rattle.zr_bptr.specs.declared.Ptr.{Ptr}
+use Rattle.zr_bptr.specs.declared.Ptr.TheVariants.{Hole, At}
 use Rattle.zr_store.specs.Store.{Stored, Swaps, AreStored, IsOnce, hits, one_at}
-use Rattle.zr_tree.specs.Trees.{digit, blocks, own, updated, AllAt, IsOpen, Sets, SetsEach}
-use Rattle.zr_tree.proofs.Frames.{Agree, IsSameTree, frame, each_blocks, each_leaves}
+use Rattle.zr_tree.specs.Trees.{digit, blocks, own, updated, AllAt, IsOpen, Sets, SetsEach, leaf_at, Rises, weigh, weight_at, SwapsLeaves, slot}
+use Rattle.zr_tree.proofs.Frames.{Agree, IsSameTree, frame, each_blocks, each_leaf_list, each_leaves}
 
 pub no_change : (level place : ℕ) (s : Stored) (q : Ptr) → Sets level place [] s s q q
-no_change level place s q = record { leaves = λ index at. refl; swaps = record { stored = λ weight. refl; kept = λ b out stored. refl } }
+no_change level place s q = record { leaves = λ index at. refl; swaps = record { stored = λ weight. refl; kept = λ b out stored. refl }; swaps_leaves = λ rises. record { stored = λ weight. refl } }
 
 pub updated_last : (changes : List (ℕ × Ptr)) (index n : ℕ) (p : Ptr) (d : ℕ × Ptr) → All (λ change. change.0 ≡ index) changes → length changes ≡ suc n → (get_or changes n d).1 ≡ updated changes index p
 updated_last [] index n p d at size = absurd (omega arith)
@@ -23,10 +24,39 @@ updated_last (x ∷ y ∷ xs) index zero p d at size = absurd (omega arith)
 updated_last (x ∷ y ∷ xs) index (suc n) p d at size =
     updated_last (y ∷ xs) index n (if nat_eq x.0 index then x.1 else p) d (All-tail (λ (change : ℕ × Ptr). change.0 ≡ index) x (y ∷ xs) at) (omega arith)
 
+own_weight : (weight : Bptr → ℕ) (p : Ptr) → sum_by weight (own p) ≡ weigh weight p
+own_weight weight Hole = refl
+own_weight weight (At b) = omega (arith, sum_by-cons weight b [])
+
+-- only one change is at the leaf itself
+leaf_weighs : (place n : ℕ) (changes : List (ℕ × Ptr)) (q : Ptr) (d : ℕ × Ptr) → AllAt 0 place changes → length changes ≡ suc n → Rises changes → SwapsLeaves changes (own q) (own (get_or changes n d).1) (λ index. q)
+leaf_weighs place n [] q d at size rises = absurd (omega arith)
+leaf_weighs place zero (x ∷ []) q d at size rises = record {
+  stored = λ weight.
+      let a = own_weight weight x.1 in
+      let b = own_weight weight q in
+      omega (arith, a, b);
+}
+leaf_weighs place (suc n) (x ∷ []) q d at size rises = absurd (omega arith)
+leaf_weighs place n (x ∷ y ∷ xs) q d at size rises =
+    let a = at 0 x (omega arith) in
+    let b = at 1 x (omega arith) in
+    let lt = rises.0.0 in
+    absurd (omega (arith, a, b, lt))
+
+-- the leaves at the same places weigh the same
+pub weight_same : (weight : Bptr → ℕ) (f g : ℕ → Ptr) (changes : List (ℕ × Ptr)) → ((index : ℕ) → f index ≡ g index) → weight_at weight f changes ≡ weight_at weight g changes
+weight_same weight f g [] same = refl
+weight_same weight f g (x ∷ xs) same =
+    let a : weigh weight (f x.0) ≡ weigh weight (g x.0) = ap (weigh weight) (same x.0) in
+    let b = weight_same weight f g xs same in
+    omega (arith, a, b)
+
 pub leaf_set : (place n : ℕ) (changes : List (ℕ × Ptr)) (s : Stored) (q : Ptr) (d : ℕ × Ptr) → AllAt 0 place changes → length changes ≡ suc n → Sets 0 place changes s s q (get_or changes n d).1
 leaf_set place n changes s q d at size = record {
   leaves = λ index here. updated_last changes index n q d (λ k e lt. let a = at k e lt in omega (arith, a, here)) size;
   swaps = record { stored = λ weight. refl; kept = λ b out stored. refl };
+  swaps_leaves = leaf_weighs place n changes q d at size;
 }
 
 -- the blocks below are stored
@@ -99,5 +129,13 @@ module _ (below place : ℕ) (changes : List (ℕ × Ptr)) (s0 s1 s2 s3 : Stored
           let f = free.stored weight in
           omega (arith, e, o, n, u, f);
       kept = kept;
+    };
+    swaps_leaves = λ rises. record {
+      stored = λ weight.
+          let e = (each.swaps_leaves rises).stored weight in
+          let n = ap (sum_by weight) (same_tree.all_leaves ∙ open_p.all_leaves ∙ each_leaf_list s1 s2 below (λ x h. frame s1 s2 below x h) ps agree12) in
+          let o = ap (sum_by weight) open_q.all_leaves in
+          let w = weight_same weight (leaf_at s0 (suc below) q) (λ index. leaf_at s0 below (slot qs (digit below index)) index) changes open_q.leaves in
+          omega (arith, e, n, o, w);
     };
   }

@@ -1,7 +1,7 @@
 -- One more pointer of a block has changed.
 use Rattle.std.proofs.Common.{◌≡◌, ◌≢◌, ◌+◌, ◌/◌, ◌%◌, ◌^◌, ◌<◌, ◌≤◌, ◌⊎◌, inl, inr, ℕ, suc, List, [], ◌∷◌, ◌++◌, length, set, drop, get_or, get_or-drop, refl, sym, ◌∙◌, ap, arith, nat_eq, false, Bool, get_or-set_other, get_or-set_same}
-use Rattle.std.specs.Prelude.{if◌then◌else◌}
-use Rattle.std.specs.List.{sum_by, flat_map}
+use Rattle.std.specs.Prelude.{if◌then◌else◌, All}
+use Rattle.std.specs.List.{sum_by, flat_map, AllByRecursion}
 use Rattle.std.proofs.lemmas.Bool.{cases_eq, ne_eqb}
 use Rattle.std.proofs.lemmas.List.Elements.{All-head, All-tail}
 use Rattle.zr_base.specs.declared.space.Dva.{Dva}
@@ -9,7 +9,7 @@ use Rattle.zr_bptr.specs.declared.Bptr.{Bptr}
 use Rattle.zr_bptr.specs.declared.Ptr.{Ptr}
 use Rattle.zr_bptr.specs.declared.Ptr.TheVariants.{Hole}
 use Rattle.zr_store.specs.Store.{Stored, AreStored, IsOnce, hits, one_at}
-use Rattle.zr_tree.specs.Trees.{slot, digit, leaf_at, blocks, updated, AllAt, Sets, SetsEach}
+use Rattle.zr_tree.specs.Trees.{slot, digit, leaf_at, blocks, updated, AllAt, Sets, SetsEach, leaves_below, Rises, weigh, weight_at, weight_of}
 use Rattle.zr_tree.proofs.Frames.{IsSameTree, frame}
 use Rattle.zr_tree.proofs.Holes.{div-suc}
 use Rattle.zr_tree.proofs.Sums.{sum_flat, sum_swap, one_of, two_of}
@@ -25,6 +25,64 @@ updated_other level place (x ∷ xs) index p at ne =
     let here = All-head (λ (change : ℕ × Ptr). change.0 / 32 ^ level ≡ place) x xs at in
     let differs : nat_eq x.0 index ≡ false = ne_eqb x.0 index (λ e. ne (ap (λ (n : ℕ). n / 32 ^ level) (sym e) ∙ here)) in
     ap (λ (b : Bool). updated xs index (if b then x.1 else p)) differs ∙ updated_other level place xs index p (All-tail (λ (change : ℕ × Ptr). change.0 / 32 ^ level ≡ place) x xs at) ne
+
+pub weight_at_append : (weight : Bptr → ℕ) (at : ℕ → Ptr) (xs ys : List (ℕ × Ptr)) → weight_at weight at (xs ++ ys) ≡ weight_at weight at xs + weight_at weight at ys
+weight_at_append weight at [] ys = omega arith
+weight_at_append weight at (x ∷ xs) ys = let e = weight_at_append weight at xs ys in omega (arith, e)
+
+pub weight_of_append : (weight : Bptr → ℕ) (xs ys : List (ℕ × Ptr)) → weight_of weight (xs ++ ys) ≡ weight_of weight xs + weight_of weight ys
+weight_of_append weight [] ys = omega arith
+weight_of_append weight (x ∷ xs) ys = let e = weight_of_append weight xs ys in omega (arith, e)
+
+all_front : (P : ℕ × Ptr → Type 0) (xs ys : List (ℕ × Ptr)) → AllByRecursion P (xs ++ ys) → AllByRecursion P xs
+all_front P [] ys h = tt
+all_front P (x ∷ xs) ys h = (h.0, all_front P xs ys h.1)
+
+all_back : (P : ℕ × Ptr → Type 0) (xs ys : List (ℕ × Ptr)) → AllByRecursion P (xs ++ ys) → AllByRecursion P ys
+all_back P [] ys h = h
+all_back P (x ∷ xs) ys h = all_back P xs ys h.1
+
+pub rises_front : (xs ys : List (ℕ × Ptr)) → Rises (xs ++ ys) → Rises xs
+rises_front [] ys h = tt
+rises_front (x ∷ xs) ys h = (all_front (λ (later : ℕ × Ptr). x.0 < later.0) xs ys h.0, rises_front xs ys h.1)
+
+pub rises_back : (xs ys : List (ℕ × Ptr)) → Rises (xs ++ ys) → Rises ys
+rises_back [] ys h = h
+rises_back (x ∷ xs) ys h = rises_back xs ys h.1
+
+-- each of the later is above all of the first
+abbrev pub IsAbove : List (ℕ × Ptr) → List (ℕ × Ptr) → Type 0
+IsAbove xs [] = Unit {0}
+IsAbove xs (y ∷ ys) = AllByRecursion (λ (x : ℕ × Ptr). x.0 < y.0) xs × IsAbove xs ys
+
+above_none : (ys : List (ℕ × Ptr)) → IsAbove [] ys
+above_none [] = tt
+above_none (y ∷ ys) = (tt, above_none ys)
+
+above_more : (x : ℕ × Ptr) (xs ys : List (ℕ × Ptr)) → AllByRecursion (λ (later : ℕ × Ptr). x.0 < later.0) ys → IsAbove xs ys → IsAbove (x ∷ xs) ys
+above_more x xs [] h k = tt
+above_more x xs (y ∷ ys) h k = ((h.0, k.0), above_more x xs ys h.1 k.1)
+
+pub above_of : (xs ys : List (ℕ × Ptr)) → Rises (xs ++ ys) → IsAbove xs ys
+above_of [] ys h = above_none ys
+above_of (x ∷ xs) ys h = above_more x xs ys (all_back (λ (later : ℕ × Ptr). x.0 < later.0) xs ys h.0) (above_of xs ys h.1)
+
+-- lower changes do not touch an index
+pub updated_past : (xs : List (ℕ × Ptr)) (index : ℕ) (p : Ptr) → AllByRecursion (λ (x : ℕ × Ptr). x.0 < index) xs → updated xs index p ≡ p
+updated_past [] index p h = refl
+updated_past (x ∷ xs) index p h =
+    let lt = h.0 in
+    let differs : nat_eq x.0 index ≡ false = ne_eqb x.0 index (λ e. omega (arith, lt, e)) in
+    ap (λ (b : Bool). updated xs index (if b then x.1 else p)) differs ∙ updated_past xs index p h.1
+
+-- the leaves at later places are as before the first changes
+pub weight_past : (weight : Bptr → ℕ) (f g : ℕ → Ptr) (Here : ℕ → Type 0) (xs ys : List (ℕ × Ptr)) → ((index : ℕ) → Here index → f index ≡ updated xs index (g index)) → All (λ (y : ℕ × Ptr). Here y.0) ys → IsAbove xs ys → weight_at weight f ys ≡ weight_at weight g ys
+weight_past weight f g Here xs [] same here above = refl
+weight_past weight f g Here xs (y ∷ ys) same here above =
+    let at : f y.0 ≡ g y.0 = same y.0 (All-head (λ (c : ℕ × Ptr). Here c.0) y ys here) ∙ updated_past xs y.0 (g y.0) above.0 in
+    let a : weigh weight (f y.0) ≡ weigh weight (g y.0) = ap (weigh weight) at in
+    let b = weight_past weight f g Here xs ys same (All-tail (λ (c : ℕ × Ptr). Here c.0) y ys here) above.1 in
+    omega (arith, a, b)
 
 -- the tree blocks below one pointer are stored
 pub child_stored : (below place k : ℕ) (done : List (ℕ × Ptr)) (s0 s1 : Stored) (qs ps : List Ptr) → k < length ps → SetsEach below place done s0 s1 qs ps → AreStored (flat_map (blocks s0 below) qs) s0 → AreStored (blocks s1 below (slot ps k)) s1
@@ -100,11 +158,36 @@ module _ (below place child : ℕ) (done here : List (ℕ × Ptr)) (s0 s1 s2 : S
       ∙ sym (updated_other below child here index (updated done index (leaf_at s0 below (slot qs (digit below index)) index)) at (λ e. ne (ap (λ (n : ℕ). n % 32) e)))
       ∙ sym (updated_append done here index (leaf_at s0 below (slot qs (digit below index)) index))
 
+  swapped_leaves : (weight : Bptr → ℕ) → sum_by weight (flat_map (leaves_below s2 below) (set ps (child % 32) p)) + sum_by weight (leaves_below s1 below (slot ps (child % 32))) ≡ sum_by weight (flat_map (leaves_below s1 below) ps) + sum_by weight (leaves_below s2 below p)
+  swapped_leaves weight =
+      let e = sum_swap (λ (x : Ptr). sum_by weight (leaves_below s1 below x)) (λ (x : Ptr). sum_by weight (leaves_below s2 below x)) ps (child % 32) p within (λ j lt ne. ap (sum_by weight) (other_same j lt ne).all_leaves) in
+      let a = sum_flat weight (leaves_below s2 below) (set ps (child % 32) p) in
+      let b = sum_flat weight (leaves_below s1 below) ps in
+      omega (arith, e, a, b)
+
+  -- at the run's indices the leaf below the one pointer is as it was
+  as_before : (index : ℕ) → index / 32 ^ below ≡ child → leaf_at s1 below (slot ps (child % 32)) index ≡ updated done index (leaf_at s0 below (slot qs (digit below index)) index)
+  as_before index here_is =
+      let up = div-suc index below in
+      let row_is : index / 32 ^ suc below ≡ place = omega (arith, up, here_is, row) in
+      let eq : digit below index ≡ child % 32 = ap (λ (n : ℕ). n % 32) here_is in
+      ap (λ (j : ℕ). leaf_at s1 below (slot ps j) index) (sym eq) ∙ so_far.leaves index row_is
+
   pub one_more : SetsEach below place (done ++ here) s0 s2 qs (set ps (child % 32) p)
   one_more = record {
     leaves = λ index row_is. leaves index row_is (cases_eq (digit below index) (child % 32));
     swaps = record {
       stored = λ weight. let a = swapped weight in let b = one.swaps.stored weight in let c = so_far.swaps.stored weight in omega (arith, a, b, c);
       kept = kept;
+    };
+    swaps_leaves = λ rises. record {
+      stored = λ weight.
+          let a = swapped_leaves weight in
+          let b = (one.swaps_leaves (rises_back done here rises)).stored weight in
+          let c = (so_far.swaps_leaves (rises_front done here rises)).stored weight in
+          let w = weight_past weight (λ index. leaf_at s1 below (slot ps (child % 32)) index) (λ index. leaf_at s0 below (slot qs (digit below index)) index) (λ index. index / 32 ^ below ≡ child) done here as_before at (above_of done here rises) in
+          let d = weight_at_append weight (λ index. leaf_at s0 below (slot qs (digit below index)) index) done here in
+          let e = weight_of_append weight done here in
+          omega (arith, a, b, c, w, d, e);
     };
   }

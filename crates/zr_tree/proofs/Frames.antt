@@ -8,7 +8,7 @@ use Rattle.zr_bptr.specs.declared.Ptr.{Ptr}
 use Rattle.zr_bptr.specs.declared.Ptr.TheVariants.{Hole, At}
 use Rattle.zr_tree.specs.Blocks.{pointers_in}
 use Rattle.zr_store.specs.Store.{Stored, hits, one_at}
-use Rattle.zr_tree.specs.Trees.{kids, slot, digit, leaf_at, blocks, reach}
+use Rattle.zr_tree.specs.Trees.{kids, slot, digit, leaf_at, leaves_below, blocks, reach}
 
 pub record Agree (s t : Stored) (pointers : List Bptr) : Type 0 where
   pub same : (b : Bptr) → 0 < hits pointers b.at → t.bytes b ≡ s.bytes b
@@ -17,6 +17,7 @@ pub record IsSameTree (s t : Stored) (level : ℕ) (p : Ptr) : Type 0 where
   pub tree_blocks : blocks t level p ≡ blocks s level p
   pub all_blocks : reach t level p ≡ reach s level p
   pub leaves : (index : ℕ) → leaf_at t level p index ≡ leaf_at s level p index
+  pub all_leaves : leaves_below t level p ≡ leaves_below s level p
 
 pub one_itself : (b : Bptr) → one_at b.at b ≡ 1
 one_itself b = grind (arith, nat_tests)
@@ -52,15 +53,22 @@ module _ (s t : Stored) (level : ℕ) (each : (p : Ptr) → Agree s t (blocks s 
       let e = each_reach ps (agree_back s t (blocks s level p) (flat_map (blocks s level) ps) a) in
       ap (λ (xs : List Bptr). xs ++ flat_map (reach t level) ps) h.all_blocks ∙ ap (λ (ys : List Bptr). reach s level p ++ ys) e
 
+  pub each_leaf_list : (ps : List Ptr) → Agree s t (flat_map (blocks s level) ps) → flat_map (leaves_below t level) ps ≡ flat_map (leaves_below s level) ps
+  each_leaf_list [] a = refl
+  each_leaf_list (p ∷ ps) a =
+      let h = each p (agree_front s t (blocks s level p) (flat_map (blocks s level) ps) a) in
+      let e = each_leaf_list ps (agree_back s t (blocks s level p) (flat_map (blocks s level) ps) a) in
+      ap (λ (xs : List Bptr). xs ++ flat_map (leaves_below t level) ps) h.all_leaves ∙ ap (λ (ys : List Bptr). leaves_below s level p ++ ys) e
+
   pub each_leaves : (ps : List Ptr) → Agree s t (flat_map (blocks s level) ps) → (k index : ℕ) → leaf_at t level (slot ps k) index ≡ leaf_at s level (slot ps k) index
   each_leaves [] a k index = hole_leaf t level index ∙ sym (hole_leaf s level index)
   each_leaves (p ∷ ps) a zero index = (each p (agree_front s t (blocks s level p) (flat_map (blocks s level) ps) a)).leaves index
   each_leaves (p ∷ ps) a (suc k) index = each_leaves ps (agree_back s t (blocks s level p) (flat_map (blocks s level) ps) a) k index
 
 pub frame : (s t : Stored) (level : ℕ) (p : Ptr) → Agree s t (blocks s level p) → IsSameTree s t level p
-frame s t zero Hole a = record { tree_blocks = refl; all_blocks = refl; leaves = λ index. refl }
-frame s t zero (At b) a = record { tree_blocks = refl; all_blocks = refl; leaves = λ index. refl }
-frame s t (suc below) Hole a = record { tree_blocks = refl; all_blocks = refl; leaves = λ index. refl }
+frame s t zero Hole a = record { tree_blocks = refl; all_blocks = refl; leaves = λ index. refl; all_leaves = refl }
+frame s t zero (At b) a = record { tree_blocks = refl; all_blocks = refl; leaves = λ index. refl; all_leaves = refl }
+frame s t (suc below) Hole a = record { tree_blocks = refl; all_blocks = refl; leaves = λ index. refl; all_leaves = refl }
 frame s t (suc below) (At b) a =
     let same : kids t below b ≡ kids s below b = ap (λ (bytes : List ℕ). pointers_in bytes) (a.same b (first_of b (flat_map (blocks s below) (kids s below b)))) in
     let rest = agree_rest s t b (flat_map (blocks s below) (kids s below b)) a in
@@ -68,4 +76,5 @@ frame s t (suc below) (At b) a =
       tree_blocks = ap (λ (ps : List Ptr). b ∷ flat_map (blocks t below) ps) same ∙ ap (λ (bs : List Bptr). b ∷ bs) (each_blocks s t below (λ p h. frame s t below p h) (kids s below b) rest);
       all_blocks = ap (λ (ps : List Ptr). b ∷ flat_map (reach t below) ps) same ∙ ap (λ (bs : List Bptr). b ∷ bs) (each_reach s t below (λ p h. frame s t below p h) (kids s below b) rest);
       leaves = λ index. ap (λ (ps : List Ptr). leaf_at t below (slot ps (digit below index)) index) same ∙ each_leaves s t below (λ p h. frame s t below p h) (kids s below b) rest (digit below index) index;
+      all_leaves = ap (λ (ps : List Ptr). flat_map (leaves_below t below) ps) same ∙ each_leaf_list s t below (λ p h. frame s t below p h) (kids s below b) rest;
     }

@@ -11,7 +11,7 @@ use Rattle.zr_bptr.specs.declared.Ptr.{Ptr}
 use Rattle.zr_bptr.specs.declared.Ptr.TheVariants.{Hole, At}
 use Rattle.zr_bptr.specs.declared.Tree.{Tree}
 use Rattle.zr_store.specs.Store.{Stored}
-use Rattle.zr_tree.specs.Trees.{kids, slot, digit, leaf_at, tree_at, blocks, IsOpen}
+use Rattle.zr_tree.specs.Trees.{kids, slot, digit, leaf_at, leaves_below, tree_at, blocks, IsOpen}
 use Rattle.zr_tree.proofs.Frames.{hole_leaf}
 
 pub hole_blocks : (s : Stored) (level : ℕ) → blocks s level Hole ≡ []
@@ -25,6 +25,17 @@ holes_blocks s level (p ∷ ps) h =
     ∙ ap (λ (bs : List Bptr). bs ++ flat_map (blocks s level) ps) (hole_blocks s level)
     ∙ holes_blocks s level ps (All-tail (λ q. q ≡ Hole) p ps h)
 
+hole_leaves : (s : Stored) (level : ℕ) → leaves_below s level Hole ≡ []
+hole_leaves s zero = refl
+hole_leaves s (suc below) = refl
+
+pub holes_leaves : (s : Stored) (level : ℕ) (ps : List Ptr) → All (λ p. p ≡ Hole) ps → flat_map (leaves_below s level) ps ≡ []
+holes_leaves s level [] h = refl
+holes_leaves s level (p ∷ ps) h =
+    ap (λ (q : Ptr). leaves_below s level q ++ flat_map (leaves_below s level) ps) (All-head (λ q. q ≡ Hole) p ps h)
+    ∙ ap (λ (bs : List Bptr). bs ++ flat_map (leaves_below s level) ps) (hole_leaves s level)
+    ∙ holes_leaves s level ps (All-tail (λ q. q ≡ Hole) p ps h)
+
 pub hole_slot : (ps : List Ptr) (k : ℕ) → All (λ p. p ≡ Hole) ps → slot ps k ≡ Hole
 hole_slot [] k h = refl
 hole_slot (p ∷ ps) zero h = All-head (λ q. q ≡ Hole) p ps h
@@ -35,6 +46,7 @@ pub open_hole : (s : Stored) (below : ℕ) (ps : List Ptr) → All (λ p. p ≡ 
 open_hole s below ps h = record {
   leaves = λ index. sym (ap (λ (q : Ptr). leaf_at s below q index) (hole_slot ps (digit below index) h) ∙ hole_leaf s below index);
   tree_blocks = sym (holes_blocks s below ps h);
+  all_leaves = sym (holes_leaves s below ps h);
 }
 
 -- one block down

@@ -1,6 +1,6 @@
 -- What a tree in a store means.
-use Rattle.std.specs.Prelude.{◌≡◌, ◌/◌, ◌%◌, ◌^◌, ◌≤◌, nat_eq, nat_lt, if◌then◌else◌, ℕ, zero, suc, List, [], ◌∷◌, ◌++◌, slice_index_or, All, Result, IsErrOf}
-use Rattle.std.specs.List.{flat_map}
+use Rattle.std.specs.Prelude.{◌≡◌, ◌/◌, ◌%◌, ◌^◌, ◌≤◌, nat_eq, nat_lt, if◌then◌else◌, ℕ, zero, suc, List, [], ◌∷◌, ◌++◌, slice_index_or, All, Result, IsErrOf, ◌+◌, sum_by, ◌<◌}
+use Rattle.std.specs.List.{flat_map, AllByRecursion}
 use Rattle.zr_base.specs.declared.space.Dva.{Dva}
 use Rattle.zr_bptr.specs.declared.Bptr.{Bptr}
 use Rattle.zr_bptr.specs.declared.Ptr.{Ptr}
@@ -43,6 +43,17 @@ reach s zero (At b) = b ∷ []
 reach s (suc below) Hole = []
 reach s (suc below) (At b) = b ∷ flat_map (reach s below) (kids s below b)
 
+-- the block itself
+abbrev pub own : Ptr → List Bptr
+own Hole = []
+own (At b) = b ∷ []
+
+-- the leaves at and below this pointer
+abbrev pub leaves_below : Stored → ℕ → Ptr → List Bptr
+leaves_below s zero p = own p
+leaves_below s (suc below) Hole = []
+leaves_below s (suc below) (At b) = flat_map (leaves_below s below) (kids s below b)
+
 -- what a tree means: a leaf pointer at each index
 abbrev pub tree_at : Stored → Tree → ℕ → Ptr
 tree_at s t index = if nat_lt index (32 ^ t.height) then leaf_at s t.height t.root index else Hole
@@ -59,29 +70,54 @@ AllAt level place = All (λ change. change.0 / 32 ^ level ≡ place)
 abbrev pub AreLeaves : List (ℕ × Ptr) → Type 0
 AreLeaves = All (λ change. FitsAt 0 change.1)
 
--- the block itself
-abbrev pub own : Ptr → List Bptr
-own Hole = []
-own (At b) = b ∷ []
+-- the indices rise
+abbrev pub Rises : List (ℕ × Ptr) → Type 0
+Rises [] = Unit {0}
+Rises (change ∷ changes) = AllByRecursion (λ later. change.0 < later.0) changes × Rises changes
+
+abbrev pub weigh : (Bptr → ℕ) → Ptr → ℕ
+weigh weight Hole = 0
+weigh weight (At b) = weight b
+
+-- what the leaves at the changed indices weigh, where `at` is the leaf at an index
+abbrev pub weight_at : (Bptr → ℕ) → (ℕ → Ptr) → List (ℕ × Ptr) → ℕ
+weight_at weight at [] = 0
+weight_at weight at (change ∷ changes) = weigh weight (at change.0) + weight_at weight at changes
+
+-- what the changes bring
+abbrev pub weight_of : (Bptr → ℕ) → List (ℕ × Ptr) → ℕ
+weight_of weight [] = 0
+weight_of weight (change ∷ changes) = weigh weight change.1 + weight_of weight changes
+
+-- The leaves are those before, without those at the changed indices and with those that the changes bring.
+pub record SwapsLeaves (changes : List (ℕ × Ptr)) (old new : List Bptr) (at : ℕ → Ptr) : Type 0 where
+  pub stored : (weight : Bptr → ℕ) → sum_by weight new + weight_at weight at changes ≡ sum_by weight old + weight_of weight changes
 
 -- the 32 pointers of the block, all holes for a hole
 pub record IsOpen (s : Stored) (below : ℕ) (p : Ptr) (pointers : List Ptr) : Type 0 where
   pub leaves : (index : ℕ) → leaf_at s (suc below) p index ≡ leaf_at s below (slot pointers (digit below index)) index
   pub tree_blocks : blocks s (suc below) p ≡ own p ++ flat_map (blocks s below) pointers
+  pub all_leaves : leaves_below s (suc below) p ≡ flat_map (leaves_below s below) pointers
 
 -- the pointer p stands for q, with the changes made, and the store has its tree blocks in place of q's
 pub record Sets (level place : ℕ) (changes : List (ℕ × Ptr)) (old new : Stored) (q p : Ptr) : Type 0 where
   pub leaves : (index : ℕ) → index / 32 ^ level ≡ place → leaf_at new level p index ≡ updated changes index (leaf_at old level q index)
   pub swaps : Swaps old new (blocks old level q) (blocks new level p)
+  pub swaps_leaves : Rises changes → SwapsLeaves changes (leaves_below old level q) (leaves_below new level p) (leaf_at old level q)
 
 -- the same for the 32 pointers of a block above this level
 pub record SetsEach (below place : ℕ) (changes : List (ℕ × Ptr)) (old new : Stored) (qs ps : List Ptr) : Type 0 where
   pub leaves : (index : ℕ) → index / 32 ^ suc below ≡ place → leaf_at new below (slot ps (digit below index)) index ≡ updated changes index (leaf_at old below (slot qs (digit below index)) index)
   pub swaps : Swaps old new (flat_map (blocks old below) qs) (flat_map (blocks new below) ps)
+  pub swaps_leaves : Rises changes → SwapsLeaves changes (flat_map (leaves_below old below) qs) (flat_map (leaves_below new below) ps) (λ index. leaf_at old below (slot qs (digit below index)) index)
 
 -- the tree blocks of a tree
 abbrev pub tree_blocks : Stored → Tree → List Bptr
 tree_blocks s t = blocks s t.height t.root
+
+-- the leaves of a tree
+abbrev pub tree_leaves : Stored → Tree → List Bptr
+tree_leaves s t = leaves_below s t.height t.root
 
 -- its blocks, the leaves among them
 abbrev pub tree_reach : Stored → Tree → List Bptr
@@ -91,11 +127,13 @@ tree_reach s t = reach s t.height t.root
 pub record Raises (level : ℕ) (changes : List (ℕ × Ptr)) (old new : Stored) (t : Tree) (p : Ptr) : Type 0 where
   pub leaves : (index : ℕ) → index / 32 ^ level ≡ 0 → leaf_at new level p index ≡ updated changes index (tree_at old t index)
   pub swaps : Swaps old new (tree_blocks old t) (blocks new level p)
+  pub swaps_leaves : Rises changes → SwapsLeaves changes (tree_leaves old t) (leaves_below new level p) (tree_at old t)
 
 -- the tree u is t with the changes, and the store has u's tree blocks in place of t's
 pub record SetsTree (changes : List (ℕ × Ptr)) (old new : Stored) (t u : Tree) : Type 0 where
   pub leaves : (index : ℕ) → tree_at new u index ≡ updated changes index (tree_at old t index)
   pub swaps : Swaps old new (tree_blocks old t) (tree_blocks new u)
+  pub swaps_leaves : Rises changes → SwapsLeaves changes (tree_leaves old t) (tree_leaves new u) (tree_at old t)
 
 -- the least height from this one on that has room for the changes
 pub record IsHeightFor (from : ℕ) (changes : List (ℕ × Ptr)) (height : ℕ) : Type 0 where

@@ -3,7 +3,7 @@ use Rattle.std.proofs.lemmas.Result.{IfOk-weaker}
 use Rattle.std.proofs.lemmas.List.{take_all, take-append-drop}
 use Rattle.zr_bptr.specs.declared.Ptr.{Ptr}
 use Rattle.zr_store.specs.Store.{AreStored}
-use Rattle.zr_tree.specs.Trees.{Sets, SetsEach, IsOpen, Raises, blocks}
+use Rattle.zr_tree.specs.Trees.{Sets, SetsEach, IsOpen, Raises, blocks, AllAt}
 use Rattle.zr_tree.proofs.Raise.{raised, same_height, first_stored}
 use Rattle.zr_tree.proofs.trees.+raise.Goals as goal
 
@@ -15,7 +15,7 @@ returns-then-level-t-clause-raises g r c = λ told held.
     let changes = c.args.changes.now in
     let held_level = subst (λ (n : ℕ). AreStored (blocks s0 n t.root) s0) (sym c.if-level-t.true) held in
     IfOk-weaker c.set_below.result _ _ (λ p sets.
-    subst (λ (n : ℕ). Raises n changes s0 s1 t p) (sym c.if-level-t.true) (same_height changes s0 s1 t p (subst (λ (n : ℕ). Sets n 0 changes s0 s1 t.root p) c.if-level-t.true sets))) (c.set_below.ensures.sets told held_level)
+    subst (λ (n : ℕ). Raises n changes s0 s1 t p) (sym c.if-level-t.true) (same_height changes s0 s1 t p (subst (λ (n : ℕ). AllAt n 0 changes) c.if-level-t.true c.requires.here) (subst (λ (n : ℕ). Sets n 0 changes s0 s1 t.root p) c.if-level-t.true sets))) (c.set_below.ensures.sets told held_level)
 
 pub returns-clause-raises : goal.returns-clause-raises
 returns-clause-raises g r c = λ told held.
@@ -47,6 +47,7 @@ returns-clause-raises g r c = λ told held.
     let at = c.run_len-n.ensures.here in
     let parts : low ++ high ≡ changes = take-append-drop n changes in
     let p = c.in_ok-root.root in
+    let room = subst (λ (cs : List (ℕ × Ptr)). AllAt (suc below) 0 cs) (sym parts) (subst (λ (l : ℕ). AllAt l 0 changes) level_is c.requires.here) in
     let open_p = subst (λ (xs : List Ptr). IsOpen s3 below p xs) c.as_slice.ensures.value (c.in_ok-root.ensures.open told2) in
     let put = c.in_ok-root.ensures.swaps told2 in
-    subst (λ (l : ℕ). Raises l changes s0 s3 t p) (sym level_is) (raised below changes low high s0 s1 s2 s3 t p1 p hs ps size all_holes parts short first each open_p put at held once)
+    subst (λ (l : ℕ). Raises l changes s0 s3 t p) (sym level_is) (raised below changes low high s0 s1 s2 s3 t p1 p hs ps size all_holes parts short first each open_p put at held once room)
