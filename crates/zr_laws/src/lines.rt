@@ -13,8 +13,7 @@ pub fn the_texts_of_replies()
     ensures synced { reply_text (reply.Synced 2) ≡ codes "synced 2" ++ 10 ∷ [] }
     ensures cancelled { reply_text (reply.Cancelled 0) ≡ codes "cancelled 0" ++ 10 ∷ [] }
     ensures ended { reply_text reply.Ended ≡ codes "done" ++ 10 ∷ [] }
-{
-}
+{}
 
 /// Refusals with their fields.
 pub fn the_texts_of_refusals()
@@ -27,25 +26,20 @@ pub fn the_texts_of_refusals()
     ensures rule { reply_text (reply.No (refusal.BadRoot 4)) ≡ codes "refused 24 bad root rule 4" ++ 10 ∷ [] }
     ensures group { reply_text (reply.No (refusal.GroupNotKept 3)) ≡ codes "refused 25 group not kept oldest 3" ++ 10 ∷ [] }
     ensures version { reply_text (reply.No (refusal.UnknownVersion 3)) ≡ codes "refused 26 version found 3" ++ 10 ∷ [] }
-{
-}
+{}
 
 /// The line of a device that is gone, and the last lines of runs.
 pub fn the_lines_of_tables_and_ends()
-    ensures gone {
-        list_line (record { index = 0; path = None; state = state.Gone; units = 0; allocated = 0; checkpointed = 0; deferred = 0; free = 0 })
-        ≡ codes "dev 0 - gone 0 0 0 0 0" ++ 10 ∷ []
-    }
+    ensures gone { list_line (record { index = 0; path = None; state = state.Gone; units = 0; allocated = 0; checkpointed = 0; deferred = 0; free = 0 })
+        ≡ codes "dev 0 - gone 0 0 0 0 0" ++ 10 ∷ [] }
     ensures bad { last_line (BadLine 1) ≡ codes "bad line 1" ++ 10 ∷ [] }
     ensures fault { last_line DiskFault ≡ codes "stopped disk fault" ++ 10 ∷ [] }
     ensures limit { last_line InputLimit ≡ codes "stopped input limit" ++ 10 ∷ [] }
-{
-}
+{}
 
 /// Each line feed ends a line, and bytes behind the last are a line.
 pub fn the_lines_of_an_input()
     ensures none { lines_of [] ≡ [] }
     ensures two { lines_of (97 ∷ 10 ∷ 98 ∷ []) ≡ (97 ∷ []) ∷ ((98 ∷ []) ∷ []) }
     ensures empty { lines_of (97 ∷ 10 ∷ 10 ∷ []) ≡ (97 ∷ []) ∷ ([] ∷ []) }
-{
-}
+{}

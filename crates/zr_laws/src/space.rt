@@ -78,15 +78,11 @@ pub fn the_runs_of_the_policies()
 
 /// A freed extent of a leaving device of which 10 units are synced and 10 more in flight is cut into three parts.
 pub fn a_freed_extent_is_cut()
-    ensures {
-        IsRouted 10 20 (record { start = 5; len = 20 }) (Some (record { start = 5; len = 5 })) (Some (record { start = 10; len = 10 }))
-            (Some (record { start = 20; len = 5 }))
-    }
-{
-}
+    ensures { IsRouted 10 20 (record { start = 5; len = 20 }) (Some (record { start = 5; len = 5 })) (Some (record { start = 10; len = 10 }))
+        (Some (record { start = 20; len = 5 })) }
+{}
 
 /// A freed extent above the open frontier has one part.
 pub fn a_freed_extent_above_the_frontier()
     ensures { IsRouted 10 20 (record { start = 30; len = 2 }) None None (Some (record { start = 30; len = 2 })) }
-{
-}
+{}

@@ -1,13 +1,13 @@
+ghost use Rattle.std.specs.Prelude.{◌≡◌, ◌<◌, []};
+ghost use Rattle.zr_base.specs.declared.space.Policy.{Policy};
+ghost use Rattle.zr_rules.specs.Choices.{AreRuns, IsPick};
+
 use crate::run;
 use std::alloc::Global;
 use std::test::Fail;
 use zr_base::{Extent, Policy};
 use zr_choose::{Chooser, pick_first};
 use zr_shelf::{Desk, DeskErr, MemDesk, Shelf};
-
-ghost use Rattle.std.specs.Prelude.{◌≡◌, ◌<◌, []};
-ghost use Rattle.zr_base.specs.declared.space.Policy.{Policy};
-ghost use Rattle.zr_rules.specs.Choices.{AreRuns, IsPick};
 
 // A desk in memory whose input comes byte by byte. It tells nothing.
 #[derive(Drop)]
@@ -102,7 +102,11 @@ fn is_answered(
     sent: &str,
     end: u8,
 ) -> Result<bool, Fail> {
-    let mut desk = MemDesk::new(alloc, Vec::from_slice(alloc, input.as_bytes())?, Vec::new(alloc));
+    let mut desk = MemDesk::new(
+        alloc,
+        Vec::from_slice(alloc, input.as_bytes())?,
+        Vec::new(alloc),
+    );
     let status = status(alloc, words, &mut desk)?;
     Ok(status == end && desk.sent() == sent.as_bytes())
 }
@@ -110,11 +114,21 @@ fn is_answered(
 #[test]
 fn scripts_are_answered(rt: HostRuntime) -> Result<(), Fail> {
     let rows = [
-        (format!(in rt.alloc(); "{MADE}read 1 0 3\n")?, "ok\nok\nok\ndata 616263\n", 0),
-        (String::new(rt.alloc()), "", 0),
-        (format!(in rt.alloc(); "{MADE}read 1 5 4")?, "ok\nok\nok\ndata 00000000\n", 0),
         (
-            format!(in rt.alloc(); "create p 1 a\nmake 1 1\nwrite 1 137438953471 ff\nread 1 137438953471 1\nwrite 1 137438953472 ff\n")?,
+            format!(in rt.alloc(); "{MADE}read 1 0 3\n")?,
+            "ok\nok\nok\ndata 616263\n",
+            0,
+        ),
+        (String::new(rt.alloc()), "", 0),
+        (
+            format!(in rt.alloc(); "{MADE}read 1 5 4")?,
+            "ok\nok\nok\ndata 00000000\n",
+            0,
+        ),
+        (
+            format!(in rt.alloc();
+                "create p 1 a\nmake 1 1\nwrite 1 137438953471 ff\nread 1 137438953471 1\nwrite 1 137438953472 ff\n"
+            )?,
             "ok\nok\nok\ndata ff\nrefused 5 out of range\n",
             0,
         ),
@@ -124,10 +138,22 @@ fn scripts_are_answered(rt: HostRuntime) -> Result<(), Fail> {
             0,
         ),
         (format!(in rt.alloc(); "frob")?, "bad line 1\n", 5),
-        (format!(in rt.alloc(); "{MADE}\nread 1 0 3\n")?, "ok\nok\nok\nbad line 4\n", 5),
+        (
+            format!(in rt.alloc(); "{MADE}\nread 1 0 3\n")?,
+            "ok\nok\nok\nbad line 4\n",
+            5,
+        ),
         (format!(in rt.alloc(); "make 1 1\n")?, "bad line 1\n", 5),
-        (format!(in rt.alloc(); "create p 1 a\ncreate p 1 a\n")?, "ok\nbad line 2\n", 5),
-        (format!(in rt.alloc(); "create p 1 a\nquit\nfrob\n")?, "ok\n", 0),
+        (
+            format!(in rt.alloc(); "create p 1 a\ncreate p 1 a\n")?,
+            "ok\nbad line 2\n",
+            5,
+        ),
+        (
+            format!(in rt.alloc(); "create p 1 a\nquit\nfrob\n")?,
+            "ok\n",
+            0,
+        ),
     ];
     for (input, sent, end) in &rows {
         assert!(rt; is_answered(rt.alloc(), &WORDS, input.as_str(), sent, *end)?);
@@ -151,7 +177,13 @@ fn an_input_may_come_byte_by_byte(rt: HostRuntime) -> Result<(), Fail> {
 #[test]
 fn each_fault_has_its_status(rt: HostRuntime) -> Result<(), Fail> {
     // attach, take, give, give, give, give, take
-    for (call, sent, end) in [(1, "", 7), (2, "", 2), (3, "", 3), (5, "ok\nok\n", 3), (7, "ok\nok\nok\ndata 616263\n", 2)] {
+    for (call, sent, end) in [
+        (1, "", 7),
+        (2, "", 2),
+        (3, "", 3),
+        (5, "ok\nok\n", 3),
+        (7, "ok\nok\nok\ndata 616263\n", 2),
+    ] {
         let input = format!(in rt.alloc(); "{MADE}read 1 0 3\n")?;
         let mut desk = MemDesk::new(
             rt.alloc(),
