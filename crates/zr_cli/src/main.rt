@@ -1,10 +1,67 @@
-//! The program: it answers a script of pool commands over device files.
+//! `zr DEV` answers the script on standard input, over the device file that is named.
+//!
+//! The program makes what `run` is handed: the words, the desk over files and the choosers. All else is `run`'s.
 #![tactic(auto)]
 
 mod file_desk;
 
-pub use crate::file_desk::FileDesk;
+ghost use Rattle.std.specs.Prelude.{◌<◌};
+ghost use Rattle.zr_base.specs.declared.space.Policy.{Policy};
+ghost use Rattle.zr_rules.specs.Choices.{AreRuns, IsPick};
 
-fn main(rt: HostRuntime) {
-    let _desk = FileDesk::new(rt);
+pub use crate::file_desk::FileDesk;
+use std::alloc::Global;
+use std::env;
+use std::process::ExitCode;
+use zr_base::{Extent, NoMemory, Policy};
+use zr_choose::{Chooser, pick_best, pick_first};
+use zr_session::run;
+
+/// The status for words that are no command line.
+const BAD_WORDS: u8 = 1;
+
+/// The status for want of memory.
+const NO_MEMORY: u8 = 9;
+
+/// Makes the choosers and the desk, and runs. It answers the status.
+fn answer(alloc: Global, words: &[String], rt: HostRuntime) -> Result<u8, NoMemory> {
+    let first = Chooser::new(
+        String::from_str(alloc, "first")?,
+        Policy::First,
+        Box::new(
+            alloc,
+            |want: u64, runs: &[Extent]| -> Option<usize>
+                requires { (0 < want) × AreRuns runs.now }
+                ensures { IsPick Policy.First want runs.entry.now result }
+            { pick_first(want, runs) },
+        )?,
+    );
+    let best = Chooser::new(
+        String::from_str(alloc, "best")?,
+        Policy::Best,
+        Box::new(
+            alloc,
+            |want: u64, runs: &[Extent]| -> Option<usize>
+                requires { (0 < want) × AreRuns runs.now }
+                ensures { IsPick Policy.Best want runs.entry.now result }
+            { pick_best(want, runs) },
+        )?,
+    );
+    let choosers = [first, best];
+    let mut desk = FileDesk::new(rt);
+    Ok(run(alloc, words, &mut desk, &choosers))
+}
+
+fn main(rt: HostRuntime) -> ExitCode {
+    let alloc = rt.alloc();
+    let Ok(all) = env::args(&rt) else {
+        return ExitCode::from(BAD_WORDS);
+    };
+    let Ok(words) = all.skip(1).collect::<Vec<String>>(alloc) else {
+        return ExitCode::from(NO_MEMORY);
+    };
+    match answer(alloc, words.as_slice(), rt) {
+        Ok(status) => ExitCode::from(status),
+        Err(NoMemory) => ExitCode::from(NO_MEMORY),
+    }
 }

@@ -2,7 +2,7 @@
 use Rattle.std.proofs.Common.{◌≡◌, ℕ, zero, suc, ◌+◌, ◌-◌, ◌≤◌, List, [], ◌∷◌, ◌++◌, length, take, drop, refl, sym, ap, subst, ◌∙◌, append_assoc, zero-add, replicate, IsTrue, ◌==◌, false, arith}
 use Rattle.std.specs.List.{list_all}
 use Rattle.std.proofs.Math.Dec.{eqb-suc-zero}
-use Rattle.std.proofs.lemmas.List.{take_at, drop_at, take-replicate, drop-replicate, length-append, length-drop, length-replicate, drop-drop, drop_all, append-nil}
+use Rattle.std.proofs.lemmas.List.{take_at, take-replicate, drop-replicate, length-append, length-drop, length-replicate, drop-drop, drop_all, append-nil}
 use Rattle.sha2.specs.Sha256.{sha256}
 use Rattle.zr_label.specs.Blocks.{padding, IsFilled, summed}
 

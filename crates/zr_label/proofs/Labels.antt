@@ -1,13 +1,13 @@
 -- A label block has one value.
-use Rattle.std.proofs.Common.{◌≡◌, ℕ, ◌+◌, ◌*◌, ◌%◌, ◌^◌, ◌<◌, List, [], ◌∷◌, ◌++◌, length, take, drop, slice_index, Bool, IsTrue, ◌==◌, ◌-◌, ◌≤◌, refl, sym, ap, subst, ◌∙◌, arith}
+use Rattle.std.proofs.Common.{◌≡◌, ℕ, ◌%◌, ◌^◌, ◌<◌, List, length, drop, Bool, IsTrue, ◌==◌, ◌-◌, ◌≤◌, refl, sym, ap, subst, ◌∙◌, arith}
 use Rattle.std.specs.List.{list_all}
 use Rattle.std.proofs.lemmas.List.{length-drop}
 use Rattle.zr_bptr.specs.Fields.{word_at}
 use Rattle.zr_bptr.proofs.Spelled.{word_back}
 use Rattle.zr_label.specs.declared.root.Name.{Name}
 use Rattle.zr_label.specs.declared.root.Label.{Label}
-use Rattle.zr_label.specs.Blocks.{IsName, IsLabel, SpellsLabel, label_block, label_words, name_field, summed}
-use Rattle.zr_label.specs.Fields.{name_at, label_fields}
+use Rattle.zr_label.specs.Blocks.{IsName, IsLabel, SpellsLabel, label_block, summed}
+use Rattle.zr_label.specs.Fields.{label_fields}
 use Rattle.zr_label.proofs.Filling.{front_is, zeros_iff}
 
 abbrev made : ℕ → ℕ → ℕ → ℕ → ℕ → List ℕ → Label

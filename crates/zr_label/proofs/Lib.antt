@@ -1,3 +1,4 @@
 pub mod Newest
 pub mod Filling
 pub mod Labels
+pub mod Unknown

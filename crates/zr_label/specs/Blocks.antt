@@ -1,5 +1,5 @@
 -- The bytes of a label block and of an uberblock.
-use Rattle.std.specs.Prelude.{◌≡◌, ◌≢◌, ◌⊎◌, ℕ, ◌+◌, ◌-◌, ◌*◌, ◌%◌, ◌^◌, ◌<◌, ◌≤◌, ◌==◌, List, [], ◌∷◌, ◌++◌, length, map, take, drop, replicate, codes, IsTrue, if◌then◌else◌}
+use Rattle.std.specs.Prelude.{◌≡◌, ◌≢◌, ◌⊎◌, ℕ, ◌-◌, ◌%◌, ◌^◌, ◌<◌, ◌≤◌, ◌==◌, List, [], ◌∷◌, ◌++◌, length, map, take, drop, replicate, codes, IsTrue, if◌then◌else◌}
 use Rattle.std.specs.List.{AllByRecursion, flat_map, list_any}
 use Rattle.std.specs.Int.{div_ceil}
 use Rattle.sha2.specs.Sha256.{sha256}
@@ -9,7 +9,7 @@ use Rattle.zr_base.specs.declared.space.DevState.{DevState}
 use Rattle.zr_base.specs.declared.space.DevState.TheVariants.{On, Leaving, Gone}
 use Rattle.zr_bptr.specs.declared.Ptr.{Ptr}
 use Rattle.zr_bptr.specs.declared.Ptr.TheVariants.{Hole, At}
-use Rattle.zr_base.specs.Words.{words, zeros}
+use Rattle.zr_base.specs.Words.{words}
 use Rattle.zr_bptr.specs.Spelling.{pointer_bytes, IsPointer}
 use Rattle.zr_label.specs.declared.root.Name.{Name}
 use Rattle.zr_label.specs.declared.root.Label.{Label}
@@ -160,10 +160,11 @@ pub record SpellsUber (block : List ℕ) (u : Uber) : Type 0 where
   pub lawful : IsUber u
   pub spelling : block ≡ uber_block u
 
--- the block has the mark and the sum of a root, but a version that this program does not know
+-- the block has the mark and the sum of a root of the pool, but a version that this program does not know
 pub record SpellsNewer (block : List ℕ) (guid version txg : ℕ) : Type 0 where
   pub unknown : (version ≢ 1) × (version ≢ 2)
+  pub version_fits : version < 2 ^ 64
+  pub txg_fits : txg < 2 ^ 64
   pub rest : List ℕ
-  pub size : length rest ≡ 4064
-  pub spelling : block ≡ codes "zr-uber1" ++ words (version ∷ txg ∷ guid ∷ []) ++ rest
+  pub spelling : block ≡ (codes "zr-uber1" ++ words (version ∷ txg ∷ guid ∷ [])) ++ rest
   pub sum : drop 4064 block ≡ sha256 (take 4064 block)

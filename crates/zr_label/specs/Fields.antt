@@ -1,5 +1,5 @@
 -- Reading a label and a root from their places in a block, whether or not they are lawful.
-use Rattle.std.specs.Prelude.{ℕ, ◌+◌, ◌*◌, ◌/◌, ◌%◌, ◌^◌, List, take, drop, slice_index}
+use Rattle.std.specs.Prelude.{ℕ, ◌+◌, ◌%◌, ◌^◌, List, take, drop, slice_index}
 use Rattle.zr_bptr.specs.Fields.{word_at}
 use Rattle.zr_label.specs.declared.root.Name.{Name}
 use Rattle.zr_label.specs.declared.root.Label.{Label}

@@ -8,10 +8,14 @@
 mod block;
 mod geometry;
 mod label;
+mod laws;
+mod newer;
 mod root;
 
 pub use geometry::{LABEL_BYTES, label_at, slot_of, units_of_size, whole};
 pub use label::is_name;
+pub use laws::one_value;
+pub use newer::newer_of;
 pub use root::{Label, Name, Newer, Seen, Uber, best};
 
 #[cfg(test)]

@@ -74,3 +74,22 @@ fn the_newest_root(rt: HostRuntime) {
     assert_eq!(rt; best(&[old, root, old]), Some(root));
     assert_eq!(rt; best(&[]), None);
 }
+
+#[test]
+fn a_root_of_another_version(rt: HostRuntime) {
+    let mut block = [0; 4096];
+    block[..8].copy_from_slice(b"zr-uber1");
+    block[8] = 3;
+    block[16] = 40;
+    block[24] = 5;
+    let sum = zr_bptr::sum_of(&block[..4064]);
+    block[4064..].copy_from_slice(&sum);
+    let newer = Newer {
+        version: 3,
+        txg: 40,
+    };
+    assert_eq!(rt; newer_of(&block, 5), Some(newer));
+    assert_eq!(rt; newer_of(&block, 6), None);
+    block[8] = 2;
+    assert_eq!(rt; newer_of(&block, 5), None);
+}

@@ -1,0 +1,4 @@
+pub mod Trees
+pub mod Metaslabs
+pub mod Devices
+pub mod Order

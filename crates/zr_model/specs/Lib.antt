@@ -1,0 +1,5 @@
+pub mod Objects
+pub mod State
+pub mod Step
+pub mod Runs
+pub mod Answers

@@ -1,0 +1,77 @@
+-- A run of commands, each answered from what the one before left.
+use Rattle.std.specs.Prelude.{◌≡◌, ◌≢◌, ◌⊎◌, ℕ, List, [], ◌∷◌}
+use Rattle.std.specs.List.{flat_map}
+use Rattle.zr_shelf.specs.Disks.{Stand}
+use Rattle.zr_shelf.specs.Moments.{World, Throughout}
+use Rattle.zr_script.specs.declared.command.Command.{Command}
+use Rattle.zr_script.specs.declared.command.Command.TheVariants as cmd
+use Rattle.zr_script.specs.declared.reply.Reply.{Reply}
+use Rattle.zr_script.specs.Grammar.{IsLine}
+use Rattle.zr_script.specs.ReplyText.{reply_text}
+use Rattle.zr_model.specs.State.{State}
+use Rattle.zr_model.specs.Step.{Step, IsServed}
+
+-- the shelf as it reads: its paths and the bytes of its disks
+pub record Shelf : Type 0 where
+  pub paths : List (List ℕ)
+  pub disks : List (List ℕ)
+
+-- how things stand between two commands
+pub record Point : Type 0 where
+  pub shelf : Shelf
+  pub state : State
+
+-- a command, its answer, and how things stand then
+pub record Turn : Type 0 where
+  pub command : Command
+  pub answer : Reply
+  pub point : Point
+
+abbrev pub point : Stand → State → Point
+point stand state = record { shelf = record { paths = stand.paths; disks = stand.seen }; state = state }
+
+abbrev pub turn : Command → Reply → Stand → State → Turn
+turn command answer stand state = record { command = command; answer = answer; point = point stand state }
+
+-- What a command does to the disks: nothing, as all objects are in memory.
+abbrev pub Moves : Shelf → Shelf → Type 0
+Moves old new = new ≡ old
+
+-- one command from a point
+pub record Takes (p : Point) (t : Turn) : Type 0 where
+  pub step : Step p.shelf.paths p.state t.command t.answer t.point.state
+  pub move : Moves p.shelf t.point.shelf
+
+-- one command after another
+abbrev pub Run : Point → List Turn → Type 0
+Run p [] = Unit {0}
+Run p (t ∷ turns) = Takes p t × Run t.point turns
+
+-- how things stand behind the turns
+abbrev pub end_of : Point → List Turn → Point
+end_of p [] = p
+end_of p (t ∷ turns) = end_of t.point turns
+
+-- the bytes of all answers
+abbrev pub texts : List Turn → List ℕ
+texts turns = flat_map (λ t. reply_text t.answer) turns
+
+-- the line asks for the command, which does not end the run
+abbrev pub Asks : List ℕ → Command → Type 0
+Asks line command = IsLine line command × (command ≢ cmd.Quit)
+
+-- the line is outside the grammar, or asks for what may not stand here
+abbrev pub IsBad : Point → List ℕ → Type 0
+IsBad p line =
+    ((command : Command) → IsLine line command → ⊥) ⊎ ((command : Command) × Asks line command × (IsServed p.shelf.paths p.state command → ⊥))
+
+-- the same devices, input and output
+pub record IsOutside (old new : Stand) : Type 0 where
+  pub paths : new.paths ≡ old.paths
+  pub left : new.left ≡ old.left
+  pub sent : new.sent ≡ old.sent
+
+-- nothing is attached, taken or sent, at any moment
+pub record KeepsOutside (old new : World) : Type 0 where
+  pub now : IsOutside old.now new.now
+  pub since : Throughout (IsOutside old.now) old new

@@ -1,0 +1,2 @@
+pub mod TreeUnits
+pub mod RoomLaws

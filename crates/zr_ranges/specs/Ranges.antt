@@ -1,0 +1,20 @@
+-- What contracts see of a RangeSet.
+use Rattle.std.specs.Prelude.{◌≡◌, ℕ, ◌<◌, List, length}
+use Rattle.zr_base.specs.declared.space.Extent.{Extent}
+use Rattle.zr_base.specs.Extents.{IsMaximal, unit_count, extent_at}
+
+-- the maximal extents of the set in order, and how many changes take no memory
+pub record Ranges : Type 0 where
+  pub extents : List Extent
+  pub spare : ℕ
+
+-- the runs are maximal and in order, and their units are counted
+pub record IsKept (runs : List Extent) (units : ℕ) : Type 0 where
+  pub maximal : IsMaximal runs
+  pub counted : units ≡ unit_count runs
+
+-- one of the extents has so many units
+pub record HasRunOf (runs : List Extent) (n : ℕ) : Type 0 where
+  pub index : ℕ
+  pub inside : index < length runs
+  pub as_long : (extent_at runs index).len ≡ n

@@ -1,0 +1,15 @@
+-- What the program answers to its words and its input.
+use Rattle.std.specs.Prelude.{ℕ, List, Option}
+use Rattle.zr_shelf.specs.Counts.{Counts, HasRisen}
+use Rattle.zr_model.specs.Answers.{IsStarted}
+
+-- no call of any kind failed
+pub record NoneRose (before now : Counts) : Type 0 where
+  pub disk : HasRisen before.disk now.disk → ⊥
+  pub attach : HasRisen before.attach now.attach → ⊥
+  pub input : HasRisen before.input now.input → ⊥
+  pub output : HasRisen before.output now.output → ⊥
+
+-- the words are no command line
+abbrev pub IsNoCommandLine : ℕ → List (List ℕ) → Type 0
+IsNoCommandLine choosers words = (path : List ℕ) (make : Option ℕ) → IsStarted choosers words path make → ⊥

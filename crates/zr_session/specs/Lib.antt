@@ -1,0 +1,5 @@
+pub mod Ends
+pub mod Lines
+pub mod Progress
+pub mod Memory
+pub mod Headline

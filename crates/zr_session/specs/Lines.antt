@@ -1,0 +1,69 @@
+-- One line, and what is sent for it.
+use Rattle.std.specs.Prelude.{◌≡◌, ℕ, ◌<◌, List, [], ◌++◌, length}
+use Rattle.zr_shelf.specs.Disks.{Stand}
+use Rattle.zr_script.specs.declared.command.Command.{Command}
+use Rattle.zr_script.specs.declared.command.Command.TheVariants as cmd
+use Rattle.zr_script.specs.declared.reply.Reply.{Reply}
+use Rattle.zr_script.specs.Grammar.{IsLine}
+use Rattle.zr_script.specs.ReplyText as text
+use Rattle.zr_script.specs.ReplyText.{reply_text, last_line}
+use Rattle.zr_model.specs.State.{State}
+use Rattle.zr_model.specs.Step.{IsServed}
+use Rattle.zr_model.specs.Runs.{Point, point, turn, Takes, Asks}
+use Rattle.zr_session.specs.declared.end.End.{End}
+use Rattle.zr_session.specs.declared.end.End.TheVariants.{Answered, OutputFault, DiskFault, BadLine, NoMemory}
+
+-- this was sent, and nothing taken
+pub record Sends (old new : Stand) (bytes : List ℕ) : Type 0 where
+  pub left : new.left ≡ old.left
+  pub sent : new.sent ≡ old.sent ++ bytes
+
+-- not all bytes were sent
+abbrev pub SendsPartly : List ℕ → Stand → Stand → End → Type 0
+SendsPartly bytes old new OutputFault = (front back : List ℕ) × (front ++ back ≡ bytes) × Sends old new front
+SendsPartly bytes old new NoMemory = Sends old new []
+SendsPartly bytes old new _ = ⊥
+
+-- the run ends as said and this was sent, or it ends so because that was not sent
+pub data Tells (end : End) (bytes : List ℕ) (result : End) (old new : Stand) : Type 0 where
+  wholly : result ≡ end → Sends old new bytes → Tells end bytes result old new
+  partly : SendsPartly bytes old new result → Tells end bytes result old new
+
+-- the command is done, and its answer sent
+pub record DoesCommand (command : Command) (before after : State) (old new : Stand) : Type 0 where
+  pub answer : Reply
+  pub takes : Takes (point old before) (turn command answer new after)
+  pub sends : Sends old new (reply_text answer)
+
+-- what is to be sent for a command
+pub data IsTextFor (command : Command) (number : ℕ) (before : State) (old : Stand) : List ℕ → Type 0 where
+  reply : (answer : Reply) (after : Point) → Takes (point old before) (record { command = command; answer = answer; point = after }) → IsTextFor command number before old (reply_text answer)
+  bad_line : (IsServed old.paths before command → ⊥) → IsTextFor command number before old (last_line (text.BadLine number))
+  fault : IsTextFor command number before old (last_line text.DiskFault)
+
+-- the run ends at the command
+abbrev pub StopsAtCommand : Command → ℕ → State → Stand → Stand → End → Type 0
+StopsAtCommand command number before old new OutputFault =
+    (front back next : List ℕ) × (front ++ back ≡ next) × IsTextFor command number before old next × Sends old new front
+StopsAtCommand command number before old new DiskFault = Sends old new (last_line text.DiskFault)
+StopsAtCommand command number before old new BadLine = (IsServed old.paths before command → ⊥) × Sends old new (last_line (text.BadLine number))
+StopsAtCommand command number before old new NoMemory = Sends old new []
+StopsAtCommand command number before old new _ = ⊥
+
+-- the line is answered
+pub record AnswersLine (line : List ℕ) (before after : State) (old new : Stand) : Type 0 where
+  pub command : Command
+  pub asks : Asks line command
+  pub does : DoesCommand command before after old new
+
+-- no command, or it ends at this one
+pub data StopsAtLine (line : List ℕ) (number : ℕ) (before : State) (old new : Stand) (end : End) : Type 0 where
+  outside : ((command : Command) → IsLine line command → ⊥) → Tells BadLine (last_line (text.BadLine number)) end old new → StopsAtLine line number before old new end
+  quit : IsLine line cmd.Quit → end ≡ Answered → new ≡ old → StopsAtLine line number before old new end
+  command : (command : Command) → Asks line command → StopsAtCommand command number before old new end → StopsAtLine line number before old new end
+  memory : end ≡ NoMemory → new ≡ old → StopsAtLine line number before old new end
+
+-- A line that has become too long is told, or memory ran out.
+pub data StopsAtRest (line : List ℕ) (number : ℕ) (old new : Stand) (end : End) : Type 0 where
+  long : 16384 < length line → Tells BadLine (last_line (text.BadLine number)) end old new → StopsAtRest line number old new end
+  full : end ≡ NoMemory → new ≡ old → StopsAtRest line number old new end

@@ -1,0 +1,20 @@
+//! A run of the program, from the words and the script to the replies and the status.
+//!
+//! The input is taken in pieces. Each line is cut out of its piece where it lies, and only a line that a piece does not
+//! end is carried over. A line goes to the pool as a command, and its reply is sent before the next line is taken up.
+//! The loop over lines knows no command but `quit`: what a command means is between the script and the pool.
+#![tactic(auto)]
+
+mod device;
+mod end;
+mod line;
+mod memory;
+mod object;
+mod script;
+mod session;
+mod table;
+
+pub use session::run;
+
+#[cfg(test)]
+mod tests;

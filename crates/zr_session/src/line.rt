@@ -1,0 +1,127 @@
+//! Lines within a piece of the input, and what is sent for one.
+ghost use Rattle.std.specs.Prelude.{◌≡◌, ◌⊎◌, length, ◌∷◌, ◌++◌, ◌+◌, ◌<◌, ◌^◌, IfNone, IfSome, IfErr, OnOk};
+ghost use Rattle.std.specs.List.{AllByRecursion};
+ghost use Rattle.zr_shelf.specs.Counts.{NoneFell};
+ghost use Rattle.zr_shelf.specs.Disks.{sent_more};
+ghost use Rattle.zr_model.specs.Answers.{IsOpenLine};
+ghost use Rattle.zr_script.specs.ReplyText.{last_line, BadLine, InputLimit, DiskFault};
+ghost use Rattle.zr_session.specs.Ends.{HasCause};
+ghost use Rattle.zr_session.specs.Lines.{AnswersLine, StopsAtLine, DoesCommand, StopsAtCommand, SendsPartly, Tells};
+ghost use Rattle.zr_session.specs.declared.end.End.TheVariants as is_end;
+
+use crate::end::End;
+use memchr::memchr;
+use std::alloc::Global;
+use zr_model::{Pool, Stop};
+use zr_script::{Command, parse_line, reply_bytes};
+use zr_shelf::{Desk, DeskErr};
+
+const LINE_FEED: u8 = b'\n';
+
+/// The first line of the bytes, without its line feed, and what stands behind that. None where there is no line feed.
+pub fn split_line(bytes: &[u8]) -> Option<(&[u8], &[u8])>
+    ensures none { IfNone result (IsOpenLine bytes.now) }
+    ensures some { IfSome result (λ parts. (bytes.now ≡ parts.0.now ++ 10 ∷ parts.1.now) × IsOpenLine parts.0.now) }
+{
+    let at = memchr(LINE_FEED, bytes)?;
+    let (line, more) = bytes.split_at(at);
+    Some((line, &more[1..]))
+}
+
+/// Sends all the bytes.
+fn send<D: Desk>(desk: &mut D, bytes: &[u8]) -> Result<(), End>
+    ensures sent { D.tells desk.old → OnOk result ((D.world desk.new).now ≡ sent_more (D.world desk.old).now bytes.now) }
+    ensures partly { D.tells desk.old → IfErr result (SendsPartly bytes.now (D.world desk.old).now (D.world desk.new).now) }
+    ensures cause { IfErr result (HasCause (D.counts desk.old) (D.counts desk.new)) }
+    ensures sizes { D.sizes desk.new ≡ D.sizes desk.old }
+    ensures none_fell { NoneFell (D.counts desk.old) (D.counts desk.new) }
+    ensures told { D.tells desk.old → D.tells desk.new }
+{
+    match desk.give(bytes) {
+        Ok(()) => Ok(()),
+        Err(DeskErr::Failed) => Err(End::OutputFault),
+        Err(DeskErr::NoMemory) => Err(End::NoMemory),
+    }
+}
+
+/// Sends the last line of a run, which then ends as said, unless that was not sent.
+pub fn tell<D: Desk>(desk: &mut D, text: &[u8], end: End) -> End
+    ensures told_it { D.tells desk.old → Tells end text.now result (D.world desk.old).now (D.world desk.new).now }
+    ensures cause { (result ≡ end) ⊎ HasCause (D.counts desk.old) (D.counts desk.new) result }
+    ensures sizes { D.sizes desk.new ≡ D.sizes desk.old }
+    ensures none_fell { NoneFell (D.counts desk.old) (D.counts desk.new) }
+    ensures told { D.tells desk.old → D.tells desk.new }
+{
+    match send(desk, text) {
+        Ok(()) => end,
+        Err(other) => other,
+    }
+}
+
+/// Tells that a line is a bad one.
+pub fn refuse_line<D: Desk>(alloc: Global, number: u64, desk: &mut D) -> End
+    ensures told_it { D.tells desk.old → Tells is_end.BadLine (last_line (BadLine number)) result (D.world desk.old).now (D.world desk.new).now }
+    ensures cause { HasCause (D.counts desk.old) (D.counts desk.new) result }
+    ensures sizes { D.sizes desk.new ≡ D.sizes desk.old }
+    ensures none_fell { NoneFell (D.counts desk.old) (D.counts desk.new) }
+    ensures told { D.tells desk.old → D.tells desk.new }
+{
+    let Ok(text) = format!(in alloc; "bad line {number}\n") else {
+        return End::NoMemory;
+    };
+    tell(desk, text.as_bytes(), End::BadLine)
+}
+
+/// Has the pool do a command, and sends its reply. Where a device failed, that is told.
+fn do_command<P: Pool, D: Desk>(
+    alloc: Global,
+    command: &Command,
+    number: u64,
+    pool: &mut P,
+    desk: &mut D,
+) -> Result<(), End>
+    requires { length (D.sizes desk.old) ≡ length (P.paths pool.old) }
+    ensures done { D.tells desk.old → (D.world desk.old).now.paths ≡ P.paths pool.old → OnOk result (DoesCommand command.now (P.state pool.old) (P.state pool.new) (D.world desk.old).now (D.world desk.new).now) }
+    ensures stopped { D.tells desk.old → (D.world desk.old).now.paths ≡ P.paths pool.old → IfErr result (StopsAtCommand command.now number (P.state pool.old) (D.world desk.old).now (D.world desk.new).now) }
+    ensures cause { IfErr result (HasCause (D.counts desk.old) (D.counts desk.new)) }
+    ensures paths { P.paths pool.new ≡ P.paths pool.old }
+    ensures sizes { D.sizes desk.new ≡ D.sizes desk.old }
+    ensures none_fell { NoneFell (D.counts desk.old) (D.counts desk.new) }
+    ensures told { D.tells desk.old → D.tells desk.new }
+{
+    match pool.command(alloc, desk, command) {
+        Ok(Some(reply)) => {
+            let text = reply_bytes(alloc, &reply)?;
+            send(desk, text.as_slice())
+        }
+        Ok(None) => Err(refuse_line(alloc, number, desk)),
+        Err(Stop::DiskFault) => Err(tell(desk, b"stopped disk fault\n", End::DiskFault)),
+        Err(Stop::NoMemory) => Err(End::NoMemory),
+    }
+}
+
+/// Answers a line, the `number`th of the script from 1.
+pub fn answer_line<P: Pool, D: Desk>(
+    alloc: Global,
+    line: &[u8],
+    number: u64,
+    pool: &mut P,
+    desk: &mut D,
+) -> Result<(), End>
+    requires { length (D.sizes desk.old) ≡ length (P.paths pool.old) }
+    ensures answered { D.tells desk.old → (D.world desk.old).now.paths ≡ P.paths pool.old → OnOk result (AnswersLine line.now (P.state pool.old) (P.state pool.new) (D.world desk.old).now (D.world desk.new).now) }
+    ensures stopped { D.tells desk.old → (D.world desk.old).now.paths ≡ P.paths pool.old → IfErr result (StopsAtLine line.now number (P.state pool.old) (D.world desk.old).now (D.world desk.new).now) }
+    ensures cause { IfErr result (HasCause (D.counts desk.old) (D.counts desk.new)) }
+    ensures paths { P.paths pool.new ≡ P.paths pool.old }
+    ensures sizes { D.sizes desk.new ≡ D.sizes desk.old }
+    ensures none_fell { NoneFell (D.counts desk.old) (D.counts desk.new) }
+    ensures told { D.tells desk.old → D.tells desk.new }
+{
+    let Some(command) = parse_line(alloc, line)? else {
+        return Err(refuse_line(alloc, number, desk));
+    };
+    if let Command::Quit = command {
+        return Err(End::Answered);
+    }
+    do_command(alloc, &command, number, pool, desk)
+}

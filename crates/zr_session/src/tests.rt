@@ -1,0 +1,197 @@
+ghost use Rattle.std.specs.Prelude.{◌≡◌, ◌<◌, []};
+ghost use Rattle.zr_base.specs.declared.space.Policy.{Policy};
+ghost use Rattle.zr_rules.specs.Choices.{AreRuns, IsPick};
+
+use crate::run;
+use std::alloc::Global;
+use std::test::Fail;
+use zr_base::{Extent, Policy};
+use zr_choose::{Chooser, pick_first};
+use zr_shelf::{Desk, DeskErr, MemDesk, Shelf};
+
+// A desk in memory whose input comes byte by byte. It tells nothing.
+#[derive(Drop)]
+struct SlowDesk {
+    desk: MemDesk,
+}
+
+impl Shelf for SlowDesk {
+    ghost use Rattle.zr_shelf.specs.Counts.{Counts};
+    ghost use Rattle.zr_shelf.specs.Memory.{sizes_of, world_of};
+
+    ghost sizes = { λ d. sizes_of d.desk.memory.disks.items };
+
+    ghost counts = { λ d. record { disk = d.desk.disk_faults; attach = d.desk.attach_faults; input = d.desk.input_faults; output = d.desk.output_faults } };
+
+    ghost tells = { λ d. ⊥ };
+
+    ghost moment = { λ d. 0 };
+
+    ghost world = { λ d. world_of d.desk.memory.history };
+
+    ghost sound = { λ d told. absurd told };
+
+    fn slots(&self) -> u32 {
+        self.desk.slots()
+    }
+
+    fn size(&self, slot: u32) -> u64 {
+        self.desk.size(slot)
+    }
+
+    fn read(&mut self, slot: u32, at: u64, out: &mut [u8]) -> Result<(), DeskErr> {
+        self.desk.read(slot, at, out)
+    }
+
+    fn write(&mut self, slot: u32, at: u64, bytes: &[u8]) -> Result<(), DeskErr> {
+        self.desk.write(slot, at, bytes)
+    }
+
+    fn flush(&mut self) -> Result<(), DeskErr> {
+        self.desk.flush()
+    }
+}
+
+impl Desk for SlowDesk {
+    fn attach(&mut self, path: &str, make: Option<u64>) -> Result<u32, DeskErr> {
+        self.desk.attach(path, make)
+    }
+
+    fn take(&mut self, out: &mut [u8]) -> Result<usize, DeskErr> {
+        let most = out.len().min(1);
+        self.desk.take(&mut out[..most])
+    }
+
+    fn give(&mut self, bytes: &[u8]) -> Result<(), DeskErr> {
+        self.desk.give(bytes)
+    }
+}
+
+// The status that the words and the desk come to, with one chooser.
+fn status<D: Desk>(alloc: Global, words: &[&str], desk: &mut D) -> Result<u8, Fail> {
+    let first = Chooser::new(
+        String::from_str(alloc, "first")?,
+        Policy::First,
+        Box::new(
+            alloc,
+            |want: u64, runs: &[Extent]| -> Option<usize>
+                requires { (0 < want) × AreRuns runs.now }
+                ensures { IsPick Policy.First want runs.entry.now result }
+            { pick_first(want, runs) },
+        )?,
+    );
+    let mut strings = Vec::new(alloc);
+    for word in words {
+        strings.push(String::from_str(alloc, word)?)?;
+    }
+    if desk.slots() != 0 {
+        return Ok(255);
+    }
+    Ok(run(alloc, strings.as_slice(), desk, &[first]))
+}
+
+const WORDS: [&str; 1] = ["a:8388608"];
+
+const MADE: &str = "create p 1 a\nmake 1 1\nwrite 1 0 616263\n";
+
+// Whether an input is answered so.
+fn is_answered(
+    alloc: Global,
+    words: &[&str],
+    input: &str,
+    sent: &str,
+    end: u8,
+) -> Result<bool, Fail> {
+    let mut desk = MemDesk::new(
+        alloc,
+        Vec::from_slice(alloc, input.as_bytes())?,
+        Vec::new(alloc),
+    );
+    let status = status(alloc, words, &mut desk)?;
+    Ok(status == end && desk.sent() == sent.as_bytes())
+}
+
+#[test]
+fn scripts_are_answered(rt: HostRuntime) -> Result<(), Fail> {
+    let rows = [
+        (
+            format!(in rt.alloc(); "{MADE}read 1 0 3\n")?,
+            "ok\nok\nok\ndata 616263\n",
+            0,
+        ),
+        (String::new(rt.alloc()), "", 0),
+        (
+            format!(in rt.alloc(); "{MADE}read 1 5 4")?,
+            "ok\nok\nok\ndata 00000000\n",
+            0,
+        ),
+        (
+            format!(in rt.alloc();
+                "create p 1 a\nmake 1 1\nwrite 1 137438953471 ff\nread 1 137438953471 1\nwrite 1 137438953472 ff\n"
+            )?,
+            "ok\nok\nok\ndata ff\nrefused 5 out of range\n",
+            0,
+        ),
+        (
+            format!(in rt.alloc(); "{MADE}make 1 1\nread 2 0 1\nmake 2 3\nread 1 0 0\n")?,
+            "ok\nok\nok\nrefused 4 object exists\nrefused 3 no such object\nrefused 5 out of range\nrefused 5 out of range\n",
+            0,
+        ),
+        (format!(in rt.alloc(); "frob")?, "bad line 1\n", 5),
+        (
+            format!(in rt.alloc(); "{MADE}\nread 1 0 3\n")?,
+            "ok\nok\nok\nbad line 4\n",
+            5,
+        ),
+        (format!(in rt.alloc(); "make 1 1\n")?, "bad line 1\n", 5),
+        (
+            format!(in rt.alloc(); "create p 1 a\ncreate p 1 a\n")?,
+            "ok\nbad line 2\n",
+            5,
+        ),
+        (
+            format!(in rt.alloc(); "create p 1 a\nquit\nfrob\n")?,
+            "ok\n",
+            0,
+        ),
+    ];
+    for (input, sent, end) in &rows {
+        assert!(rt; is_answered(rt.alloc(), &WORDS, input.as_str(), sent, *end)?);
+    }
+    assert!(rt; is_answered(rt.alloc(), &[], "", "", 1)?);
+    assert!(rt; is_answered(rt.alloc(), &["a", "a"], "create p 1 a\n", "", 1)?);
+    Ok(())
+}
+
+#[test]
+fn an_input_may_come_byte_by_byte(rt: HostRuntime) -> Result<(), Fail> {
+    let input = Vec::from_slice(rt.alloc(), b"create p 1 a\nmake 1 1\nread 1 0 1")?;
+    let mut desk = SlowDesk {
+        desk: MemDesk::new(rt.alloc(), input, Vec::new(rt.alloc())),
+    };
+    assert!(rt; status(rt.alloc(), &WORDS, &mut desk)? == 0);
+    assert!(rt; desk.desk.sent() == b"ok\nok\ndata 00\n".as_slice());
+    Ok(())
+}
+
+#[test]
+fn each_fault_has_its_status(rt: HostRuntime) -> Result<(), Fail> {
+    // attach, take, give, give, give, give, take
+    for (call, sent, end) in [
+        (1, "", 7),
+        (2, "", 2),
+        (3, "", 3),
+        (5, "ok\nok\n", 3),
+        (7, "ok\nok\nok\ndata 616263\n", 2),
+    ] {
+        let input = format!(in rt.alloc(); "{MADE}read 1 0 3\n")?;
+        let mut desk = MemDesk::new(
+            rt.alloc(),
+            Vec::from_slice(rt.alloc(), input.as_bytes())?,
+            Vec::from_slice(rt.alloc(), &[call])?,
+        );
+        assert!(rt; status(rt.alloc(), &WORDS, &mut desk)? == end);
+        assert!(rt; desk.sent().starts_with(sent.as_bytes()));
+    }
+    Ok(())
+}
