@@ -1,6 +1,6 @@
 -- The bytes of a label block and of an uberblock.
-use Rattle.std.specs.Prelude.{◌≡◌, ◌≢◌, ◌⊎◌, ℕ, ◌-◌, ◌%◌, ◌^◌, ◌<◌, ◌≤◌, ◌==◌, List, [], ◌∷◌, ◌++◌, length, map, take, drop, replicate, codes, IsTrue, if◌then◌else◌}
-use Rattle.std.specs.List.{AllByRecursion, flat_map, list_any}
+use Rattle.std.specs.Prelude.{◌≡◌, ◌≢◌, ℕ, ◌-◌, ◌%◌, ◌^◌, ◌<◌, ◌≤◌, ◌==◌, Bool, true, false, ◌&&◌, nat_le, nat_lt, List, [], ◌∷◌, ◌++◌, length, take, drop, replicate, codes, IsTrue, if◌then◌else◌}
+use Rattle.std.specs.List.{flat_map, list_all, list_any}
 use Rattle.std.specs.Int.{div_ceil}
 use Rattle.sha2.specs.Sha256.{sha256}
 use Rattle.zr_base.specs.Trees.{IsHeight}
@@ -77,29 +77,27 @@ abbrev pub most_units : ℕ → ℕ
 most_units version = if version == 1 then 4193152 else 33553280
 
 -- the group in which a device went is 0 until it is gone
-abbrev pub IsGoing : DevState → ℕ → ℕ → ℕ → Type 0
-IsGoing Gone added gone txg = (added < gone) × (gone ≤ txg)
-IsGoing _ added gone txg = gone ≡ 0
+abbrev pub is_going : DevState → ℕ → ℕ → ℕ → Bool
+is_going Gone added gone txg = nat_lt added gone && nat_le gone txg
+is_going _ added gone txg = gone == 0
 
 -- a row of a root of this version and group
-pub record IsRow (version txg : ℕ) (r : DevRow) : Type 0 where
-  pub some : 1 ≤ r.added
-  pub past : r.added ≤ txg
-  pub least : 896 ≤ r.units
-  pub most : r.units ≤ most_units version
-  pub going : IsGoing r.state r.added r.gone txg
+abbrev pub is_row : ℕ → ℕ → DevRow → Bool
+is_row version txg r =
+    nat_le 1 r.added && nat_le r.added txg && nat_le 896 r.units && nat_le r.units (most_units version) && is_going r.state r.added r.gone txg
 
-abbrev pub is_on : DevState → ℕ
-is_on On = 1
-is_on _ = 0
+-- a device in service
+abbrev pub is_on : DevState → Bool
+is_on On = true
+is_on _ = false
 
 -- a row behind the last device
 abbrev pub no_row : DevRow
 no_row = record { state = On; added = 0; units = 0; gone = 0 }
 
--- the rows of the devices
-abbrev pub rows_of : Uber → List DevRow
-rows_of u = take u.count u.rows
+-- whether a row is one behind the last device
+abbrev pub is_no_row : DevRow → Bool
+is_no_row r = is_on r.state && r.added == 0 && r.units == 0 && r.gone == 0
 
 -- the tree of the metadata has its leaves in blocks of one unit
 -- choice: a root of level 0 whose length is not one unit is outside the form
@@ -107,8 +105,11 @@ abbrev pub IsMetaRoot : Ptr → ℕ → Type 0
 IsMetaRoot Hole len = ⊥
 IsMetaRoot (At b) len = IsPointer b × (b.at.len ≡ 1) × IsHeight (div_ceil len 4096) b.level
 
-pub record IsUber (u : Uber) : Type 0 where
-  pub version : (u.version ≡ 1) ⊎ (u.version ≡ 2)
+-- the numbers of a root
+-- a group of the last reset that is above the root's own is outside the form
+pub record IsHead (u : Uber) : Type 0 where
+  pub oldest : 1 ≤ u.version
+  pub newest : u.version ≤ 2
   pub txg : 0 < u.txg
   pub guid : 0 < u.guid
   pub whole : u.len % 8 ≡ 0
@@ -117,21 +118,22 @@ pub record IsUber (u : Uber) : Type 0 where
   pub some : 1 ≤ u.count
   pub devices : u.count ≤ 32
   pub reset : u.reset ≤ u.txg
-  pub root : IsMetaRoot u.root u.len
-  pub table : length u.rows ≡ 32
-  pub rows : AllByRecursion (IsRow u.version u.txg) (rows_of u)
-  pub on : IsTrue (list_any (λ r. is_on r.state == 1) (rows_of u))
-  pub rest : AllByRecursion (λ r. r ≡ no_row) (drop u.count u.rows)
-  pub name : IsName u.name
   pub txg_fits : u.txg < 2 ^ 64
   pub guid_fits : u.guid < 2 ^ 64
 
--- a row that can be spelled: zeros alone where there is no device
-pub record IsStored (r : DevRow) : Type 0 where
-  pub none : r.added ≡ 0 → r ≡ no_row
-  pub added_fits : r.added < 2 ^ 64
-  pub units_fit : r.units < 2 ^ 64
-  pub gone_fits : r.gone < 2 ^ 64
+-- the rows of the devices, at least one of which is in service, and then rows of zeros
+pub record IsTable (version txg count : ℕ) (rows : List DevRow) : Type 0 where
+  pub size : length rows ≡ 32
+  pub devices : IsTrue (list_all (is_row version txg) (take count rows))
+  pub on : IsTrue (list_any (λ r. is_on r.state) (take count rows))
+  pub rest : IsTrue (list_all is_no_row (drop count rows))
+
+-- a root that can be spelled
+pub record IsUber (u : Uber) : Type 0 where
+  pub head : IsHead u
+  pub root : IsMetaRoot u.root u.len
+  pub table : IsTable u.version u.txg u.count u.rows
+  pub name : IsName u.name
 
 -- the words of a root before its pointer
 abbrev pub uber_words : Uber → List ℕ
@@ -140,16 +142,6 @@ uber_words u = codes "zr-uber1" ++ words (u.version ∷ u.txg ∷ u.guid ∷ u.l
 -- the bytes of a row
 unfoldable pub row_bytes : DevRow → List ℕ
 row_bytes r = words (row_words r)
-
--- the bytes are the one spelling of a row
-pub record SpellsRow (bytes : List ℕ) (r : DevRow) : Type 0 where
-  pub lawful : IsStored r
-  pub spelling : bytes ≡ row_bytes r
-
--- the pieces are the rows
-pub record SpellsRows (pieces : List (List ℕ)) (rows : List DevRow) : Type 0 where
-  pub lawful : AllByRecursion IsStored rows
-  pub spelling : pieces ≡ map row_bytes rows
 
 -- the block of a root
 unfoldable pub uber_block : Uber → List ℕ

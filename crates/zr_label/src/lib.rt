@@ -11,12 +11,16 @@ mod label;
 mod laws;
 mod newer;
 mod root;
+mod rows;
+mod uber;
 
 pub use geometry::{LABEL_BYTES, label_at, slot_of, units_of_size, whole};
 pub use label::is_name;
 pub use laws::one_value;
 pub use newer::newer_of;
 pub use root::{Label, Name, Newer, Seen, Uber, best};
+pub use rows::NO_ROW;
+pub use uber::is_uber;
 
 #[cfg(test)]
 mod tests;

@@ -1,8 +1,10 @@
-//! Places on a disk as the manual tells them, and labels that come back.
+//! Places on a disk as the manual tells them, and labels and roots that come back.
+ghost use Rattle.std.specs.Prelude.{◌<◌};
+
 use super::*;
 use std::test::Fail;
-use zr_base::{DevRow, DevState};
-use zr_bptr::Ptr;
+use zr_base::{DevRow, DevState, Dva};
+use zr_bptr::{Bptr, Ptr};
 
 #[test]
 fn places_on_a_disk(rt: HostRuntime) {
@@ -49,12 +51,6 @@ fn labels_come_back(rt: HostRuntime) -> Result<(), Fail> {
 
 #[test]
 fn the_newest_root(rt: HostRuntime) {
-    let row = DevRow {
-        state: DevState::On,
-        added: 0,
-        units: 0,
-        gone: 0,
-    };
     let mut root = Uber {
         version: 2,
         txg: 7,
@@ -63,7 +59,7 @@ fn the_newest_root(rt: HostRuntime) {
         count: 1,
         reset: 1,
         root: Ptr::Hole,
-        rows: [row; 32],
+        rows: [NO_ROW; 32],
         name: Name {
             len: 0,
             bytes: [0; 63],
@@ -92,4 +88,97 @@ fn a_root_of_another_version(rt: HostRuntime) {
     assert_eq!(rt; newer_of(&block, 6), None);
     block[8] = 2;
     assert_eq!(rt; newer_of(&block, 5), None);
+}
+
+fn root_of_two_devices() -> Uber {
+    let at = Dva {
+        dev: 1,
+        start: 7,
+        len: 1,
+    };
+    let leaf = Bptr {
+        at,
+        level: 0,
+        birth: 7,
+        fill: 1,
+        sum: [9; 32],
+    };
+    let mut rows = [NO_ROW; 32];
+    rows[0] = DevRow {
+        state: DevState::On,
+        added: 1,
+        units: 896,
+        gone: 0,
+    };
+    rows[1] = DevRow {
+        state: DevState::Gone,
+        added: 2,
+        units: 33553280,
+        gone: 6,
+    };
+    let mut bytes = [0; 63];
+    bytes[0] = b'p';
+    Uber {
+        version: 2,
+        txg: 7,
+        guid: 1,
+        len: 8,
+        count: 2,
+        reset: 5,
+        root: Ptr::At(leaf),
+        rows,
+        name: Name { len: 1, bytes },
+    }
+}
+
+#[test]
+fn roots_come_back(rt: HostRuntime) {
+    let root = root_of_two_devices();
+    assert!(rt; is_uber(&root));
+    let mut block = root.encode();
+    assert_eq!(rt; &block[..10], b"zr-uber1\x02\0".as_slice());
+    assert_eq!(rt; &block[40..50], [2, 0, 0, 0, 0, 0, 0, 0, 5, 0].as_slice());
+    assert_eq!(rt; &block[272..276], [0x80, 3, 0, 0].as_slice());
+    assert_eq!(rt; &block[288..297], [3, 0, 0, 0, 0, 0, 0, 0, 2].as_slice());
+    assert_eq!(rt; &block[1280..1283], [1, b'p', 0].as_slice());
+    assert_eq!(rt; &block[4064..4068], [3, 217, 226, 250].as_slice());
+    assert_eq!(rt; &block[4092..], [217, 22, 155, 78].as_slice());
+    assert_eq!(rt; Uber::decode(&block), Some(root));
+    block[4095] = 79;
+    assert_eq!(rt; Uber::decode(&block), None);
+    assert_eq!(rt; Uber::decode(&[0; 4096]), None);
+}
+
+/// A byte of the block is another, and the sum is right.
+fn changed(block: &[u8; 4096], at: usize, byte: u8) -> [u8; 4096]
+    requires { at < 4064 }
+{
+    let mut other = *block;
+    other[at] = byte;
+    block::seal(&mut other);
+    other
+}
+
+#[test]
+fn no_roots(rt: HostRuntime) {
+    let root = root_of_two_devices();
+    assert!(rt; is_uber(&root));
+    let block = root.encode();
+    let mut longer = root;
+    longer.len = 16;
+    assert_eq!(rt; Uber::decode(&changed(&block, 32, 16)), Some(longer));
+    // version 3, a device too large for version 1, a group before the last reset, padding
+    assert_eq!(rt; Uber::decode(&changed(&block, 8, 3)), None);
+    assert_eq!(rt; Uber::decode(&changed(&block, 8, 1)), None);
+    assert_eq!(rt; Uber::decode(&changed(&block, 16, 4)), None);
+    assert_eq!(rt; Uber::decode(&changed(&block, 120, 1)), None);
+    // 4,104 bytes need a tree of height 1
+    assert_eq!(rt; Uber::decode(&changed(&block, 33, 16)), None);
+    // no device in service, a state without a meaning, a device gone too late, a state where there is no device
+    assert_eq!(rt; Uber::decode(&changed(&block, 256, 2)), None);
+    assert_eq!(rt; Uber::decode(&changed(&block, 288, 4)), None);
+    assert_eq!(rt; Uber::decode(&changed(&block, 312, 8)), None);
+    assert_eq!(rt; Uber::decode(&changed(&block, 320, 1)), None);
+    // a byte behind the name
+    assert_eq!(rt; Uber::decode(&changed(&block, 1282, 1)), None);
 }
