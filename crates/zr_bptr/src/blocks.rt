@@ -2,9 +2,10 @@
 //!
 //! A pointer tells how many leaves are below it, so a block whose pointers have another number of leaves between them
 //! than its own pointer tells is refused, although its sum is right.
-ghost use Rattle.std.specs.Prelude.{◌≡◌, ◌≤◌, ◌<◌, ◌*◌, length, sum_by, IfOk, option_map};
+ghost use Rattle.std.specs.Prelude.{◌≡◌, ◌≤◌, ◌<◌, ◌*◌, List, ℕ, length, sum_by, IfOk, option_map};
 ghost use Rattle.std.specs.List.{AllByRecursion};
 ghost use Rattle.zr_base.specs.Readers.{Reads};
+ghost use Rattle.zr_bptr.specs.declared.Ptr.{Ptr};
 ghost use Rattle.zr_bptr.specs.Spelling.{IsLawful, IsOfLevel, SpellsBelow, SpellsEach, SpellsTreeBlock, fill_of};
 
 use crate::Ptr;
@@ -108,4 +109,16 @@ pub fn decode_block(
         return Ok(None);
     }
     Ok(Some(pointers))
+}
+
+/// The leaves below a tree block, where the bytes are one whose pointers are of the level `below`.
+pub fn leaves_in(alloc: Global, below: u8, bytes: &[u8]) -> Result<u64, NoMemory>
+    requires { length bytes.now ≡ 4096 }
+    ensures { IfOk result (λ leaves. (fill : ℕ) (pointers : List Ptr) → SpellsTreeBlock bytes.now below fill pointers → leaves ≡ fill) }
+{
+    let (pieces, _) = bytes.as_chunks::<128>();
+    let Some(pointers) = decode_each(alloc, below, pieces)? else {
+        return Ok(0);
+    };
+    Ok(leaves_of(pointers.as_slice()))
 }

@@ -10,13 +10,18 @@ ghost use Rattle.zr_base.specs.declared.space.Dva.{Dva};
 ghost use Rattle.zr_bptr.specs.declared.Bptr.{Bptr};
 ghost use Rattle.zr_bptr.specs.declared.Ptr.{Ptr};
 ghost use Rattle.zr_bptr.specs.Spelling.{SpellsTreeBlock};
-ghost use Rattle.zr_store.specs.declared.StoreErr.TheVariants.{NoMemory, Malformed, NoRun, Failed};
+ghost use Rattle.zr_store.specs.declared.StoreErr.TheVariants.{NoMemory, Malformed, NoRun, Failed, Unresolved};
 ghost use Rattle.zr_store.specs.Store.{Stored, Swaps, AreStored, IsPointerTo, IsOnce, IsBlockOf, hits, is_size};
 ghost use Rattle.zr_store.specs.Causes.{Counts, HasCause};
 
 use std::alloc::{AllocError, AllocFailed, Global};
 use zr_base::Dva;
 use zr_bptr::Bptr;
+
+mod mem_blocks;
+mod memory;
+
+pub use memory::{Kept, MemBlocks, Refused};
 
 /// Why a call of a store was not done.
 #[derive(Clone, Copy, Debug, PartialEq, Eq)]
@@ -98,6 +103,7 @@ pub trait Blocks {
         ensures cause { HasCause (counts self.old) (counts self.new) result }
         ensures runs { (needed longest : ℕ) → IsErrOf result (NoRun needed longest) → ⊥ }
         ensures told { tells self.old → tells self.new }
+        ensures unresolved { tells self.old → AreStored (b.now ∷ []) (holds self.old) → (at : Dva) (expected : List ℕ) → IsErrOf result (Unresolved at expected) → ⊥ }
         ensures formed { (at : Dva) (expected : List ℕ) → IsErrOf result (Malformed at expected) → ⊥ }
         ensures bytes { tells self.old → IfOk result (λ bytes. bytes.items ≡ (holds self.old).bytes b.now) }
         ensures same { tells self.old → holds self.new ≡ holds self.old };
@@ -113,3 +119,6 @@ pub trait Blocks {
     /// No address is stored twice.
     ghost once: { (s : Self) → tells s → IsOnce (holds s) };
 }
+
+#[cfg(test)]
+mod tests;

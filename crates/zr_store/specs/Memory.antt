@@ -1,0 +1,28 @@
+-- Blocks that are kept in memory.
+use Rattle.std.specs.Prelude.{◌<◌, ◌≤◌, Bool, true, false, nat_eq, if◌then◌else◌, ℕ, List, [], ◌∷◌, All}
+use Rattle.zr_base.specs.declared.space.Dva.{Dva}
+use Rattle.zr_bptr.specs.declared.Bptr.{Bptr}
+use Rattle.zr_store.specs.Store.{Stored, hits, one_at}
+use Rattle.zr_store.specs.declared.memory.Kept.{Kept}
+
+-- the bytes at a pointer's address
+abbrev pub bytes_at : List Kept → Bptr → List ℕ
+bytes_at [] b = []
+bytes_at (k ∷ ks) b = if nat_eq (one_at b.at k.at) 0 then bytes_at ks b else k.bytes.items
+
+-- whether a block is kept at the address
+abbrev pub is_kept : Dva → List Kept → Bool
+is_kept at [] = false
+is_kept at (k ∷ ks) = if nat_eq (one_at at k.at) 0 then is_kept at ks else true
+
+abbrev pub pointers_of_kept : List Kept → List Bptr
+pointers_of_kept [] = []
+pointers_of_kept (k ∷ ks) = k.at ∷ pointers_of_kept ks
+
+abbrev pub stored_of : List Kept → Stored
+stored_of ks = record { pointers = pointers_of_kept ks; bytes = bytes_at ks }
+
+-- no address comes twice, and all lie below the next
+pub record IsSound (next : ℕ) (ks : List Kept) : Type 0 where
+  pub once : (at : Dva) → hits (pointers_of_kept ks) at ≤ 1
+  pub below : All (λ k. k.at.at.start < next) ks
