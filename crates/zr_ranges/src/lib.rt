@@ -7,7 +7,7 @@
 //! command was accepted goes through the calls that end in `_reserved`.
 #![tactic(auto)]
 
-ghost use Rattle.std.specs.Prelude.{◌≡◌, ℕ, ◌+◌, ◌-◌, ◌^◌, ◌<◌, ◌≤◌, ◌↔◌, ◌∷◌, [], take, length, min, IsTrue, IsOk, IfSome, IfNone, OnOk, OnErr, vec_len};
+ghost use Rattle.std.specs.Prelude.{◌≡◌, ℕ, ◌+◌, ◌-◌, ◌^◌, ◌<◌, ◌≤◌, ◌↔◌, ◌∷◌, [], take, remove, length, min, IsTrue, IsOk, IfSome, IfNone, OnOk, OnErr, vec_len};
 ghost use Rattle.std.specs.Vec.{vec_capacity};
 ghost use Rattle.zr_ranges.specs.Ranges.{HasRunOf};
 ghost use Rattle.zr_base.specs.Extents.{IsMaximal, HasAll, HasNone, AddsUnits, RemovesUnits, unit_count, longest_len, first_part_from, end_of, extent_at, EndsBy, IsFirstPart, HasNoneFrom};
@@ -150,7 +150,8 @@ impl RangeSet {
         ensures covered { HasAll self.old.extents result }
         ensures removed { RemovesUnits self.old.extents self.new.extents result }
 
-        // Where fewer units came out, there is an extent less.
+        // Where fewer units came out, it was the first extent, and the others stay.
+        ensures whole { result.len < n → self.old.extents ≡ result ∷ self.new.extents }
         ensures shorter { result.len < n → length self.new.extents + 1 ≡ length self.old.extents }
         ensures growth { length self.new.extents ≤ length self.old.extents }
         ensures spare { self.old.spare ≤ self.new.spare }
@@ -171,6 +172,7 @@ impl RangeSet {
         ensures in_range { result.start + result.len ≤ 2 ^ 62 }
         ensures covered { HasAll self.old.extents result }
         ensures removed { RemovesUnits self.old.extents self.new.extents result }
+        ensures whole { result.len < n → self.new.extents ≡ remove self.old.extents i }
         ensures shorter { result.len < n → length self.new.extents + 1 ≡ length self.old.extents }
         ensures growth { length self.new.extents ≤ length self.old.extents }
         ensures spare { self.old.spare ≤ self.new.spare }
@@ -328,6 +330,7 @@ fn take_run(runs: &mut Vec<Extent>, i: usize, n: u64) -> Extent
     ensures in_range { result.start + result.len ≤ 2 ^ 62 }
     ensures covered { HasAll runs.old.items result }
     ensures removed { RemovesUnits runs.old.items runs.new.items result }
+    ensures whole { result.len < n → runs.new.items ≡ remove runs.old.items i }
     ensures shorter { result.len < n → length runs.new.items + 1 ≡ length runs.old.items }
     ensures capacity { vec_capacity runs.old ≤ vec_capacity runs.new }
     ensures not_longer { vec_len runs.new ≤ vec_len runs.old }
