@@ -210,3 +210,29 @@ loss_device units free k n t s slabs new e d l f = record {
   close = omega (arith, d.close, length_set slabs k new);
   small = d.small;
 }
+
+later : (base k : ℕ) (s : List Extent) → AreInside (base + 512 * suc k) s → AreInside (base + 512 + 512 * k) s
+later base k s i = record { from = λ u h. omega (arith, i.from u h); to = λ u h. omega (arith, i.to u h) }
+
+from_zero : (k : ℕ) (s : List Extent) → AreInside (512 * k) s → AreInside (0 + 512 * k) s
+from_zero k s i = record { from = λ u h. omega (arith, i.from u h); to = λ u h. omega (arith, i.to u h) }
+
+-- no more units are free than lie between the first metaslab and the end of the device
+count_below : (units base : ℕ) (slabs : List (List Extent)) → ((k : ℕ) → IsMaximal (slab_at slabs k)) → ((k : ℕ) → AreInside (base + 512 * k) (slab_at slabs k)) → ((k u : ℕ) → has_unit (slab_at slabs k) u ≡ true → u < units) → free_count slabs ≤ units - base
+count_below units base [] maximal inside below = omega arith
+count_below units base ([] ∷ ss) maximal inside below =
+    let rest : free_count ss ≤ units - (base + 512) = count_below units (base + 512) ss (λ k. maximal (suc k)) (λ k. later base k (slab_at ss k) (inside (suc k))) (λ k u. below (suc k) u) in
+    grind (arith, common_steps, rest)
+count_below units base ((e ∷ es) ∷ ss) maximal inside below =
+    let rest : free_count ss ≤ units - (base + 512) = count_below units (base + 512) ss (λ k. maximal (suc k)) (λ k. later base k (slab_at ss k) (inside (suc k))) (λ k u. below (suc k) u) in
+    let m : IsMaximal (e ∷ es) = maximal zero in
+    let here : has_unit (e ∷ es) e.start ≡ true = grind (arith, nat_tests, m.1) in
+    let first : base ≤ e.start = omega (arith, (inside zero).from e.start here) in
+    let end : e.start < units = below zero e.start here in
+    let slab : unit_count (e ∷ es) + base ≤ base + 512 = count_to base (base + 512) (e ∷ es) (first, m.1, m.2, m.3) (λ u h. omega (arith, (inside zero).to u h)) (omega arith) in
+    let device : unit_count (e ∷ es) + base ≤ units = count_to base units (e ∷ es) (first, m.1, m.2, m.3) (below zero) (omega (arith, first, end)) in
+    grind (arith, common_steps, rest, slab, device)
+
+-- no more units are free than the device has
+pub count_within : (units : ℕ) (slabs : List (List Extent)) → AreSlabs units slabs → free_count slabs ≤ units
+count_within units slabs sound = omega (arith, count_below units 0 slabs (λ k. (sound k).maximal) (λ k. from_zero k (slab_at slabs k) (sound k).inside) (λ k. (sound k).below))

@@ -73,10 +73,11 @@ pub record Takes (old new : Devices) (dev : ℕ) (e : Extent) : Type 0 where
   pub count : (d : ℕ) → count_at new d + (if d == dev then e.len else 0) ≡ count_at old d
   pub devices : KeepsDevices old new
 
--- units that were not free are free
+-- units that were not free are free, and no more are free than the device has
 pub record Gives (old new : Devices) (dev : ℕ) (e : Extent) : Type 0 where
   pub free : (d u : ℕ) → free_at new d u ≡ (free_at old d u || (d == dev) && in_extent e u)
   pub count : (d : ℕ) → count_at new d ≡ count_at old d + (if d == dev then e.len else 0)
+  pub within : count_at new dev ≤ units_at new dev
   pub devices : KeepsDevices old new
 
 -- the device is in service with n units, of which those that are not used are free

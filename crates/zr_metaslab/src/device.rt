@@ -170,12 +170,14 @@ impl Device {
     }
 
     /// Takes back units. The cost is that of `alloc` for each metaslab that they meet.
+    #[tactic(auto, using(crate::proofs::Places::count_within))]
     pub fn release(&mut self, e: Extent)
         requires not_empty { 0 < e.len }
         requires within { e.start + e.len ≤ self.old.units }
         requires apart { HasNoneFree self.old.slabs e }
         requires sound { IsSound self.old }
         ensures gains { GainsUnits self.old.slabs self.new.slabs e }
+        ensures within { free_count self.new.slabs ≤ self.new.units }
         ensures device { self.new ≡ record self.old { slabs = self.new.slabs } }
         ensures sound { IsSound self.new }
     {

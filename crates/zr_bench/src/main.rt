@@ -1,0 +1,113 @@
+//! `zr_bench UNITS FULL ROUNDS` times the allocator: so many times it makes a device of so many units, empty or, where
+//! FULL is 1, with 95 of 100 units used, and hands out all that is free, unit by unit. It prints how many units it handed
+//! out and the nanoseconds that this took, without those of making the devices.
+//!
+//! With no words it goes once through the smallest client and prints the sum that it keeps.
+#![tactic(auto)]
+
+mod store;
+
+ghost use Rattle.std.specs.Prelude.{◌≡◌, ℕ, ◌+◌, ◌*◌, ◌<◌, ◌≤◌, ◌^◌, true, false, IfOk};
+ghost use Rattle.zr_base.specs.declared.space.Policy.{Policy};
+ghost use Rattle.zr_base.specs.Extents.{has_unit};
+ghost use Rattle.zr_rules.specs.Choices.{AreRuns, IsPick};
+
+use anyhow::Context;
+use std::alloc::Global;
+use std::env;
+use std::time::{Duration, Instant};
+use store::Store;
+use zr_base::{Extent, NoMemory, Policy};
+use zr_choose::{Chooser, pick_first};
+use zr_metaslab::Slabs;
+use zr_ranges::RangeSet;
+
+/// Of so many units in a row two are free on a device that is nearly full.
+const PERIOD: u64 = 40;
+
+/// The first 38 of every 40 units.
+fn scattered(alloc: Global, units: u64) -> Result<RangeSet, NoMemory>
+    requires { units < 2 ^ 40 }
+    ensures within { IfOk result (λ s. (u : ℕ) → units ≤ u → has_unit s.extents u ≡ false) }
+{
+    let mut used = RangeSet::new(alloc);
+    for k in 0..units / PERIOD {
+        used.add(Extent {
+            start: PERIOD * k,
+            len: PERIOD - 2,
+        })?;
+    }
+    Ok(used)
+}
+
+/// Hands out single units until none is left, or so many. It answers how many.
+fn hand_out(slabs: &mut Slabs, most: u64, chooser: &Chooser) -> u64
+    ensures { result ≤ most }
+{
+    for made in 0..most {
+        if slabs.alloc(1, chooser).is_err() {
+            return made;
+        }
+    }
+    most
+}
+
+/// So many rounds on a device. It answers the units that were handed out, and the time.
+fn rounds(
+    rt: &HostRuntime,
+    units: u64,
+    used: &RangeSet,
+    rounds: u64,
+    chooser: &Chooser,
+) -> anyhow::Result<(u64, Duration)>
+    requires small { units < 2 ^ 40 }
+    requires within { (u : ℕ) → units ≤ u → has_unit used.now.extents u ≡ false }
+{
+    let mut slabs = Slabs::new(rt.alloc());
+    let mut made = 0;
+    let mut spent = Duration::ZERO;
+    for _ in 0..rounds {
+        slabs.add_dev(0, units, used).ok().context("out of memory")?;
+        let start = Instant::now(rt)?;
+        made = hand_out(&mut slabs, units, chooser).saturating_add(made);
+        spent = spent.saturating_add(start.elapsed(rt)?);
+    }
+    Ok((made, spent))
+}
+
+fn main(rt: HostRuntime) -> anyhow::Result<()> {
+    let alloc = rt.alloc();
+    let first = Chooser::new(
+        String::from_str(alloc, "first")?,
+        Policy::First,
+        Box::new(
+            alloc,
+            |want: u64, runs: &[Extent]| -> Option<usize>
+                requires { (0 < want) × AreRuns runs.now }
+                ensures { IsPick Policy.First want runs.entry.now result }
+            { pick_first(want, runs) },
+        )?,
+    );
+    let mut numbers: Vec<u64> = Vec::new(alloc);
+    for word in env::args(&rt)?.skip(1) {
+        numbers.push(word.parse::<u64>()?)?;
+    }
+    let [units, full, count] = numbers.as_slice() else {
+        let mut store = Store::new(alloc, 600, 100).ok().context("out of memory")?;
+        store.round(20, &first).ok().context("no run of 20")?;
+        println!(rt; "{} units are free", store.free())?;
+        return Ok(());
+    };
+    if *units >= 1 << 40 || *count >= 1 << 20 {
+        println!(rt; "too much")?;
+        return Ok(());
+    }
+    let used = if *full == 1 {
+        scattered(alloc, *units).ok().context("out of memory")?
+    } else {
+        RangeSet::new(alloc)
+    };
+    let (made, spent) = rounds(&rt, *units, &used, *count, &first)?;
+    println!(rt; "{made} {}", spent.as_nanos())?;
+    Ok(())
+}
