@@ -9,7 +9,7 @@ use Rattle.zr_bptr.specs.declared.Tree.{Tree}
 use Rattle.zr_tree.specs.Blocks.{FitsAt}
 use Rattle.zr_tree.specs.Blocks.{pointers_in, IsNoBlock}
 use Rattle.zr_store.specs.declared.StoreErr.{StoreErr}
-use Rattle.zr_store.specs.declared.StoreErr.TheVariants.{Malformed}
+use Rattle.zr_store.specs.declared.StoreErr.TheVariants.{Malformed, Unresolved}
 use Rattle.zr_store.specs.Store.{Stored, Swaps, AreStored}
 
 -- the pointers in a tree block above this level
@@ -169,3 +169,7 @@ pub record HasBadBlock (s : Stored) (at : Dva) (expected : List ℕ) : Type 0 wh
 -- `Malformed` comes only where there is such a block
 abbrev pub IsBadOnly : {T : Type 0} → Stored → Result T StoreErr → Type 0
 IsBadOnly s result = (at : Dva) (expected : List ℕ) → IsErrOf result (Malformed at expected) → HasBadBlock s at expected
+
+-- each pointer that was met has its units
+abbrev pub IsResolved : {T : Type 0} → Result T StoreErr → Type 0
+IsResolved result = (at : Dva) (expected : List ℕ) → ¬ IsErrOf result (Unresolved at expected)

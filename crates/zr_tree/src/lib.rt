@@ -15,3 +15,6 @@ mod walks;
 pub use reads::get;
 pub use trees::{frame, set_all};
 pub use walks::{Mark, walk, walk_marked};
+
+#[cfg(test)]
+mod tests;

@@ -1,11 +1,12 @@
 //! Reading: the pointers of a tree block, and the leaf pointer at an index.
 //!
 //! The time is linear in the height, which is at most 5.
-ghost use Rattle.std.specs.Prelude.{◌≡◌, ◌+◌, ◌*◌, ◌-◌, ◌/◌, ◌%◌, ◌^◌, ◌<◌, ◌≤◌, List, ℕ, length, All, IfOk};
+ghost use Rattle.std.specs.Prelude.{◌≡◌, ◌+◌, ◌*◌, ◌-◌, ◌/◌, ◌%◌, ◌^◌, ◌<◌, ◌≤◌, List, [], ◌∷◌, ℕ, length, All, IfOk};
 ghost use Rattle.zr_tree.specs.Blocks.{FitsAt};
 ghost use Rattle.zr_store.specs.Causes.{HasCause};
 ghost use Rattle.zr_bptr.specs.Spelling.{IsTree};
-ghost use Rattle.zr_tree.specs.Trees.{kids, leaf_at, tree_at, IsBadOnly};
+ghost use Rattle.zr_tree.specs.Trees.{kids, leaf_at, tree_at, blocks, tree_blocks, IsBadOnly, IsResolved};
+ghost use Rattle.zr_store.specs.Store.{AreStored};
 
 use crate::blocks::decode_pointers;
 use std::alloc::Global;
@@ -39,6 +40,7 @@ pub(crate) fn read_block<B: Blocks>(
     ensures told { B.tells store.old → B.tells store.new }
     ensures same { B.tells store.old → B.holds store.new ≡ B.holds store.old }
     ensures malformed { B.tells store.old → IsBadOnly (B.holds store.old) result }
+    ensures resolved { B.tells store.old → AreStored (b.now ∷ []) (B.holds store.old) → IsResolved result }
     ensures count { IfOk result (λ pointers. length pointers.items ≡ 32) }
     ensures fit { IfOk result (λ pointers. All (FitsAt below) pointers.items) }
     ensures means { B.tells store.old → IfOk result (λ pointers. pointers.items ≡ kids (B.holds store.old) below b.now) }
@@ -66,6 +68,7 @@ pub(crate) fn get_below<B: Blocks>(
     ensures told { B.tells store.old → B.tells store.new }
     ensures same { B.tells store.old → B.holds store.new ≡ B.holds store.old }
     ensures malformed { B.tells store.old → IsBadOnly (B.holds store.old) result }
+    ensures resolved { B.tells store.old → AreStored (blocks (B.holds store.old) level p.now) (B.holds store.old) → IsResolved result }
     ensures fits { IfOk result (FitsAt 0) }
     ensures leaf { B.tells store.old → IfOk result (λ leaf. leaf ≡ leaf_at (B.holds store.old) level p.now index) }
 {
@@ -90,6 +93,7 @@ pub fn get<B: Blocks>(alloc: Global, store: &mut B, t: &Tree, index: u64) -> Res
     ensures told { B.tells store.old → B.tells store.new }
     ensures same { B.tells store.old → B.holds store.new ≡ B.holds store.old }
     ensures malformed { B.tells store.old → IsBadOnly (B.holds store.old) result }
+    ensures resolved { B.tells store.old → AreStored (tree_blocks (B.holds store.old) t.now) (B.holds store.old) → IsResolved result }
     ensures fits { IfOk result (FitsAt 0) }
     ensures leaf { B.tells store.old → IfOk result (λ leaf. leaf ≡ tree_at (B.holds store.old) t.now index) }
 {
