@@ -3,6 +3,20 @@
 # nothing is free, and from 95 of 100 units used, where 2 of every 40 units are free. It builds crates/zr_bench and runs
 # each three times, of which the fastest counts. The aim is that in each state
 # the three sizes lie within a factor of 2 of each other.
+#
+# Measured on a virtual machine with 4 processors (Intel Xeon, 2.50 GHz, model 85) that other work kept busy:
+#
+# device        units state     allocations   ns each       a second
+# 64 MiB        15232 empty         3046400        17       58708078
+# 64 MiB        15232 95% full      1584000        20       48839967
+# 16 GiB      4193152 empty         4193152        16       59640204
+# 16 GiB      4193152 95% full      1677504        31       31578546
+# 128 GiB    33553280 empty        33553280        17       57301913
+# 128 GiB    33553280 95% full      1677664        31       31832824
+# fastest to slowest, empty: 1.04
+# fastest to slowest, 95% full: 1.55
+#
+# Making the device of 128 GiB takes 270 MB, about 4 KiB for each of its 65,534 metaslabs, and is not timed.
 set -eu
 cd "$(dirname "$0")/../crates/zr_bench"
 rt run > /dev/null 2>&1
