@@ -1,8 +1,8 @@
 #!/bin/sh
 # How many allocations of one unit a second the allocator makes on devices of 64 MiB, 16 GiB and 128 GiB: from empty until
 # nothing is free, and from 95 of 100 units used, where 2 of every 40 units are free. It builds crates/zr_bench and runs
-# each three times, of which the fastest counts. The aim is that in each state
-# the three sizes lie within a factor of 2 of each other.
+# each three times, of which the fastest counts. The aim is that in each state the three sizes lie within a factor of 2 of
+# each other.
 #
 # Measured on a virtual machine with 4 processors (Intel Xeon, 2.50 GHz, model 85) that other work kept busy:
 #
