@@ -28,3 +28,7 @@ pub record IsFirstLeaf (t : Tree) (want k : ℕ) : Type 0 where
 pub record HasLeaf (t : Tree) (value : ℕ) : Type 0 where
   pub leaf : ℕ
   pub has : leaf_at t leaf ≡ value
+
+-- no leaf before this one has so much
+abbrev pub HasNoneBefore : Tree → ℕ → ℕ → Type 0
+HasNoneBefore t from least = (j : ℕ) → j < from → leaf_at t j < least

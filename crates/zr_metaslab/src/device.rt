@@ -8,7 +8,7 @@ ghost use Rattle.zr_base.specs.Extents.{has_unit, unit_count, IsMaximal};
 ghost use Rattle.zr_metaslab.specs.Metaslabs.{longest_of, free_count, is_free, slab_at, TakesFirst, LosesUnits, GainsUnits, HasNoneFree};
 ghost use Rattle.zr_metaslab.specs.Devices.{IsSound, no_device};
 
-use crate::{Maxima, Metaslab};
+use crate::{Finder, Metaslab};
 use std::alloc::Global;
 use std::marker::Model;
 use zr_base::{Extent, NoMemory};
@@ -22,7 +22,7 @@ pub struct Device {
     on: bool,
     units: u64,
     free: u64,
-    longest: Maxima,
+    longest: Finder,
     slabs: Vec<Metaslab>,
 }
 
@@ -47,7 +47,7 @@ impl Device {
             on: false,
             units: 0,
             free: 0,
-            longest: Maxima::none(alloc),
+            longest: Finder::none(alloc),
             slabs: Vec::new(alloc),
         }
     }
@@ -62,7 +62,7 @@ impl Device {
         ensures sound { IfOk result IsSound }
     {
         let count = units.div_ceil(SLAB) as usize;
-        let longest = Maxima::new(alloc, count)?;
+        let longest = Finder::new(alloc, count)?;
         let slabs = full_slabs(alloc, count)?;
         Ok(Device {
             on: true,

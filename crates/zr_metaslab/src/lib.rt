@@ -13,6 +13,7 @@ ghost use Rattle.zr_rules.specs.Placement.{IsPlacement, HasNoPlacement, HasRunSo
 ghost use Rattle.zr_metaslab.specs.Devices.{free_at, count_at, units_at, serves_at, free_of, device_at, AreSound, Takes, Gives, AddsDevice, Turns, Forgets, extent_of};
 
 mod device;
+mod finder;
 mod maxima;
 mod metaslab;
 mod order;
@@ -20,6 +21,7 @@ mod order;
 mod tests;
 
 use device::Device;
+use finder::Finder;
 use maxima::Maxima;
 use metaslab::Metaslab;
 use order::{first_device, longest_on};

@@ -3,7 +3,7 @@
 //! A device has one number for each metaslab, the length of its longest run. They are the leaves of a binary tree whose
 //! nodes have the greater value of their two children, laid out in one array as a heap is. So the root has the greatest
 //! of all, and the first leaf of at least so much is found by going down.
-ghost use Rattle.std.specs.Prelude.{◌≡◌, ℕ, ◌+◌, ◌*◌, ◌^◌, ◌<◌, ◌≤◌, ◌==◌, length, IfOk, IfSome, IfNone, if◌then◌else◌};
+ghost use Rattle.std.specs.Prelude.{◌≡◌, ℕ, ◌+◌, ◌*◌, ◌^◌, ◌<◌, ◌≤◌, ◌==◌, nat_le, length, IfOk, IfSome, IfNone, if◌then◌else◌};
 ghost use Rattle.zr_metaslab.specs.Trees.{leaf_at, IsFirstLeaf, HasLeaf};
 
 use std::alloc::Global;
@@ -72,7 +72,7 @@ impl Maxima {
         }
     }
 
-    /// Writes a leaf. Logarithmic in the leaves.
+    /// Writes a leaf. It goes up as far as a greatest changes, so it is logarithmic in the leaves at most.
     pub fn set(&mut self, leaf: usize, value: u64)
         requires inside { leaf < self.old.size }
         requires made { 0 < length self.old.nodes }
@@ -84,8 +84,26 @@ impl Maxima {
         self.nodes[n] = value;
         n /= 2;
         while 0 < n {
-            self.nodes[n] = self.nodes[2 * n].max(self.nodes[2 * n + 1]);
+            let most = self.nodes[2 * n].max(self.nodes[2 * n + 1]);
+            if self.nodes[n] == most {
+                return;
+            }
+            self.nodes[n] = most;
             n /= 2;
+        }
+    }
+
+    /// Whether a leaf has at least so much.
+    pub fn has(&self, leaf: usize, want: u64) -> bool
+        requires { 0 < want }
+        ensures { result ≡ nat_le want (leaf_at self.now leaf) }
+    {
+        let Some(n) = self.size.checked_add(leaf) else {
+            return false;
+        };
+        match self.nodes.get(n) {
+            Some(value) => *value >= want,
+            None => false,
         }
     }
 

@@ -1,4 +1,5 @@
-use Rattle.std.proofs.Common.{◌<◌, ◌≤◌, length, arith}
+use Rattle.std.proofs.Common.{◌≡◌, ℕ, ◌<◌, ◌≤◌, ◌==◌, if◌then◌else◌, length, arith}
+use Rattle.zr_metaslab.specs.Trees.{leaf_at}
 use Rattle.zr_base.specs.Extents.{longest_len}
 use Rattle.zr_metaslab.specs.Metaslabs.{slab_at, longest_of, TakesRun}
 use Rattle.zr_metaslab.proofs.Places.{read, slab_there, longest_short, first_taken, IsLoss, loss_device, loss_units, loss_sound, loss_within}
@@ -23,8 +24,10 @@ invariant_of-self g c =
       removed = taken.removed;
       some = omega (arith, taken.len, c.requires.some);
     } in
+    let leaf : (j : ℕ) → leaf_at c.set.new.self j ≡ (if j == c.in-Some.k then c.longest-longest.result else leaf_at c.first.new.self j) = c.set.ensures.leaf in
+    let size : c.set.new.self.size ≡ c.first.new.self.size = c.set.ensures.size in
     rw taken.len at (loss_device c.self.inside.units c.self.inside.free c.in-Some.k c.longest-longest.result c.self.inside.longest c.set.new.self c.self.inside.slabs.items c.alloc-e.new.self c.alloc-e.result c.self.invariant loss
-    (record { leaf = c.set.ensures.leaf; longest = c.longest-longest.ensures; size = c.set.ensures.size; made = c.set.ensures.made }))
+    (record { leaf = rw c.first.ensures.same at leaf; longest = c.longest-longest.ensures; size = rw c.first.ensures.same at size; made = c.set.ensures.made }))
 
 pub returns-clause-taken : goal.returns-clause-taken
 returns-clause-taken g c =
