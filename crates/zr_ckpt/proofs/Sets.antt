@@ -2,10 +2,11 @@
 use Rattle.std.proofs.Common.{◌≡◌, ℕ, zero, suc, ◌+◌, ◌-◌, ◌≤◌, ◌<◌, ◌==◌, false, List, [], ◌∷◌, ◌++◌, length, take, drop, min, set, refl, sym, ◌∙◌, ap, arith, add-one, append_assoc, ⊎_elim, get_or, subst, length-append}
 use Rattle.std.proofs.lemmas.Grind.{common_steps}
 use Rattle.std.proofs.lemmas.List.{get_or-set_same, get_or-set_other, length-take}
-use Rattle.std.proofs.lemmas.Bool.{cases_eq}
+use Rattle.std.proofs.lemmas.Bool.{cases_eq, cases_lt}
 use Rattle.std.proofs.lemmas.Bool.Decides.{nat_tests}
+use Rattle.std.proofs.lemmas.List.Sums.{sum_by-cons}
 use Rattle.zr_base.specs.declared.space.Extent.{Extent}
-use Rattle.zr_base.specs.Extents.{extent_at}
+use Rattle.zr_base.specs.Extents.{extent_at, IsMaximal}
 use Rattle.zr_ranges.specs.Ranges.{Ranges}
 use Rattle.zr_ckpt.specs.Checkpoint.{set_at, on_device, kept_from, count_below}
 
@@ -78,7 +79,10 @@ count_suc (x ∷ xs) (suc d) = let rest : count_below xs (suc d) ≡ count_below
 pub count_more : (sets : List Ranges) (d : ℕ) → count_below sets (d + 1) ≡ count_below sets d + length (set_at sets d).extents
 count_more sets d = rw add-one (count_suc sets d)
 
-take_append : (n : ℕ) (xs ys : List (ℕ × Extent)) → take n (xs ++ ys) ≡ take n xs ++ take (n - length xs) ys
+pub count_cons : (x : Ranges) (xs : List Ranges) (j : ℕ) → count_below (x ∷ xs) (suc j) ≡ length x.extents + count_below xs j
+count_cons x xs j = sum_by-cons (λ (r : Ranges). length r.extents) x (take j xs)
+
+pub take_append : (n : ℕ) (xs ys : List (ℕ × Extent)) → take n (xs ++ ys) ≡ take n xs ++ take (n - length xs) ys
 take_append zero [] ys = refl
 take_append (suc n) [] ys = grind (arith, common_steps)
 take_append zero (x ∷ xs) ys = grind (arith, common_steps)
@@ -143,12 +147,13 @@ pub record IsLeft (first sets : List Ranges) (n d left : ℕ) : Type 0 where
   pub done : (j : ℕ) → j < d → (set_at sets j).extents ≡ drop (n - count_below first j) (set_at first j).extents
   pub rest : (j : ℕ) → d ≤ j → set_at sets j ≡ set_at first j
   pub spare : (j : ℕ) → (set_at first j).spare ≤ (set_at sets j).spare
+  pub maximal : (j : ℕ) → j < d → IsMaximal (set_at first j).extents
 
 pub read_set : (sets : List Ranges) (d : ℕ) (x : Ranges) → d < length sets → x ≡ get_or sets d x → x ≡ set_at sets d
 read_set sets d x there is = grind (arith, common_steps, is)
 
-pub left_more : (first sets : List Ranges) (n d left count : ℕ) (old new : Ranges) → IsLeft first sets n d left → d < length sets → old ≡ set_at sets d → count ≡ min left (length old.extents) → new.extents ≡ drop count old.extents → old.spare ≤ new.spare → IsLeft first (set sets d new) n (d + 1) (left - count)
-left_more first sets n d left count old new p there old_is count_is new_is spare =
+pub left_more : (first sets : List Ranges) (n d left count : ℕ) (old new : Ranges) → IsLeft first sets n d left → d < length sets → old ≡ set_at sets d → count ≡ min left (length old.extents) → new.extents ≡ drop count old.extents → old.spare ≤ new.spare → IsMaximal old.extents → IsLeft first (set sets d new) n (d + 1) (left - count)
+left_more first sets n d left count old new p there old_is count_is new_is spare max =
     let same : old ≡ set_at first d = old_is ∙ p.rest d (omega arith) in
     let len : length old.extents ≡ length (set_at first d).extents = ap (λ (r : Ranges). length r.extents) same in
     let here : new.extents ≡ drop (n - count_below first d) (set_at first d).extents =
@@ -165,4 +170,22 @@ left_more first sets n d left count old new p there old_is count_is new_is spare
           (λ eq. let P : ℕ → Type 0 = λ i. (set_at first i).spare ≤ (set_at (set sets d new) i).spare in subst P (sym eq) (omega (arith, ap (λ (r : Ranges). r.spare) (set_same sets d new there), ap (λ (r : Ranges). r.spare) same, spare)))
           (λ other. omega (arith, ap (λ (r : Ranges). r.spare) (set_other sets d j new (grind (arith, nat_tests, other))), p.spare j))
           (cases_eq j d);
+      maximal = λ j lt. ⊎_elim
+          (λ eq. let P : ℕ → Type 0 = λ i. IsMaximal (set_at first i).extents in subst P (sym eq) (subst (λ (r : Ranges). IsMaximal r.extents) same max))
+          (λ other. p.maximal j (omega (arith, lt, other)))
+          (cases_eq j d);
     }
+
+-- past the last set nothing is kept
+pub all_maximal : (sets : List Ranges) (d : ℕ) → d ≡ length sets → ((j : ℕ) → j < d → IsMaximal (set_at sets j).extents) → (j : ℕ) → IsMaximal (set_at sets j).extents
+all_maximal sets d len each j =
+    ⊎_elim
+    (λ lt. each j lt)
+    (λ ge. past sets j (omega (arith, ge, len)))
+    (cases_lt j d)
+  where
+    past : (sets : List Ranges) (j : ℕ) → length sets ≤ j → IsMaximal (set_at sets j).extents
+    past [] zero le = tt
+    past [] (suc j) le = tt
+    past (x ∷ xs) zero le = absurd (omega (arith, le))
+    past (x ∷ xs) (suc j) le = past xs j (omega (arith, le))

@@ -6,10 +6,11 @@
 //! them all. What must be kept after a command was accepted goes through `reserve` and `keep_reserved`.
 #![tactic(auto)]
 
-ghost use Rattle.std.specs.Prelude.{◌≡◌, ℕ, ◌+◌, ◌-◌, ◌^◌, ◌<◌, ◌≤◌, ◌==◌, ◌++◌, [], false, take, drop, length, IsOk, IfOk, OnOk, OnErr, if◌then◌else◌};
-ghost use Rattle.zr_base.specs.Extents.{IsMaximal, HasNone};
+ghost use Rattle.std.specs.Prelude.{◌≡◌, ℕ, ◌+◌, ◌-◌, ◌^◌, ◌<◌, ◌≤◌, ◌==◌, ◌++◌, [], false, take, drop, length, IsOk, IfOk, OnOk, OnErr, if◌then◌else◌, ◌&&◌, not};
+ghost use Rattle.zr_base.specs.Extents.{IsMaximal, HasNone, has_unit};
 ghost use Rattle.zr_ranges.specs.Ranges.{Ranges};
 ghost use Rattle.zr_rules.specs.Frees.{keeps};
+ghost use Rattle.zr_rules.specs.Steps.{is_among};
 ghost use Rattle.zr_ckpt.specs.Checkpoint.{set_at, kept_at, spare_at, all_kept, kept_from, on_device, count_below, Keeps, IsSameKept};
 
 use std::alloc::Global;
@@ -143,6 +144,7 @@ impl Ckpt {
         ensures taken { IfOk result (λ list. list.items ≡ take n (all_kept self.old)) }
         ensures left { OnOk result (all_kept self.new ≡ drop n (all_kept self.old)) }
         ensures by_device { OnOk result ((d : ℕ) → kept_at self.new d ≡ drop (n - count_below self.old.sets d) (kept_at self.old d)) }
+        ensures members { IfOk result (λ list. (d u : ℕ) → has_unit (kept_at self.new d) u ≡ (has_unit (kept_at self.old d) u && not (is_among list.items d u))) }
         ensures err { OnErr result (self.new ≡ self.old) }
         ensures state { self.new.state ≡ self.old.state }
         ensures spare { (d : ℕ) → spare_at self.old d ≤ spare_at self.new d }
@@ -209,6 +211,7 @@ fn drop_lowest(sets: &mut Vec<RangeSet>, n: usize)
     ensures len { length sets.new.items ≡ length sets.old.items }
     ensures left { (d : ℕ) → (set_at sets.new.items d).extents ≡ drop (n - count_below sets.old.items d) (set_at sets.old.items d).extents }
     ensures spare { (d : ℕ) → (set_at sets.old.items d).spare ≤ (set_at sets.new.items d).spare }
+    ensures maximal { (d : ℕ) → IsMaximal (set_at sets.old.items d).extents }
 {
     let mut left = n;
     for d in 0..sets.len() {
