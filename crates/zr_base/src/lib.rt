@@ -6,6 +6,9 @@
 //! that they obey are definitions in specs/ here and in zr_rules.
 #![tactic(auto)]
 
+ghost use Rattle.std.specs.Prelude.{◌≡◌, ◌≤◌, IsTrue};
+ghost use Rattle.zr_base.specs.Blocks.{is_block_size};
+
 mod lists;
 mod refusal;
 mod space;
@@ -20,6 +23,14 @@ use std::alloc::{AllocError, AllocFailed};
 
 /// The bytes of a unit.
 pub const UNIT: u64 = 4096;
+
+/// Whether a block may have this many units.
+pub fn is_block_size(units: u64) -> bool
+    ensures value { result ≡ is_block_size units }
+    ensures small { IsTrue result → units ≤ 32 }
+{
+    units == 1 || units == 2 || units == 4 || units == 8 || units == 16 || units == 32
+}
 
 /// Memory ran out.
 #[derive(Debug, Drop)]

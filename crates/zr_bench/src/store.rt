@@ -13,6 +13,7 @@ use zr_choose::Chooser;
 use zr_metaslab::{NoRun, Slabs};
 use zr_ranges::RangeSet;
 
+/// Two devices, and how many units of them are free.
 #[derive(Drop)]
 pub struct Store {
     slabs: Slabs,
@@ -54,6 +55,7 @@ impl Store {
         self.free
     }
 
+    /// Hands out so many units in a row.
     pub fn hand_out(&mut self, want: u64, chooser: &Chooser) -> Result<Dva, NoRun>
         requires some { 0 < want }
         requires few { want ≤ 256 }
@@ -67,6 +69,7 @@ impl Store {
         Ok(at)
     }
 
+    /// Takes back units that are not free.
     pub fn take_back(&mut self, at: Dva)
         requires known { at.dev < length self.old }
         requires not_empty { 0 < at.len }

@@ -14,7 +14,8 @@ use Rattle.std.proofs.lemmas.List.{take_at, take_all, length-append}
 use Rattle.zr_base.specs.Words.{words, zeros}
 use Rattle.zr_bptr.specs.declared.Ptr.{Ptr}
 use Rattle.zr_bptr.specs.declared.ObjRec.{ObjRec}
-use Rattle.zr_bptr.specs.Spelling.{IsObject, is_block_size, SpellsPointer, SpellsRecord, SpellsEachRecord, SpellsRecords, pointer_bytes, record_bytes}
+use Rattle.zr_base.specs.Blocks.{is_block_size}
+use Rattle.zr_bptr.specs.Spelling.{IsObject, SpellsPointer, SpellsRecord, SpellsEachRecord, SpellsRecords, pointer_bytes, record_bytes}
 use Rattle.zr_bptr.specs.Fields.{word_at}
 use Rattle.zr_bptr.proofs.Spelled.{word_back}
 use Rattle.zr_bptr.proofs.Pieces.{AreLong, chunks-flat_map, length-pieces, joined, flat_map-map, same_map, length_from_map, length-first_chunks, pointer_long}

@@ -4,13 +4,13 @@ ghost use Rattle.sha2.specs.Sha256.{sha256};
 ghost use Rattle.zr_base.specs.Readers.{Reads};
 ghost use Rattle.zr_base.specs.Words.{IsAddress};
 ghost use Rattle.zr_bptr.specs.declared.Ptr.TheVariants.{At};
-ghost use Rattle.zr_bptr.specs.Spelling.{IsPointer, IsLawful, SpellsPointer, is_block_size, pointer_bytes, properties};
+ghost use Rattle.zr_bptr.specs.Spelling.{IsPointer, IsLawful, SpellsPointer, pointer_bytes, properties};
 ghost use Rattle.zr_bptr.specs.Fields.{fields_of, word_at};
 
 use crate::{Bptr, Ptr};
 use byteorder::{ByteOrder, LittleEndian};
 use sha2::{Digest, Sha256};
-use zr_base::Dva;
+use zr_base::{Dva, is_block_size};
 
 /// The bytes of a pointer.
 pub const POINTER_BYTES: usize = 128;
@@ -21,13 +21,6 @@ pub fn sum_of(bytes: &[u8]) -> [u8; 32]
     ensures size { length result ≡ 32 }
 {
     Sha256::digest(bytes)
-}
-
-/// Whether a block may have this many units.
-pub fn is_block_size(units: u32) -> bool
-    ensures { result ≡ is_block_size units }
-{
-    units == 1 || units == 2 || units == 4 || units == 8 || units == 16 || units == 32
 }
 
 fn is_address(at: &Dva) -> bool
@@ -42,7 +35,7 @@ pub fn is_pointer(b: &Bptr) -> bool
 {
     let _value = *b;
     is_address(&b.at)
-        && is_block_size(b.at.len)
+        && is_block_size(u64::from(b.at.len))
         && b.level <= 5
         && (b.level == 0 || b.at.len == 1)
         && 1 <= b.birth

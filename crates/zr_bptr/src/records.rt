@@ -6,11 +6,11 @@ ghost use Rattle.std.specs.List.{AllByRecursion};
 ghost use Rattle.zr_base.specs.Readers.{Reads};
 ghost use Rattle.zr_bptr.specs.Spelling.{IsTree, IsObject, SpellsRecord, SpellsEachRecord, SpellsRecords, record_bytes};
 
-use crate::pointer::{decode, encode, is_block_size, is_pointer, word_at};
+use crate::pointer::{decode, encode, is_pointer, word_at};
 use crate::{ObjRec, Ptr, Tree};
 use byteorder::{ByteOrder, LittleEndian};
 use std::alloc::Global;
-use zr_base::NoMemory;
+use zr_base::{NoMemory, is_block_size};
 
 /// The records of a leaf of the directory.
 pub const RECORDS: usize = 16;
@@ -32,7 +32,7 @@ pub fn is_tree(t: &Tree) -> bool
 pub fn is_object(r: &ObjRec) -> bool
     ensures { IsTrue result ↔ IsObject r.now }
 {
-    is_block_size(r.units) && is_tree(&r.tree)
+    is_block_size(u64::from(r.units)) && is_tree(&r.tree)
 }
 
 fn spell(r: &ObjRec) -> [u8; 256]

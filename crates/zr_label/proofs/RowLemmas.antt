@@ -14,7 +14,8 @@ use Rattle.zr_base.specs.declared.space.DevState.{DevState}
 use Rattle.zr_base.specs.declared.space.DevState.TheVariants.{On, Leaving, Gone}
 use Rattle.zr_bptr.specs.Fields.{word_at}
 use Rattle.zr_bptr.proofs.Spelled.{word_back}
-use Rattle.zr_label.specs.Blocks.{IsTable, most_units, is_going, is_row, is_on, is_no_row, row_bytes, state_number, no_row}
+use Rattle.zr_label.specs.Blocks.{IsTable, most_units, is_going, is_row, is_no_row, row_bytes, state_number, no_row}
+use Rattle.zr_rules.specs.Places.{is_on}
 use Rattle.zr_label.specs.Fields.{row_fields, state_of, table_fields}
 
 -- a row that can be spelled: zeros alone where there is no device

@@ -7,6 +7,7 @@ use Rattle.zr_base.specs.Trees.{IsHeight}
 use Rattle.zr_base.specs.declared.space.DevRow.{DevRow}
 use Rattle.zr_base.specs.declared.space.DevState.{DevState}
 use Rattle.zr_base.specs.declared.space.DevState.TheVariants.{On, Leaving, Gone}
+use Rattle.zr_rules.specs.Places.{is_on}
 use Rattle.zr_bptr.specs.declared.Ptr.{Ptr}
 use Rattle.zr_bptr.specs.declared.Ptr.TheVariants.{Hole, At}
 use Rattle.zr_base.specs.Words.{words}
@@ -85,11 +86,6 @@ is_going _ added gone txg = gone == 0
 abbrev pub is_row : ℕ → ℕ → DevRow → Bool
 is_row version txg r =
     nat_le 1 r.added && nat_le r.added txg && nat_le 896 r.units && nat_le r.units (most_units version) && is_going r.state r.added r.gone txg
-
--- a device in service
-abbrev pub is_on : DevState → Bool
-is_on On = true
-is_on _ = false
 
 -- a row behind the last device
 abbrev pub no_row : DevRow

@@ -3,7 +3,8 @@
 //! Reading a row never fails: what it reads is spelled again with the whole block and compared.
 ghost use Rattle.std.specs.Prelude.{◌≡◌, length, map};
 ghost use Rattle.std.specs.List.{list_all, list_any};
-ghost use Rattle.zr_label.specs.Blocks.{row_words, row_bytes, state_number, most_units, is_going, is_row, is_no_row, is_on};
+ghost use Rattle.zr_label.specs.Blocks.{row_words, row_bytes, state_number, most_units, is_going, is_row, is_no_row};
+ghost use Rattle.zr_rules.specs.Places.{is_on};
 ghost use Rattle.zr_label.specs.Fields.{state_of, row_fields, table_fields};
 
 use byteorder::{ByteOrder, LittleEndian};

@@ -7,7 +7,8 @@ ghost use Rattle.std.specs.List.{flat_map, list_all, list_any};
 ghost use Rattle.std.specs.Int.{div_ceil};
 ghost use Rattle.zr_base.specs.Readers.{Reads};
 ghost use Rattle.zr_base.specs.Trees.{IsHeight};
-ghost use Rattle.zr_label.specs.Blocks.{IsFilled, IsHead, IsMetaRoot, IsTable, IsUber, SpellsUber, uber_words, row_bytes, is_row, is_no_row, is_on};
+ghost use Rattle.zr_label.specs.Blocks.{IsFilled, IsHead, IsMetaRoot, IsTable, IsUber, SpellsUber, uber_words, row_bytes, is_row, is_no_row};
+ghost use Rattle.zr_rules.specs.Places.{is_on};
 ghost use Rattle.zr_label.specs.Fields.{uber_fields};
 
 use crate::block::{put, seal, zero_block};

@@ -48,10 +48,6 @@ put_bytes bytes at (b ∷ more) = put_bytes (put_byte bytes at b) (at + 1) more
 abbrev pub with_bytes : Object → ℕ → List ℕ → Object
 with_bytes o off bytes = record { units = o.units; bytes = put_bytes o.bytes off bytes }
 
--- a block has 1, 2, 4, 8, 16 or 32 units
-abbrev pub is_block_size : ℕ → Bool
-is_block_size units = units == 1 || units == 2 || units == 4 || units == 8 || units == 16 || units == 32
-
 -- the range is not empty and is within 2 ^ 25 blocks
 abbrev pub is_within : ℕ → ℕ → ℕ → Bool
 is_within units off len = nat_lt 0 len && nat_le (off + len) (2 ^ 25 * (4096 * units))

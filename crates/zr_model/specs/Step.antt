@@ -7,7 +7,8 @@ use Rattle.zr_script.specs.declared.command.Command.{Command}
 use Rattle.zr_script.specs.declared.command.Command.TheVariants as cmd
 use Rattle.zr_script.specs.declared.reply.Reply.{Reply}
 use Rattle.zr_script.specs.declared.reply.Reply.TheVariants as reply
-use Rattle.zr_model.specs.Objects.{Object, Objects, blank, bytes_at, with_bytes, is_block_size, is_within}
+use Rattle.zr_model.specs.Objects.{Object, Objects, blank, bytes_at, with_bytes, is_within}
+use Rattle.zr_base.specs.Blocks.{is_block_size}
 use Rattle.zr_model.specs.State.{PoolState, ShelfPart, Empty, Is, State, opened, created, with_objects}
 
 -- the object is there, and the test of it holds

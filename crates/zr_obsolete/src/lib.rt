@@ -100,7 +100,7 @@ impl Obsolete {
         ensures fresh { self.new.fresh ≡ [] }
     {
         fold_counts(&mut self.counts, &self.fresh, map);
-        clear(&mut self.fresh);
+        self.fresh.clear();
     }
 
     /// 100 times the fresh units by the units of the mapping, rounded down, and 0 for an empty mapping.
@@ -115,15 +115,6 @@ impl Obsolete {
         let _runs = self.fresh.extents();
         let fresh = self.fresh.units() as u128;
         (100 * fresh / mapped as u128) as u64
-    }
-}
-
-/// Takes all units out.
-fn clear(set: &mut RangeSet)
-    ensures { set.new.extents ≡ [] }
-{
-    while !set.extents().is_empty() {
-        let _lowest = set.take_front(u64::MAX);
     }
 }
 

@@ -2,7 +2,7 @@
 ghost use Rattle.std.specs.Prelude.{◌≡◌, ◌≤◌, ◌+◌, ◌<◌, ◌^◌, ℕ, IfOk, OnOk, is_some, length, IsTrue};
 ghost use Rattle.std.specs.Option.{option_copied};
 ghost use Rattle.std.specs.FinMap as map;
-ghost use Rattle.zr_model.specs.Objects.{is_block_size};
+ghost use Rattle.zr_base.specs.Blocks.{is_block_size};
 ghost use Rattle.zr_model.specs.State.{PoolState, opened, with_objects};
 ghost use Rattle.zr_model.specs.Step.{AnswersOpen};
 ghost use Rattle.zr_session.specs.Memory.{IsChanged};
@@ -12,7 +12,7 @@ use crate::object::StoredObject;
 use std::alloc::Global;
 use std::collections::BTreeMap;
 use std::marker::Model;
-use zr_base::{Blob, NoMemory, Refusal};
+use zr_base::{Blob, NoMemory, Refusal, is_block_size};
 use zr_script::Reply;
 
 /// The greatest ID of an object.
@@ -36,13 +36,6 @@ impl Model for ObjectTable {
     ghost coded = { objects_code };
 
     ghost view = { λ t. map.from_entries t.objects.entries };
-}
-
-fn is_block_size(units: u64) -> bool
-    ensures value { result ≡ is_block_size units }
-    ensures small { IsTrue result → units ≤ 32 }
-{
-    units == 1 || units == 2 || units == 4 || units == 8 || units == 16 || units == 32
 }
 
 impl ObjectTable {

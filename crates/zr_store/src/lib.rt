@@ -26,24 +26,30 @@ pub use memory::{Kept, MemBlocks, Refused};
 /// Why a call of a store was not done.
 #[derive(Clone, Copy, Debug, PartialEq, Eq)]
 pub enum StoreErr {
+    /// In units: no device in service has `needed` free units in a row within one metaslab.
     NoRun {
         needed: u64,
         longest: u64,
     },
+    /// What was read at the address has another SHA-256 than its pointer says.
     Damaged {
         at: Dva,
         expected: [u8; 32],
         found: [u8; 32],
     },
+    /// The address goes past its device, or does not resolve.
     Unresolved {
         at: Dva,
         expected: [u8; 32],
     },
+    /// The block has its sum, and is no spelling of what should stand there.
     Malformed {
         at: Dva,
         expected: [u8; 32],
     },
+    /// A call on a device failed.
     Failed,
+    /// Memory ran out.
     NoMemory,
 }
 

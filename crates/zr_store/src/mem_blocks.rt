@@ -1,7 +1,8 @@
 //! How the store in memory puts, gets and frees.
 ghost use Rattle.std.specs.Prelude.{◌≡◌, ◌+◌, ◌*◌, ◌-◌, ◌/◌, ◌<◌, ◌≤◌, ◌||◌, List, [], ◌∷◌, ℕ, length, IfOk, IfSome, MatchOption, IsTrue, true, false, if◌then◌else◌};
 ghost use Rattle.std.specs.List.{HoldsAt};
-ghost use Rattle.zr_bptr.specs.Spelling.{is_block_size, SpellsTreeBlock};
+ghost use Rattle.zr_base.specs.Blocks.{is_block_size};
+ghost use Rattle.zr_bptr.specs.Spelling.{SpellsTreeBlock};
 ghost use Rattle.zr_bptr.specs.declared.Ptr.{Ptr};
 ghost use Rattle.zr_store.specs.Store.{one_at, is_size};
 ghost use Rattle.zr_store.specs.Memory.{stored_of, is_kept, IsSound};
