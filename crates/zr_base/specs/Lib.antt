@@ -1,4 +1,5 @@
 pub mod Blocks
+pub mod Counts
 pub mod Extents
 pub mod Trees
 pub mod Words

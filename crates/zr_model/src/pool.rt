@@ -4,7 +4,8 @@
 //! of plain objects, between the shelf and the state before and after. A pool works on the desk as a shelf alone, so it
 //! takes nothing of the input and sends nothing.
 ghost use Rattle.std.specs.Prelude.{◌≡◌, ◌∷◌, List, ℕ, length, IfOk, IfSome, IfNone, IsErrOf};
-ghost use Rattle.zr_shelf.specs.Counts.{NoneFell, HasRisen};
+ghost use Rattle.zr_base.specs.Counts.{HasRisen};
+ghost use Rattle.zr_shelf.specs.Counts.{NoneFell};
 ghost use Rattle.zr_model.specs.State.{State};
 ghost use Rattle.zr_model.specs.Step.{IsServed};
 ghost use Rattle.zr_model.specs.Runs.{Takes, point, turn, KeepsOutside};

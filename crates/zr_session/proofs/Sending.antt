@@ -1,7 +1,8 @@
 -- What was sent for a line, and why a run ends.
 use Rattle.std.proofs.Common.{◌≡◌, ◌⊎◌, inl, inr, ℕ, ◌≤◌, List, [], ◌++◌, Result, Ok, Err, OnOk, ap, sym, ◌∙◌, subst, arith}
 use Rattle.std.proofs.lemmas.List.{append-nil}
-use Rattle.zr_shelf.specs.Counts.{Counts, NoneFell, HasRisen}
+use Rattle.zr_base.specs.Counts.{HasRisen}
+use Rattle.zr_shelf.specs.Counts.{Counts, NoneFell}
 use Rattle.zr_shelf.specs.Disks.{Stand, sent_more}
 use Rattle.zr_script.specs.declared.command.Command.{Command}
 use Rattle.zr_script.specs.declared.reply.Reply.{Reply}

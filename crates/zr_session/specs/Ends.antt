@@ -1,6 +1,7 @@
 -- How a run ends.
 use Rattle.std.specs.Prelude.{◌≡◌, ◌⊎◌, ℕ, List}
-use Rattle.zr_shelf.specs.Counts.{Counts, HasRisen}
+use Rattle.zr_base.specs.Counts.{HasRisen}
+use Rattle.zr_shelf.specs.Counts.{Counts}
 use Rattle.zr_shelf.specs.Disks.{Stand, with_disk}
 use Rattle.zr_model.specs.declared.pool.Stop.{Stop}
 use Rattle.zr_model.specs.declared.pool.Stop.TheVariants as stop

@@ -1,6 +1,7 @@
 -- What the program answers to its words and its input.
 use Rattle.std.specs.Prelude.{ℕ, List, Option}
-use Rattle.zr_shelf.specs.Counts.{Counts, HasRisen}
+use Rattle.zr_base.specs.Counts.{HasRisen}
+use Rattle.zr_shelf.specs.Counts.{Counts}
 use Rattle.zr_model.specs.Answers.{IsStarted}
 
 -- no call of any kind failed

@@ -4,7 +4,8 @@
 //! that does not let it go on.
 ghost use Rattle.std.specs.Prelude.{◌≡◌, ◌≢◌, ◌⊎◌, ◌∷◌, [], ◌+◌, ◌<◌, ◌≤◌, ◌^◌, ℕ, length, map, IfOk, IfErr, OnOk};
 ghost use Rattle.std.specs.String.{string_bytes};
-ghost use Rattle.zr_shelf.specs.Counts.{NoneFell, HasRisen};
+ghost use Rattle.zr_base.specs.Counts.{HasRisen};
+ghost use Rattle.zr_shelf.specs.Counts.{NoneFell};
 ghost use Rattle.zr_shelf.specs.Disks.{Stand};
 ghost use Rattle.zr_model.specs.State.{no_pool};
 ghost use Rattle.zr_model.specs.Answers.{RunsTo, IsDone, TellsBadLine, TellsLimit, TellsFault, AnswersTaken, AnswersFront, AnswersPartly};

@@ -6,7 +6,8 @@
 ghost use Rattle.std.specs.Prelude.{◌≡◌, ◌+◌, ◌++◌, ◌∷◌, [], ◌<◌, ◌≤◌, List, ℕ, length, map, IfOk, OnOk, OnErr, slice_index, IsErrOf};
 ghost use Rattle.zr_shelf.specs.declared.desk.DeskErr.TheVariants.{Failed, NoMemory};
 ghost use Rattle.zr_shelf.specs.Disks.{disk, part, IsSound};
-ghost use Rattle.zr_shelf.specs.Counts.{Counts, NoneFell, HasRisen};
+ghost use Rattle.zr_base.specs.Counts.{HasRisen};
+ghost use Rattle.zr_shelf.specs.Counts.{Counts, NoneFell};
 ghost use Rattle.zr_shelf.specs.Moments.{World, IsStill, Writes, Flushes, Attaches, Takes, Gives};
 
 use std::alloc::{AllocError, AllocFailed};
