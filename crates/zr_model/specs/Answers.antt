@@ -1,5 +1,5 @@
 -- What has been answered when a run ends.
-use Rattle.std.specs.Prelude.{◌≡◌, ◌≢◌, ◌⊎◌, ℕ, ◌+◌, ◌^◌, ◌≤◌, ◌<◌, List, [], ◌∷◌, ◌++◌, length, Option}
+use Rattle.std.specs.Prelude.{◌≡◌, ◌≢◌, ◌⊎◌, ℕ, ◌+◌, ◌^◌, ◌≤◌, ◌<◌, min, List, [], ◌∷◌, ◌++◌, length, Option}
 use Rattle.std.specs.List.{AllZip, AllByRecursion, flat_map}
 use Rattle.zr_shelf.specs.Disks.{Stand, with_disk}
 use Rattle.zr_script.specs.declared.command.Command.TheVariants as cmd
@@ -45,9 +45,17 @@ IsOpenLine line = AllByRecursion (λ b. b ≢ 10) line
 abbrev pub IsBetween : Reach → Type 0
 IsBetween r = (line : List ℕ) × (r.taken ≡ flat_map (λ l. l ++ 10 ∷ []) r.lines ++ line) × IsOpenLine line × (length line ≤ 16384)
 
--- the next line is a bad one
+-- the bytes of these lines with their line feeds, and those that it takes to know the next: up to its line feed, or the first that is too many
+abbrev pub bytes_to : List (List ℕ) → List ℕ → ℕ
+bytes_to lines line = length (flat_map (λ l. l ++ 10 ∷ []) lines) + min (length line + 1) 16385
+
+-- what was taken behind the line is less than a piece
+abbrev pub IsPrompt : Reach → List ℕ → Type 0
+IsPrompt r line = length r.taken < bytes_to r.lines line + 65536
+
+-- the next line is a bad one, and nothing more was taken once that could be known
 abbrev pub IsAtBadLine : Stand → Reach → Type 0
-IsAtBadLine opening r = (line : List ℕ) × (more : List (List ℕ)) × (r.rest ≡ line ∷ more) × IsBad (point_at opening r) line
+IsAtBadLine opening r = (line : List ℕ) × (more : List (List ℕ)) × (r.rest ≡ line ∷ more) × IsBad (point_at opening r) line × IsPrompt r line
 
 -- 2 ^ 32 bytes were taken
 abbrev pub IsAtLimit : Reach → Type 0

@@ -39,7 +39,7 @@ bad_at opening now state line number d b = subst (λ p. IsBad p line) (sym d.ans
 
 next_bad : (opening now : Stand) (state : State) (line : List ℕ) (number : ℕ) (d : IsDue opening now state line number) → IsBad (point now state) line → IsNextText opening (reach_of d) (last_line (text.BadLine number))
 next_bad opening now state line number d b =
-    subst (λ n. IsNextText opening (reach_of d) (last_line (text.BadLine n))) (sym d.number_is) (bad_line (line, d.more, refl, bad_at opening now state line number d b))
+    subst (λ n. IsNextText opening (reach_of d) (last_line (text.BadLine n))) (sym d.number_is) (bad_line (line, d.more, refl, bad_at opening now state line number d b, d.prompt))
 
 next_text : (opening now : Stand) (state : State) (line : List ℕ) (number : ℕ) (c : Command) (bytes : List ℕ) (d : IsDue opening now state line number)
     → Asks line c → IsTextFor c number state now bytes → IsNextText opening (reach_of d) bytes
@@ -50,7 +50,7 @@ next_text opening now state line number c bytes d a sending.fault = fault (line,
 
 tells_bad : (opening now new : Stand) (state : State) (line : List ℕ) (number : ℕ) (d : IsDue opening now state line number) → IsBad (point now state) line → Sends now new (last_line (text.BadLine number)) → EndsAs BadLine opening new
 tells_bad opening now new state line number d b s =
-    (reach_of d, due_reached opening now new state line number _ d (subst (λ n. Sends now new (last_line (text.BadLine n))) d.number_is s), (line, d.more, refl, bad_at opening now state line number d b))
+    (reach_of d, due_reached opening now new state line number _ d (subst (λ n. Sends now new (last_line (text.BadLine n))) d.number_is s), (line, d.more, refl, bad_at opening now state line number d b, d.prompt))
 
 ends_command : (opening now new : Stand) (state : State) (line : List ℕ) (number : ℕ) (c : Command) (end : End) → IsDue opening now state line number → Asks line c → StopsAtCommand c number state now new end → EndsAs end opening new
 ends_command opening now new state line number c OutputFault d a s =

@@ -1,5 +1,5 @@
 -- How a run goes on.
-use Rattle.std.proofs.Common.{take, length-take-le, add-zero, ◌≡◌, ◌≢◌, ℕ, ◌==◌, false, List, [], ◌∷◌, ◌++◌, length, ◌+◌, ◌≤◌, ◌<◌, ◌^◌, refl, sym, ap, subst, ◌∙◌, append_assoc, inl, inr, arith, length-append}
+use Rattle.std.proofs.Common.{min, take, length-take-le, add-zero, ◌≡◌, ◌≢◌, ℕ, ◌==◌, false, List, [], ◌∷◌, ◌++◌, length, ◌+◌, ◌≤◌, ◌<◌, ◌^◌, refl, sym, ap, subst, ◌∙◌, append_assoc, inl, inr, arith, length-append}
 use Rattle.std.specs.List.{AllZip, flat_map}
 use Rattle.std.proofs.lemmas.List.Concat.{flat_map-append}
 use Rattle.std.proofs.lemmas.Bool.Decides.{eqb_tells}
@@ -9,7 +9,7 @@ use Rattle.zr_script.specs.Lines.{lines_of, before_lines}
 use Rattle.zr_script.specs.ReplyText.{reply_text}
 use Rattle.zr_model.specs.State.{State, no_pool}
 use Rattle.zr_model.specs.Runs.{Point, Turn, point, turn, Takes, Run, end_of, texts, Asks}
-use Rattle.zr_model.specs.Answers.{IsOpenLine}
+use Rattle.zr_model.specs.Answers.{IsOpenLine, bytes_to}
 use Rattle.zr_session.specs.Lines.{AnswersLine}
 use Rattle.zr_session.specs.Progress.{HasAnswered, IsAt, IsDue}
 
@@ -91,14 +91,15 @@ at_start opening = record {
   short = omega arith;
   count_is = refl;
   taken_is = refl;
+  piece = omega arith;
   most = omega arith;
 }
 
 -- a piece is taken
 pub at_taken : (opening old new : Stand) (state : State) (piece left line : List ℕ) (count taken : ℕ)
-    → IsAt opening old state [] line count taken → old.left ≡ piece ++ left → new ≡ taken_to old left → taken + length piece ≤ 2 ^ 32
+    → IsAt opening old state [] line count taken → old.left ≡ piece ++ left → new ≡ taken_to old left → taken + length piece ≤ 2 ^ 32 → length piece ≤ 65536
     → IsAt opening new state piece line count (taken + length piece)
-at_taken opening old new state piece left line count taken a e n m = record {
+at_taken opening old new state piece left line count taken a e n m f = record {
   lines = a.lines;
   turns = a.turns;
   bytes = a.bytes;
@@ -115,6 +116,7 @@ at_taken opening old new state piece left line count taken a e n m = record {
   short = a.short;
   count_is = a.count_is;
   taken_is = let t = a.taken_is in omega arith;
+  piece = f;
   most = m;
 }
 
@@ -159,6 +161,7 @@ at_line opening old new before after rest line part more count taken a e k l = r
   short = omega arith;
   count_is = length-append a.lines ((line ++ part) ∷ []) ∙ ap (λ n. n + 1) a.count_is;
   taken_is = ended_length a.bytes part more rest taken e a.taken_is;
+  piece = let r = ap length e ∙ length-append part (10 ∷ more) in let f = a.piece in omega arith;
   most = a.most;
 }
 
@@ -177,8 +180,21 @@ at_kept opening now state rest line new count taken a k e s = record {
   short = s;
   count_is = a.count_is;
   taken_is = let b = length-append a.bytes rest in let t = a.taken_is in omega arith;
+  piece = omega arith;
   most = a.most;
 }
+
+-- fewer than a piece behind the line
+prompt_as : (all line part rest : ℕ) → line ≤ 16384 → rest ≤ 65536 → all + line + rest < all + min (line + part + 1) 16385 + 65536
+prompt_as all line part rest l r = omega arith
+
+pub taken_prompt : (lines : List (List ℕ)) (bytes rest line next : List ℕ) (more : ℕ) → bytes ≡ flat_map (λ l. l ++ 10 ∷ []) lines ++ line → length line ≤ 16384 → length rest ≤ 65536
+    → length next ≡ length line + more → length (bytes ++ rest) < bytes_to lines next + 65536
+taken_prompt lines bytes rest line next more w l r n =
+    let b = ap length w ∙ length-append (flat_map (λ l. l ++ 10 ∷ []) lines) line in
+    let t = length-append bytes rest in
+    let p = prompt_as (length (flat_map (λ l. l ++ 10 ∷ []) lines)) (length line) more (length rest) l r in
+    omega arith
 
 -- the line that a line feed ends is the next
 pub due_line : (opening now : Stand) (state : State) (rest line part more : List ℕ) (count taken : ℕ)
@@ -194,6 +210,7 @@ due_line opening now state rest line part more count taken a e k = record {
   front = ap lines_of (a.input ∙ ap (λ r. a.bytes ++ r) (ap (λ r. r ++ now.left) e ∙ append_assoc part (10 ∷ more) now.left))
       ∙ line_split a.bytes line part (more ++ now.left) a.lines a.split a.is_open k;
   number_is = ap (λ n. n + 1) (sym a.count_is);
+  prompt = taken_prompt a.lines a.bytes rest line (line ++ part) (length part) a.whole a.short a.piece (length-append line part);
 }
 
 pub last_front : (opening now : Stand) (state : State) (b : ℕ) (line : List ℕ) (count taken : ℕ)
@@ -214,6 +231,7 @@ due_last opening now state b line count taken a e = record {
   most = let t = a.taken_is in let m = a.most in omega arith;
   front = last_front opening now state b line count taken a e;
   number_is = ap (λ n. n + 1) (sym a.count_is);
+  prompt = let p = taken_prompt a.lines a.bytes [] (b ∷ line) (b ∷ line) 0 a.whole a.short a.piece (omega arith) in let n = ap length (append-nil a.bytes) in omega arith;
 }
 
 -- a line that has become too long is the front of the next
@@ -236,6 +254,7 @@ long_due opening now state rest line count taken a m w = record {
     most = let b = length-append a.bytes rest in let t = a.taken_is in let m = a.most in omega arith;
     front = ap lines_of a.input ∙ (a.split (rest ++ now.left) ∙ ap (λ l. a.lines ++ l) (ap lines_of (sym (append_assoc line rest now.left)) ∙ w.is));
     number_is = ap (λ n. n + 1) (sym a.count_is);
+    prompt = taken_prompt a.lines a.bytes rest line ((line ++ rest) ++ w.back) (length rest + length w.back) a.whole a.short a.piece (let l = length-append (line ++ rest) w.back in let k = length-append line rest in omega arith);
   };
   long = let l = length-append (line ++ rest) w.back in omega arith;
 }
@@ -272,17 +291,17 @@ abbrev pub TookPiece : ℕ → List ℕ → Stand → Stand → Type 0
 TookPiece n out old new = (left : List ℕ) × (old.left ≡ take n out ++ left) × (new ≡ taken_to old left)
 
 pub at_piece : (opening old new : Stand) (state : State) (out line : List ℕ) (n count taken : ℕ)
-    → IsAt opening old state [] line count taken → TookPiece n out old new → n ≤ length out → taken + length out ≤ 2 ^ 32 → IsAt opening new state (take n out) line count (taken + n)
-at_piece opening old new state out line n count taken a t l m =
+    → IsAt opening old state [] line count taken → TookPiece n out old new → n ≤ length out → taken + length out ≤ 2 ^ 32 → length out ≤ 65536 → IsAt opening new state (take n out) line count (taken + n)
+at_piece opening old new state out line n count taken a t l m f =
     let e : length (take n out) ≡ n = length-take-le n out l in
-    subst (λ x. IsAt opening new state (take n out) line count (taken + x)) e (at_taken opening old new state (take n out) t.0 line count taken a t.1 t.2 (let k = e in omega arith))
+    subst (λ x. IsAt opening new state (take n out) line count (taken + x)) e (at_taken opening old new state (take n out) t.0 line count taken a t.1 t.2 (let k = e in omega arith) (let k = e in omega arith))
 
 pub at_end : (opening old new : Stand) (state : State) (out line : List ℕ) (n count taken : ℕ)
     → IsAt opening old state [] line count taken → TookPiece n out old new → n ≡ 0 → taken ≤ 2 ^ 32 → IsAt opening new state [] line count taken
 at_end opening old new state out line n count taken a t z m =
     let p : take n out ≡ [] = ap (λ k. take k out) z in
     subst (λ x. IsAt opening new state [] line count x) (add-zero taken)
-    (at_taken opening old new state [] t.0 line count taken a (t.1 ∙ ap (λ x. x ++ t.0) p) t.2 (let k = add-zero taken in omega arith))
+    (at_taken opening old new state [] t.0 line count taken a (t.1 ∙ ap (λ x. x ++ t.0) p) t.2 (let k = add-zero taken in omega arith) (omega arith))
 
 pub left_end : (old new : Stand) (out : List ℕ) (n : ℕ) → TookPiece n out old new → n ≡ 0 → old.left ≡ [] → new.left ≡ []
 left_end old new out n t z e = ap (λ s. s.left) t.2 ∙ (sym (t.1 ∙ ap (λ k. take k out ++ t.0) z) ∙ e)

@@ -1,11 +1,11 @@
 -- How far a run has come between two pieces of the input, and within one.
-use Rattle.std.specs.Prelude.{◌≡◌, ℕ, ◌+◌, ◌^◌, ◌≤◌, List, [], ◌∷◌, ◌++◌, length}
+use Rattle.std.specs.Prelude.{◌≡◌, ℕ, ◌+◌, ◌^◌, ◌≤◌, ◌<◌, List, [], ◌∷◌, ◌++◌, length}
 use Rattle.std.specs.List.{AllZip, flat_map}
 use Rattle.zr_shelf.specs.Disks.{Stand}
 use Rattle.zr_script.specs.Lines.{lines_of}
 use Rattle.zr_model.specs.State.{State, no_pool}
 use Rattle.zr_model.specs.Runs.{Turn, point, Run, end_of, texts, Asks}
-use Rattle.zr_model.specs.Answers.{IsOpenLine}
+use Rattle.zr_model.specs.Answers.{IsOpenLine, bytes_to}
 
 -- first lines are answered, and this was sent for them
 pub record HasAnswered (opening now : Stand) (state : State) (lines : List (List ℕ)) (turns : List Turn) : Type 0 where
@@ -27,6 +27,7 @@ pub record IsAt (opening now : Stand) (state : State) (rest line : List ℕ) (co
   pub short : length line ≤ 16384
   pub count_is : length lines ≡ count
   pub taken_is : length bytes + length rest ≡ taken
+  pub piece : length rest ≤ 65536
   pub most : taken ≤ 2 ^ 32
 
 -- this line is the next
@@ -40,3 +41,4 @@ pub record IsDue (opening now : Stand) (state : State) (line : List ℕ) (number
   pub most : length taken ≤ 2 ^ 32
   pub front : lines_of opening.left ≡ lines ++ line ∷ more
   pub number_is : number ≡ length lines + 1
+  pub prompt : length taken < bytes_to lines line + 65536

@@ -121,11 +121,11 @@ impl Script {
     }
 
     /// Answers a last line that no line feed ends, where the input has ended.
-    pub fn finish<P: Pool, D: Desk>(&mut self, alloc: Global, pool: &mut P, desk: &mut D) -> End
-        requires lines { self.old.lines + 1 < 2 ^ 64 }
+    pub fn finish<P: Pool, D: Desk>(&self, alloc: Global, pool: &mut P, desk: &mut D) -> End
+        requires lines { self.now.lines + 1 < 2 ^ 64 }
         requires slots { length (D.sizes desk.old) ≡ length (P.paths pool.old) }
         ensures ends { D.tells desk.old → (D.world desk.old).now.paths ≡ P.paths pool.old → (D.world desk.old).now.left ≡ [] → (opening : Stand) (taken : ℕ) → taken < 2 ^ 32
-            → IsAt opening (D.world desk.old).now (P.state pool.old) [] self.old.line.items self.old.lines taken
+            → IsAt opening (D.world desk.old).now (P.state pool.old) [] self.now.line.items self.now.lines taken
             → EndsAs result opening (D.world desk.new).now }
         ensures cause { HasCause (D.counts desk.old) (D.counts desk.new) result }
         ensures paths { P.paths pool.new ≡ P.paths pool.old }

@@ -39,6 +39,7 @@ fn take_piece<P: Pool, D: Desk>(
     desk: &mut D,
 ) -> Result<usize, End>
     requires room { 0 < length room.old }
+    requires piece { length room.old ≤ 65536 }
     requires lines { script.old.lines + length room.old + 1 < 2 ^ 64 }
     requires short { length script.old.line.items ≤ 16384 }
     requires slots { length (D.sizes desk.old) ≡ length (P.paths pool.old) }

@@ -23,6 +23,7 @@ impl MemDesk {
     /// A desk with this input and no file. The calls of these numbers fail; they come in any order.
     pub fn new(alloc: Global, input: Vec<u8>, fails: Vec<u64>) -> MemDesk
         ensures world { world_of result.memory.history ≡ start input.items }
+        ensures disks { result.memory.disks.items ≡ [] }
         ensures folder { result.memory.folder.items ≡ [] }
         ensures moment { result.memory.made ≡ 0 }
     {
@@ -45,6 +46,7 @@ impl MemDesk {
     /// A new desk whose files are an image. Nothing of them is pending, and no call fails.
     pub fn reopen(alloc: Global, image: Vec<DiskFile>, input: Vec<u8>) -> Result<MemDesk, NoMemory>
         ensures world { IfOk result (λ desk. world_of desk.memory.history ≡ start input.items) }
+        ensures disks { IfOk result (λ desk. desk.memory.disks.items ≡ []) }
         ensures folder { IfOk result (λ desk. desk.memory.folder ≡ image) }
     {
         Ok(MemDesk::over(Memory::new(alloc, input, image), Vec::new(alloc)))

@@ -78,6 +78,7 @@ pub struct Memory {
 impl Memory {
     /// No disk yet.
     pub(crate) fn new(alloc: Global, input: Vec<u8>, folder: Vec<DiskFile>) -> Memory
+        ensures disks { result.disks.items ≡ [] }
         ensures folder { result.folder ≡ folder }
         ensures input { result.history.input ≡ input }
         ensures world { world_of result.history ≡ start input.items }

@@ -17,6 +17,7 @@ impl SureDesk {
     /// A desk with this input and no file.
     pub fn new(alloc: Global, input: Vec<u8>) -> SureDesk
         ensures world { world_of result.memory.history ≡ start input.items }
+        ensures disks { result.memory.disks.items ≡ [] }
         ensures folder { result.memory.folder.items ≡ [] }
         ensures moment { result.memory.made ≡ 0 }
     {
@@ -28,6 +29,7 @@ impl SureDesk {
     /// A new desk whose files are an image. Nothing of them is pending.
     pub fn reopen(alloc: Global, image: Vec<DiskFile>, input: Vec<u8>) -> Result<SureDesk, NoMemory>
         ensures world { IfOk result (λ desk. world_of desk.memory.history ≡ start input.items) }
+        ensures disks { IfOk result (λ desk. desk.memory.disks.items ≡ []) }
         ensures folder { IfOk result (λ desk. desk.memory.folder ≡ image) }
     {
         Ok(SureDesk {

@@ -23,5 +23,5 @@ returns-in_err-take_up-clause-ends g c = λ t n.
     let p = err_from_is_err_and c.from_residual.result c.from_residual.ensures.1 in
     rw p.1 (λ opening taken m a.
     let ended : EndsAs c.in_err-take_up.field-0.0 opening (g.D.Shelf.world c.take_up.new.desk).now =
-    c.in_err-take_up.ensures.ends (c.take.ensures.told t) (ap (λ s. s.paths) w.2 ∙ n) opening _ (at_piece opening _ _ _ _ _ _ _ taken a w (let l = c.take.auto.out in let k = c.in-Ok.ensures.count in omega arith) (let l = c.take.auto.out in omega arith)) in
+    c.in_err-take_up.ensures.ends (c.take.ensures.told t) (ap (λ s. s.paths) w.2 ∙ n) opening _ (at_piece opening _ _ _ _ _ _ _ taken a w (let l = c.take.auto.out in let k = c.in-Ok.ensures.count in omega arith) (let l = c.take.auto.out in omega arith) (let l = c.take.auto.out in let f = c.requires.piece in omega arith)) in
     subst (λ e. EndsAs e opening (g.D.Shelf.world c.take_up.new.desk).now) (sym p.2) ended)
