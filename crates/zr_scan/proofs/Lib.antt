@@ -1,0 +1,4 @@
+pub mod Putting
+pub mod Spacing
+pub mod Blocks
+pub mod Gathering
