@@ -11,7 +11,7 @@ use Rattle.zr_label.specs.declared.root.Uber.{Uber}
 use Rattle.zr_label.specs.declared.root.Newer.{Newer}
 use Rattle.zr_label.proofs.Ubers.{one_uber}
 use Rattle.zr_label.proofs.Labels.{one_label}
-use Rattle.zr_scan.specs.Scan.{IsRootFor, IsLabelOf, HasNoLabel, IsFirstLabel, block_of}
+use Rattle.zr_scan.specs.Scan.{IsRootFor, IsOwnLabel, IsLabelOf, HasNoLabel, IsFirstLabel, block_of}
 use Rattle.zr_scan.specs.Rings.{IsRootAt, IsNewerAt, IsLabelWith}
 
 block_marked : (u : Uber) → take 8 (uber_block u) ≡ codes "zr-uber1"
@@ -79,3 +79,6 @@ label_found size bytes n units block l lt units_are block_is before h = record {
   here = record { spelled = subst (λ (b : List ℕ). SpellsLabel b l) block_is h.spelled; units = let named = h.named in cc };
   before = before;
 }
+
+pub own_label : (size units : ℕ) (block : List ℕ) (l : Label) → units_of_size size 2 ≡ Some units → IsLabelWith block units l → IsOwnLabel size l
+own_label size units block l units_are h = record { lawful = h.spelled.lawful; units = let named = h.named in cc }

@@ -1,7 +1,8 @@
 -- What was seen in the blocks so far, with one block or one ring more.
-use Rattle.std.proofs.Common.{◌≡◌, ◌⊎◌, inl, inr, ℕ, zero, suc, ◌+◌, ◌<◌, ◌≤◌, List, [], ◌∷◌, ◌++◌, Option, Some, None, Result, Ok, Err, refl, sym, ap, subst, ◌∙◌, arith}
-use Rattle.std.specs.Prelude.{Contains, IfSome, IfOk, IsSomeAnd, MatchOption}
+use Rattle.std.proofs.Common.{length, ◌≡◌, ◌⊎◌, inl, inr, ℕ, zero, suc, ◌+◌, ◌<◌, ◌≤◌, List, [], ◌∷◌, ◌++◌, Option, Some, None, Result, Ok, Err, refl, sym, ap, subst, ◌∙◌, arith}
+use Rattle.std.specs.Prelude.{Contains, IfSome, IfNone, IfOk, IsSomeAnd, MatchOption}
 use Rattle.std.proofs.lemmas.Bool.{cases_lt}
+use Rattle.std.proofs.lemmas.List.{length-append}
 use Rattle.std.proofs.lemmas.List.Elements.{Contains-push, Contains-append_left, Contains-append_cases}
 use Rattle.zr_base.specs.Readers.{Reads}
 use Rattle.zr_shelf.specs.Disks.{disk, part, Stand}
@@ -13,7 +14,7 @@ use Rattle.zr_label.specs.declared.root.Newer.{Newer}
 use Rattle.zr_label.specs.declared.root.Seen.{Seen}
 use Rattle.zr_label.proofs.Ubers.{one_uber}
 use Rattle.zr_scan.specs.Puts.{ring_at}
-use Rattle.zr_scan.specs.Scan.{IsRootFor, AreRoots, Stands, StandsNewer, IsNewest, HasNoNewer, ShowsNewer, ShowsLabel, Shows, ring_block}
+use Rattle.zr_scan.specs.Scan.{IsRootFor, IsOwnRoot, IsOwnLabel, IsSmallAndLawful, AreRoots, Stands, StandsNewer, IsNewest, HasNoNewer, ShowsNewer, ShowsLabel, Shows, ring_block}
 use Rattle.zr_scan.specs.Rings.{in_ring, with_root, IsRootAt, AddsRoots, IsNewerAt, IsNewerOf, IsLater}
 use Rattle.zr_scan.specs.declared.error.ScanErr.{ScanErr}
 use Rattle.zr_scan.proofs.Blocks.{one_txg}
@@ -29,11 +30,11 @@ only_one u v (suc k, lt, is) = absurd (omega arith)
 -- ---- roots, block by block
 
 pub no_roots_yet : (ring : List ℕ) (l : Label) (us : List Uber) → AddsRoots ring 0 l us us
-no_roots_yet ring l us = record { kept = λ u h. h; each = λ u h. inl h; all = λ u lt h. absurd (omega arith) }
+no_roots_yet ring l us = record { few = omega arith; kept = λ u h. h; each = λ u h. inl h; all = λ u lt h. absurd (omega arith) }
 
 module _ (ring : List ℕ) (k : ℕ) (l : Label) (old mid : List Uber) (so_far : AddsRoots ring k l old mid) where
   pub no_root_more : Reads (IsRootAt (in_ring ring k) k l) None → AddsRoots ring (k + 1) l old mid
-  no_root_more none = record { kept = so_far.kept; each = so_far.each; all = all }
+  no_root_more none = record { few = let few = so_far.few in omega arith; kept = so_far.kept; each = so_far.each; all = all }
     where
       all : (u : Uber) → slot_of u.txg < k + 1 → IsRootAt (in_ring ring (slot_of u.txg)) (slot_of u.txg) l u → Contains mid u
       all u lt h = elim (cases_lt (slot_of u.txg) k) [
@@ -42,7 +43,7 @@ module _ (ring : List ℕ) (k : ℕ) (l : Label) (old mid : List Uber) (so_far :
       ]
 
   pub one_root_more : (v : Uber) (new : List Uber) → new ≡ mid ++ v ∷ [] → IsRootAt (in_ring ring k) k l v → AddsRoots ring (k + 1) l old new
-  one_root_more v new is here = subst (AddsRoots ring (k + 1) l old) (sym is) (record { kept = λ u h. Contains-append_left mid (v ∷ []) u (so_far.kept u h); each = each; all = all })
+  one_root_more v new is here = subst (AddsRoots ring (k + 1) l old) (sym is) (record { few = let few = so_far.few in omega (arith, length-append mid (v ∷ [])); kept = λ u h. Contains-append_left mid (v ∷ []) u (so_far.kept u h); each = each; all = all })
     where
       each : (u : Uber) → Contains (mid ++ v ∷ []) u → Contains old u ⊎ IsRootAt (in_ring ring (slot_of u.txg)) (slot_of u.txg) l u
       each u h = elim (Contains-append_cases mid (v ∷ []) u h) [
@@ -88,6 +89,16 @@ ring_more size bytes n l ring old new ring_is so_far adds = record { each = each
           let here = subst (λ (j : ℕ). Stands size bytes j u) is stands in
           adds.all u (slot_small u.txg) (record { spelled = subst (λ (b : List ℕ). SpellsUber b u) (sym (block_is u)) here; place = refl; suits = suits })
     ]
+
+pub none_own : (l : Label) (us : List Uber) → us ≡ [] → (u : Uber) → Contains us u → IsOwnRoot l u
+none_own l us none u h = let size = ap (λ (vs : List Uber). length vs) none in absurd (omega (arith, h.1, size))
+
+-- those that were added are lawful
+pub own_more : (ring : List ℕ) (n : ℕ) (l : Label) (old new : List Uber) → AddsRoots ring n l old new → ((u : Uber) → Contains old u → IsOwnRoot l u) → (u : Uber) → Contains new u → IsOwnRoot l u
+own_more ring n l old new adds own u h = elim (adds.each u h) [
+  | inl before ↦ own u before
+  | inr here ↦ record { lawful = here.spelled.lawful; suits = here.suits }
+]
 
 -- ---- roots of unknown versions, block by block
 
@@ -225,3 +236,14 @@ shows_all now first slot size sz l found (Ok seen) same size_is is label named r
       newer = subst (λ (o : Option Label). MatchOption o (seen.newer ≡ None) (λ m. ShowsNewer sz (disk first.seen slot) 4 m.guid seen.newer)) (sym named)
           (subst (λ (s : Stand). ShowsNewer sz (disk s.seen slot) 4 l.guid seen.newer) same newer);
     })
+
+-- what was seen with a label
+pub small_with : (size sz : ℕ) (l : Label) (found : Option Label) (r : Result Seen ScanErr) → sz ≡ size → found ≡ Some l → IfSome found (IsOwnLabel sz) → IfOk r (λ seen. seen.label ≡ Some l) →
+    IfOk r (λ seen. (u : Uber) → Contains seen.ubers u → IsOwnRoot l u) → IfOk r (λ seen. length seen.ubers ≤ 128) → IfOk r (IsSmallAndLawful size)
+small_with size sz l found (Err e) size_is is label named own few = tt
+small_with size sz l found (Ok seen) size_is is label named own few = record {
+  label = subst (λ (n : ℕ). IfSome seen.label (IsOwnLabel n)) size_is (subst (λ (o : Option Label). IfSome o (IsOwnLabel sz)) (is ∙ sym named) label);
+  roots = subst (λ (o : Option Label). MatchOption o (seen.ubers ≡ []) (λ m. (u : Uber) → Contains seen.ubers u → IsOwnRoot m u)) (sym named) own;
+  newer = subst (λ (o : Option Label). IfNone o (seen.newer ≡ None)) (sym named) tt;
+  few = few;
+}

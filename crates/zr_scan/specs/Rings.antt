@@ -1,5 +1,5 @@
 -- What one ring of 32 blocks adds to what was seen.
-use Rattle.std.specs.Prelude.{◌≡◌, ◌⊎◌, ◌<◌, ◌≤◌, ℕ, ◌*◌, List, [], ◌∷◌, ◌++◌, Option, Some, None, IfSome, IsSomeAnd, Contains}
+use Rattle.std.specs.Prelude.{◌≡◌, ◌⊎◌, ◌<◌, ◌≤◌, ℕ, ◌+◌, ◌*◌, List, [], ◌∷◌, ◌++◌, Option, Some, None, IfSome, IsSomeAnd, length, Contains}
 use Rattle.zr_shelf.specs.Disks.{part}
 use Rattle.zr_shelf.specs.declared.desk.DeskErr.{DeskErr}
 use Rattle.zr_shelf.specs.declared.desk.DeskErr.TheVariants as is_desk
@@ -38,6 +38,7 @@ with_root us (Some u) = us ++ u ∷ []
 
 -- the roots of the first n blocks of a ring are added
 pub record AddsRoots (ring : List ℕ) (n : ℕ) (l : Label) (old new : List Uber) : Type 0 where
+  pub few : length new ≤ length old + n
   pub kept : (u : Uber) → Contains old u → Contains new u
   pub each : (u : Uber) → Contains new u → Contains old u ⊎ IsRootAt (in_ring ring (slot_of u.txg)) (slot_of u.txg) l u
   pub all : (u : Uber) → slot_of u.txg < n → IsRootAt (in_ring ring (slot_of u.txg)) (slot_of u.txg) l u → Contains new u

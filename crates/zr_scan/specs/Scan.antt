@@ -1,9 +1,9 @@
 -- What a slot shows, by the bytes of its disk and its size.
-use Rattle.std.specs.Prelude.{◌≡◌, ◌<◌, ◌≤◌, ℕ, List, [], false, Option, Some, None, MatchOption, Contains, slice_index_or}
+use Rattle.std.specs.Prelude.{◌≡◌, ◌<◌, ◌≤◌, ℕ, List, [], false, Option, Some, None, IfSome, IfNone, MatchOption, length, Contains, slice_index_or}
 use Rattle.zr_base.specs.declared.space.DevRow.{DevRow}
 use Rattle.zr_rules.specs.Places.{is_gone}
 use Rattle.zr_shelf.specs.Disks.{part}
-use Rattle.zr_label.specs.Blocks.{SpellsLabel, SpellsUber, SpellsNewer, no_row}
+use Rattle.zr_label.specs.Blocks.{IsLabel, IsUber, SpellsLabel, SpellsUber, SpellsNewer, no_row}
 use Rattle.zr_label.specs.Geometry.{units_of_size, label_block_at, ring_slot_at, slot_of}
 use Rattle.zr_label.specs.declared.root.Label.{Label}
 use Rattle.zr_label.specs.declared.root.Uber.{Uber}
@@ -75,6 +75,23 @@ HasNoNewer size bytes n guid = (k version txg : ℕ) → k < n → ¬ StandsNewe
 
 abbrev pub ShowsNewer : ℕ → List ℕ → ℕ → ℕ → Option Newer → Type 0
 ShowsNewer size bytes n guid found = MatchOption found (HasNoNewer size bytes n guid) (IsNewest size bytes n guid)
+
+-- a lawful label that names the units of a disk of this size
+pub record IsOwnLabel (size : ℕ) (l : Label) : Type 0 where
+  pub lawful : IsLabel l
+  pub units : units_of_size size 2 ≡ Some l.units
+
+-- a lawful root that is for the label
+pub record IsOwnRoot (l : Label) (u : Uber) : Type 0 where
+  pub lawful : IsUber u
+  pub suits : IsRootFor l u
+
+-- what was seen is lawful, whatever the disk has, and little
+pub record IsSmallAndLawful (size : ℕ) (seen : Seen) : Type 0 where
+  pub label : IfSome seen.label (IsOwnLabel size)
+  pub roots : MatchOption seen.label (seen.ubers ≡ []) (λ l. (u : Uber) → Contains seen.ubers u → IsOwnRoot l u)
+  pub newer : IfNone seen.label (seen.newer ≡ None)
+  pub few : length seen.ubers ≤ 128
 
 -- What a slot shows. Without a label it shows no roots.
 pub record Shows (size : ℕ) (bytes : List ℕ) (seen : Seen) : Type 0 where

@@ -15,3 +15,6 @@ mod slots;
 pub use error::ScanErr;
 pub use puts::{clear_rings, put_label, put_uber};
 pub use slots::scan;
+
+#[cfg(test)]
+mod tests;

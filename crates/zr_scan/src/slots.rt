@@ -1,13 +1,14 @@
 //! Reading what a slot shows, by at most eight calls on the disk: each label block, and each ring as a whole.
-ghost use Rattle.std.specs.Prelude.{◌≡◌, ◌<◌, Some, None, [], length, IsTrue, IsErrOf, IfOk, OnOk, slice_index};
+ghost use Rattle.std.specs.Prelude.{◌≡◌, ◌<◌, ◌≤◌, Some, None, [], length, Contains, IsTrue, IsOk, IsErrOf, IfOk, IfSome, OnOk, slice_index};
 ghost use Rattle.zr_base.specs.Readers.{Reads};
 ghost use Rattle.zr_base.specs.Counts.{HasRisen};
 ghost use Rattle.zr_shelf.specs.Counts.{NoneFell};
 ghost use Rattle.zr_shelf.specs.Disks.{disk};
 ghost use Rattle.zr_shelf.specs.Moments.{IsStill};
 ghost use Rattle.zr_shelf.specs.declared.desk.DeskErr.TheVariants as is_desk;
+ghost use Rattle.zr_label.specs.declared.root.Uber.{Uber};
 ghost use Rattle.zr_label.specs.Geometry.{units_of_size, is_disk_size};
-ghost use Rattle.zr_scan.specs.Scan.{Shows, ShowsLabel, ShowsNewer, AreRoots};
+ghost use Rattle.zr_scan.specs.Scan.{Shows, ShowsLabel, ShowsNewer, AreRoots, IsOwnLabel, IsOwnRoot, IsSmallAndLawful};
 ghost use Rattle.zr_scan.specs.Rings.{IsLabelWith};
 ghost use Rattle.zr_scan.specs.declared.error.ScanErr.TheVariants.{Failed};
 
@@ -47,6 +48,7 @@ fn first_label<S: Shelf>(
     ensures failed { IsErrOf result is_desk.Failed → HasRisen (S.counts shelf.old).disk (S.counts shelf.new).disk }
     ensures told { S.tells shelf.old → S.tells shelf.new }
     ensures still { S.tells shelf.old → IsStill (S.world shelf.old) (S.world shelf.new) }
+    ensures own { IfOk result (λ found. IfSome found (IsOwnLabel size)) }
     ensures label { S.tells shelf.old → IfOk result (ShowsLabel size (disk (S.world shelf.old).now.seen slot)) }
 {
     for n in 0..4 {
@@ -79,6 +81,8 @@ fn look_at_rings<S: Shelf>(
     ensures failed { IsErrOf result Failed → HasRisen (S.counts shelf.old).disk (S.counts shelf.new).disk }
     ensures told { S.tells shelf.old → S.tells shelf.new }
     ensures still { S.tells shelf.old → IsStill (S.world shelf.old) (S.world shelf.new) }
+    ensures own { OnOk result ((u : Uber) → Contains roots.new u → IsOwnRoot l.now u) }
+    ensures few { OnOk result (length roots.new ≤ 128) }
     ensures roots { S.tells shelf.old → OnOk result (AreRoots size (disk (S.world shelf.old).now.seen slot) 4 l.now roots.new) }
     ensures newer { S.tells shelf.old → IfOk result (ShowsNewer size (disk (S.world shelf.old).now.seen slot) 4 l.now.guid) }
 {
@@ -108,6 +112,8 @@ fn seen_in_rings<S: Shelf>(
     ensures told { S.tells shelf.old → S.tells shelf.new }
     ensures still { S.tells shelf.old → IsStill (S.world shelf.old) (S.world shelf.new) }
     ensures label { IfOk result (λ seen. seen.label ≡ Some l) }
+    ensures own { IfOk result (λ seen. (u : Uber) → Contains seen.ubers u → IsOwnRoot l u) }
+    ensures few { IfOk result (λ seen. length seen.ubers ≤ 128) }
     ensures roots { S.tells shelf.old → IfOk result (λ seen. AreRoots size (disk (S.world shelf.old).now.seen slot) 4 l seen.ubers) }
     ensures newer { S.tells shelf.old → IfOk result (λ seen. ShowsNewer size (disk (S.world shelf.old).now.seen slot) 4 l.guid seen.newer) }
 {
@@ -145,6 +151,8 @@ pub fn scan<S: Shelf>(alloc: Global, shelf: &mut S, slot: u32) -> Result<Seen, S
     ensures told { S.tells shelf.old → S.tells shelf.new }
     ensures still { S.tells shelf.old → IsStill (S.world shelf.old) (S.world shelf.new) }
     ensures unread { units_of_size (slice_index (S.sizes shelf.old) slot) 2 ≡ None → shelf.new ≡ shelf.old }
+    ensures unused { units_of_size (slice_index (S.sizes shelf.old) slot) 2 ≡ None → IsOk result }
+    ensures lawful { IfOk result (IsSmallAndLawful (slice_index (S.sizes shelf.old) slot)) }
     ensures shows { S.tells shelf.old → IfOk result (Shows (slice_index (S.sizes shelf.old) slot) (disk (S.world shelf.old).now.seen slot)) }
 {
     let size = shelf.size(slot);

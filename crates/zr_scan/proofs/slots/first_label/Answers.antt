@@ -4,7 +4,7 @@ use Rattle.zr_shelf.specs.Disks.{disk}
 use Rattle.zr_shelf.proofs.Runs.{still_trans}
 use Rattle.zr_scan.specs.Scan.{HasNoLabel}
 use Rattle.zr_scan.proofs.Spacing.{used_of, label_fits, block_read}
-use Rattle.zr_scan.proofs.Blocks.{no_label_more, label_found}
+use Rattle.zr_scan.proofs.Blocks.{no_label_more, label_found, own_label}
 use Rattle.zr_scan.proofs.slots.first_label.Goals as goal
 
 pub read-requires-clause-fits : goal.read-requires-clause-fits
@@ -46,3 +46,6 @@ pub returns-clause-label : goal.returns-clause-label
 returns-clause-label g c = λ t.
     let is : c.loop-n.n ≡ 4 = omega arith in
     subst (λ (n : ℕ). HasNoLabel c.args.size (disk (g.S.Shelf.world c.args.shelf.now).now.seen c.args.slot) n) is (c.loop-n.invariant.none t)
+
+pub returns-in-Some-clause-own : goal.returns-in-Some-clause-own
+returns-in-Some-clause-own g c = own_label c.args.size c.args.units c.read.new.out c.in-Some.l c.requires.units c.in-Some.ensures

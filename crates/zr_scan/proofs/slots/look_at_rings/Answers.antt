@@ -1,11 +1,11 @@
-use Rattle.std.proofs.Common.{◌≡◌, ◌∙◌, ℕ, List, ap, sym, subst, refl, arith}
+use Rattle.std.proofs.Common.{length, ◌≡◌, ◌∙◌, ℕ, List, ap, sym, subst, refl, arith}
 use Rattle.std.specs.Prelude.{slice_index}
 use Rattle.zr_label.specs.declared.root.Uber.{Uber}
 use Rattle.zr_shelf.specs.Disks.{disk}
 use Rattle.zr_shelf.proofs.Runs.{still, still_trans}
 use Rattle.zr_scan.specs.Scan.{AreRoots, ShowsNewer}
 use Rattle.zr_scan.proofs.Spacing.{label_fits, ring_read}
-use Rattle.zr_scan.proofs.Gathering.{no_rings_yet, no_newer_yet, ring_more, newest_more}
+use Rattle.zr_scan.proofs.Gathering.{no_rings_yet, no_newer_yet, ring_more, newest_more, own_more, none_own}
 use Rattle.zr_scan.proofs.slots.look_at_rings.Goals as goal
 
 pub read-requires-clause-fits : goal.read-requires-clause-fits
@@ -23,6 +23,8 @@ loop-n-init g c = record {
   none_fell = record { disk = omega arith; attach = omega arith; input = omega arith; output = omega arith };
   told = λ t. t;
   still = λ t. still (g.S.Shelf.world c.args.shelf.now) (g.S.Shelf.world c.args.shelf.now) refl;
+  own = none_own c.args.l.now c.args.roots.now c.requires.none;
+  few = let none = ap (λ (us : List Uber). length us) c.requires.none in omega arith;
   roots = λ t. subst (λ (us : List Uber). AreRoots c.args.size (disk (g.S.Shelf.world c.args.shelf.now).now.seen c.args.slot) 0 c.args.l.now us) (sym c.requires.none) (no_rings_yet c.args.size (disk (g.S.Shelf.world c.args.shelf.now).now.seen c.args.slot) c.args.l.now);
   newer = λ t. no_newer_yet c.args.size (disk (g.S.Shelf.world c.args.shelf.now).now.seen c.args.slot) c.args.l.now.guid;
 }
@@ -34,6 +36,8 @@ loop-n-preserved g c = record {
   none_fell = let a = c.loop-n.invariant.none_fell in let b = c.read.ensures.none_fell in record { disk = omega arith; attach = omega arith; input = omega arith; output = omega arith };
   told = λ t. c.read.ensures.told (c.loop-n.invariant.told t);
   still = λ t. still_trans (g.S.Shelf.world c.args.shelf.now) (g.S.Shelf.world c.loop-n.shelf) (g.S.Shelf.world c.read.new.self) (c.loop-n.invariant.still t) (c.read.ensures.world (c.loop-n.invariant.told t));
+  own = own_more c.read.new.out 32 c.args.l.now c.loop-n.roots c.add_roots.new.roots c.in_ok-add_roots.ensures c.loop-n.invariant.own;
+  few = let before = c.loop-n.invariant.few in let more = c.in_ok-add_roots.ensures.few in omega (arith, before, more);
   roots = λ t.
       ring_more c.args.size (disk (g.S.Shelf.world c.args.shelf.now).now.seen c.args.slot) c.loop-n.n c.args.l.now c.read.new.out c.loop-n.roots c.add_roots.new.roots
       (ring_read (g.S.Shelf.world c.loop-n.shelf).now (g.S.Shelf.world c.args.shelf.now).now c.args.slot c.ring_at.result c.loop-n.n c.args.size _ c.read.new.out
