@@ -2,3 +2,4 @@ pub mod Putting
 pub mod Spacing
 pub mod Blocks
 pub mod Gathering
+pub mod Apart

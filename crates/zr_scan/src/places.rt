@@ -12,7 +12,8 @@ pub const RING_BYTES: usize = 131072;
 pub fn label_block_at(size: u64, n: u32) -> u64
     requires size { IsTrue (is_disk_size 2 size) }
     requires label { n < 4 }
-    ensures { result ≡ label_block_at size n }
+    ensures place { result ≡ label_block_at size n }
+    ensures fits { result + 4096 ≤ size }
 {
     label_at(size, n) + 16384
 }
@@ -21,7 +22,8 @@ pub fn label_block_at(size: u64, n: u32) -> u64
 pub fn ring_at(size: u64, n: u32) -> u64
     requires size { IsTrue (is_disk_size 2 size) }
     requires label { n < 4 }
-    ensures { result ≡ ring_at size n }
+    ensures place { result ≡ ring_at size n }
+    ensures fits { result + 131072 ≤ size }
 {
     label_at(size, n) + 131072
 }

@@ -52,6 +52,7 @@ pub fn put_label<S: Shelf>(shelf: &mut S, slot: u32, l: &Label) -> Result<(), Sc
     ensures told { S.tells shelf.old → S.tells shelf.new }
     ensures wrote { S.tells shelf.old → WritesOnly (Contains (puts slot (label_places (slice_index (S.sizes shelf.old) slot)) (label_block l.now))) (S.world shelf.old) (S.world shelf.new) }
     ensures rest { S.tells shelf.old → IsSameOutside (puts slot (label_places (slice_index (S.sizes shelf.old) slot)) (label_block l.now)) (S.world shelf.old).now.seen (S.world shelf.new).now.seen }
+    ensures long { length (label_block l.now) ≡ 4096 }
     ensures there { S.tells shelf.old → OnOk result ((n : ℕ) → n < 4 → SpellsLabel (block_of (slice_index (S.sizes shelf.old) slot) (disk (S.world shelf.new).now.seen slot) n) l.now) }
 {
     let places = label_places(shelf.size(slot));
@@ -71,6 +72,7 @@ pub fn put_uber<S: Shelf>(shelf: &mut S, slot: u32, first: u32, u: &Uber) -> Res
     ensures told { S.tells shelf.old → S.tells shelf.new }
     ensures wrote { S.tells shelf.old → WritesOnly (Contains (puts slot (root_places (slice_index (S.sizes shelf.old) slot) first u.now.txg) (uber_block u.now))) (S.world shelf.old) (S.world shelf.new) }
     ensures rest { S.tells shelf.old → IsSameOutside (puts slot (root_places (slice_index (S.sizes shelf.old) slot) first u.now.txg) (uber_block u.now)) (S.world shelf.old).now.seen (S.world shelf.new).now.seen }
+    ensures long { length (uber_block u.now) ≡ 4096 }
     ensures there { S.tells shelf.old → OnOk result (Stands (slice_index (S.sizes shelf.old) slot) (disk (S.world shelf.new).now.seen slot) first u.now) }
     ensures there_too { S.tells shelf.old → OnOk result (Stands (slice_index (S.sizes shelf.old) slot) (disk (S.world shelf.new).now.seen slot) (first + 2) u.now) }
 {

@@ -3,16 +3,15 @@ use Rattle.std.specs.Prelude.{slice_index}
 use Rattle.zr_shelf.specs.Disks.{disk}
 use Rattle.zr_shelf.proofs.Runs.{still_trans}
 use Rattle.zr_scan.specs.Scan.{HasNoLabel}
-use Rattle.zr_scan.proofs.Spacing.{used_of, label_fits, block_read}
+use Rattle.zr_scan.proofs.Spacing.{block_read}
 use Rattle.zr_scan.proofs.Blocks.{no_label_more, label_found, own_label}
 use Rattle.zr_scan.proofs.slots.first_label.Goals as goal
 
 pub read-requires-clause-fits : goal.read-requires-clause-fits
 read-requires-clause-fits g c =
     let same : c.args.size ≡ slice_index (g.S.Shelf.sizes c.loop-n.shelf) c.args.slot = c.requires.size ∙ ap (λ (l : List ℕ). slice_index l c.args.slot) (sym c.loop-n.invariant.sizes) in
-    let fits = label_fits c.args.size (used_of c.args.size c.args.units c.requires.units) c.loop-n.n c.loop-n-test.true in
-    let at = c.label_block_at.ensures in
-    omega (arith, same, fits, at)
+    let fits = c.label_block_at.ensures.fits in
+    omega (arith, same, fits)
 
 pub loop-n-preserved : goal.loop-n-preserved
 loop-n-preserved g c = record {
@@ -23,7 +22,7 @@ loop-n-preserved g c = record {
   none = λ t.
       no_label_more c.args.size (disk (g.S.Shelf.world c.args.shelf.now).now.seen c.args.slot) c.loop-n.n c.args.units c.read.new.out c.requires.units
       (block_read (g.S.Shelf.world c.loop-n.shelf).now (g.S.Shelf.world c.args.shelf.now).now c.args.slot c.label_block_at.result c.loop-n.n c.args.size c.read.new.out
-      (c.loop-n.invariant.still t).now c.label_block_at.ensures (c.in_ok-read.ensures.bytes (c.loop-n.invariant.told t)))
+      (c.loop-n.invariant.still t).now c.label_block_at.ensures.place (c.in_ok-read.ensures.bytes (c.loop-n.invariant.told t)))
       (c.loop-n.invariant.none t) c.in_default.ensures;
 }
 
@@ -39,7 +38,7 @@ pub returns-in-Some-clause-label : goal.returns-in-Some-clause-label
 returns-in-Some-clause-label g c = λ t.
     label_found c.args.size (disk (g.S.Shelf.world c.args.shelf.now).now.seen c.args.slot) c.loop-n.n c.args.units c.read.new.out c.in-Some.l c.loop-n-test.true c.requires.units
     (block_read (g.S.Shelf.world c.loop-n.shelf).now (g.S.Shelf.world c.args.shelf.now).now c.args.slot c.label_block_at.result c.loop-n.n c.args.size c.read.new.out
-    (c.loop-n.invariant.still t).now c.label_block_at.ensures (c.in_ok-read.ensures.bytes (c.loop-n.invariant.told t)))
+    (c.loop-n.invariant.still t).now c.label_block_at.ensures.place (c.in_ok-read.ensures.bytes (c.loop-n.invariant.told t)))
     (c.loop-n.invariant.none t) c.in-Some.ensures
 
 pub returns-clause-label : goal.returns-clause-label

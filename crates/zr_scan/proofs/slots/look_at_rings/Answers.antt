@@ -4,17 +4,16 @@ use Rattle.zr_label.specs.declared.root.Uber.{Uber}
 use Rattle.zr_shelf.specs.Disks.{disk}
 use Rattle.zr_shelf.proofs.Runs.{still, still_trans}
 use Rattle.zr_scan.specs.Scan.{AreRoots, ShowsNewer}
-use Rattle.zr_scan.proofs.Spacing.{label_fits, ring_read}
+use Rattle.zr_scan.proofs.Spacing.{ring_read}
 use Rattle.zr_scan.proofs.Gathering.{no_rings_yet, no_newer_yet, ring_more, newest_more, own_more, none_own}
 use Rattle.zr_scan.proofs.slots.look_at_rings.Goals as goal
 
 pub read-requires-clause-fits : goal.read-requires-clause-fits
 read-requires-clause-fits g c =
     let same : c.args.size ≡ slice_index (g.S.Shelf.sizes c.loop-n.shelf) c.args.slot = c.requires.size ∙ ap (λ (l : List ℕ). slice_index l c.args.slot) (sym c.loop-n.invariant.sizes) in
-    let fits = label_fits c.args.size c.requires.used c.loop-n.n c.loop-n-test.true in
-    let at = c.ring_at.ensures in
+    let fits = c.ring_at.ensures.fits in
     let long = c.loop-n.invariant.long in
-    omega (arith, same, fits, at, long)
+    omega (arith, same, fits, long)
 
 pub loop-n-init : goal.loop-n-init
 loop-n-init g c = record {
@@ -41,12 +40,12 @@ loop-n-preserved g c = record {
   roots = λ t.
       ring_more c.args.size (disk (g.S.Shelf.world c.args.shelf.now).now.seen c.args.slot) c.loop-n.n c.args.l.now c.read.new.out c.loop-n.roots c.add_roots.new.roots
       (ring_read (g.S.Shelf.world c.loop-n.shelf).now (g.S.Shelf.world c.args.shelf.now).now c.args.slot c.ring_at.result c.loop-n.n c.args.size _ c.read.new.out
-      (c.loop-n.invariant.still t).now c.ring_at.ensures c.loop-n.invariant.long (c.in_ok-read.ensures.bytes (c.loop-n.invariant.told t)))
+      (c.loop-n.invariant.still t).now c.ring_at.ensures.place c.loop-n.invariant.long (c.in_ok-read.ensures.bytes (c.loop-n.invariant.told t)))
       (c.loop-n.invariant.roots t) c.in_ok-add_roots.ensures;
   newer = λ t.
       newest_more c.args.size (disk (g.S.Shelf.world c.args.shelf.now).now.seen c.args.slot) c.loop-n.n c.args.l.now.guid c.read.new.out
       (ring_read (g.S.Shelf.world c.loop-n.shelf).now (g.S.Shelf.world c.args.shelf.now).now c.args.slot c.ring_at.result c.loop-n.n c.args.size _ c.read.new.out
-      (c.loop-n.invariant.still t).now c.ring_at.ensures c.loop-n.invariant.long (c.in_ok-read.ensures.bytes (c.loop-n.invariant.told t)))
+      (c.loop-n.invariant.still t).now c.ring_at.ensures.place c.loop-n.invariant.long (c.in_ok-read.ensures.bytes (c.loop-n.invariant.told t)))
       c.loop-n.newer c.newest_in-newer.result (c.loop-n.invariant.newer t) c.newest_in-newer.ensures;
 }
 
