@@ -1,6 +1,6 @@
 -- Which blocks a call leaves alone: labels, rings and roots do not overlap.
-use Rattle.std.proofs.Common.{◌≡◌, ◌≢◌, ◌⊎◌, inl, inr, ℕ, zero, suc, ◌+◌, ◌*◌, ◌%◌, ◌<◌, ◌≤◌, List, length, refl, sym, ap, subst, ◌∙◌, arith, IsTrue}
-use Rattle.std.proofs.lemmas.Bool.{cases_lt, cases_eq}
+use Rattle.std.proofs.Common.{◌≡◌, ◌≢◌, ◌⊎◌, inl, inr, ℕ, zero, suc, ◌+◌, ◌*◌, ◌%◌, ◌<◌, ◌≤◌, List, length, refl, ap, subst, arith, IsTrue}
+use Rattle.std.proofs.lemmas.Bool.{cases_lt}
 use Rattle.zr_shelf.specs.Disks.{PendingWrite, Meets, IsUntouched}
 use Rattle.zr_label.specs.Geometry.{is_disk_size, label_at, label_block_at, ring_slot_at, slot_of}
 use Rattle.zr_scan.specs.Puts.{puts, label_places, ring_at, ring_places, root_places}
@@ -71,7 +71,7 @@ module _ (size : ℕ) (used : IsTrue (is_disk_size 2 size)) where
 
     -- putting a root leaves the blocks of other slots, and those of the other two rings
     pub root_keeps_others : (n k : ℕ) → n < 4 → k < 32 → (k ≢ slot_of txg) ⊎ ((n ≢ first) × (n ≢ first + 2)) → IsUntouched (puts slot (root_places size first txg) block) slot (ring_slot_at size n k) 4096
-    root_keeps_others n k lt in_ring other = (one first (omega arith) (λ is. elim other [ | inl k_other ↦ k_other | inr n_other ↦ absurd (n_other.0 is) ]), (one (first + 2) (omega arith) (λ is. elim other [ | inl k_other ↦ k_other | inr n_other ↦ absurd (n_other.1 is) ]), tt))
+    root_keeps_others n k lt in_ring other = (one first (omega arith) (λ is. elim other [ inl k_other ↦ k_other | inr n_other ↦ absurd (n_other.0 is) ]), (one (first + 2) (omega arith) (λ is. elim other [ inl k_other ↦ k_other | inr n_other ↦ absurd (n_other.1 is) ]), tt))
       where
         order : k ≢ slot_of txg → (k < slot_of txg) ⊎ (slot_of txg ≤ k) → ((131072 + 4096 * k) + 4096 ≤ 131072 + 4096 * slot_of txg) ⊎ ((131072 + 4096 * slot_of txg) + 4096 ≤ 131072 + 4096 * k)
         order ne (inl less) = inl (omega arith)

@@ -1,10 +1,11 @@
 -- What a block is, told by its mark, its slot and its spelling.
 use Rattle.std.proofs.Common.{◌≡◌, ◌≢◌, ◌↔◌, inl, inr, Some, ℕ, ◌+◌, ◌<◌, List, [], ◌∷◌, ◌++◌, take, drop, codes, Bool, false, refl, sym, ap, subst, ◌∙◌, arith, IsTrue}
 use Rattle.std.proofs.lemmas.Bool.{cases_lt}
+use Rattle.std.proofs.lemmas.List.{take-replicate}
 use Rattle.zr_base.specs.Words.{words}
 use Rattle.zr_bptr.specs.Fields.{word_at}
 use Rattle.zr_bptr.proofs.Spelled.{word_back}
-use Rattle.zr_label.specs.Blocks.{SpellsLabel, SpellsUber, SpellsNewer, uber_block, summed}
+use Rattle.zr_label.specs.Blocks.{IsUber, SpellsLabel, SpellsUber, SpellsNewer, uber_block, summed, padding}
 use Rattle.zr_label.specs.Geometry.{slot_of, units_of_size}
 use Rattle.zr_label.specs.declared.root.Label.{Label}
 use Rattle.zr_label.specs.declared.root.Uber.{Uber}
@@ -29,6 +30,37 @@ begin version txg guid = codes "zr-uber1" ++ words (version ∷ txg ∷ guid ∷
 
 newer_txg : (block : List ℕ) (guid version txg : ℕ) → SpellsNewer block guid version txg → word_at block 16 ≡ txg
 newer_txg block guid version txg h = ap (λ (t : List ℕ). word_at t 16) h.spelling ∙ word_back txg (drop 24 (begin version txg guid ++ h.rest)) h.txg_fits
+
+newer_version : (block : List ℕ) (guid version txg : ℕ) → SpellsNewer block guid version txg → word_at block 8 ≡ version
+newer_version block guid version txg h = ap (λ (t : List ℕ). word_at t 8) h.spelling ∙ word_back version (drop 16 (begin version txg guid ++ h.rest)) h.version_fits
+
+pub one_version : (block : List ℕ) (guid v w t s : ℕ) → SpellsNewer block guid v t → SpellsNewer block guid w s → v ≡ w
+one_version block guid v w t s h k = sym (newer_version block guid v t h) ∙ newer_version block guid w s k
+
+block_version : (u : Uber) → IsUber u → word_at (uber_block u) 8 ≡ u.version
+unfolding uber_block summed
+block_version u h = let most = h.head.newest in word_back u.version (drop 16 (uber_block u)) (omega arith)
+
+-- no block is a root of a known and of an unknown version
+pub known_or_not : (block : List ℕ) (u : Uber) (guid version txg : ℕ) → SpellsUber block u → SpellsNewer block guid version txg → ⊥
+known_or_not block u guid version txg h k =
+    let same : u.version ≡ version = sym (ap (λ (b : List ℕ). word_at b 8) h.spelling ∙ block_version u h.lawful) ∙ newer_version block guid version txg k in
+    let least = h.lawful.head.oldest in
+    let most = h.lawful.head.newest in
+    let one = k.unknown.0 in
+    let two = k.unknown.1 in
+    omega arith
+
+zeros_unmarked : take 8 (padding 4096) ≡ codes "zr-uber1" → ⊥
+unfolding padding
+zeros_unmarked h = let zeros = take-replicate {X = ℕ} 8 4096 0 (omega arith) in cc
+
+-- zeros are no root of any version
+pub zeros_no_root : (u : Uber) → SpellsUber (padding 4096) u → ⊥
+zeros_no_root u h = zeros_unmarked (uber_marked (padding 4096) u h)
+
+pub zeros_no_newer : (guid version txg : ℕ) → SpellsNewer (padding 4096) guid version txg → ⊥
+zeros_no_newer guid version txg h = zeros_unmarked (newer_marked (padding 4096) guid version txg h)
 
 -- a block has one group
 pub one_txg : (block : List ℕ) (guid v w t s : ℕ) → SpellsNewer block guid v t → SpellsNewer block guid w s → t ≡ s

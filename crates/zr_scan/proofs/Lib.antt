@@ -3,3 +3,4 @@ pub mod Spacing
 pub mod Blocks
 pub mod Gathering
 pub mod Apart
+pub mod Fresh

@@ -1,5 +1,5 @@
 -- What a slot shows, by the bytes of its disk and its size.
-use Rattle.std.specs.Prelude.{◌≡◌, ◌<◌, ◌≤◌, ℕ, List, [], false, Option, Some, None, IfSome, IfNone, MatchOption, length, Contains, slice_index_or}
+use Rattle.std.specs.Prelude.{◌≡◌, ◌↔◌, ◌<◌, ◌≤◌, ℕ, List, [], false, Option, Some, None, IfSome, IfNone, MatchOption, length, Contains, slice_index_or}
 use Rattle.zr_base.specs.declared.space.DevRow.{DevRow}
 use Rattle.zr_rules.specs.Places.{is_gone}
 use Rattle.zr_shelf.specs.Disks.{part}
@@ -98,3 +98,9 @@ pub record Shows (size : ℕ) (bytes : List ℕ) (seen : Seen) : Type 0 where
   pub label : ShowsLabel size bytes seen.label
   pub roots : MatchOption seen.label (seen.ubers ≡ []) (λ l. AreRoots size bytes 4 l seen.ubers)
   pub newer : MatchOption seen.label (seen.newer ≡ None) (λ l. ShowsNewer size bytes 4 l.guid seen.newer)
+
+-- the label, one root, and nothing of an unknown version
+pub record ShowsJust (l : Label) (u : Uber) (seen : Seen) : Type 0 where
+  pub label : seen.label ≡ Some l
+  pub root : (v : Uber) → Contains seen.ubers v ↔ (v ≡ u)
+  pub newer : seen.newer ≡ None

@@ -7,12 +7,14 @@
 #![tactic(auto)]
 
 mod error;
+mod laws;
 mod places;
 mod puts;
 mod rings;
 mod slots;
 
 pub use error::ScanErr;
+pub use laws::{a_fresh_slot, one_answer};
 pub use puts::{clear_rings, put_label, put_uber};
 pub use slots::scan;
 
