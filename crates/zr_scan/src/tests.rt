@@ -83,16 +83,31 @@ fn part_at(desk: &mut MemDesk, at: u64, rt: &impl Abort) -> [u8; 4096] {
     out
 }
 
-fn label_slot(desk: &mut MemDesk, l: &Label, rt: &impl Abort) {
+fn label_block(l: Label, rt: &impl Abort) -> [u8; 4096] {
+    assert!(rt; l.guid != 0 && l.index < 32 && l.added != 0 && is_name(&l.name));
+    l.encode()
+}
+
+fn root_block(u: &Uber, rt: &impl Abort) -> [u8; 4096] {
+    assert!(rt; is_uber(u));
+    u.encode()
+}
+
+fn label_slot(desk: &mut MemDesk, l: Label, rt: &impl Abort) {
     assert!(rt; desk.slots() == 1 && units_of_size(desk.size(0), 2).is_some());
     assert!(rt; l.guid != 0 && l.index < 32 && l.added != 0 && is_name(&l.name));
-    assert!(rt; put_label(desk, 0, l) == Ok(()));
+    assert!(rt; put_label(desk, 0, &l) == Ok(()));
 }
 
 fn put_root(desk: &mut MemDesk, first: u32, u: &Uber, rt: &impl Abort) {
     assert!(rt; desk.slots() == 1 && units_of_size(desk.size(0), 2).is_some());
     assert!(rt; first < 2 && is_uber(u));
     assert!(rt; put_uber(desk, 0, first, u) == Ok(()));
+}
+
+fn clear(alloc: Global, desk: &mut MemDesk, rt: &impl Abort) {
+    assert!(rt; desk.slots() == 1 && units_of_size(desk.size(0), 2).is_some());
+    assert!(rt; clear_rings(alloc, desk, 0) == Ok(()));
 }
 
 fn seen_of(alloc: Global, desk: &mut MemDesk, rt: &impl Abort) -> Seen {
@@ -104,25 +119,25 @@ fn seen_of(alloc: Global, desk: &mut MemDesk, rt: &impl Abort) -> Seen {
 fn what_was_put_is_seen(rt: HostRuntime) {
     let alloc = rt.alloc();
     let mut desk = desk_of(alloc, 8388608, &rt);
-    label_slot(&mut desk, &label(), &rt);
+    label_slot(&mut desk, label(), &rt);
     put_root(&mut desk, 0, &root(33), &rt);
     put_root(&mut desk, 1, &root(34), &rt);
     for at in [0, 262144, 7864320, 8126464] {
-        assert!(rt; part_at(&mut desk, at + 16384, &rt) == label().encode());
+        assert!(rt; part_at(&mut desk, at + 16384, &rt) == label_block(label(), &rt));
     }
     // group 33 stands in slot 1 of labels 0 and 2, group 34 in slot 2 of labels 1 and 3
     for at in [0, 7864320] {
-        assert!(rt; part_at(&mut desk, at + 131072 + 4096, &rt) == root(33).encode());
+        assert!(rt; part_at(&mut desk, at + 131072 + 4096, &rt) == root_block(&root(33), &rt));
         assert!(rt; part_at(&mut desk, at + 131072 + 8192, &rt) == [0; 4096]);
     }
     for at in [262144, 8126464] {
-        assert!(rt; part_at(&mut desk, at + 131072 + 8192, &rt) == root(34).encode());
+        assert!(rt; part_at(&mut desk, at + 131072 + 8192, &rt) == root_block(&root(34), &rt));
     }
     let seen = seen_of(alloc, &mut desk, &rt);
     assert!(rt; seen.label == Some(label()));
     assert!(rt; seen.ubers.as_slice() == [root(33), root(34), root(33), root(34)].as_slice());
     assert!(rt; seen.newer == None);
-    assert!(rt; clear_rings(alloc, &mut desk, 0) == Ok(()));
+    clear(alloc, &mut desk, &rt);
     let seen = seen_of(alloc, &mut desk, &rt);
     assert!(rt; seen.label == Some(label()) && seen.ubers.is_empty());
 }
@@ -135,7 +150,7 @@ fn blocks_that_show_nothing(rt: HostRuntime) {
     // without a label
     let seen = seen_of(alloc, &mut desk, &rt);
     assert!(rt; seen.label == None && seen.ubers.is_empty());
-    label_slot(&mut desk, &label(), &rt);
+    label_slot(&mut desk, label(), &rt);
     let mut other_pool = root(40);
     other_pool.guid = 8;
     let mut added_later = root(41);
@@ -149,7 +164,12 @@ fn blocks_that_show_nothing(rt: HostRuntime) {
         put_root(&mut desk, 1, &u, &rt);
     }
     // the root of group 36 stands in slot 3
-    put_at(&mut desk, 131072 + 3 * 4096, &root(36).encode(), &rt);
+    put_at(
+        &mut desk,
+        131072 + 3 * 4096,
+        &root_block(&root(36), &rt),
+        &rt,
+    );
     let seen = seen_of(alloc, &mut desk, &rt);
     assert!(rt; seen.label == Some(label()));
     assert!(rt; seen.ubers.as_slice() == [root(33), root(33)].as_slice());
@@ -171,7 +191,7 @@ fn unknown(txg: u8) -> [u8; 4096] {
 fn the_newest_of_an_unknown_version(rt: HostRuntime) {
     let alloc = rt.alloc();
     let mut desk = desk_of(alloc, 8388608, &rt);
-    label_slot(&mut desk, &label(), &rt);
+    label_slot(&mut desk, label(), &rt);
     put_at(&mut desk, 131072 + 8 * 4096, &unknown(40), &rt);
     put_at(&mut desk, 262144 + 131072 + 10 * 4096, &unknown(42), &rt);
     put_at(&mut desk, 7864320 + 131072 + 9 * 4096, &unknown(41), &rt);
@@ -193,11 +213,11 @@ fn the_first_label_that_names_the_units(rt: HostRuntime) {
     let mut desk = desk_of(alloc, 8400000, &rt);
     let mut larger = label();
     larger.units = 897;
-    put_at(&mut desk, 16384, &larger.encode(), &rt);
+    put_at(&mut desk, 16384, &label_block(larger, &rt), &rt);
     let mut second = label();
     second.added = 2;
-    put_at(&mut desk, 262144 + 16384, &second.encode(), &rt);
-    put_at(&mut desk, 8126464 + 16384, &label().encode(), &rt);
+    put_at(&mut desk, 262144 + 16384, &label_block(second, &rt), &rt);
+    put_at(&mut desk, 8126464 + 16384, &label_block(label(), &rt), &rt);
     let seen = seen_of(alloc, &mut desk, &rt);
     assert!(rt; seen.label == Some(second));
 }
@@ -206,7 +226,7 @@ fn the_first_label_that_names_the_units(rt: HostRuntime) {
 fn a_disk_that_is_too_small(rt: HostRuntime) {
     let alloc = rt.alloc();
     let mut desk = desk_of(alloc, 8388607, &rt);
-    put_at(&mut desk, 16384, &label().encode(), &rt);
+    put_at(&mut desk, 16384, &label_block(label(), &rt), &rt);
     let before = desk.moment();
     let seen = seen_of(alloc, &mut desk, &rt);
     assert!(rt; seen.label == None && seen.ubers.is_empty() && seen.newer == None);
