@@ -141,8 +141,10 @@ fn nothing(alloc: Global) -> Seen
 }
 
 /// What a slot shows: its label, the roots in its rings that are for this label, and the newest root there of an
-/// unknown version. A disk that is too small or too large shows nothing, and is not read. Of 136 blocks at most eight
-/// calls on the disk are made, and a sum is computed only of label blocks and of marked blocks.
+/// unknown version. A disk that is too small or too large for every pool shows nothing, and is not read.
+///
+/// It makes at most eight calls on the disk, and takes the memory of one ring, 131,072 bytes, and of the roots. No sum is
+/// computed of a block of zeros, nor of a block of a ring that does not begin as a root.
 pub fn scan<S: Shelf>(alloc: Global, shelf: &mut S, slot: u32) -> Result<Seen, ScanErr>
     requires exists { slot < length (S.sizes shelf.old) }
     ensures sizes { S.sizes shelf.new ≡ S.sizes shelf.old }
