@@ -1,0 +1,9 @@
+pub mod Sums
+pub mod Views
+pub mod Roles
+pub mod Accounts
+pub mod Counts
+pub mod Placing
+pub mod Keeps
+pub mod Frames
+pub mod Allocs
