@@ -18,7 +18,10 @@ use Rattle.zr_units.specs.Changes.{Holds, HoldsMeta}
 use Rattle.zr_space.specs.Views.{Kept, kept_of, space_of, IsSpace}
 use Rattle.zr_space.proofs.Accounts.{account_as, holds_account, holds_roles, holds_meta_account, holds_meta_roles}
 use Rattle.zr_space.proofs.Frames.{roles_set, same_fresh, same_frame, meta_set}
-use Rattle.zr_space.proofs.Keeps.{IsChange, stays_space, same_free}
+use Rattle.zr_space.proofs.Keeps.{IsChange, on_each, stays_space, same_free}
+use Rattle.zr_space.proofs.Sums.{extent_hits, once_in}
+use Rattle.zr_space.proofs.Views.{meta_is}
+use Rattle.zr_rules.specs.Places.{one_if, in_address}
 use Rattle.zr_space.proofs.Placing.{placed, not_placed}
 
 -- units of a device were taken from the allocator
@@ -72,6 +75,39 @@ module _ (s t : Devices) (devs : List Kept) (a : Dva) (k : Kept) (h : IsTaken s 
         roles = roles_set version s t devs a.dev x h.space new there (λ r. FreshLive) a refl (λ u. rw was (holds_roles (free_at s a.dev) (count_at s a.dev) k.uses y (extent_of a) account holds h.takes.were_free u));
         fresh = same_fresh version s t devs a.dev x h.space new there;
         meta = meta_set 0 a.dev devs x (ap (λ (z : Uses). z.meta) holds.others ∙ ap (λ (z : Uses). z.meta) (sym was));
+        frame = same_frame version s t devs a.dev x h.space new there (ap (λ (z : Kept). z.row) h.kept)
+            (ap (λ (z : Uses). z.late1) holds.others ∙ ap (λ (z : Uses). z.late1) (sym was))
+            (ap (λ (z : Uses). z.late2) holds.others ∙ ap (λ (z : Uses). z.late2) (sym was))
+            (ap (λ (z : Uses). z.saved) holds.others ∙ ap (λ (z : Uses). z.saved) (sym was));
+      }
+
+  -- ---- metadata
+
+  meta_more : (y : Uses) → HoldsMeta k.uses y (extent_of a) → IsAccount (free_at t a.dev) (count_at t a.dev) y → (j u : ℕ)
+      → extent_hits (kept_of (set devs a.dev (record { row = k.row; uses = y })) j).uses.meta u ≡ extent_hits (kept_of devs j).uses.meta u + one_if (in_address a j u)
+  meta_more y holds after j u =
+      on_each devs a.dev (record { row = k.row; uses = y }) (λ i z. extent_hits z.uses.meta u ≡ extent_hits (kept_of devs i).uses.meta u + one_if (in_address a i u)) there
+      (let was : extent_hits (kept_of devs a.dev).uses.meta u ≡ extent_hits k.uses.meta u = ap (λ (z : Kept). extent_hits z.uses.meta u) (sym h.kept) in
+      let old = once_in 0 u k.uses.meta account.lists.meta in
+      let new = once_in 0 u y.meta after.lists.meta in
+      let members = holds.meta.members u in
+      let free = h.takes.were_free u in
+      let o = account.once u in
+      grind (arith, nat_tests, was, old, new, members, free, o))
+      (λ i ne. grind (arith, nat_tests, ne))
+      j
+
+  pub allocates_meta : (version want : ℕ) (policy : Policy) (y : Uses) → HoldsMeta k.uses y (extent_of a) → IsPlacement (slab.free_of s) policy want a → AllocatesMeta policy want (space_of version devs) (space_of version (set devs a.dev (record { row = k.row; uses = y }))) a
+  allocates_meta version want policy y holds place =
+      let x : Kept = record { row = k.row; uses = y } in
+      let new = meta_space y holds in
+      let was : (kept_of devs a.dev).uses ≡ k.uses = ap (λ (z : Kept). z.uses) (sym h.kept) in
+      let after : IsAccount (free_at t a.dev) (count_at t a.dev) y = holds_meta_account (free_at s a.dev) (free_at t a.dev) (count_at s a.dev) (count_at t a.dev) k.uses y (extent_of a) account holds h.takes.were_free taken fewer in
+      record {
+        place = placed (slab.free_of s) (columns.free_of (space_of version devs)) policy want a (same_free version s devs h.space) place;
+        roles = roles_set version s t devs a.dev x h.space new there (λ r. Meta) a refl (λ u. rw was (holds_meta_roles (free_at s a.dev) (count_at s a.dev) k.uses y (extent_of a) account holds h.takes.were_free u));
+        fresh = same_fresh version s t devs a.dev x h.space new there;
+        meta = λ d u. let m = meta_is devs d u in let n = meta_is (set devs a.dev x) d u in let e = meta_more y holds after d u in omega (arith, m, n, e);
         frame = same_frame version s t devs a.dev x h.space new there (ap (λ (z : Kept). z.row) h.kept)
             (ap (λ (z : Uses). z.late1) holds.others ∙ ap (λ (z : Uses). z.late1) (sym was))
             (ap (λ (z : Uses). z.late2) holds.others ∙ ap (λ (z : Uses). z.late2) (sym was))

@@ -7,3 +7,5 @@ pub mod Placing
 pub mod Keeps
 pub mod Frames
 pub mod Allocs
+pub mod Leads
+pub mod Frees

@@ -1,6 +1,7 @@
 //! The space of an open pool, and what happens to it.
 ghost use Rattle.std.specs.Prelude.{◌≡◌, ℕ, ◌+◌, ◌^◌, ◌<◌, ◌≤◌, true, false, [], IfOk, IfErr, OnOk, OnErr, length};
-ghost use Rattle.zr_rules.specs.Frees.{Allocates, AllocatesMeta};
+ghost use Rattle.zr_rules.specs.Frees.{Allocates, AllocatesMeta, Frees};
+ghost use Rattle.zr_space.specs.Live.{IsLive};
 ghost use Rattle.zr_metaslab.specs.Devices.{extent_of};
 ghost use Rattle.zr_space.specs.Views.{space_of};
 ghost use Rattle.zr_space.specs.Causes.{HasCause};
@@ -86,5 +87,42 @@ impl Space {
                 Err(SpaceErr::NoMemory)
             }
         }
+    }
+
+    /// Takes units for metadata, which no space map has. It costs what the allocator costs.
+    pub fn alloc_meta(&mut self, want: u64, chooser: &Chooser) -> Result<Dva, SpaceErr>
+        requires some { 0 < want }
+        requires few { want ≤ 256 }
+        ensures ok { IfOk result (AllocatesMeta chooser.now.policy want self.old self.new) }
+        ensures cause { IfErr result (HasCause self.old want) }
+        ensures err { OnErr result (self.new ≡ self.old) }
+    {
+        let at = match self.slabs.alloc(want, chooser) {
+            Ok(at) => at,
+            Err(NoRun { needed, longest }) => return Err(SpaceErr::NoRun { needed, longest }),
+        };
+        let e = extent_of(&at);
+        let device = &mut self.devs[at.dev as usize];
+        match device.units.hold_meta(e) {
+            Ok(()) => Ok(at),
+            Err(_) => {
+                self.slabs.release(at.dev, e);
+                Err(SpaceErr::NoMemory)
+            }
+        }
+    }
+
+    /// Frees a block that was born in this transaction group. What the open group allocated is free at once, and the
+    /// rest is deferred. Memory is taken first. It is logarithmic in the extents of the device, for each run of the
+    /// address that the open group has or has not allocated.
+    pub fn free(&mut self, a: Dva, _birth: u64) -> Result<(), NoMemory>
+        requires live { IsLive self.old a }
+        ensures ok { OnOk result (Frees self.old self.new a _birth) }
+        ensures err { OnErr result (self.new ≡ self.old) }
+    {
+        let e = extent_of(&a);
+        let device = &mut self.devs[a.dev as usize];
+        device.units.free(&mut self.slabs, a.dev, e)?;
+        Ok(())
     }
 }
