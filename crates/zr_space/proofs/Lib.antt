@@ -9,3 +9,5 @@ pub mod Frames
 pub mod Allocs
 pub mod Leads
 pub mod Frees
+pub mod Adding
+pub mod Commits

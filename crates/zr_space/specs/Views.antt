@@ -13,6 +13,7 @@ use Rattle.zr_rules.specs.Roles.Role.{Absent, Free, FreshLive, Live, DeferredBlo
 use Rattle.zr_rules.specs.Space.{Space, OpenSets}
 use Rattle.zr_metaslab.specs.Devices.{Devices, free_at, count_at, units_at, serves_at}
 use Rattle.zr_units.specs.Uses.{Uses, Freed, unused, IsAccount}
+use Rattle.zr_units.specs.Changes.{aged_uses, cleared_uses}
 
 -- a device: its row, and what its units are used for
 pub record Kept : Type 0 where
@@ -85,3 +86,11 @@ pub record IsSpace (slabs : Devices) (devs : List Kept) : Type 0 where
   pub on : (d : ℕ) → (kept_of devs d).row.state ≡ On
   pub serves : (d : ℕ) → serves_at slabs d ≡ nat_lt d (length devs)
   pub account : (d : ℕ) → IsAccount (free_at slabs d) (count_at slabs d) (kept_of devs d).uses
+
+-- the device once a commit, or a reset, has settled what the open group did
+abbrev pub settled : Bool → Kept → Kept
+settled reset k = record { row = k.row; uses = if reset then cleared_uses k.uses else aged_uses k.uses }
+
+-- a device in service of which no unit is used
+abbrev pub fresh_device : ℕ → ℕ → Kept
+fresh_device units txg = record { row = record { state = On; added = txg; units = units; gone = 0 }; uses = unused units }

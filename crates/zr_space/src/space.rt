@@ -1,17 +1,21 @@
 //! The space of an open pool, and what happens to it.
-ghost use Rattle.std.specs.Prelude.{◌≡◌, ℕ, ◌+◌, ◌^◌, ◌<◌, ◌≤◌, true, false, [], IfOk, IfErr, OnOk, OnErr, length};
+ghost use Rattle.std.specs.Prelude.{◌≡◌, ℕ, ◌+◌, ◌^◌, ◌<◌, ◌≤◌, true, false, [], IfOk, IfErr, OnOk, OnErr, length, vec_len, ◌∷◌, ◌++◌};
+ghost use Rattle.std.specs.Vec.{vec_capacity};
 ghost use Rattle.zr_rules.specs.Frees.{Allocates, AllocatesMeta, Frees};
+ghost use Rattle.zr_rules.specs.Steps.{AddsDevice, Commits};
 ghost use Rattle.zr_space.specs.Live.{IsLive};
 ghost use Rattle.zr_metaslab.specs.Devices.{extent_of};
-ghost use Rattle.zr_space.specs.Views.{space_of};
+ghost use Rattle.zr_space.specs.Views.{space_of, fresh_device};
 ghost use Rattle.zr_space.specs.Causes.{HasCause};
 
 use crate::device::Device;
 use std::alloc::Global;
 use std::marker::Model;
-use zr_base::{Dva, Extent, NoMemory};
+use zr_base::{DevRow, DevState, Dva, Extent, NoMemory};
 use zr_choose::Chooser;
 use zr_metaslab::{NoRun, Slabs};
+use zr_ranges::RangeSet;
+use zr_units::Units;
 
 /// Why a call of a space was not done.
 #[derive(Clone, Copy, Debug, PartialEq, Eq)]
@@ -52,6 +56,33 @@ fn extent_of(at: &Dva) -> Extent
     }
 }
 
+// A device in service of which no unit is used.
+fn new_device(alloc: Global, units: u64, txg: u64) -> Device
+    ensures { result ≡ fresh_device units txg }
+{
+    let row = DevRow {
+        state: DevState::On,
+        added: txg,
+        units,
+        gone: 0,
+    };
+    Device {
+        row,
+        units: Units::new(alloc, units),
+    }
+}
+
+// Adds a device where there is room for it.
+fn push_reserved(devs: &mut Vec<Device>, device: Device)
+    requires { vec_len devs.old < vec_capacity devs.old }
+    ensures { devs.new.items ≡ devs.old.items ++ device ∷ [] }
+{
+    match devs.push(device) {
+        Ok(()) => {}
+        Err(_) => unreachable!(),
+    }
+}
+
 impl Space {
     /// The space of a pool without devices. It takes no memory.
     pub fn new(alloc: Global, version: u64) -> Space
@@ -63,6 +94,22 @@ impl Space {
             slabs: Slabs::new(alloc),
             devs: Vec::new(alloc),
         }
+    }
+
+    /// Adds a device in service with so many units, all free. It answers its index. It goes over its metaslabs.
+    pub fn add_dev(&mut self, units: u64, txg: u64) -> Result<u32, NoMemory>
+        requires few { length self.old.parts.devs < 32 }
+        requires small { units < 2 ^ 40 }
+        ensures index { IfOk result (λ d. d ≡ length self.old.parts.devs) }
+        ensures ok { OnOk result (AddsDevice self.old self.new units txg) }
+        ensures err { OnErr result (self.new ≡ self.old) }
+    {
+        let dev = self.devs.len() as u32;
+        self.devs.reserve(1)?;
+        let none = RangeSet::new(self.alloc);
+        self.slabs.add_dev(dev, units, &none)?;
+        push_reserved(&mut self.devs, new_device(self.alloc, units, txg));
+        Ok(dev)
     }
 
     /// Takes units for a block of the open group. It costs what the allocator costs, and is logarithmic in the extents
@@ -124,5 +171,22 @@ impl Space {
         let device = &mut self.devs[a.dev as usize];
         device.units.free(&mut self.slabs, a.dev, e)?;
         Ok(())
+    }
+
+    /// Ends the transaction group: what it allocated is settled, and what the group two before it freed is free. At a
+    /// reset all that was freed is free. It takes no memory, and costs a release for each extent that becomes free.
+    pub fn commit_done(&mut self, reset: bool)
+        ensures commits { Commits reset self.old self.new }
+        ensures meta { self.new.meta ≡ self.old.meta }
+        ensures saved { self.new.saved_meta ≡ self.old.saved_meta }
+    {
+        for dev in 0..self.devs.len() {
+            let device = &mut self.devs[dev];
+            if reset {
+                device.units.reset(&mut self.slabs, dev as u32);
+                continue;
+            }
+            device.units.age(&mut self.slabs, dev as u32);
+        }
     }
 }
