@@ -47,7 +47,7 @@ module _ (version : ℕ) (s t : Devices) (devs : List Kept) (d : ℕ) (x : Kept)
   same_fresh j u =
       ap (λ (p : DevPart). has_unit p.fresh u) (part_is (set devs d x) j) ∙ sym (ap (λ (p : DevPart). has_unit p.fresh u) (part_is devs j))
 
-  same_part : x.row ≡ (kept_of devs d).row → x.uses.late1 ≡ (kept_of devs d).uses.late1 → x.uses.late2 ≡ (kept_of devs d).uses.late2 → (j : ℕ) → IsSamePart (part_of (map part_in devs) j) (part_of (map part_in (set devs d x)) j)
+  pub same_part : x.row ≡ (kept_of devs d).row → x.uses.late1 ≡ (kept_of devs d).uses.late1 → x.uses.late2 ≡ (kept_of devs d).uses.late2 → (j : ℕ) → IsSamePart (part_of (map part_in devs) j) (part_of (map part_in (set devs d x)) j)
   same_part row late1 late2 j =
       subst (λ p. IsSamePart p (part_of (map part_in (set devs d x)) j)) (sym (part_is devs j))
       (subst (λ p. IsSamePart (part_in (kept_of devs j)) p) (sym (part_is (set devs d x) j))

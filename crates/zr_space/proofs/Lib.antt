@@ -11,3 +11,5 @@ pub mod Leads
 pub mod Frees
 pub mod Adding
 pub mod Commits
+pub mod Drops
+pub mod Counting

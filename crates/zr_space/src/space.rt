@@ -1,7 +1,10 @@
 //! The space of an open pool, and what happens to it.
 ghost use Rattle.std.specs.Prelude.{◌≡◌, ℕ, ◌+◌, ◌^◌, ◌<◌, ◌≤◌, true, false, [], IfOk, IfErr, OnOk, OnErr, length, vec_len, ◌∷◌, ◌++◌};
 ghost use Rattle.std.specs.Vec.{vec_capacity};
-ghost use Rattle.zr_rules.specs.Frees.{Allocates, AllocatesMeta, Frees};
+ghost use Rattle.zr_rules.specs.Columns.{columns};
+ghost use Rattle.zr_rules.specs.Places.{state_of_dev};
+ghost use Rattle.zr_space.specs.Drops.{IsMeta, KeepsParts};
+ghost use Rattle.zr_rules.specs.Frees.{Allocates, AllocatesMeta, Frees, DropsMeta};
 ghost use Rattle.zr_rules.specs.Steps.{AddsDevice, Commits};
 ghost use Rattle.zr_space.specs.Live.{IsLive};
 ghost use Rattle.zr_metaslab.specs.Devices.{extent_of};
@@ -11,7 +14,7 @@ ghost use Rattle.zr_space.specs.Causes.{HasCause};
 use crate::device::Device;
 use std::alloc::Global;
 use std::marker::Model;
-use zr_base::{DevRow, DevState, Dva, Extent, NoMemory};
+use zr_base::{Columns, DevRow, DevState, Dva, Extent, NoMemory};
 use zr_choose::Chooser;
 use zr_metaslab::{NoRun, Slabs};
 use zr_ranges::RangeSet;
@@ -171,6 +174,53 @@ impl Space {
         let device = &mut self.devs[a.dev as usize];
         device.units.free(&mut self.slabs, a.dev, e)?;
         Ok(())
+    }
+
+    /// Gives back metadata of the current or of the saved root. It is free two commits later. Logarithmic in the extents
+    /// of the device.
+    pub fn drop_meta(&mut self, a: Dva) -> Result<(), NoMemory>
+        requires meta { IsMeta self.old a }
+        ensures ok { OnOk result (DropsMeta self.old self.new (a ∷ [])) }
+        ensures parts { OnOk result (KeepsParts self.old self.new) }
+        ensures err { OnErr result (self.new ≡ self.old) }
+    {
+        let e = extent_of(&a);
+        let device = &mut self.devs[a.dev as usize];
+        if device.units.meta().covers(e) {
+            device.units.drop_meta(e)?;
+            return Ok(());
+        }
+        device.units.drop_saved(e)?;
+        Ok(())
+    }
+
+    /// The units of a device by use. Counts are kept, and nothing is counted anew.
+    pub fn columns(&self, dev: u32) -> Columns
+        requires { dev < length self.now.parts.devs }
+        ensures { result ≡ columns self.now dev }
+    {
+        let device = &self.devs[dev as usize];
+        Columns {
+            allocated: device.units.in_use(),
+            checkpointed: 0,
+            deferred: device.units.waiting(),
+            free: self.slabs.free_units(dev),
+        }
+    }
+
+    /// The state of a device.
+    pub fn state(&self, dev: u32) -> DevState
+        requires { dev < length self.now.parts.devs }
+        ensures { result ≡ state_of_dev self.now.parts.devs dev }
+    {
+        self.devs[dev as usize].row.state
+    }
+
+    /// How many devices there are.
+    pub fn devices(&self) -> u32
+        ensures { result ≡ length self.now.parts.devs }
+    {
+        self.devs.len() as u32
     }
 
     /// Ends the transaction group: what it allocated is settled, and what the group two before it freed is free. At a

@@ -38,6 +38,14 @@ impl FreedSets {
         }
     }
 
+    /// How many units they are.
+    pub fn units(&self) -> u64
+        requires { freed_count self.now ≤ 2 ^ 62 }
+        ensures { result ≡ freed_count self.now }
+    {
+        self.blocks.units() + self.meta.units()
+    }
+
     /// Gives all back to the allocator.
     pub fn let_go(&mut self, slabs: &mut Slabs, dev: u32)
         requires device { dev < length slabs.old }

@@ -73,6 +73,36 @@ impl Units {
         &self.born
     }
 
+    /// The metadata units of the current root.
+    pub fn meta(&self) -> &RangeSet
+        ensures { result.now.extents ≡ self.now.meta }
+    {
+        &self.meta
+    }
+
+    /// The metadata units of the saved root.
+    pub fn saved(&self) -> &RangeSet
+        ensures { result.now.extents ≡ self.now.saved }
+    {
+        &self.saved
+    }
+
+    /// How many units are in use: held, or of metadata.
+    pub fn in_use(&self) -> u64
+        requires { unit_count self.now.held + unit_count self.now.meta + unit_count self.now.saved ≤ 2 ^ 62 }
+        ensures { result ≡ unit_count self.now.held + unit_count self.now.meta + unit_count self.now.saved }
+    {
+        self.held.units() + self.meta.units() + self.saved.units()
+    }
+
+    /// How many units are freed and not free yet.
+    pub fn waiting(&self) -> u64
+        requires { freed_count self.now.freed + freed_count self.now.late1 + freed_count self.now.late2 ≤ 2 ^ 62 }
+        ensures { result ≡ freed_count self.now.freed + freed_count self.now.late1 + freed_count self.now.late2 }
+    {
+        self.freed.units() + self.late1.units() + self.late2.units()
+    }
+
     /// Holds units for a block of the open group.
     pub fn hold(&mut self, e: Extent) -> Result<(), NoMemory>
         requires not_empty { 0 < e.len }
