@@ -13,3 +13,4 @@ pub mod Adding
 pub mod Commits
 pub mod Drops
 pub mod Counting
+pub mod Lives

@@ -121,6 +121,7 @@ impl Space {
         requires some { 0 < want }
         requires few { want ≤ 256 }
         ensures ok { IfOk result (Allocates chooser.now.policy want self.old self.new) }
+        ensures live { IfOk result (IsLive self.new) }
         ensures cause { IfErr result (HasCause self.old want) }
         ensures err { OnErr result (self.new ≡ self.old) }
     {
@@ -144,6 +145,7 @@ impl Space {
         requires some { 0 < want }
         requires few { want ≤ 256 }
         ensures ok { IfOk result (AllocatesMeta chooser.now.policy want self.old self.new) }
+        ensures meta { IfOk result (IsMeta self.new) }
         ensures cause { IfErr result (HasCause self.old want) }
         ensures err { OnErr result (self.new ≡ self.old) }
     {
