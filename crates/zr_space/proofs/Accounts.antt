@@ -1,12 +1,11 @@
 -- What changes of a device keep: each unit is once free or in one of its sets.
-use Rattle.std.proofs.Common.{◌≡◌, ℕ, ◌+◌, ◌-◌, ◌≤◌, ◌<◌, ◌^◌, Bool, true, false, ◌&&◌, ◌||◌, not, ◌==◌, nat_lt, List, [], refl, arith, if◌then◌else◌}
+use Rattle.std.proofs.Common.{◌≡◌, ℕ, ◌+◌, Bool, true, ◌&&◌, ◌||◌, not, arith, if◌then◌else◌}
 use Rattle.std.proofs.lemmas.Bool.Decides.{nat_tests}
 use Rattle.zr_base.specs.declared.space.Extent.{Extent}
 use Rattle.zr_base.specs.Extents.{in_extent, has_unit, unit_count, IsMaximal}
-use Rattle.zr_rules.specs.Places.{one_if}
-use Rattle.zr_rules.specs.Roles.{Role, is_free_role, freed, aged, cleared, dropped}
+use Rattle.zr_rules.specs.Roles.{is_free_role, freed, aged, cleared, dropped}
 use Rattle.zr_rules.specs.Roles.Role.{FreshLive, Meta}
-use Rattle.zr_units.specs.Uses.{Uses, Freed, IsAccount, HasLists, AreMaximal, use_hits, use_count}
+use Rattle.zr_units.specs.Uses.{Uses, IsAccount}
 use Rattle.zr_units.specs.Changes.{Holds, HoldsMeta, DropsMeta, DropsSaved, FreesUnits, aged_uses, cleared_uses, has_freed}
 use Rattle.zr_space.specs.Views.{role_in}
 

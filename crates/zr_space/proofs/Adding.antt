@@ -1,18 +1,14 @@
 -- One device more.
-use Rattle.std.proofs.Common.{◌≡◌, ℕ, zero, suc, ◌+◌, ◌≤◌, ◌<◌, ◌^◌, max, Bool, true, false, ◌==◌, ◌&&◌, not, nat_lt, List, [], ◌∷◌, ◌++◌, map, length, refl, ◌∙◌, sym, ap, subst, arith, ⊎_elim, if◌then◌else◌, length-append}
+use Rattle.std.proofs.Common.{◌≡◌, ℕ, zero, suc, ◌+◌, ◌<◌, ◌^◌, false, ◌==◌, ◌&&◌, nat_lt, List, [], ◌∷◌, ◌++◌, map, length, refl, ◌∙◌, sym, ap, subst, arith, ⊎_elim, if◌then◌else◌, length-append}
 use Rattle.std.proofs.lemmas.Bool.{cases_eq}
 use Rattle.std.proofs.lemmas.Bool.Decides.{nat_tests}
-use Rattle.std.proofs.lemmas.List.{length-map, append-nil}
-use Rattle.zr_base.specs.declared.space.Extent.{Extent}
+use Rattle.std.proofs.lemmas.List.{length-map}
 use Rattle.zr_base.specs.declared.space.DevState.TheVariants.{On}
-use Rattle.zr_base.specs.Extents.{has_unit}
-use Rattle.zr_rules.specs.Roles.{Role}
 use Rattle.zr_rules.specs.Roles.Role.{Free}
-use Rattle.zr_rules.specs.Space.{Space, role_at}
 use Rattle.zr_rules.specs.Steps as steps
 use Rattle.zr_metaslab.specs.Devices as slab
 use Rattle.zr_metaslab.specs.Devices.{Devices, free_at, count_at, units_at, serves_at}
-use Rattle.zr_units.specs.Uses.{Uses, IsAccount, unused}
+use Rattle.zr_units.specs.Uses.{IsAccount, unused}
 use Rattle.zr_space.specs.Views.{Kept, kept_of, part_in, space_of, role_in, IsSpace, meta_from, saved_from, addresses, fresh_device}
 use Rattle.zr_space.proofs.Roles.{roles_are}
 use Rattle.zr_space.proofs.Accounts.{account_as}

@@ -1,17 +1,15 @@
 -- What a commit does to the space.
-use Rattle.std.proofs.Common.{◌≡◌, ℕ, zero, suc, ◌+◌, ◌≤◌, ◌<◌, Bool, true, false, ◌==◌, ◌&&◌, ◌||◌, not, nat_lt, List, [], ◌∷◌, ◌++◌, map, length, refl, ◌∙◌, sym, ap, subst, arith, ⊎_elim, if◌then◌else◌}
+use Rattle.std.proofs.Common.{◌≡◌, ℕ, zero, suc, ◌+◌, ◌≤◌, ◌<◌, Bool, true, false, ◌==◌, ◌||◌, nat_lt, List, [], ◌∷◌, ◌++◌, map, length, refl, ◌∙◌, sym, ap, subst, arith, ⊎_elim, if◌then◌else◌}
 use Rattle.std.proofs.Math.ListN.{set}
 use Rattle.std.proofs.lemmas.Bool.{cases_eq}
 use Rattle.std.proofs.lemmas.Bool.Decides.{nat_tests}
 use Rattle.std.proofs.lemmas.List.{length-map}
 use Rattle.zr_base.specs.declared.space.DevPart.{DevPart}
-use Rattle.zr_base.specs.declared.space.DevState.TheVariants.{On}
 use Rattle.zr_base.specs.Extents.{has_unit}
 use Rattle.zr_rules.specs.Places.{part_of, is_leaving}
-use Rattle.zr_rules.specs.Roles.{Role, aged, cleared}
-use Rattle.zr_rules.specs.Space.{Space, role_at, opened_of}
+use Rattle.zr_rules.specs.Roles.{aged, cleared}
 use Rattle.zr_rules.specs.Steps as steps
-use Rattle.zr_metaslab.specs.Devices.{Devices, free_at, count_at, units_at, KeepsDevices}
+use Rattle.zr_metaslab.specs.Devices.{Devices, free_at, count_at}
 use Rattle.zr_units.specs.Uses.{Uses, IsAccount, freed_count}
 use Rattle.zr_units.specs.Changes.{TakesBack, aged_uses, cleared_uses, has_freed}
 use Rattle.zr_space.specs.Views.{Kept, kept_of, part_in, opened_in, space_of, role_in, IsSpace, settled, meta_from, saved_from, addresses}

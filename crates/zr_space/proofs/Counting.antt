@@ -1,14 +1,13 @@
 -- The columns of a device are the sums of its sets.
-use Rattle.std.proofs.Common.{◌≡◌, ℕ, ◌+◌, ◌<◌, Bool, List, length, map, refl, ◌∙◌, sym, ap}
+use Rattle.std.proofs.Common.{◌≡◌, ℕ, ◌+◌, Bool, List, map, refl, ◌∙◌, sym, ap}
 use Rattle.zr_base.specs.declared.space.DevPart.{DevPart}
-use Rattle.zr_base.specs.declared.space.Columns.{Columns}
 use Rattle.zr_base.specs.Extents.{unit_count}
 use Rattle.zr_rules.specs.Places.{count_below, units_of_dev}
 use Rattle.zr_rules.specs.Roles.{Role, is_free_role, is_allocated_role, is_deferred_role, is_kept_role}
-use Rattle.zr_rules.specs.Space.{Space, role_at}
+use Rattle.zr_rules.specs.Space.{role_at}
 use Rattle.zr_rules.specs.Columns as columns
 use Rattle.zr_metaslab.specs.Devices.{Devices, free_at, count_at}
-use Rattle.zr_units.specs.Uses.{Uses, freed_count}
+use Rattle.zr_units.specs.Uses.{freed_count}
 use Rattle.zr_space.specs.Views.{Kept, kept_of, part_in, space_of, role_in, IsSpace}
 use Rattle.zr_space.proofs.Views.{part_is}
 use Rattle.zr_space.proofs.Roles.{roles_are}

@@ -1,10 +1,10 @@
 -- The units of a device by role, counted.
-use Rattle.std.proofs.Common.{◌≡◌, ℕ, zero, suc, ◌+◌, ◌-◌, ◌≤◌, ◌<◌, ◌^◌, Bool, true, false, nat_lt, List, [], refl, ◌∙◌, sym, ap, arith}
+use Rattle.std.proofs.Common.{◌≡◌, ℕ, zero, suc, ◌+◌, ◌-◌, ◌≤◌, ◌<◌, ◌^◌, Bool, true, false, List, refl, ◌∙◌, sym, ap, arith}
 use Rattle.std.proofs.lemmas.Bool.Decides.{nat_tests}
 use Rattle.zr_base.specs.declared.space.Extent.{Extent}
 use Rattle.zr_base.specs.Extents.{has_unit, unit_count, IsMaximal}
 use Rattle.zr_rules.specs.Places.{one_if, count_below}
-use Rattle.zr_rules.specs.Roles.{is_free_role, is_allocated_role, is_deferred_role, is_kept_role}
+use Rattle.zr_rules.specs.Roles.{is_allocated_role, is_deferred_role, is_kept_role}
 use Rattle.zr_obsolete.proofs.Counting.{count-gap, count-set}
 use Rattle.zr_units.specs.Apart.{IsWithin}
 use Rattle.zr_units.specs.Uses.{Uses, Freed, IsAccount, use_hits, use_count, freed_count}

@@ -1,21 +1,18 @@
 -- What giving back metadata does to the space.
-use Rattle.std.proofs.Common.{◌≡◌, ◌⊎◌, inl, inr, ℕ, ◌+◌, ◌≤◌, ◌<◌, ◌^◌, Bool, true, false, ◌==◌, ◌&&◌, ◌||◌, not, nat_lt, List, [], ◌∷◌, map, length, refl, ◌∙◌, sym, ap, subst, arith, if◌then◌else◌}
+use Rattle.std.proofs.Common.{◌≡◌, ◌⊎◌, inl, inr, ℕ, ◌+◌, ◌≤◌, ◌<◌, ◌^◌, true, false, List, [], ◌∷◌, map, length, refl, ◌∙◌, sym, ap, subst, arith, if◌then◌else◌}
 use Rattle.std.proofs.Math.ListN.{set}
-use Rattle.std.specs.List.{sum_by}
 use Rattle.std.proofs.lemmas.List.{length-map}
 use Rattle.std.proofs.lemmas.List.Sums.{sum_by-cons}
 use Rattle.std.proofs.lemmas.Bool.Decides.{nat_tests}
-use Rattle.zr_base.specs.declared.space.Extent.{Extent}
 use Rattle.zr_base.specs.declared.space.Dva.{Dva}
 use Rattle.zr_base.specs.declared.space.DevPart.{DevPart}
 use Rattle.zr_base.specs.Extents.{in_extent, has_unit, HasAll, HasNone}
-use Rattle.zr_rules.specs.Places.{in_address, part_of, units_of_dev, address_hits, one_if}
+use Rattle.zr_rules.specs.Places.{in_address, units_of_dev, one_if}
 use Rattle.zr_rules.specs.Roles.{Role, dropped}
 use Rattle.zr_rules.specs.Roles.Role.{Meta, SavedMeta}
-use Rattle.zr_rules.specs.Space.{Space, role_at}
 use Rattle.zr_rules.specs.Frees as rules
 use Rattle.zr_rules.specs.Frees.{in_any}
-use Rattle.zr_metaslab.specs.Devices.{Devices, free_at, count_at, units_at, KeepsDevices, extent_of}
+use Rattle.zr_metaslab.specs.Devices.{Devices, free_at, count_at, KeepsDevices, extent_of}
 use Rattle.zr_units.specs.Uses.{Uses, IsAccount}
 use Rattle.zr_units.specs.Changes.{DropsMeta, DropsSaved}
 use Rattle.zr_space.specs.Views.{Kept, kept_of, part_in, space_of, role_in, IsSpace}

@@ -1,21 +1,18 @@
 -- What the change of one device's units does to the roles, and what it leaves as it was.
-use Rattle.std.proofs.Common.{◌≡◌, ℕ, zero, suc, ◌+◌, ◌≤◌, ◌<◌, Bool, true, false, ◌==◌, ◌&&◌, nat_le, nat_lt, List, [], ◌∷◌, ◌++◌, map, length, refl, ◌∙◌, sym, ap, subst, arith, ⊎_elim, if◌then◌else◌}
+use Rattle.std.proofs.Common.{◌≡◌, ℕ, zero, suc, ◌+◌, ◌<◌, true, false, ◌==◌, List, [], ◌∷◌, ◌++◌, map, length, refl, ◌∙◌, sym, ap, subst, arith, if◌then◌else◌}
 use Rattle.std.proofs.Math.ListN.{set}
-use Rattle.std.proofs.lemmas.Bool.{cases_eq}
 use Rattle.std.proofs.lemmas.Bool.Decides.{nat_tests}
 use Rattle.std.proofs.lemmas.List.{length-map, length-set}
-use Rattle.zr_base.specs.declared.space.Extent.{Extent}
 use Rattle.zr_base.specs.declared.space.Dva.{Dva}
 use Rattle.zr_base.specs.declared.space.DevPart.{DevPart}
 use Rattle.zr_base.specs.Extents.{has_unit, in_extent}
-use Rattle.zr_rules.specs.Places.{part_of, in_address, is_fresh, address_hits}
+use Rattle.zr_rules.specs.Places.{part_of, in_address}
 use Rattle.zr_rules.specs.Roles.{Role}
-use Rattle.zr_rules.specs.Space.{Space, role_at, IsLawful}
+use Rattle.zr_rules.specs.Space.{role_at}
 use Rattle.zr_rules.specs.Frees.{IsSamePart, IsSameFrame, MarksNothing}
 use Rattle.zr_metaslab.specs.Devices.{Devices, extent_of}
 use Rattle.zr_space.specs.Views.{Kept, kept_of, part_in, space_of, role_in, IsSpace, meta_from, saved_from, addresses, late_runs}
-use Rattle.zr_space.proofs.Sums.{extent_hits}
-use Rattle.zr_space.proofs.Views.{part_is, meta_is, kept_other, kept_same}
+use Rattle.zr_space.proofs.Views.{part_is}
 use Rattle.zr_space.proofs.Roles.{roles_are}
 use Rattle.zr_space.proofs.Keeps.{lawful, on_each}
 

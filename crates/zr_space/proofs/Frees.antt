@@ -1,18 +1,17 @@
 -- What a free does to the space.
-use Rattle.std.proofs.Common.{◌≡◌, ℕ, ◌+◌, ◌≤◌, ◌<◌, Bool, true, false, ◌==◌, ◌&&◌, ◌||◌, not, nat_lt, List, [], ◌∷◌, map, length, refl, ◌∙◌, sym, ap, subst, arith, if◌then◌else◌}
+use Rattle.std.proofs.Common.{◌≡◌, ℕ, ◌+◌, ◌≤◌, ◌<◌, true, List, map, length, refl, ◌∙◌, sym, ap, subst, arith, if◌then◌else◌}
 use Rattle.std.proofs.Math.ListN.{set}
 use Rattle.std.proofs.lemmas.List.{length-map}
 use Rattle.std.proofs.lemmas.Bool.Decides.{nat_tests}
-use Rattle.zr_base.specs.declared.space.Extent.{Extent}
 use Rattle.zr_base.specs.declared.space.Dva.{Dva}
 use Rattle.zr_base.specs.declared.space.DevPart.{DevPart}
-use Rattle.zr_base.specs.Extents.{in_extent, has_unit, unit_count, HasAll}
-use Rattle.zr_rules.specs.Places.{in_address, part_of, is_fresh, units_of_dev}
-use Rattle.zr_rules.specs.Roles.{Role, freed, is_live_role}
-use Rattle.zr_rules.specs.Space.{Space, role_at}
+use Rattle.zr_base.specs.Extents.{has_unit, HasAll}
+use Rattle.zr_rules.specs.Places.{in_address, units_of_dev}
+use Rattle.zr_rules.specs.Roles.{freed, is_live_role}
+use Rattle.zr_rules.specs.Space.{role_at}
 use Rattle.zr_rules.specs.Devices.{devices_of}
 use Rattle.zr_rules.specs.Resolve.{leads_to}
-use Rattle.zr_rules.specs.Frees.{Frees, freed_role, marks}
+use Rattle.zr_rules.specs.Frees.{Frees, freed_role}
 use Rattle.zr_metaslab.specs.Devices.{Devices, free_at, count_at, units_at, extent_of}
 use Rattle.zr_units.specs.Uses.{Uses, IsAccount}
 use Rattle.zr_units.specs.Changes.{FreesUnits, FreesBorn}

@@ -1,30 +1,27 @@
 -- What the space of a pool is, and what the change of one device leaves of it.
-use Rattle.std.proofs.Common.{◌≡◌, ℕ, zero, suc, ◌+◌, ◌-◌, ◌≤◌, ◌<◌, Bool, true, false, ◌==◌, nat_lt, List, [], ◌∷◌, ◌++◌, map, length, refl, ◌∙◌, sym, ap, subst, arith, ⊎_elim, if◌then◌else◌}
+use Rattle.std.proofs.Common.{◌≡◌, ℕ, ◌+◌, ◌-◌, ◌<◌, Bool, true, false, ◌==◌, nat_lt, List, [], ◌∷◌, map, length, ◌∙◌, sym, ap, subst, arith, ⊎_elim}
 use Rattle.std.proofs.Math.ListN.{set}
 use Rattle.std.proofs.lemmas.Bool.{cases_eq}
 use Rattle.std.proofs.lemmas.Bool.Decides.{nat_tests}
-use Rattle.std.proofs.lemmas.Grind.{common_steps}
 use Rattle.std.proofs.lemmas.List.{length-map, length-set}
 use Rattle.zr_base.specs.declared.space.Extent.{Extent}
 use Rattle.zr_base.specs.declared.space.DevPart.{DevPart}
-use Rattle.zr_base.specs.declared.space.DevState.{DevState}
 use Rattle.zr_base.specs.declared.space.DevState.TheVariants.{On}
 use Rattle.zr_base.specs.Extents.{has_unit, IsMaximal, IsMaximalFrom, EndsBy}
-use Rattle.zr_rules.specs.Places.{one_if, count_below, part_of, is_on, is_held, is_kept, hits_late, address_hits, units_of_dev}
-use Rattle.zr_rules.specs.Placement.{Free}
-use Rattle.zr_rules.specs.Roles.{is_free_role, is_allocated_role, is_deferred_role, is_kept_role}
-use Rattle.zr_rules.specs.Space.{Space, role_at, opened_of, OpenSets, IsLawful, IsSet, HasSets, set_hits, has_place, copy_hits, is_born}
+use Rattle.zr_rules.specs.Places.{one_if, count_below, part_of, is_on, is_held, is_kept, hits_late, units_of_dev}
+use Rattle.zr_rules.specs.Roles.{is_free_role}
+use Rattle.zr_rules.specs.Space.{role_at, opened_of, OpenSets, IsLawful, IsSet, HasSets, set_hits, is_born}
 use Rattle.zr_rules.specs.Columns as columns
 use Rattle.zr_metaslab.specs.Devices as slab
 use Rattle.zr_metaslab.specs.Devices.{Devices, free_at, count_at, units_at, serves_at, KeepsDevices}
 use Rattle.zr_units.specs.Apart.{IsWithin}
-use Rattle.zr_units.specs.Uses.{Uses, IsAccount, use_hits, freed_hits}
-use Rattle.zr_space.specs.Views.{Kept, kept_of, part_in, opened_in, space_of, role_in, IsSpace, meta_from, saved_from, addresses, late_runs}
+use Rattle.zr_units.specs.Uses.{IsAccount, use_hits}
+use Rattle.zr_space.specs.Views.{Kept, kept_of, part_in, opened_in, space_of, IsSpace}
 use Rattle.zr_space.proofs.Sums.{extent_hits, once_in, late_hits_are}
 use Rattle.zr_space.proofs.Views.{part_is, opened_is, meta_is, saved_is, kept_other, kept_same}
 use Rattle.zr_space.proofs.Roles.{roles_are, place_is, no_copies}
 use Rattle.zr_space.proofs.Accounts.{account_as, free_in}
-use Rattle.zr_space.proofs.Counts.{count_as, free_count, held_in, meta_in, saved_in, freed_blocks_in, freed_meta_in}
+use Rattle.zr_space.proofs.Counts.{count_as, free_count, held_in, freed_blocks_in, freed_meta_in}
 use Rattle.zr_space.proofs.Placing.{IsSameFree}
 
 -- the allocator sees what the space says

@@ -1,5 +1,5 @@
 -- Where all devices are in service, an address leads to its own units and passes none.
-use Rattle.std.proofs.Common.{◌≡◌, ℕ, zero, suc, ◌+◌, ◌≤◌, ◌<◌, Bool, true, false, ◌==◌, ◌&&◌, ◌||◌, nat_le, nat_lt, List, [], ◌∷◌, ◌++◌, map, length, Option, Some, None, refl, ◌∙◌, sym, ap, arith, if◌then◌else◌}
+use Rattle.std.proofs.Common.{◌≡◌, ℕ, zero, suc, ◌+◌, ◌≤◌, ◌<◌, true, false, ◌==◌, ◌&&◌, nat_le, nat_lt, List, [], ◌∷◌, map, length, Option, Some, refl, ◌∙◌, ap, arith}
 use Rattle.std.specs.List.{range_with_len, list_any, sum_by}
 use Rattle.std.proofs.lemmas.List.{length-map}
 use Rattle.std.proofs.lemmas.List.Folds.{list_any-append}
@@ -8,9 +8,9 @@ use Rattle.std.proofs.lemmas.Bool.Decides.{nat_tests}
 use Rattle.zr_base.specs.declared.space.Dva.{Dva}
 use Rattle.zr_base.specs.declared.space.DevPart.{DevPart}
 use Rattle.zr_base.specs.declared.space.DevState.TheVariants.{On}
-use Rattle.zr_rules.specs.Places.{Place, one_if, is_gone, is_leaving, is_place, in_address, places_of, part_of}
+use Rattle.zr_rules.specs.Places.{Place, one_if, is_gone, is_leaving, is_place, in_address, part_of}
 use Rattle.zr_rules.specs.Devices.{Devices, state_at, devices_of}
-use Rattle.zr_rules.specs.Resolve.{resolve, resolved, passed, passed_units, is_there, is_at, leads_to, pass_hits, passes}
+use Rattle.zr_rules.specs.Resolve.{resolve, resolved, passed, passed_units, is_there, is_at, leads_to}
 use Rattle.zr_rules.specs.Space.{Space}
 use Rattle.zr_rules.specs.Frees.{copy_from, is_copy_of, marks}
 use Rattle.zr_space.specs.Views.{Kept, kept_of, part_in, space_of}

@@ -1,9 +1,8 @@
 -- Where the same units are free, a placement is the same.
-use Rattle.std.proofs.Common.{◌≡◌, ℕ, ◌+◌, ◌≤◌, ◌<◌, Bool, true, ◌&&◌, ◌∙◌, sym, ap, arith, ◌⊎◌, inl, inr}
-use Rattle.zr_base.specs.declared.space.Extent.{Extent}
+use Rattle.std.proofs.Common.{◌≡◌, ℕ, ◌+◌, ◌<◌, ◌&&◌, ◌∙◌, sym, ap, arith, ◌⊎◌, inl, inr}
 use Rattle.zr_base.specs.declared.space.Dva.{Dva}
 use Rattle.zr_base.specs.declared.space.Policy.{Policy}
-use Rattle.zr_rules.specs.Placement.{Free, IsPlacement, HasNoPlacement, HasRun, HasRunSomewhere, AreFreeRuns, IsBefore, in_metaslab}
+use Rattle.zr_rules.specs.Placement.{Free, IsPlacement, HasNoPlacement, HasRun, HasRunSomewhere, IsBefore, in_metaslab}
 
 -- both see as many devices, and of each of them the same
 pub record IsSameFree (f g : Free) : Type 0 where

@@ -1,5 +1,5 @@
 -- The role of a unit, from the sets of its device.
-use Rattle.std.proofs.Common.{◌≡◌, ℕ, zero, suc, ◌+◌, ◌≤◌, ◌<◌, Bool, true, false, ◌==◌, ◌&&◌, not, nat_lt, List, [], ◌∷◌, map, length, refl, ◌∙◌, sym, ap, arith, if◌then◌else◌}
+use Rattle.std.proofs.Common.{◌≡◌, ℕ, zero, suc, ◌<◌, true, false, nat_lt, List, [], ◌∷◌, map, length, refl, ◌∙◌, ap, arith, if◌then◌else◌}
 use Rattle.std.specs.List.{sum_by}
 use Rattle.std.proofs.lemmas.List.Sums.{sum_by-cons}
 use Rattle.std.proofs.lemmas.List.{length-map}
@@ -9,10 +9,9 @@ use Rattle.zr_base.specs.declared.space.Entry.{Entry}
 use Rattle.zr_base.specs.declared.space.DevState.TheVariants.{On}
 use Rattle.zr_base.specs.Extents.{has_unit}
 use Rattle.zr_rules.specs.Places.{one_if, part_of, is_leaving, is_gone, address_hits}
-use Rattle.zr_rules.specs.Roles.{Role}
-use Rattle.zr_rules.specs.Space.{Space, OpenSets, role_at, copy_hits, is_copy_by, has_late, has_place, opened_of}
-use Rattle.zr_space.specs.Views.{Kept, kept_of, part_in, opened_in, space_of, role_in}
-use Rattle.zr_space.proofs.Sums.{extent_hits, some_in, late_blocks_are, late_meta_are}
+use Rattle.zr_rules.specs.Space.{OpenSets, role_at, copy_hits, is_copy_by, has_late, has_place, opened_of}
+use Rattle.zr_space.specs.Views.{Kept, kept_of, part_in, space_of, role_in}
+use Rattle.zr_space.proofs.Sums.{some_in, late_blocks_are, late_meta_are}
 use Rattle.zr_space.proofs.Views.{part_is, opened_is, meta_is, saved_is}
 
 -- no device is leaving, so there are no copies

@@ -1,13 +1,11 @@
 -- What the space of a pool shows of its devices.
-use Rattle.std.proofs.Common.{◌≡◌, ℕ, zero, suc, ◌+◌, ◌≤◌, ◌<◌, Bool, true, false, ◌==◌, nat_lt, List, [], ◌∷◌, ◌++◌, map, length, refl, ◌∙◌, sym, ap, arith, get_or, if◌then◌else◌}
+use Rattle.std.proofs.Common.{◌≡◌, ℕ, zero, suc, ◌+◌, ◌<◌, false, ◌==◌, List, [], ◌∷◌, map, length, refl, ◌∙◌, sym, ap, arith, get_or}
 use Rattle.std.proofs.Math.ListN.{set}
 use Rattle.std.proofs.lemmas.List.{get_or-set_same, get_or-set_other}
 use Rattle.std.proofs.lemmas.Bool.Decides.{nat_tests}
 use Rattle.std.proofs.lemmas.Grind.{common_steps}
-use Rattle.zr_base.specs.declared.space.Extent.{Extent}
-use Rattle.zr_base.specs.declared.space.DevState.TheVariants.{On}
-use Rattle.zr_rules.specs.Places.{part_of, address_hits, is_leaving}
-use Rattle.zr_rules.specs.Space.{Space, OpenSets, opened_of, copy_hits}
+use Rattle.zr_rules.specs.Places.{part_of, address_hits}
+use Rattle.zr_rules.specs.Space.{opened_of}
 use Rattle.zr_space.specs.Views.{Kept, kept_of, nothing_kept, part_in, opened_in, addresses, meta_from, saved_from, space_of}
 use Rattle.zr_space.proofs.Sums.{extent_hits, addresses_hits, hits_append}
 

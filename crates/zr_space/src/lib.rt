@@ -7,5 +7,7 @@
 
 mod device;
 mod space;
+#[cfg(test)]
+mod tests;
 
 pub use space::{Space, SpaceErr};

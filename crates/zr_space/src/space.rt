@@ -1,6 +1,7 @@
 //! The space of an open pool, and what happens to it.
 ghost use Rattle.std.specs.Prelude.{◌≡◌, ℕ, ◌+◌, ◌^◌, ◌<◌, ◌≤◌, true, false, [], IfOk, IfErr, OnOk, OnErr, length, vec_len, ◌∷◌, ◌++◌};
 ghost use Rattle.std.specs.Vec.{vec_capacity};
+ghost use Rattle.zr_base.specs.declared.space.Dva.{Dva};
 ghost use Rattle.zr_rules.specs.Columns.{columns};
 ghost use Rattle.zr_rules.specs.Places.{state_of_dev};
 ghost use Rattle.zr_space.specs.Drops.{IsMeta, KeepsParts};
@@ -229,6 +230,8 @@ impl Space {
     /// reset all that was freed is free. It takes no memory, and costs a release for each extent that becomes free.
     pub fn commit_done(&mut self, reset: bool)
         ensures commits { Commits reset self.old self.new }
+        ensures live { (a : Dva) → IsLive self.old a → IsLive self.new a }
+        ensures metadata { (a : Dva) → IsMeta self.old a → IsMeta self.new a }
         ensures meta { self.new.meta ≡ self.old.meta }
         ensures saved { self.new.saved_meta ≡ self.old.saved_meta }
     {

@@ -1,5 +1,5 @@
 -- Sets without a common unit.
-use Rattle.std.specs.Prelude.{◌≡◌, ℕ, ◌+◌, ◌≤◌, ◌<◌, Bool, true, false, List}
+use Rattle.std.specs.Prelude.{◌≡◌, ℕ, ◌<◌, Bool, true, false, List}
 use Rattle.zr_base.specs.declared.space.Extent.{Extent}
 use Rattle.zr_base.specs.Extents.{has_unit, in_extent}
 

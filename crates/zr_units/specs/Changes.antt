@@ -3,7 +3,7 @@ use Rattle.std.specs.Prelude.{◌≡◌, ℕ, ◌+◌, Bool, false, not, ◌&&�
 use Rattle.zr_base.specs.declared.space.Extent.{Extent}
 use Rattle.zr_base.specs.Extents.{has_unit, in_extent, unit_count, AddsUnits, RemovesUnits, IsMaximal}
 use Rattle.zr_metaslab.specs.Devices.{Devices, free_at, count_at, KeepsDevices}
-use Rattle.zr_units.specs.Uses.{Uses, Freed, none_freed, freed_count}
+use Rattle.zr_units.specs.Uses.{Uses, Freed, none_freed}
 
 -- the open group has units for a block
 pub record Holds (old new : Uses) (e : Extent) : Type 0 where

@@ -1,7 +1,7 @@
 use Rattle.std.proofs.Common.{◌≡◌, ◌+◌, ◌-◌, ◌≤◌, ◌<◌, length, ℕ}
-use Rattle.std.specs.Prelude.{◌||◌, ◌&&◌, ◌==◌, not, nat_le, nat_lt, true, false}
-use Rattle.zr_base.specs.Extents.{unit_count, has_unit, in_extent, IsMaximal}
-use Rattle.zr_metaslab.specs.Devices.{free_at, count_at, units_at, KeepsDevices}
+use Rattle.std.specs.Prelude.{◌||◌, ◌&&◌, ◌==◌, not, nat_le, nat_lt, false}
+use Rattle.zr_base.specs.Extents.{unit_count, has_unit, IsMaximal}
+use Rattle.zr_metaslab.specs.Devices.{free_at, count_at, KeepsDevices}
 use Rattle.zr_units.proofs.parts.free_parts.Given as goal
 
 abbrev pub invariant-loop-at : goal.invariant-loop-at

@@ -1,5 +1,5 @@
 use Rattle.std.proofs.Common.{◌≡◌, ◌+◌, ◌<◌, length, ℕ}
-use Rattle.std.specs.Prelude.{◌||◌, ◌&&◌, ◌==◌, false, if◌then◌else◌}
+use Rattle.std.specs.Prelude.{◌||◌, ◌&&◌, ◌==◌, if◌then◌else◌}
 use Rattle.zr_base.specs.Extents.{unit_count, has_unit}
 use Rattle.zr_metaslab.specs.Devices.{free_at, count_at, units_at, KeepsDevices}
 use Rattle.zr_units.specs.Apart.{AreApart, IsWithin}

@@ -1,8 +1,8 @@
-use Rattle.std.proofs.Common.{◌≡◌, ◌∙◌, sym, refl, arith, length, ◌<◌}
+use Rattle.std.proofs.Common.{◌∙◌, refl, arith, length, ◌<◌}
 use Rattle.std.proofs.Common.{List}
 use Rattle.std.proofs.Math.ListN.{set}
 use Rattle.std.proofs.lemmas.List.{length-set}
-use Rattle.zr_space.specs.Views.{Kept, kept_of}
+use Rattle.zr_space.specs.Views.{Kept}
 use Rattle.zr_space.proofs.Lives.{is_live}
 use Rattle.zr_space.proofs.Views.{kept_read}
 use Rattle.zr_space.proofs.Allocs.{IsTaken, block_space, allocates, given_back, no_run}

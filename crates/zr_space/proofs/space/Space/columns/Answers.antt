@@ -1,6 +1,6 @@
-use Rattle.std.proofs.Common.{◌≡◌, ◌∙◌, ◌<◌, length, arith, subst, sym}
+use Rattle.std.proofs.Common.{◌∙◌, ◌<◌, length, arith, subst, sym}
 use Rattle.std.proofs.lemmas.List.{length-map}
-use Rattle.zr_space.specs.Views.{Kept, kept_of, part_in, space_of}
+use Rattle.zr_space.specs.Views.{Kept, part_in, space_of}
 use Rattle.zr_space.proofs.Views.{kept_read}
 use Rattle.zr_space.proofs.Counting.{columns_are}
 use Rattle.zr_space.proofs.space.Space.columns.Goals as goal

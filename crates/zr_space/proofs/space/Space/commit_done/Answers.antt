@@ -1,8 +1,10 @@
-use Rattle.std.proofs.Common.{◌≡◌, ◌∙◌, ◌≤◌, ◌<◌, sym, refl, arith, length, List, map, ap, subst, true, false, if◌then◌else◌}
+use Rattle.std.proofs.Common.{◌≡◌, ◌∙◌, ◌<◌, sym, arith, length, List, map, ap, subst, if◌then◌else◌}
 use Rattle.std.proofs.lemmas.List.{length-set}
-use Rattle.zr_units.specs.Changes.{aged_uses, cleared_uses}
 use Rattle.std.specs.Prelude.{ℕ, nat_lt}
 use Rattle.zr_rules.specs.Steps.{Commits}
+use Rattle.zr_space.specs.Live.{IsLive}
+use Rattle.zr_space.specs.Drops.{IsMeta}
+use Rattle.zr_space.proofs.Lives.{stays_live, stays_meta}
 use Rattle.zr_space.specs.Views.{Kept, kept_of, settled, IsSpace, space_of, meta_from, saved_from}
 use Rattle.zr_space.proofs.Views.{kept_read}
 use Rattle.zr_space.proofs.Commits.{IsNext, age_space, clear_space, settled_next, settled_all, commits, meta_settled, saved_settled}
@@ -67,3 +69,27 @@ returns-clause-saved c =
     let n : c.loop-dev.dev ≡ length devs = let e = i.end in let l = i.devices in let t = c.loop-dev-test.false in let a = c.loop-dev.auto.dev-end in omega (arith, e, l, t, a) in
     let e : devs ≡ map (settled c.args.reset) first = settled_all c.args.reset first devs i.devices (subst (λ k. (d : ℕ) → kept_of devs d ≡ (if nat_lt d k then settled c.args.reset (kept_of first d) else kept_of first d)) n i.so_far) in
     ap (λ (xs : List Kept). saved_from 0 xs) e ∙ (saved_settled c.args.reset 0 first ∙ ap (λ s. s.saved_meta) c.self.view_is)
+
+pub returns-clause-live : goal.returns-clause-live
+returns-clause-live c = λ a l.
+    let first : List Kept = c.self.inside.devs.items in
+    let devs : List Kept = c.loop-dev.self-inside.devs.items in
+    let i = c.loop-dev.invariant in
+    let n : c.loop-dev.dev ≡ length devs = let e = i.end in let l = i.devices in let t = c.loop-dev-test.false in let a = c.loop-dev.auto.dev-end in omega (arith, e, l, t, a) in
+    let e : devs ≡ map (settled c.args.reset) first = settled_all c.args.reset first devs i.devices (subst (λ k. (d : ℕ) → kept_of devs d ≡ (if nat_lt d k then settled c.args.reset (kept_of first d) else kept_of first d)) n i.so_far) in
+    let was : IsLive (space_of c.self.inside.version first) a = subst (λ x. IsLive x a) (sym c.self.view_is) l in
+    subst (λ w. IsLive (space_of w devs) a) (sym i.version)
+    (subst (λ (xs : List Kept). IsLive (space_of c.self.inside.version xs) a) (sym e)
+    (stays_live c.args.reset c.self.inside.version c.self.inside.slabs c.loop-dev.self-inside.slabs first a c.self.invariant (subst (λ (xs : List Kept). IsSpace c.loop-dev.self-inside.slabs xs) e i.space) was))
+
+pub returns-clause-metadata : goal.returns-clause-metadata
+returns-clause-metadata c = λ a l.
+    let first : List Kept = c.self.inside.devs.items in
+    let devs : List Kept = c.loop-dev.self-inside.devs.items in
+    let i = c.loop-dev.invariant in
+    let n : c.loop-dev.dev ≡ length devs = let e = i.end in let l = i.devices in let t = c.loop-dev-test.false in let a = c.loop-dev.auto.dev-end in omega (arith, e, l, t, a) in
+    let e : devs ≡ map (settled c.args.reset) first = settled_all c.args.reset first devs i.devices (subst (λ k. (d : ℕ) → kept_of devs d ≡ (if nat_lt d k then settled c.args.reset (kept_of first d) else kept_of first d)) n i.so_far) in
+    let was : IsMeta (space_of c.self.inside.version first) a = subst (λ x. IsMeta x a) (sym c.self.view_is) l in
+    subst (λ w. IsMeta (space_of w devs) a) (sym i.version)
+    (subst (λ (xs : List Kept). IsMeta (space_of c.self.inside.version xs) a) (sym e)
+    (stays_meta c.args.reset c.self.inside.version c.self.inside.slabs c.loop-dev.self-inside.slabs first a c.self.invariant (subst (λ (xs : List Kept). IsSpace c.loop-dev.self-inside.slabs xs) e i.space) was))

@@ -1,4 +1,4 @@
-use Rattle.std.proofs.Common.{◌≡◌, ◌≤◌, ℕ, length, if◌then◌else◌}
+use Rattle.std.proofs.Common.{◌≡◌, ℕ, length, if◌then◌else◌}
 use Rattle.std.specs.Prelude.{nat_lt}
 use Rattle.zr_space.specs.Views.{kept_of, settled, IsSpace}
 use Rattle.zr_space.proofs.space.Space.commit_done.Given as goal

@@ -1,8 +1,8 @@
-use Rattle.std.proofs.Common.{◌≡◌, ◌∙◌, ◌<◌, ◌≤◌, ◌+◌, ◌^◌, sym, refl, arith, length, List}
+use Rattle.std.proofs.Common.{◌∙◌, ◌<◌, refl, arith, length}
 use Rattle.std.proofs.lemmas.List.{length-map}
 use Rattle.zr_base.specs.Extents.{HasAll}
 use Rattle.zr_metaslab.specs.Devices.{extent_of}
-use Rattle.zr_space.specs.Views.{Kept, kept_of, part_in, space_of}
+use Rattle.zr_space.specs.Views.{Kept, part_in, space_of}
 use Rattle.zr_space.specs.Drops.{IsMeta}
 use Rattle.zr_space.proofs.Views.{kept_read}
 use Rattle.zr_space.proofs.Drops.{IsDropped, in_range, all_saved, none_freed, saved_space, drops_meta, drops_saved, never, meta_keeps, saved_keeps}
@@ -110,4 +110,3 @@ returns-then-covers-clause-parts c =
     } in
     let all : HasAll c.device.inside.units.meta (extent_of c.args.a) = rw c.meta.ensures at (rw c.extent_of-e.ensures at (c.if-covers.ensures.0 refl)) in
     rw (← c.self.view_is) (meta_keeps c.self.inside.version c.self.inside.slabs c.self.inside.devs.items c.args.a k dropped c.drop_meta.new.self (rw c.extent_of-e.ensures at c.in_ok-drop_meta.ensures.ok) all)
-

@@ -1,6 +1,6 @@
-use Rattle.std.proofs.Common.{◌≡◌, ◌∙◌, sym, refl, arith, length, ◌<◌, List, get_or}
+use Rattle.std.proofs.Common.{◌∙◌, arith, length, ◌<◌}
 use Rattle.std.proofs.lemmas.List.{length-map}
-use Rattle.zr_space.specs.Views.{Kept, kept_of, part_in, space_of}
+use Rattle.zr_space.specs.Views.{Kept, part_in, space_of}
 use Rattle.zr_space.specs.Live.{IsLive}
 use Rattle.zr_space.proofs.Views.{kept_read}
 use Rattle.zr_space.proofs.Frees.{IsAsked, held, freed_space, frees}
