@@ -1,0 +1,16 @@
+pub mod Sums
+pub mod Views
+pub mod Roles
+pub mod Accounts
+pub mod Counts
+pub mod Placing
+pub mod Keeps
+pub mod Frames
+pub mod Allocs
+pub mod Leads
+pub mod Frees
+pub mod Adding
+pub mod Commits
+pub mod Drops
+pub mod Counting
+pub mod Lives

@@ -1,0 +1,82 @@
+use Rattle.std.proofs.Common.{◌∙◌, refl, arith, length, ◌<◌}
+use Rattle.std.proofs.Common.{List}
+use Rattle.std.proofs.Math.ListN.{set}
+use Rattle.std.proofs.lemmas.List.{length-set}
+use Rattle.zr_space.specs.Views.{Kept}
+use Rattle.zr_space.proofs.Lives.{is_live}
+use Rattle.zr_space.proofs.Views.{kept_read}
+use Rattle.zr_space.proofs.Allocs.{IsTaken, block_space, allocates, given_back, no_run}
+use Rattle.zr_space.proofs.space.Space.alloc.Goals as goal
+
+pub returns-in-Err-clause-cause : goal.returns-in-Err-clause-cause
+returns-in-Err-clause-cause g c =
+    rw (← c.self.view_is) (c.in-Err.ensures.needed, no_run c.self.inside.version c.self.inside.slabs c.self.inside.devs.items c.args.want c.in-Err.field-0.longest c.self.invariant c.in-Err.ensures.none)
+
+pub invariant_of-self-in-Ok-hold : goal.invariant_of-self-in-Ok-hold
+invariant_of-self-in-Ok-hold g c =
+    let k : Kept = record { row = c.device.inside.row; uses = c.device.inside.units } in
+    let known = c.in-Ok.ensures.placed.known in
+    let there : c.in-Ok.at.dev < length c.self.inside.devs.items = let e = c.self.invariant.devices in omega (arith, known, e) in
+    let here = kept_read c.self.inside.devs.items c.in-Ok.at.dev c.index_mut-device.result.now there c.index_mut-device.ensures.value in
+    let taken : IsTaken c.self.inside.slabs c.alloc.new.self c.self.inside.devs.items c.in-Ok.at k = record {
+      space = c.self.invariant;
+      takes = c.in-Ok.ensures.taken;
+      known = known;
+      kept = c.device.view_is ∙ here;
+    } in
+    block_space c.self.inside.slabs c.alloc.new.self c.self.inside.devs.items c.in-Ok.at k taken c.hold.new.self (rw c.extent_of-e.ensures at c.in-Ok-hold.ensures.ok)
+
+pub invariant_of-self-in-Err-hold : goal.invariant_of-self-in-Err-hold
+invariant_of-self-in-Err-hold g c =
+    let k : Kept = record { row = c.device.inside.row; uses = c.device.inside.units } in
+    let known = c.in-Ok.ensures.placed.known in
+    let there : c.in-Ok.at.dev < length c.self.inside.devs.items = let e = c.self.invariant.devices in omega (arith, known, e) in
+    let here = kept_read c.self.inside.devs.items c.in-Ok.at.dev c.index_mut-device.result.now there c.index_mut-device.ensures.value in
+    let taken : IsTaken c.self.inside.slabs c.alloc.new.self c.self.inside.devs.items c.in-Ok.at k = record {
+      space = c.self.invariant;
+      takes = c.in-Ok.ensures.taken;
+      known = known;
+      kept = c.device.view_is ∙ here;
+    } in
+    rw c.in-Err-hold.ensures.err
+    (given_back c.self.inside.slabs c.alloc.new.self c.release.new.self c.self.inside.devs.items c.in-Ok.at k taken (rw c.extent_of-e.ensures at c.release.ensures))
+
+pub returns-in-Ok-hold-clause-ok : goal.returns-in-Ok-hold-clause-ok
+returns-in-Ok-hold-clause-ok g c =
+    let k : Kept = record { row = c.device.inside.row; uses = c.device.inside.units } in
+    let known = c.in-Ok.ensures.placed.known in
+    let there : c.in-Ok.at.dev < length c.self.inside.devs.items = let e = c.self.invariant.devices in omega (arith, known, e) in
+    let here = kept_read c.self.inside.devs.items c.in-Ok.at.dev c.index_mut-device.result.now there c.index_mut-device.ensures.value in
+    let taken : IsTaken c.self.inside.slabs c.alloc.new.self c.self.inside.devs.items c.in-Ok.at k = record {
+      space = c.self.invariant;
+      takes = c.in-Ok.ensures.taken;
+      known = known;
+      kept = c.device.view_is ∙ here;
+    } in
+    rw (← c.self.view_is)
+    (allocates c.self.inside.slabs c.alloc.new.self c.self.inside.devs.items c.in-Ok.at k taken c.self.inside.version c.args.want _ c.hold.new.self (rw c.extent_of-e.ensures at c.in-Ok-hold.ensures.ok) c.in-Ok.ensures.placed)
+
+pub returns-in-Ok-hold-clause-live : goal.returns-in-Ok-hold-clause-live
+returns-in-Ok-hold-clause-live g c =
+    let k : Kept = record { row = c.device.inside.row; uses = c.device.inside.units } in
+    let known = c.in-Ok.ensures.placed.known in
+    let there : c.in-Ok.at.dev < length c.self.inside.devs.items = let e = c.self.invariant.devices in omega (arith, known, e) in
+    let here = kept_read c.self.inside.devs.items c.in-Ok.at.dev c.index_mut-device.result.now there c.index_mut-device.ensures.value in
+    let taken : IsTaken c.self.inside.slabs c.alloc.new.self c.self.inside.devs.items c.in-Ok.at k = record {
+      space = c.self.invariant;
+      takes = c.in-Ok.ensures.taken;
+      known = known;
+      kept = c.device.view_is ∙ here;
+    } in
+    let y = rw c.extent_of-e.ensures at c.in-Ok-hold.ensures.ok in
+    let devs : List Kept = set c.self.inside.devs.items c.in-Ok.at.dev (record { row = k.row; uses = c.hold.new.self }) in
+    let space = block_space c.self.inside.slabs c.alloc.new.self c.self.inside.devs.items c.in-Ok.at k taken c.hold.new.self y in
+    let moved = allocates c.self.inside.slabs c.alloc.new.self c.self.inside.devs.items c.in-Ok.at k taken c.self.inside.version c.args.want _ c.hold.new.self y c.in-Ok.ensures.placed in
+    is_live c.self.inside.version c.alloc.new.self devs c.in-Ok.at
+    (record {
+      space = space;
+      known = let l = length-set c.self.inside.devs.items c.in-Ok.at.dev (record { row = k.row; uses = c.hold.new.self }) in omega (arith, there, l);
+      some = let l = c.in-Ok.ensures.placed.len in let w = c.requires.some in omega (arith, l, w);
+      within = let w = c.in-Ok.ensures.taken.within in let u = c.in-Ok.ensures.taken.devices.units c.in-Ok.at.dev in omega (arith, w, u);
+    })
+    (λ d u is. moved.roles d u ∙ rw is refl)

@@ -1,0 +1,4 @@
+pub mod Views
+pub mod Live
+pub mod Causes
+pub mod Drops

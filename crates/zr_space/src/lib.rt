@@ -1,0 +1,13 @@
+//! The space core: one account of every unit of every device.
+//!
+//! It knows what each unit is used for, without a device in sight: all allocations and frees are decided here. Each
+//! unit has one role, and an event is a map of roles (zr_rules). What is free stands with the allocator, what is used
+//! in the sets of each device, and the two add up to the device's units at every moment.
+#![tactic(auto)]
+
+mod device;
+mod space;
+#[cfg(test)]
+mod tests;
+
+pub use space::{Space, SpaceErr};

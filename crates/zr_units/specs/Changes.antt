@@ -1,0 +1,68 @@
+-- What happens to the units of a device.
+use Rattle.std.specs.Prelude.{◌≡◌, ℕ, ◌+◌, Bool, false, not, ◌&&◌, ◌||◌, ◌==◌, List, [], if◌then◌else◌}
+use Rattle.zr_base.specs.declared.space.Extent.{Extent}
+use Rattle.zr_base.specs.Extents.{has_unit, in_extent, unit_count, AddsUnits, RemovesUnits, IsMaximal}
+use Rattle.zr_metaslab.specs.Devices.{Devices, free_at, count_at, KeepsDevices}
+use Rattle.zr_units.specs.Uses.{Uses, Freed, none_freed}
+
+-- the open group has units for a block
+pub record Holds (old new : Uses) (e : Extent) : Type 0 where
+  pub held : AddsUnits old.held new.held e
+  pub born : AddsUnits old.born new.born e
+  pub others : new ≡ record old { held = new.held; born = new.born }
+
+-- it has units for metadata
+pub record HoldsMeta (old new : Uses) (e : Extent) : Type 0 where
+  pub meta : AddsUnits old.meta new.meta e
+  pub others : new ≡ record old { meta = new.meta }
+
+-- metadata is given back
+pub record DropsMeta (old new : Uses) (e : Extent) : Type 0 where
+  pub meta : RemovesUnits old.meta new.meta e
+  pub dropped : AddsUnits old.freed.meta new.freed.meta e
+  pub others : new ≡ record old { meta = new.meta; freed = record { blocks = old.freed.blocks; meta = new.freed.meta } }
+
+-- metadata of the saved root is given back
+pub record DropsSaved (old new : Uses) (e : Extent) : Type 0 where
+  pub saved : RemovesUnits old.saved new.saved e
+  pub dropped : AddsUnits old.freed.meta new.freed.meta e
+  pub others : new ≡ record old { saved = new.saved; freed = record { blocks = old.freed.blocks; meta = new.freed.meta } }
+
+-- units of a block are freed: those that the open group allocated are used no more, and the others are deferred
+pub record FreesUnits (old new : Uses) (e : Extent) : Type 0 where
+  pub held : RemovesUnits old.held new.held e
+  pub born : (u : ℕ) → has_unit new.born u ≡ (has_unit old.born u && not (in_extent e u))
+  pub deferred : (u : ℕ) → has_unit new.freed.blocks u ≡ (has_unit old.freed.blocks u || (in_extent e u && not (has_unit old.born u)))
+  pub others : new ≡ record old { held = new.held; born = new.born; freed = record { blocks = new.freed.blocks; meta = old.freed.meta } }
+
+-- a commit ages what is freed, and the oldest of it is used no more
+abbrev pub aged_uses : Uses → Uses
+aged_uses x = record x { born = []; freed = none_freed; late1 = x.freed; late2 = x.late1 }
+
+-- a reset lets go of all that is freed
+abbrev pub cleared_uses : Uses → Uses
+cleared_uses x = record x { born = []; freed = none_freed; late1 = none_freed; late2 = none_freed }
+
+-- the metadata of the current root is the saved root's from now on
+abbrev pub saved_uses : Uses → Uses
+saved_uses x = record x { meta = []; saved = x.meta }
+
+abbrev pub has_freed : Freed → ℕ → Bool
+has_freed f u = has_unit f.blocks u || has_unit f.meta u
+
+-- the allocator has taken back these units of one device, so many, and all else of it is the same
+pub record TakesBack (old new : Devices) (dev : ℕ) (given : ℕ → Bool) (n : ℕ) : Type 0 where
+  pub free : (d u : ℕ) → free_at new d u ≡ (free_at old d u || ((d == dev) && given u))
+  pub count : (d : ℕ) → count_at new d ≡ count_at old d + (if d == dev then n else 0)
+  pub devices : KeepsDevices old new
+
+-- What becomes of the born and the deferred units of a device where a block's are freed, and of the allocator's.
+pub record FreesBorn (born born_new deferred deferred_new : List Extent) (old new : Devices) (dev : ℕ) (e : Extent) : Type 0 where
+  pub free : (d u : ℕ) → free_at new d u ≡ (free_at old d u || ((d == dev) && (in_extent e u && has_unit born u)))
+  pub deferred_is : (u : ℕ) → has_unit deferred_new u ≡ (has_unit deferred u || (in_extent e u && not (has_unit born u)))
+  pub born_is : (u : ℕ) → has_unit born_new u ≡ (has_unit born u && not (in_extent e u))
+  pub count : count_at new dev + unit_count deferred_new ≡ count_at old dev + unit_count deferred + e.len
+  pub others : (d : ℕ) → (d == dev) ≡ false → count_at new d ≡ count_at old d
+  pub devices : KeepsDevices old new
+  pub born_maximal : IsMaximal born_new
+  pub deferred_maximal : IsMaximal deferred_new

@@ -1,0 +1,65 @@
+-- What the units of a device are used for, but for the free ones, which the allocator has.
+use Rattle.std.specs.Prelude.{◌≡◌, ℕ, ◌+◌, ◌^◌, ◌<◌, Bool, true, nat_lt, List, []}
+use Rattle.zr_base.specs.declared.space.Extent.{Extent}
+use Rattle.zr_base.specs.Extents.{has_unit, unit_count, IsMaximal}
+use Rattle.zr_rules.specs.Places.{one_if}
+
+-- what a group has freed: units of blocks and units of metadata
+pub record Freed : Type 0 where
+  pub blocks : List Extent
+  pub meta : List Extent
+
+-- The sets of a device. `born` is the part of `held` that the open group allocated. `freed` is what the open group has freed of earlier groups' units,
+-- `late1` what the last group freed and `late2` what the one before it did. `meta` is metadata of the current root, `saved` that of the saved one.
+pub record Uses : Type 0 where
+  pub units : ℕ
+  pub held : List Extent
+  pub born : List Extent
+  pub freed : Freed
+  pub late1 : Freed
+  pub late2 : Freed
+  pub meta : List Extent
+  pub saved : List Extent
+
+abbrev pub none_freed : Freed
+none_freed = record { blocks = []; meta = [] }
+
+-- so many units of which none is used
+abbrev pub unused : ℕ → Uses
+unused units = record { units = units; held = []; born = []; freed = none_freed; late1 = none_freed; late2 = none_freed; meta = []; saved = [] }
+
+abbrev pub freed_hits : Freed → ℕ → ℕ
+freed_hits f u = one_if (has_unit f.blocks u) + one_if (has_unit f.meta u)
+
+abbrev pub freed_count : Freed → ℕ
+freed_count f = unit_count f.blocks + unit_count f.meta
+
+-- in how many of the sets that must be apart the unit is
+abbrev pub use_hits : Uses → ℕ → ℕ
+use_hits x u = one_if (has_unit x.held u) + freed_hits x.freed u + freed_hits x.late1 u + freed_hits x.late2 u + one_if (has_unit x.meta u) + one_if (has_unit x.saved u)
+
+-- how many units are used
+abbrev pub use_count : Uses → ℕ
+use_count x = unit_count x.held + freed_count x.freed + freed_count x.late1 + freed_count x.late2 + unit_count x.meta + unit_count x.saved
+
+pub record AreMaximal (f : Freed) : Type 0 where
+  pub blocks : IsMaximal f.blocks
+  pub meta : IsMaximal f.meta
+
+-- each set is kept as its maximal extents
+pub record HasLists (x : Uses) : Type 0 where
+  pub held : IsMaximal x.held
+  pub born : IsMaximal x.born
+  pub freed : AreMaximal x.freed
+  pub late1 : AreMaximal x.late1
+  pub late2 : AreMaximal x.late2
+  pub meta : IsMaximal x.meta
+  pub saved : IsMaximal x.saved
+
+-- each unit of the device is once free or in one of the sets, and they add up
+pub record IsAccount (is_free : ℕ → Bool) (free : ℕ) (x : Uses) : Type 0 where
+  pub once : (u : ℕ) → one_if (is_free u) + use_hits x u ≡ one_if (nat_lt u x.units)
+  pub born : (u : ℕ) → has_unit x.born u ≡ true → has_unit x.held u ≡ true
+  pub sum : free + use_count x ≡ x.units
+  pub small : x.units < 2 ^ 40
+  pub lists : HasLists x

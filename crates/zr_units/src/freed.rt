@@ -1,0 +1,63 @@
+//! What a group has freed.
+ghost use Rattle.std.specs.Prelude.{◌≡◌, ◌+◌, ◌<◌, ◌≤◌, ◌^◌, ℕ, [], length};
+ghost use Rattle.zr_base.specs.Extents.{has_unit};
+ghost use Rattle.zr_metaslab.specs.Devices.{free_at, units_at};
+ghost use Rattle.zr_units.specs.Changes.{TakesBack, has_freed};
+ghost use Rattle.zr_units.specs.Uses.{none_freed, freed_count};
+ghost use Rattle.zr_units.specs.Apart.{AreApart, AreSetsApart, IsWithin};
+
+use crate::parts::let_go;
+use std::alloc::Global;
+use std::marker::Model;
+use zr_metaslab::Slabs;
+use zr_ranges::RangeSet;
+
+/// Units of blocks and of metadata.
+#[derive(Drop)]
+pub struct FreedSets {
+    pub blocks: RangeSet,
+    pub meta: RangeSet,
+}
+
+impl Model for FreedSets {
+    ghost use Rattle.zr_units.specs.Uses.{Freed};
+
+    ghost Value = { Freed };
+
+    ghost view = { λ a. record { blocks = a.blocks.extents; meta = a.meta.extents } };
+}
+
+impl FreedSets {
+    /// Nothing. It takes no memory.
+    pub fn new(alloc: Global) -> FreedSets
+        ensures { result ≡ none_freed }
+    {
+        FreedSets {
+            blocks: RangeSet::new(alloc),
+            meta: RangeSet::new(alloc),
+        }
+    }
+
+    /// How many units they are.
+    pub fn units(&self) -> u64
+        requires { freed_count self.now ≤ 2 ^ 62 }
+        ensures { result ≡ freed_count self.now }
+    {
+        self.blocks.units() + self.meta.units()
+    }
+
+    /// Gives all back to the allocator.
+    pub fn let_go(&mut self, slabs: &mut Slabs, dev: u32)
+        requires device { dev < length slabs.old }
+        requires blocks { IsWithin self.old.blocks (units_at slabs.old dev) }
+        requires meta { IsWithin self.old.meta (units_at slabs.old dev) }
+        requires apart { AreSetsApart self.old.blocks self.old.meta }
+        requires blocks_apart { AreApart self.old.blocks (free_at slabs.old dev) }
+        requires meta_apart { AreApart self.old.meta (free_at slabs.old dev) }
+        ensures none { self.new ≡ none_freed }
+        ensures taken { TakesBack slabs.old slabs.new dev (has_freed self.old) (freed_count self.old) }
+    {
+        let_go(&mut self.blocks, slabs, dev);
+        let_go(&mut self.meta, slabs, dev);
+    }
+}

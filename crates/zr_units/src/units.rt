@@ -1,0 +1,219 @@
+//! The sets of one device, and what happens to them.
+ghost use Rattle.std.specs.Prelude.{◌≡◌, ℕ, ◌+◌, ◌^◌, ◌<◌, ◌≤◌, ◌||◌, true, false, OnOk, OnErr, length, []};
+ghost use Rattle.zr_base.specs.Extents.{HasAll, HasNone, in_extent, has_unit, unit_count};
+ghost use Rattle.zr_metaslab.specs.Devices.{Devices, free_at, count_at, units_at};
+ghost use Rattle.zr_units.specs.Uses.{IsAccount, unused, use_count, freed_count};
+ghost use Rattle.zr_units.specs.Changes.{Holds, HoldsMeta, DropsMeta, DropsSaved, FreesUnits, TakesBack, FreesBorn, aged_uses, cleared_uses, saved_uses, has_freed};
+
+use crate::freed::FreedSets;
+use crate::parts::free_parts;
+use std::alloc::Global;
+use std::marker::Model;
+use std::mem;
+use zr_base::{Extent, NoMemory};
+use zr_metaslab::Slabs;
+use zr_ranges::RangeSet;
+
+/// The units of a device by their use, but for the free ones. Counts of units are kept and not counted anew.
+#[derive(Drop)]
+pub struct Units {
+    units: u64,
+    held: RangeSet,
+    born: RangeSet,
+    freed: FreedSets,
+    late1: FreedSets,
+    late2: FreedSets,
+    meta: RangeSet,
+    saved: RangeSet,
+}
+
+impl Model for Units {
+    ghost use Rattle.zr_units.specs.Uses.{Uses};
+
+    ghost Value = { Uses };
+
+    ghost view = { λ a. record { units = a.units; held = a.held.extents; born = a.born.extents; freed = a.freed; late1 = a.late1; late2 = a.late2; meta = a.meta.extents; saved = a.saved.extents } };
+}
+
+impl Units {
+    /// So many units of which none is used. It takes no memory.
+    pub fn new(alloc: Global, units: u64) -> Units
+        ensures { result ≡ unused units }
+    {
+        Units {
+            units,
+            held: RangeSet::new(alloc),
+            born: RangeSet::new(alloc),
+            freed: FreedSets::new(alloc),
+            late1: FreedSets::new(alloc),
+            late2: FreedSets::new(alloc),
+            meta: RangeSet::new(alloc),
+            saved: RangeSet::new(alloc),
+        }
+    }
+
+    /// How many units the device has.
+    pub fn units(&self) -> u64
+        ensures { result ≡ self.now.units }
+    {
+        self.units
+    }
+
+    /// The held units.
+    pub fn held(&self) -> &RangeSet
+        ensures { result.now.extents ≡ self.now.held }
+    {
+        &self.held
+    }
+
+    /// The held units that the open group allocated.
+    pub fn born(&self) -> &RangeSet
+        ensures { result.now.extents ≡ self.now.born }
+    {
+        &self.born
+    }
+
+    /// The metadata units of the current root.
+    pub fn meta(&self) -> &RangeSet
+        ensures { result.now.extents ≡ self.now.meta }
+    {
+        &self.meta
+    }
+
+    /// The metadata units of the saved root.
+    pub fn saved(&self) -> &RangeSet
+        ensures { result.now.extents ≡ self.now.saved }
+    {
+        &self.saved
+    }
+
+    /// How many units are in use: held, or of metadata.
+    pub fn in_use(&self) -> u64
+        requires { unit_count self.now.held + unit_count self.now.meta + unit_count self.now.saved ≤ 2 ^ 62 }
+        ensures { result ≡ unit_count self.now.held + unit_count self.now.meta + unit_count self.now.saved }
+    {
+        self.held.units() + self.meta.units() + self.saved.units()
+    }
+
+    /// How many units are freed and not free yet.
+    pub fn waiting(&self) -> u64
+        requires { freed_count self.now.freed + freed_count self.now.late1 + freed_count self.now.late2 ≤ 2 ^ 62 }
+        ensures { result ≡ freed_count self.now.freed + freed_count self.now.late1 + freed_count self.now.late2 }
+    {
+        self.freed.units() + self.late1.units() + self.late2.units()
+    }
+
+    /// Holds units for a block of the open group.
+    pub fn hold(&mut self, e: Extent) -> Result<(), NoMemory>
+        requires not_empty { 0 < e.len }
+        requires in_range { e.start + e.len ≤ 2 ^ 62 }
+        requires held { HasNone self.old.held e }
+        requires born { HasNone self.old.born e }
+        ensures ok { OnOk result (Holds self.old self.new e) }
+        ensures err { OnErr result (self.new ≡ self.old) }
+    {
+        self.held.reserve(1)?;
+        self.born.reserve(1)?;
+        self.held.add_reserved(e);
+        self.born.add_reserved(e);
+        Ok(())
+    }
+
+    /// Has units for metadata.
+    pub fn hold_meta(&mut self, e: Extent) -> Result<(), NoMemory>
+        requires not_empty { 0 < e.len }
+        requires in_range { e.start + e.len ≤ 2 ^ 62 }
+        requires apart { HasNone self.old.meta e }
+        ensures ok { OnOk result (HoldsMeta self.old self.new e) }
+        ensures err { OnErr result (self.new ≡ self.old) }
+    {
+        self.meta.add(e)
+    }
+
+    /// Gives back metadata of the current root. It is free two commits later.
+    pub fn drop_meta(&mut self, e: Extent) -> Result<(), NoMemory>
+        requires not_empty { 0 < e.len }
+        requires in_range { e.start + e.len ≤ 2 ^ 62 }
+        requires there { HasAll self.old.meta e }
+        requires apart { HasNone self.old.freed.meta e }
+        ensures ok { OnOk result (DropsMeta self.old self.new e) }
+        ensures err { OnErr result (self.new ≡ self.old) }
+    {
+        self.freed.meta.reserve(1)?;
+        self.meta.remove(e)?;
+        self.freed.meta.add_reserved(e);
+        Ok(())
+    }
+
+    /// Gives back metadata of the saved root.
+    pub fn drop_saved(&mut self, e: Extent) -> Result<(), NoMemory>
+        requires not_empty { 0 < e.len }
+        requires in_range { e.start + e.len ≤ 2 ^ 62 }
+        requires there { HasAll self.old.saved e }
+        requires apart { HasNone self.old.freed.meta e }
+        ensures ok { OnOk result (DropsSaved self.old self.new e) }
+        ensures err { OnErr result (self.new ≡ self.old) }
+    {
+        self.freed.meta.reserve(1)?;
+        self.saved.remove(e)?;
+        self.freed.meta.add_reserved(e);
+        Ok(())
+    }
+
+    /// Frees held units: those that the open group allocated go back to the allocator, and the others are deferred. The
+    /// memory is taken first.
+    pub fn free(&mut self, slabs: &mut Slabs, dev: u32, e: Extent) -> Result<(), NoMemory>
+        requires device { dev < length slabs.old }
+        requires units { units_at slabs.old dev ≡ self.old.units }
+        requires not_empty { 0 < e.len }
+        requires held { HasAll self.old.held e }
+        requires account { IsAccount (free_at slabs.old dev) (count_at slabs.old dev) self.old }
+        ensures ok { OnOk result (FreesUnits self.old self.new e) }
+        ensures given { OnOk result (FreesBorn self.old.born self.new.born self.old.freed.blocks self.new.freed.blocks slabs.old slabs.new dev e) }
+        ensures err { OnErr result (self.new ≡ self.old) }
+        ensures err_slabs { OnErr result (slabs.new ≡ slabs.old) }
+    {
+        let pieces = e.len as usize;
+        self.born.reserve(pieces)?;
+        self.freed.blocks.reserve(pieces)?;
+        self.held.remove(e)?;
+        free_parts(&mut self.born, &mut self.freed.blocks, slabs, dev, e);
+        Ok(())
+    }
+
+    /// Ages what is freed by one commit. What was late twice goes back to the allocator.
+    pub fn age(&mut self, slabs: &mut Slabs, dev: u32)
+        requires device { dev < length slabs.old }
+        requires units { units_at slabs.old dev ≡ self.old.units }
+        requires account { IsAccount (free_at slabs.old dev) (count_at slabs.old dev) self.old }
+        ensures aged { self.new ≡ aged_uses self.old }
+        ensures taken { TakesBack slabs.old slabs.new dev (has_freed self.old.late2) (freed_count self.old.late2) }
+    {
+        self.born.clear();
+        self.late2.let_go(slabs, dev);
+        mem::swap(&mut self.late2, &mut self.late1);
+        mem::swap(&mut self.late1, &mut self.freed);
+    }
+
+    /// Lets all that is freed go back to the allocator.
+    pub fn reset(&mut self, slabs: &mut Slabs, dev: u32)
+        requires device { dev < length slabs.old }
+        requires units { units_at slabs.old dev ≡ self.old.units }
+        requires account { IsAccount (free_at slabs.old dev) (count_at slabs.old dev) self.old }
+        ensures cleared { self.new ≡ cleared_uses self.old }
+        ensures taken { TakesBack slabs.old slabs.new dev (λ u. has_freed self.old.freed u || (has_freed self.old.late1 u || has_freed self.old.late2 u)) (freed_count self.old.freed + freed_count self.old.late1 + freed_count self.old.late2) }
+    {
+        self.born.clear();
+        self.late2.let_go(slabs, dev);
+        self.late1.let_go(slabs, dev);
+        self.freed.let_go(slabs, dev);
+    }
+
+    /// The metadata of the current root is the saved root's from now on. There was no saved root.
+    pub fn save(&mut self)
+        requires { self.old.saved ≡ [] }
+        ensures { self.new ≡ saved_uses self.old }
+    {
+        mem::swap(&mut self.meta, &mut self.saved);
+    }
+}
