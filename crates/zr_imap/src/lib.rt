@@ -10,6 +10,7 @@ mod image;
 mod page;
 mod pages;
 mod sorted;
+mod spelling;
 mod steps;
 #[cfg(test)]
 mod tests;
@@ -17,4 +18,5 @@ mod tests;
 pub use image::{Piece, image_of, pieces};
 pub use pages::Imap;
 pub use sorted::{Sorted, search};
+pub use spelling::{ENTRY_BYTES, decode_entry, encode_entry, is_writable};
 pub use steps::Steps;
