@@ -216,3 +216,13 @@ pub take_one_more : (i : ℕ) (xs : List Entry) → i < length xs → take (suc 
 take_one_more i [] i_in = absurd (omega arith)
 take_one_more zero (x ∷ xs) i_in = refl
 take_one_more (suc i) (x ∷ xs) i_in = ap (λ (es : List Entry). x ∷ es) (take_one_more i xs (omega arith))
+
+or-true : (x : Bool) → (x || true) ≡ true
+or-true true = refl
+or-true false = refl
+
+-- the entry that has a unit is one of the entries
+pub has_source-at : (u i : ℕ) (xs : List Entry) → i < length xs → (entry_at xs i).src ≤ u → u < (entry_at xs i).src + (entry_at xs i).len → has_source xs u ≡ true
+has_source-at u i [] i_in starts ends = absurd (omega arith)
+has_source-at u zero (x ∷ xs) i_in starts ends = rw (and_from (nat_le x.src u) (nat_lt u (x.src + x.len)) (le-leb x.src u starts) (lt-ltb u (x.src + x.len) ends)) refl
+has_source-at u (suc i) (x ∷ xs) i_in starts ends = rw (has_source-at u i xs (omega arith) starts ends) (or-true (in_source x u))

@@ -1,5 +1,5 @@
 -- What a search of a mapping finds, and what it costs.
-use Rattle.std.specs.Prelude.{◌≡◌, ◌≢◌, ℕ, ◌+◌, ◌-◌, ◌*◌, ◌^◌, ◌≤◌, ◌<◌, false, List, [], ◌∷◌, length, if◌then◌else◌, nat_lt, Option, Some, None}
+use Rattle.std.specs.Prelude.{◌≡◌, ◌≢◌, ℕ, ◌+◌, ◌-◌, ◌*◌, ◌^◌, ◌≤◌, ◌<◌, true, false, List, [], ◌∷◌, length, if◌then◌else◌, nat_lt, Option, Some, None}
 use Rattle.std.specs.declared.cmp.Ordering.TheVariants.{Less, Greater}
 use Rattle.zr_base.specs.declared.space.Entry.{Entry}
 use Rattle.zr_base.specs.declared.space.Extent.{Extent}
@@ -41,3 +41,10 @@ pub record MissesUnit (es : List Entry) (e : Extent) : Type 0 where
   pub place : ℕ
   pub within : place < e.len
   pub missing : has_source es (e.start + place) ≡ false
+
+-- the unit is the lowest one of the extent that has no entry
+pub record IsFirstGap (es : List Entry) (e : Extent) (u : ℕ) : Type 0 where
+  pub from : e.start ≤ u
+  pub within : u < e.start + e.len
+  pub missing : has_source es u ≡ false
+  pub before : (v : ℕ) → e.start ≤ v → v < u → has_source es v ≡ true

@@ -1,7 +1,7 @@
 //! Two mappings whose look-ups are known.
 ghost use Rattle.std.specs.Prelude.{◌≡◌, ◌<◌};
 
-use crate::{Imap, Piece, Steps, decode_entry, encode_entry, image_of, is_writable};
+use crate::{Imap, Piece, Steps, decode_entry, encode_entry, gap_in, image_of, is_writable};
 use std::marker::Brand;
 use std::sync::ledger::{Blank, Ledger};
 use std::test::Fail;
@@ -50,6 +50,7 @@ fn two_entries(rt: HostRuntime) -> Result<(), Fail> {
     assert_eq!(rt; both.as_slice(), [first, second].as_slice());
     let missing = image_of(rt.alloc(), &map, Extent { start: 14, len: 2 })?;
     assert!(rt; missing.is_none());
+    assert_eq!(rt; gap_in(&map, Extent { start: 14, len: 2 }), 15);
     Ok(())
 }
 
