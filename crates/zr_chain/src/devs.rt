@@ -2,13 +2,13 @@
 //!
 //! Devices are ranked where each mapping leads to devices that are there or went later. One that is leaving counts as
 //! going after all that are gone.
-ghost use Rattle.std.specs.Prelude.{◌≡◌, ◌<◌, ◌⊎◌, ◌↔◌, List, length, All, IfOk, OnOk, IfErr, IsTrue, true, false};
+ghost use Rattle.std.specs.Prelude.{◌≡◌, ◌<◌, ◌⊎◌, ◌↔◌, List, length, map, All, IfOk, OnOk, IfErr, IsTrue, true, false};
 ghost use Rattle.zr_base.specs.declared.space.DevPart.{DevPart};
 ghost use Rattle.zr_rules.specs.Places.{is_gone};
 ghost use Rattle.zr_rules.specs.Mappings.{IsRising, IsEntry};
 ghost use Rattle.zr_rules.specs.Devices.{devices_of};
 ghost use Rattle.zr_rules.specs.Resolve.{IsRanked, IsDestination};
-ghost use Rattle.zr_chain.specs.Chains.{devices_in};
+ghost use Rattle.zr_chain.specs.Chains.{devices_in, recorded};
 ghost use Rattle.zr_chain.specs.Visits.{Visits, HasGap};
 
 use crate::remap::remap_in;
@@ -21,8 +21,36 @@ use zr_imap::Imap;
 /// A device's row and its mapping.
 #[derive(Drop)]
 pub struct Dev {
-    pub row: DevRow,
-    pub map: Imap,
+    row: DevRow,
+    map: Imap,
+}
+
+impl Model for Dev {
+    ghost use Rattle.zr_chain.specs.Chains.{DevMap};
+
+    ghost Value = { DevMap };
+
+    ghost view = { λ a. record { row = a.row; entries = a.map.entries } };
+}
+
+impl Dev {
+    fn new(row: DevRow, map: Imap) -> Dev
+        ensures { result ≡ record { row = row; entries = map.entries } }
+    {
+        Dev { row, map }
+    }
+
+    pub fn row(&self) -> DevRow
+        ensures { result ≡ self.now.row }
+    {
+        self.row
+    }
+
+    pub fn map(&self) -> &Imap
+        ensures { result.now.entries ≡ self.now.entries }
+    {
+        &self.map
+    }
 }
 
 /// The rows and the mappings of all devices, by their indices.
@@ -32,19 +60,20 @@ pub struct Devs {
 }
 
 impl Model for Devs {
-    ghost use Rattle.zr_rules.specs.Devices.{Devices};
-    ghost use Rattle.zr_chain.specs.Chains.{devices_in};
+    ghost use Rattle.std.specs.Prelude.{List};
+    ghost use Rattle.zr_chain.specs.Chains.{DevMap};
 
-    ghost Value = { Devices };
+    ghost Value = { List DevMap };
 
-    ghost view = { λ a. devices_in a.devs.items };
+    ghost view = { λ a. a.devs.items };
 }
 
 impl Devs {
     /// The devices that a root records.
     pub fn new(alloc: Global, parts: &[DevPart]) -> Result<Devs, NoMemory>
         requires { All (λ (p : DevPart). IsRising p.entries) parts.now }
-        ensures { IfOk result (λ devs. devs ≡ devices_of parts.now) }
+        ensures parts { IfOk result (λ devs. devs ≡ map recorded parts.now) }
+        ensures devices { IfOk result (λ devs. devices_in devs ≡ devices_of parts.now) }
     {
         let devs = devs_of(alloc, parts)?;
         Ok(Devs { devs })
@@ -53,7 +82,7 @@ impl Devs {
     /// Whether each entry leads to known units of another device that is there or went later. It takes a look at each
     /// entry.
     pub fn ranked(&self) -> bool
-        ensures { IsTrue result ↔ IsRanked self.now }
+        ensures { IsTrue result ↔ IsRanked (devices_in self.now) }
     {
         are_ranked(self.devs.as_slice())
     }
@@ -62,10 +91,10 @@ impl Devs {
     /// leads to. For each part of a removed device it takes a search by halves of its mapping, and a step for each part
     /// that it leads to.
     pub fn remap<V: Visit>(&self, alloc: Global, d: Dva, v: &mut V) -> Result<(), ChainErr>
-        requires ranked { IsRanked self.now }
-        requires known { d.dev < self.now.count }
-        ensures visits { OnOk result (Visits self.now d (V.visited v.old) (V.visited v.new)) }
-        ensures gap { IfErr result (HasGap self.now d) }
+        requires ranked { IsRanked (devices_in self.now) }
+        requires known { d.dev < length self.now }
+        ensures visits { OnOk result (Visits (devices_in self.now) d (V.visited v.old) (V.visited v.new)) }
+        ensures gap { IfErr result (HasGap (devices_in self.now) d) }
     {
         remap_in(alloc, self.devs.as_slice(), d, v)
     }
@@ -73,18 +102,18 @@ impl Devs {
 
 fn devs_of(alloc: Global, parts: &[DevPart]) -> Result<Vec<Dev>, NoMemory>
     requires { All (λ (p : DevPart). IsRising p.entries) parts.now }
-    ensures { IfOk result (λ devs. devices_in devs.items ≡ devices_of parts.now) }
+    ensures { IfOk result (λ devs. devs.items ≡ map recorded parts.now) }
 {
     let mut devs = Vec::with_capacity(alloc, parts.len())?;
     for part in parts {
         let map = Imap::from_entries(alloc, part.entries.as_slice())?;
-        devs.push(Dev { row: part.row, map })?;
+        devs.push(Dev::new(part.row, map))?;
     }
     Ok(devs)
 }
 
-pub fn is_gone(row: &DevRow) -> bool
-    ensures { result ≡ is_gone row.now.state }
+pub fn is_gone(row: DevRow) -> bool
+    ensures { result ≡ is_gone row.state }
 {
     match row.state {
         DevState::Gone => true,
@@ -107,7 +136,7 @@ fn is_dev_ranked(devs: &[Dev], d: usize) -> bool
     requires { d < length devs.now }
     ensures { IsTrue result ↔ All (IsDestination (devices_in devs.now) d) ((devices_in devs.now).entries d) }
 {
-    let map = &devs[d].map;
+    let map = devs[d].map();
     for i in 0..map.len() {
         if !is_destination(devs, d, map.entry(i)) {
             return false;
@@ -128,16 +157,16 @@ fn is_destination(devs: &[Dev], d: usize, e: Entry) -> bool
     if to == d {
         return false;
     }
-    let row = &devs[to].row;
+    let row = devs[to].row();
     if e.dst + e.len as u64 > row.units {
         return false;
     }
-    may_lead_to(&devs[d].row, row)
+    may_lead_to(devs[d].row(), row)
 }
 
 /// Whether the second device is there, or went after the first.
-fn may_lead_to(from: &DevRow, to: &DevRow) -> bool
-    ensures { IsTrue result ↔ ((is_gone to.now.state ≡ false) ⊎ ((is_gone from.now.state ≡ true) × (from.now.gone < to.now.gone))) }
+fn may_lead_to(from: DevRow, to: DevRow) -> bool
+    ensures { IsTrue result ↔ ((is_gone to.state ≡ false) ⊎ ((is_gone from.state ≡ true) × (from.gone < to.gone))) }
 {
     !is_gone(to) || is_gone(from) && from.gone < to.gone
 }

@@ -7,8 +7,6 @@
 
 mod devs;
 mod remap;
-#[cfg(test)]
-mod tests;
 mod visit;
 
 pub use devs::Devs;

@@ -36,12 +36,12 @@ fn visit<V: Visit>(alloc: Global, devs: &[Dev], p: Piece, v: &mut V) -> Result<(
     ensures gap { IfErr result (PassesGap (devices_in devs.now) p) }
 {
     let dev = &devs[p.dev as usize];
-    if !is_gone(&dev.row) {
+    if !is_gone(dev.row()) {
         v.piece(p.split, p.dev, p.at)?;
         return Ok(());
     }
     v.hop(p.dev, p.at)?;
-    let parts = parts_of(alloc, &dev.map, p.dev, p.at)?;
+    let parts = parts_of(alloc, dev.map(), p.dev, p.at)?;
     for part in parts.iter() {
         let part = Piece {
             split: p.split + part.split,
@@ -54,12 +54,7 @@ fn visit<V: Visit>(alloc: Global, devs: &[Dev], p: Piece, v: &mut V) -> Result<(
 }
 
 /// Visits all parts of an address, of which one without units has none.
-pub fn remap_in<V: Visit>(
-    alloc: Global,
-    devs: &[Dev],
-    d: Dva,
-    v: &mut V,
-) -> Result<(), ChainErr>
+pub fn remap_in<V: Visit>(alloc: Global, devs: &[Dev], d: Dva, v: &mut V) -> Result<(), ChainErr>
     requires ranked { IsRanked (devices_in devs.now) }
     requires known { d.dev < length devs.now }
     ensures visits { OnOk result (Visits (devices_in devs.now) d (V.visited v.old) (V.visited v.new)) }

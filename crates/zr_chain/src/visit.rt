@@ -1,5 +1,6 @@
 //! Who is told of the parts of an address, and why a part has none.
 ghost use Rattle.std.specs.Prelude.{◌≡◌, ◌++◌, ◌∷◌, [], List, OnOk, OnErr};
+ghost use Rattle.zr_chain.specs.declared.visit.ChainErr.TheVariants.{NoMemory};
 ghost use Rattle.zr_chain.specs.Visits.{Visited};
 ghost use Rattle.zr_chain.specs.Visits.Visited.{Hop, Piece};
 
@@ -26,10 +27,7 @@ pub trait Visit {
 #[derive(Clone, Copy, Debug, PartialEq, Eq)]
 pub enum ChainErr {
     /// A unit on the way is not in the mapping of its device.
-    NoEntry {
-        dev: u32,
-        unit: u64,
-    },
+    NoEntry { dev: u32, unit: u64 },
     /// Memory ran out.
     NoMemory,
 }
