@@ -1,3 +1,6 @@
 pub mod Ranks
 pub mod Ways
 pub mod Parts
+pub mod Places
+pub mod Passed
+pub mod Told

@@ -111,7 +111,7 @@ pub record IsPartOf (ds : Devices) (p q : Part) : Type 0 where
   pub at_each : (k : ℕ) → k < q.at.len → target (ds.entries p.dev) (p.at.start + (q.split + k)) ≡ Some (q.dev, q.at.start + k)
   pub within : (k : ℕ) → k < q.at.len → q.at.start + k < (ds.row q.dev).units
 
-part_of_share : (ds : Devices) (p q : Part) → IsRanked ds → is_gone (state_at ds p.dev) ≡ true → IsShare (λ k. target (ds.entries p.dev) (p.at.start + k)) p.at.len q → IsPartOf ds p q
+pub part_of_share : (ds : Devices) (p q : Part) → IsRanked ds → is_gone (state_at ds p.dev) ≡ true → IsShare (λ k. target (ds.entries p.dev) (p.at.start + k)) p.at.len q → IsPartOf ds p q
 part_of_share ds p q ranked gone share =
     let first : IsStep ds p.dev (q.dev, q.at.start + 0) = step_of ds p.dev (p.at.start + (q.split + 0)) (q.dev, q.at.start + 0) ranked gone (share.at_each 0 share.some) in
     record {
