@@ -1,5 +1,5 @@
 -- The parts of a part, and visits that follow each other.
-use Rattle.std.proofs.Common.{◌≡◌, ℕ, zero, suc, ◌+◌, ◌-◌, ◌<◌, ◌≤◌, Bool, true, false, ◌||◌, nat_le, nat_lt, List, [], ◌∷◌, ◌++◌, length, take, map, refl, sym, ap, ap₂, subst, ◌∙◌, arith, add-one, append_assoc, Option, Some, None}
+use Rattle.std.proofs.Common.{◌≡◌, ℕ, zero, suc, ◌+◌, ◌-◌, ◌<◌, ◌≤◌, Bool, true, false, ◌||◌, nat_le, nat_lt, List, [], ◌∷◌, ◌++◌, length, take, refl, sym, ap, subst, ◌∙◌, arith, add-one, append_assoc, Option, Some}
 use Rattle.std.specs.Prelude.{slice_index_or}
 use Rattle.std.specs.List.{AllByRecursion, list_any}
 use Rattle.std.proofs.lemmas.Bool.{lt-ltb, le-ltb}
@@ -7,7 +7,6 @@ use Rattle.std.proofs.lemmas.List.{append-nil, take_all}
 use Rattle.zr_base.specs.declared.space.Extent.{Extent}
 use Rattle.zr_base.specs.declared.space.Entry.{Entry}
 use Rattle.zr_base.specs.declared.space.DevRow.{DevRow}
-use Rattle.zr_base.specs.Extents.{in_extent}
 use Rattle.zr_rules.specs.Places.{Place, is_gone, is_place}
 use Rattle.zr_rules.specs.Devices.{Devices, state_at}
 use Rattle.zr_rules.specs.Mappings.{target, has_source}
@@ -17,8 +16,9 @@ use Rattle.zr_imap.specs.Searches.{IsImage, FollowFrom, piece_target}
 use Rattle.zr_chain.specs.Chains.{DevMap, dev_at, devices_in}
 use Rattle.zr_chain.specs.declared.visit.ChainErr.{ChainErr}
 use Rattle.zr_chain.specs.declared.visit.ChainErr.TheVariants.{NoEntry, NoMemory}
-use Rattle.zr_chain.specs.Visits.{Visited, AreVisits, Follows, PassesUnit, PassesGap, LacksEntry, parts_behind}
-use Rattle.zr_chain.specs.Visits.Visited.{Hop, Piece}
+use Rattle.zr_chain.specs.Visits.{AreVisits, Follows, PassesGap, LacksEntry, parts_behind}
+use Rattle.zr_chain.specs.declared.visit.Visited.{Visited}
+use Rattle.zr_chain.specs.declared.visit.Visited.TheVariants.{Hop, Piece}
 use Rattle.zr_chain.proofs.Ranks.{later_count}
 use Rattle.zr_chain.proofs.Ways.{IsStep, step_of, passed_gone, passes_itself, and_left_of, and_right_of, leb-le, ltb-lt}
 
@@ -37,9 +37,14 @@ joined ds [] qs [] ws h k = k
 joined ds (p ∷ ps) qs [] ws h k = absurd (cc)
 joined ds [] qs (v ∷ vs) ws h k = absurd h
 joined ds (p ∷ ps) qs (Piece split d e ∷ vs) ws h k = (h.0, h.1, joined ds ps qs vs ws h.2 k)
-joined ds (p ∷ ps) qs (Hop d e ∷ vs) ws h k =
-    (h.0, h.1, h.2, h.3, h.4,
-    subst (λ (left : List Part). AreVisits ds left (vs ++ ws)) (append_assoc (parts_behind p.split h.3) ps qs) (joined ds (parts_behind p.split h.3 ++ ps) qs vs ws h.5 k))
+joined ds (p ∷ ps) qs (Hop d e ∷ vs) ws h k = (
+  h.0,
+  h.1,
+  h.2,
+  h.3,
+  h.4,
+  subst (λ (left : List Part). AreVisits ds left (vs ++ ws)) (append_assoc (parts_behind p.split h.3) ps qs) (joined ds (parts_behind p.split h.3 ++ ps) qs vs ws h.5 k),
+)
 
 parts_more : (split i : ℕ) (qs : List Part) → i < length qs → parts_behind split (take (suc i) qs) ≡ parts_behind split (take i qs) ++ behind split (slice_index_or qs i no_piece) ∷ []
 parts_more split i [] lt = absurd (omega arith)
@@ -61,8 +66,14 @@ pub follows_hop : (ds : Devices) (p : Part) (qs : List Part) (i : ℕ) (a b c : 
 follows_hop ds p qs i a b c gone image end hop h = record {
   visits = Hop p.dev p.at ∷ h.visits;
   appended = h.appended ∙ (ap (λ (t : List Visited). t ++ h.visits) hop ∙ append_assoc a (Hop p.dev p.at ∷ []) h.visits);
-  order = (gone, refl, refl, qs, image,
-      subst (λ (left : List Part). AreVisits ds left h.visits) (sym (append-nil (parts_behind p.split qs))) (subst (λ (t : List Part). AreVisits ds (parts_behind p.split t) h.visits) (take_all i qs end) h.order));
+  order = (
+    gone,
+    refl,
+    refl,
+    qs,
+    image,
+    subst (λ (left : List Part). AreVisits ds left h.visits) (sym (append-nil (parts_behind p.split qs))) (subst (λ (t : List Part). AreVisits ds (parts_behind p.split t) h.visits) (take_all i qs end) h.order),
+  );
 }
 
 -- ---- the parts of an image
@@ -87,15 +98,16 @@ target_later q ps k le = rw (le-ltb k (q.split + q.at.len) le) refl
 pub shares : (T : ℕ → Option Place) (from end : ℕ) (ps : List Part) → FollowFrom from end ps → ((k : ℕ) → from ≤ k → k < end → piece_target ps k ≡ T k) → AllByRecursion (IsShare T end) ps
 shares T from end [] follow same = tt
 shares T from end (q ∷ ps) follow same =
-    let ends : q.split + q.at.len ≤ end = FollowFrom-le (q.split + q.at.len) end ps follow.2 in
-    (record {
-      some = follow.1;
-      ends = ends;
-      at_each = λ k lt.
-          let place : q.split + k - q.split ≡ k = omega arith in
-          sym (same (q.split + k) (omega (arith, follow.0)) (omega arith)) ∙ (target_first q ps (q.split + k) (omega arith) ∙ ap (λ (n : ℕ). Some (q.dev, q.at.start + n)) place);
-    },
-    shares T (q.split + q.at.len) end ps follow.2 (λ k ge lt. sym (target_later q ps k ge) ∙ same k (omega (arith, follow.0, follow.1)) lt))
+    let ends : q.split + q.at.len ≤ end = FollowFrom-le (q.split + q.at.len) end ps follow.2 in (
+      record {
+        some = follow.1;
+        ends = ends;
+        at_each = λ k lt.
+            let place : q.split + k - q.split ≡ k = omega arith in
+            sym (same (q.split + k) (omega (arith, follow.0)) (omega arith)) ∙ (target_first q ps (q.split + k) (omega arith) ∙ ap (λ (n : ℕ). Some (q.dev, q.at.start + n)) place);
+      },
+      shares T (q.split + q.at.len) end ps follow.2 (λ k ge lt. sym (target_later q ps k ge) ∙ same k (omega (arith, follow.0, follow.1)) lt),
+    )
 
 each_at : {X : Type 0} (P : X → Type 0) (xs : List X) (i : ℕ) (d : X) → AllByRecursion P xs → i < length xs → P (slice_index_or xs i d)
 each_at P [] i d h lt = absurd (omega arith)

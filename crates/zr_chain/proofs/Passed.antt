@@ -1,21 +1,21 @@
 -- The hops have each unit of a removed device as often as the units of what is left pass it.
-use Rattle.std.proofs.Common.{◌≡◌, ℕ, zero, suc, ◌+◌, ◌-◌, ◌<◌, ◌≤◌, ◌⊎◌, Bool, true, false, ◌&&◌, nat_le, nat_lt, List, [], ◌∷◌, ◌++◌, length, map, sum_by, inl, inr, refl, sym, ap, ap₂, subst, ◌∙◌, arith, ⊎_elim, Option, Some, None}
-use Rattle.std.specs.Prelude.{◌==◌, if◌then◌else◌}
+use Rattle.std.proofs.Common.{◌≡◌, ℕ, zero, suc, ◌+◌, ◌-◌, ◌<◌, ◌≤◌, Bool, true, false, ◌&&◌, nat_le, nat_lt, List, [], ◌∷◌, ◌++◌, map, sum_by, refl, sym, ap, ap₂, subst, ◌∙◌, arith, ⊎_elim, Option, Some, None}
+use Rattle.std.specs.Prelude.{◌==◌}
 use Rattle.std.specs.List.{AllByRecursion, range_with_len}
 use Rattle.std.proofs.lemmas.Bool.{cases_lt}
 use Rattle.std.proofs.lemmas.Bool.Decides.{nat_tests}
 use Rattle.std.proofs.lemmas.List.Sums.{sum_by-cons, sum_by-append}
 use Rattle.zr_base.specs.declared.space.Extent.{Extent}
-use Rattle.zr_base.specs.declared.space.Dva.{Dva}
 use Rattle.zr_base.specs.Extents.{in_extent}
 use Rattle.zr_rules.specs.Places.{Place, one_if, is_gone, is_place}
 use Rattle.zr_rules.specs.Devices.{Devices, state_at}
 use Rattle.zr_rules.specs.Mappings.{target}
-use Rattle.zr_rules.specs.Resolve.{IsRanked, passed_units, pass_hits}
+use Rattle.zr_rules.specs.Resolve.{IsRanked, passed_units}
 use Rattle.zr_imap.specs.declared.image.Piece.{Piece as Part}
 use Rattle.zr_imap.specs.Searches.{IsImage, FollowFrom, piece_target}
-use Rattle.zr_chain.specs.Visits.{Visited, AreVisits, hop_hits, parts_behind}
-use Rattle.zr_chain.specs.Visits.Visited.{Hop, Piece}
+use Rattle.zr_chain.specs.Visits.{AreVisits, hop_hits, parts_behind}
+use Rattle.zr_chain.specs.declared.visit.Visited.{Visited}
+use Rattle.zr_chain.specs.declared.visit.Visited.TheVariants.{Hop, Piece}
 use Rattle.zr_chain.proofs.Ways.{passed_gone, passed_there}
 use Rattle.zr_chain.proofs.Parts.{IsShare, IsPartOf, behind, parts_are, part_of_share, target_first, target_later}
 use Rattle.zr_chain.proofs.Places.{each_append}
@@ -80,17 +80,17 @@ pieces-over f from n (q ∷ qs) follow =
     let whole : n ≡ q.at.len + rest = omega (arith, follow.0) in
     let end_is : from + n ≡ q.split + q.at.len + rest = omega (arith, follow.0) in
     let own : up_to (λ k. at_place f (piece_target (q ∷ qs) (from + k))) q.at.len ≡ over f q.dev q.at.start q.at.len =
-        up_to-same q.at.len (λ k. at_place f (piece_target (q ∷ qs) (from + k))) (λ k. f (q.dev, q.at.start + k))
-        (λ k lt.
-        let place : from + k - q.split ≡ k = omega (arith, follow.0) in
-        ap (λ (o : Option Place). at_place f o) (target_first q qs (from + k) (omega (arith, follow.0))) ∙ ap (λ (m : ℕ). f (q.dev, q.at.start + m)) place)
-        ∙ sym (over-up_to f q.dev q.at.start q.at.len) in
+    up_to-same q.at.len (λ k. at_place f (piece_target (q ∷ qs) (from + k))) (λ k. f (q.dev, q.at.start + k))
+    (λ k lt.
+    let place : from + k - q.split ≡ k = omega (arith, follow.0) in
+    ap (λ (o : Option Place). at_place f o) (target_first q qs (from + k) (omega (arith, follow.0))) ∙ ap (λ (m : ℕ). f (q.dev, q.at.start + m)) place)
+    ∙ sym (over-up_to f q.dev q.at.start q.at.len) in
     let others : up_to (λ k. at_place f (piece_target (q ∷ qs) (from + (q.at.len + k)))) rest ≡ sum_by (λ (r : Part). over f r.dev r.at.start r.at.len) qs =
-        up_to-same rest (λ k. at_place f (piece_target (q ∷ qs) (from + (q.at.len + k)))) (λ k. at_place f (piece_target qs (q.split + q.at.len + k)))
-        (λ k lt.
-        let place : from + (q.at.len + k) ≡ q.split + q.at.len + k = omega (arith, follow.0) in
-        ap (λ (m : ℕ). at_place f (piece_target (q ∷ qs) m)) place ∙ ap (λ (o : Option Place). at_place f o) (target_later q qs (q.split + q.at.len + k) (omega arith)))
-        ∙ pieces-over f (q.split + q.at.len) rest qs (subst (λ (m : ℕ). FollowFrom (q.split + q.at.len) m qs) end_is follow.2) in
+    up_to-same rest (λ k. at_place f (piece_target (q ∷ qs) (from + (q.at.len + k)))) (λ k. at_place f (piece_target qs (q.split + q.at.len + k)))
+    (λ k lt.
+    let place : from + (q.at.len + k) ≡ q.split + q.at.len + k = omega (arith, follow.0) in
+    ap (λ (m : ℕ). at_place f (piece_target (q ∷ qs) m)) place ∙ ap (λ (o : Option Place). at_place f o) (target_later q qs (q.split + q.at.len + k) (omega arith)))
+    ∙ pieces-over f (q.split + q.at.len) rest qs (subst (λ (m : ℕ). FollowFrom (q.split + q.at.len) m qs) end_is follow.2) in
     let cut = up_to-split q.at.len rest (λ k. at_place f (piece_target (q ∷ qs) (from + k))) in
     let cons = sum_by-cons (λ (r : Part). over f r.dev r.at.start r.at.len) q qs in
     ap (λ (m : ℕ). up_to (λ k. at_place f (piece_target (q ∷ qs) (from + k))) m) whole ∙ omega (arith, cut, own, others, cons)
@@ -139,7 +139,7 @@ hits_gone : (ds : Devices) (d u : ℕ) (p : Part) (qs : List Part) → IsRanked 
 hits_gone ds d u p qs ranked known gone image all =
     let n = p.at.len in
     let each = up_to-same n (λ k. way ds d u (p.dev, p.at.start + k)) (λ k. one_if (is_place (p.dev, p.at.start + k) d u) + at_place (way ds d u) (piece_target qs (0 + k)))
-        (λ k lt. step k lt (piece_target qs k) refl) in
+    (λ k lt. step k lt (piece_target qs k) refl) in
     let own = once p.dev d u p.at.start n in
     let parts = pieces-over (way ds d u) 0 n qs (subst (λ (m : ℕ). FollowFrom 0 m qs) (zero_plus n) image.follow) in
     let sum = up_to-add n (λ k. one_if (is_place (p.dev, p.at.start + k) d u)) (λ k. at_place (way ds d u) (piece_target qs (0 + k))) in
@@ -147,12 +147,14 @@ hits_gone ds d u p qs ranked known gone image all =
   where
     zero_plus : (m : ℕ) → m ≡ 0 + m
     zero_plus m = omega arith
+
     has_target : (k : ℕ) (qs : List Part) (from end : ℕ) → FollowFrom from end qs → from ≤ k → k < end → (x : Place) × (piece_target qs k ≡ Some x)
     has_target k [] from end follow ge lt = absurd (omega (arith, follow))
     has_target k (q ∷ qs) from end follow ge lt = ⊎_elim
         (λ in_it. ((q.dev, q.at.start + (k - q.split)), target_first q qs k in_it))
         (λ past. let rest = has_target k qs (q.split + q.at.len) end follow.2 past lt in (rest.0, target_later q qs k past ∙ rest.1))
         (cases_lt k (q.split + q.at.len))
+
     step : (k : ℕ) → k < p.at.len → (o : Option Place) → piece_target qs k ≡ o → way ds d u (p.dev, p.at.start + k) ≡ one_if (is_place (p.dev, p.at.start + k) d u) + at_place (way ds d u) (piece_target qs (0 + k))
     step k lt o is =
         let x = has_target k qs 0 p.at.len image.follow (omega arith) lt in

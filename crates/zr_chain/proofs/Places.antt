@@ -1,17 +1,17 @@
 -- The parts that are there follow each other over all units, and each unit is where it leads.
-use Rattle.std.proofs.Common.{◌≡◌, ℕ, zero, suc, ◌+◌, ◌-◌, ◌<◌, ◌≤◌, ◌⊎◌, Bool, true, false, nat_lt, List, [], ◌∷◌, ◌++◌, length, map, inl, inr, refl, sym, ap, ap₂, subst, ◌∙◌, arith, ⊎_elim, Option, Some, None}
+use Rattle.std.proofs.Common.{◌≡◌, ℕ, ◌+◌, ◌-◌, ◌<◌, ◌≤◌, true, false, List, [], ◌∷◌, ◌++◌, inr, refl, sym, ap, subst, ◌∙◌, arith, ⊎_elim, Option, Some}
 use Rattle.std.specs.Prelude.{option_and_then}
 use Rattle.std.specs.List.{AllByRecursion}
-use Rattle.std.proofs.lemmas.Bool.{lt-ltb, le-ltb, cases_lt, false≢true}
-use Rattle.zr_base.specs.declared.space.Extent.{Extent}
+use Rattle.std.proofs.lemmas.Bool.{cases_lt, false≢true}
 use Rattle.zr_rules.specs.Places.{Place, is_gone}
 use Rattle.zr_rules.specs.Devices.{Devices, state_at}
 use Rattle.zr_rules.specs.Mappings.{target}
 use Rattle.zr_rules.specs.Resolve.{IsRanked, resolved}
 use Rattle.zr_imap.specs.declared.image.Piece.{Piece as Part}
-use Rattle.zr_imap.specs.Searches.{IsImage, FollowFrom, piece_target}
-use Rattle.zr_chain.specs.Visits.{Visited, AreVisits, IsWithin, pieces_of, parts_behind}
-use Rattle.zr_chain.specs.Visits.Visited.{Hop, Piece}
+use Rattle.zr_imap.specs.Searches.{FollowFrom, piece_target}
+use Rattle.zr_chain.specs.Visits.{AreVisits, IsWithin, pieces_of, parts_behind}
+use Rattle.zr_chain.specs.declared.visit.Visited.{Visited}
+use Rattle.zr_chain.specs.declared.visit.Visited.TheVariants.{Hop, Piece}
 use Rattle.zr_chain.proofs.Ways.{resolved_gone, resolved_there}
 use Rattle.zr_chain.proofs.Parts.{IsShare, IsPartOf, behind, parts_are, part_of_share, target_first, target_later}
 
@@ -117,7 +117,7 @@ pieces_led ds k (Hop d e ∷ vs) (p ∷ left) from end ranked h follow led_all g
     (λ in_it.
     let split_le : p.split ≤ k = omega (arith, follow.0) in
     let there : piece_target (parts_behind p.split h.3 ++ left) k ≡ target (ds.entries p.dev) (p.at.start + (k - p.split)) =
-        target_front from (p.split + p.at.len) k (parts_behind p.split h.3) left own ge in_it ∙ (target_behind p.split k h.3 split_le ∙ h.4.targets (k - p.split) (omega arith)) in
+    target_front from (p.split + p.at.len) k (parts_behind p.split h.3) left own ge in_it ∙ (target_behind p.split k h.3 split_le ∙ h.4.targets (k - p.split) (omega arith)) in
     ap (λ (o : Option Place). led ds o) there
     ∙ (sym (resolved_gone ds p.dev (p.at.start + (k - p.split)) ranked led_all.0.known h.0) ∙ sym (ap (λ (o : Option Place). led ds o) (target_first p left k in_it))))
     (λ past.

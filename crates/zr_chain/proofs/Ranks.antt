@@ -1,16 +1,13 @@
 -- Each mapping leads to devices that are there or went later, so the devices that come after get fewer on the way.
-use Rattle.std.proofs.Common.{◌≡◌, ℕ, zero, suc, ◌+◌, ◌-◌, ◌<◌, ◌≤◌, Bool, true, false, ◌&&◌, ◌||◌, not, ◌⊎◌, nat_lt, nat_le, List, [], ◌∷◌, length, map, All, inl, inr, refl, sym, ap, subst, ◌∙◌, arith, ⊎_elim, Option, Some, None}
+use Rattle.std.proofs.Common.{◌≡◌, ℕ, zero, suc, ◌<◌, ◌≤◌, Bool, true, false, ◌&&◌, ◌||◌, not, ◌⊎◌, nat_lt, List, [], ◌∷◌, length, map, inl, inr, refl, ap, subst, ◌∙◌, arith, ⊎_elim}
 use Rattle.std.proofs.lemmas.List.{length-map}
-use Rattle.std.specs.Prelude.{if◌then◌else◌, option_and_then, slice_index_or}
-use Rattle.std.specs.List.{AllByRecursion}
-use Rattle.std.proofs.lemmas.Bool.{cases_lt, and_parts, and_from}
+use Rattle.std.proofs.lemmas.Bool.{cases_lt}
 use Rattle.std.proofs.lemmas.Bool.Decides.{nat_tests}
 use Rattle.zr_base.specs.declared.space.DevPart.{DevPart}
 use Rattle.zr_base.specs.declared.space.Entry.{Entry}
-use Rattle.zr_rules.specs.Places.{Place, one_if, count_below, is_gone, no_part, part_of}
+use Rattle.zr_rules.specs.Places.{one_if, count_below, is_gone, no_part, part_of}
 use Rattle.zr_rules.specs.Devices.{Devices, state_at, devices_of}
-use Rattle.zr_rules.specs.Mappings.{target, in_source}
-use Rattle.zr_rules.specs.Resolve.{IsDestination, IsRanked, resolve}
+use Rattle.zr_rules.specs.Resolve.{IsDestination}
 use Rattle.zr_chain.specs.Chains.{DevMap, recorded, dev_at, devices_in}
 
 -- ---- devices by their places

@@ -1,6 +1,6 @@
 -- What the visits of an address say of its units.
-use Rattle.std.proofs.Common.{◌≡◌, ℕ, suc, zero, ◌+◌, ◌-◌, ◌<◌, ◌≤◌, Bool, false, List, [], ◌∷◌, refl, sym, ap, subst, ◌∙◌, arith, Option}
-use Rattle.std.specs.Prelude.{◌==◌, if◌then◌else◌}
+use Rattle.std.proofs.Common.{◌≡◌, ℕ, ◌+◌, ◌-◌, ◌<◌, false, List, [], ◌∷◌, refl, sym, ap, subst, ◌∙◌, arith, Option}
+use Rattle.std.specs.Prelude.{◌==◌}
 use Rattle.std.proofs.lemmas.Bool.Decides.{nat_tests}
 use Rattle.zr_base.specs.declared.space.Dva.{Dva}
 use Rattle.zr_rules.specs.Places.{Place}
@@ -8,7 +8,8 @@ use Rattle.zr_rules.specs.Devices.{Devices}
 use Rattle.zr_rules.specs.Resolve.{IsRanked, resolved, pass_hits}
 use Rattle.zr_imap.specs.declared.image.Piece.{Piece as Part}
 use Rattle.zr_imap.specs.Searches.{FollowFrom, piece_target}
-use Rattle.zr_chain.specs.Visits.{Visited, AreVisits, Follows, Visits, IsWithin, whole, pieces_of, hop_hits}
+use Rattle.zr_chain.specs.declared.visit.Visited.{Visited}
+use Rattle.zr_chain.specs.Visits.{AreVisits, Follows, Visits, IsWithin, whole, pieces_of, hop_hits}
 use Rattle.zr_chain.proofs.Parts.{target_first}
 use Rattle.zr_chain.proofs.Places.{led, pieces_follow, pieces_led}
 use Rattle.zr_chain.proofs.Passed.{part_hits, hops_are}

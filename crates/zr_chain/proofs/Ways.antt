@@ -1,8 +1,7 @@
 -- Where units lead and what they pass, a step at a time: with more devices to go over than come after, more do not matter.
-use Rattle.std.proofs.Common.{◌≡◌, ℕ, zero, suc, ◌+◌, ◌-◌, ◌<◌, ◌≤◌, ◌⊎◌, Bool, true, false, ◌&&◌, ◌||◌, not, nat_lt, nat_le, List, [], ◌∷◌, ◌++◌, length, map, All, inl, inr, refl, sym, ap, subst, ◌∙◌, arith, ⊎_elim, Option, Some, None}
-use Rattle.std.specs.Prelude.{if◌then◌else◌, option_and_then, slice_index_or, ◌==◌}
-use Rattle.std.specs.List.{AllByRecursion, flat_map, list_any}
-use Rattle.std.proofs.lemmas.Bool.{cases_lt}
+use Rattle.std.proofs.Common.{◌≡◌, ℕ, zero, suc, ◌+◌, ◌-◌, ◌<◌, ◌≤◌, ◌⊎◌, Bool, true, false, ◌&&◌, ◌||◌, nat_lt, nat_le, List, [], ◌∷◌, inl, inr, refl, sym, ap, subst, ◌∙◌, arith, ⊎_elim, Option, Some, None}
+use Rattle.std.specs.Prelude.{if◌then◌else◌, option_and_then}
+use Rattle.std.specs.List.{AllByRecursion, list_any}
 use Rattle.std.proofs.lemmas.Bool.Decides.{nat_tests}
 use Rattle.std.proofs.lemmas.List.{append-nil}
 use Rattle.std.proofs.lemmas.List.Elements.{recursion_from_All}
@@ -11,7 +10,7 @@ use Rattle.zr_rules.specs.Places.{Place, is_gone, is_place}
 use Rattle.zr_rules.specs.Devices.{Devices, state_at}
 use Rattle.zr_rules.specs.Mappings.{target, in_source}
 use Rattle.zr_rules.specs.Resolve.{IsDestination, IsRanked, is_there, resolve, resolved, passed, passed_units}
-use Rattle.zr_chain.proofs.Ranks.{later_count, comes_after, fewer_after, few_after, destination_after}
+use Rattle.zr_chain.proofs.Ranks.{later_count, fewer_after, few_after, destination_after}
 
 pub and_left_of : (x y : Bool) → (x && y) ≡ true → x ≡ true
 and_left_of true y h = refl

@@ -1,5 +1,5 @@
 -- Devices by their indices: of each its row and its mapping.
-use Rattle.std.specs.Prelude.{ℕ, List, [], length, slice_index_or}
+use Rattle.std.specs.Prelude.{ℕ, List, length, slice_index_or}
 use Rattle.zr_base.specs.declared.space.DevRow.{DevRow}
 use Rattle.zr_base.specs.declared.space.DevPart.{DevPart}
 use Rattle.zr_base.specs.declared.space.Entry.{Entry}

@@ -5,19 +5,16 @@ use Rattle.zr_base.specs.declared.space.Extent.{Extent}
 use Rattle.zr_base.specs.declared.space.Dva.{Dva}
 use Rattle.zr_base.specs.declared.space.Entry.{Entry}
 use Rattle.zr_base.specs.Extents.{in_extent}
-use Rattle.zr_rules.specs.Places.{Place, one_if, is_gone, is_place}
+use Rattle.zr_rules.specs.Places.{one_if, is_gone, is_place}
 use Rattle.zr_rules.specs.Devices.{Devices, state_at}
 use Rattle.zr_rules.specs.Mappings.{has_source}
 use Rattle.zr_rules.specs.Resolve.{resolved, passed_units, pass_hits}
 use Rattle.zr_imap.specs.declared.image.Piece.{Piece as Part}
 use Rattle.zr_imap.specs.Searches.{IsImage, FollowFrom, piece_target}
+use Rattle.zr_chain.specs.declared.visit.Visited.{Visited}
+use Rattle.zr_chain.specs.declared.visit.Visited.TheVariants.{Hop, Piece}
 use Rattle.zr_chain.specs.declared.visit.ChainErr.{ChainErr}
 use Rattle.zr_chain.specs.declared.visit.ChainErr.TheVariants.{NoEntry, NoMemory}
-
--- units of a removed device are on the way, or units are there, with so many units of the address before them
-pub data Visited : Type 0 where
-  Hop : ℕ → Extent → Visited
-  Piece : ℕ → ℕ → Extent → Visited
 
 -- the parts that are there
 abbrev pub pieces_of : List Visited → List Part

@@ -79,6 +79,20 @@ impl Devs {
         Ok(Devs { devs })
     }
 
+    /// How many devices there are, gone or not.
+    pub fn len(&self) -> usize
+        ensures { result ≡ length self.now }
+    {
+        self.devs.len()
+    }
+
+    /// Whether there is no device.
+    pub fn is_empty(&self) -> bool
+        ensures { IsTrue result ↔ (length self.now ≡ 0) }
+    {
+        self.devs.is_empty()
+    }
+
     /// Whether each entry leads to known units of another device that is there or went later. It takes a look at each
     /// entry.
     pub fn ranked(&self) -> bool

@@ -7,7 +7,9 @@
 
 mod devs;
 mod remap;
+#[cfg(test)]
+mod tests;
 mod visit;
 
 pub use devs::Devs;
-pub use visit::{ChainErr, Visit};
+pub use visit::{ChainErr, Visit, Visited};

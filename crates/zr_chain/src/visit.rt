@@ -1,11 +1,19 @@
 //! Who is told of the parts of an address, and why a part has none.
 ghost use Rattle.std.specs.Prelude.{◌≡◌, ◌++◌, ◌∷◌, [], List, OnOk, OnErr};
 ghost use Rattle.zr_chain.specs.declared.visit.ChainErr.TheVariants.{NoMemory};
-ghost use Rattle.zr_chain.specs.Visits.{Visited};
-ghost use Rattle.zr_chain.specs.Visits.Visited.{Hop, Piece};
+ghost use Rattle.zr_chain.specs.declared.visit.Visited.{Visited};
+ghost use Rattle.zr_chain.specs.declared.visit.Visited.TheVariants.{Hop, Piece};
 
 use std::alloc::AllocError;
 use zr_base::{Extent, NoMemory};
+
+/// What is told of a part of an address: units of a removed device are on the way, or units stand on a device that is
+/// there, with `split` units of the address before them.
+#[derive(Clone, Copy, Debug, PartialEq, Eq)]
+pub enum Visited {
+    Hop { dev: u32, at: Extent },
+    Piece { split: u64, dev: u32, at: Extent },
+}
 
 /// Is told of each part of an address.
 pub trait Visit {

@@ -1,4 +1,4 @@
-use Rattle.std.proofs.Common.{◌≡◌, ℕ, ◌≤◌, List, length, take, All, true, refl, ap, subst, arith, ◌∙◌}
+use Rattle.std.proofs.Common.{◌≡◌, ◌≤◌, List, length, All, refl, ap, subst, arith, ◌∙◌}
 use Rattle.std.proofs.lemmas.List.{get_or_default, take_all}
 use Rattle.std.proofs.lemmas.List.Elements.{All-more}
 use Rattle.zr_base.specs.declared.space.Entry.{Entry}
@@ -13,7 +13,7 @@ loop-i-preserved c =
     let es = c.map-map.result.now.entries in
     let none : Entry = record { src = 0; dev = 0; dst = 0; len = 0 } in
     let yes : IsDestination (devices_in c.args.devs.now) c.args.d (entry_at es c.loop-i.i) =
-        subst (λ (e : Entry). IsDestination (devices_in c.args.devs.now) c.args.d e) c.entry.ensures.value (c.is_destination.ensures.0 c.if-not-is_destination.false) in
+    subst (λ (e : Entry). IsDestination (devices_in c.args.devs.now) c.args.d e) c.entry.ensures.value (c.is_destination.ensures.0 c.if-not-is_destination.false) in
     All-more (IsDestination (devices_in c.args.devs.now) c.args.d) es c.loop-i.i none (omega (arith, c.len-i-end.ensures.count)) c.loop-i.invariant yes
 
 pub returns : goal.returns

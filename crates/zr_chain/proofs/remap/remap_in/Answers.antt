@@ -1,7 +1,6 @@
 use Rattle.std.proofs.Common.{arith}
 use Rattle.std.proofs.lemmas.Result.{on_ok_weaker}
 use Rattle.zr_chain.specs.Chains.{devices_in}
-use Rattle.zr_chain.specs.Visits.{Follows}
 use Rattle.zr_chain.proofs.Told.{visits_are}
 use Rattle.zr_chain.proofs.remap.remap_in.Goals as goal
 
