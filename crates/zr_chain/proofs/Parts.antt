@@ -1,11 +1,9 @@
 -- The parts of a part, and visits that follow each other.
-use Rattle.std.proofs.Common.{◌≡◌, ℕ, zero, suc, ◌+◌, ◌-◌, ◌<◌, ◌≤◌, Bool, true, false, ◌||◌, nat_le, nat_lt, List, [], ◌∷◌, ◌++◌, length, take, refl, sym, ap, subst, ◌∙◌, arith, add-one, append_assoc, Option, Some}
+use Rattle.std.proofs.Common.{◌≡◌, ℕ, zero, suc, ◌+◌, ◌-◌, ◌<◌, ◌≤◌, ◌⊎◌, Bool, true, false, ◌||◌, nat_le, nat_lt, List, [], ◌∷◌, ◌++◌, length, take, inl, inr, ⊎_elim, MatchBool, refl, sym, ap, subst, ◌∙◌, arith, add-one, append_assoc, Option, Some}
 use Rattle.std.specs.Prelude.{slice_index_or}
 use Rattle.std.specs.List.{AllByRecursion, list_any}
 use Rattle.std.proofs.lemmas.Bool.{lt-ltb, le-ltb}
 use Rattle.std.proofs.lemmas.List.{append-nil, take_all}
-use Rattle.zr_base.specs.declared.space.Extent.{Extent}
-use Rattle.zr_base.specs.declared.space.Entry.{Entry}
 use Rattle.zr_base.specs.declared.space.DevRow.{DevRow}
 use Rattle.zr_rules.specs.Places.{Place, is_gone, is_place}
 use Rattle.zr_rules.specs.Devices.{Devices, state_at}
@@ -16,7 +14,7 @@ use Rattle.zr_imap.specs.Searches.{IsImage, FollowFrom, piece_target}
 use Rattle.zr_chain.specs.Chains.{DevMap, dev_at, devices_in}
 use Rattle.zr_chain.specs.declared.visit.ChainErr.{ChainErr}
 use Rattle.zr_chain.specs.declared.visit.ChainErr.TheVariants.{NoEntry, NoMemory}
-use Rattle.zr_chain.specs.Visits.{AreVisits, Follows, PassesGap, LacksEntry, parts_behind}
+use Rattle.zr_chain.specs.Visits.{IsTold, AreVisits, Follows, PassesGap, LacksEntry, parts_behind}
 use Rattle.zr_chain.specs.declared.visit.Visited.{Visited}
 use Rattle.zr_chain.specs.declared.visit.Visited.TheVariants.{Hop, Piece}
 use Rattle.zr_chain.proofs.Ranks.{later_count}
@@ -58,22 +56,6 @@ follows_more ds split i qs a b c lt h k = record {
   visits = h.visits ++ k.visits;
   appended = k.appended ∙ (ap (λ (t : List Visited). t ++ k.visits) h.appended ∙ append_assoc a h.visits k.visits);
   order = rw (add-one, parts_more split i qs lt) (joined ds (parts_behind split (take i qs)) (behind split (slice_index_or qs i no_piece) ∷ []) h.visits k.visits h.order k.order);
-}
-
--- a hop, and then the visits of all parts
-pub follows_hop : (ds : Devices) (p : Part) (qs : List Part) (i : ℕ) (a b c : List Visited) → is_gone (state_at ds p.dev) ≡ true → IsImage (ds.entries p.dev) p.at qs → length qs ≤ i →
-    b ≡ a ++ Hop p.dev p.at ∷ [] → Follows ds (parts_behind p.split (take i qs)) b c → Follows ds (p ∷ []) a c
-follows_hop ds p qs i a b c gone image end hop h = record {
-  visits = Hop p.dev p.at ∷ h.visits;
-  appended = h.appended ∙ (ap (λ (t : List Visited). t ++ h.visits) hop ∙ append_assoc a (Hop p.dev p.at ∷ []) h.visits);
-  order = (
-    gone,
-    refl,
-    refl,
-    qs,
-    image,
-    subst (λ (left : List Part). AreVisits ds left h.visits) (sym (append-nil (parts_behind p.split qs))) (subst (λ (t : List Part). AreVisits ds (parts_behind p.split t) h.visits) (take_all i qs end) h.order),
-  );
 }
 
 -- ---- the parts of an image
@@ -177,11 +159,49 @@ gap_here ds p (NoEntry dev unit) known gone h =
       missing = ap (λ (d : ℕ). has_source (ds.entries d) unit) h.0 ∙ h.2;
     }
 
--- ---- what the walk has read
+-- ---- what is told of a part
+
+-- what is told of a part of a removed device
+pub record IsHop (ds : Devices) (p : Part) (parts : List Part) (old new : List Visited) : Type 0 where
+  pub gone : is_gone (state_at ds p.dev) ≡ true
+  pub told : new ≡ old ++ Hop p.dev p.at ∷ []
+  pub image : IsImage (ds.entries p.dev) p.at parts
+
+cases_told : (b : Bool) (A B : Type 0) → MatchBool b A B → ((b ≡ true) × A) ⊎ ((b ≡ false) × B)
+cases_told true A B h = inl (refl, h)
+cases_told false A B h = inr (refl, h)
+
+-- a part with parts that it leads to is one of a removed device
+pub hop_of : (ds : Devices) (p : Part) (parts qs : List Part) (i : ℕ) (old new : List Visited) → IsTold ds p parts old new → qs ≡ parts → i < length qs → IsHop ds p qs old new
+hop_of ds p parts qs i old new told items lt = ⊎_elim
+    (λ hop. record { gone = hop.0; told = hop.1.0; image = subst (λ (rs : List Part). IsImage (ds.entries p.dev) p.at rs) (sym items) hop.1.1 })
+    (λ there. let none : length qs ≡ 0 = ap (λ (rs : List Part). length rs) (items ∙ there.1.1) in absurd (omega arith))
+    (cases_told (is_gone (state_at ds p.dev)) ((new ≡ old ++ Hop p.dev p.at ∷ []) × IsImage (ds.entries p.dev) p.at parts) ((new ≡ old ++ Piece p.split p.dev p.at ∷ []) × (parts ≡ [])) told)
+
+-- what is told, and then the visits of all parts that it leads to
+pub follows_told : (ds : Devices) (p : Part) (parts qs : List Part) (i : ℕ) (a b c : List Visited) → IsTold ds p parts a b → qs ≡ parts → length qs ≤ i → Follows ds (parts_behind p.split (take i qs)) b c → Follows ds (p ∷ []) a c
+follows_told ds p parts qs i a b c told items end h = ⊎_elim
+    (λ hop. record {
+      visits = Hop p.dev p.at ∷ h.visits;
+      appended = h.appended ∙ (ap (λ (t : List Visited). t ++ h.visits) hop.1.0 ∙ append_assoc a (Hop p.dev p.at ∷ []) h.visits);
+      order = (
+        hop.0,
+        refl,
+        refl,
+        parts,
+        hop.1.1,
+        subst (λ (left : List Part). AreVisits ds left h.visits) (sym (append-nil (parts_behind p.split parts)))
+            (subst (λ (t : List Part). AreVisits ds (parts_behind p.split t) h.visits) (take_all i qs end ∙ items) h.order),
+      );
+    })
+    (λ there.
+    let none : parts_behind p.split (take i qs) ≡ [] = ap (λ (t : List Part). parts_behind p.split t) (take_all i qs end ∙ (items ∙ there.1.1)) in
+    record {
+      visits = Piece p.split p.dev p.at ∷ h.visits;
+      appended = h.appended ∙ (ap (λ (t : List Visited). t ++ h.visits) there.1.0 ∙ append_assoc a (Piece p.split p.dev p.at ∷ []) h.visits);
+      order = (there.0, refl, subst (λ (left : List Part). AreVisits ds left h.visits) none h.order);
+    })
+    (cases_told (is_gone (state_at ds p.dev)) ((b ≡ a ++ Hop p.dev p.at ∷ []) × IsImage (ds.entries p.dev) p.at parts) ((b ≡ a ++ Piece p.split p.dev p.at ∷ []) × (parts ≡ [])) told)
 
 pub gone_is : (devs : List DevMap) (d : ℕ) (x : DevMap) (row : DevRow) (b : Bool) → x ≡ dev_at devs d → row ≡ x.row → b ≡ is_gone row.state → b ≡ true → is_gone (state_at (devices_in devs) d) ≡ true
 gone_is devs d x row b read row_is test passed = sym (ap (λ (y : DevMap). is_gone y.row.state) read) ∙ (sym (ap (λ (r : DevRow). is_gone r.state) row_is) ∙ (sym test ∙ passed))
-
-pub image_is : (devs : List DevMap) (d : ℕ) (x : DevMap) (es : List Entry) (e : Extent) (ps qs : List Part) → x ≡ dev_at devs d → es ≡ x.entries → qs ≡ ps → IsImage es e ps → IsImage ((devices_in devs).entries d) e qs
-image_is devs d x es e ps qs read entries_are items image =
-    subst (λ (rs : List Part). IsImage (dev_at devs d).entries e rs) (sym items) (subst (λ (xs : List Entry). IsImage xs e ps) (entries_are ∙ ap (λ (y : DevMap). y.entries) read) image)

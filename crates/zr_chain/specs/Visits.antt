@@ -1,5 +1,5 @@
 -- What is told of the parts of an address, and what that says of its units.
-use Rattle.std.specs.Prelude.{◌≡◌, ◌⊎◌, ℕ, ◌+◌, ◌<◌, ◌==◌, ◌&&◌, true, false, List, [], ◌∷◌, ◌++◌, map, if◌then◌else◌}
+use Rattle.std.specs.Prelude.{◌≡◌, ◌⊎◌, ℕ, ◌+◌, ◌<◌, ◌==◌, ◌&&◌, true, false, List, [], ◌∷◌, ◌++◌, map, if◌then◌else◌, MatchBool}
 use Rattle.std.specs.List.{list_any}
 use Rattle.zr_base.specs.declared.space.Extent.{Extent}
 use Rattle.zr_base.specs.declared.space.Dva.{Dva}
@@ -39,6 +39,11 @@ AreVisits ds [] (v ∷ vs) = ⊥
 AreVisits ds (p ∷ left) (Piece split d e ∷ vs) = (is_gone (state_at ds p.dev) ≡ false) × (p ≡ record { split = split; dev = d; at = e }) × AreVisits ds left vs
 AreVisits ds (p ∷ left) (Hop d e ∷ vs) =
     (is_gone (state_at ds p.dev) ≡ true) × (d ≡ p.dev) × (e ≡ p.at) × (parts : List Part) × IsImage (ds.entries p.dev) p.at parts × AreVisits ds (parts_behind p.split parts ++ left) vs
+
+-- what is told of a part, and the parts that it leads to: none where it is there, and else those that its mapping makes of it
+abbrev pub IsTold : Devices → Part → List Part → List Visited → List Visited → Type 0
+IsTold ds p parts old new =
+    MatchBool (is_gone (state_at ds p.dev)) ((new ≡ old ++ Hop p.dev p.at ∷ []) × IsImage (ds.entries p.dev) p.at parts) ((new ≡ old ++ Piece p.split p.dev p.at ∷ []) × (parts ≡ []))
 
 -- after what was told before come the visits of these parts
 pub record Follows (ds : Devices) (left : List Part) (old new : List Visited) : Type 0 where

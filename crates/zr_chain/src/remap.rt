@@ -3,7 +3,7 @@ ghost use Rattle.std.specs.Prelude.{◌≡◌, ◌+◌, ◌<◌, ◌∷◌, ◌^
 ghost use Rattle.zr_rules.specs.Resolve.{IsRanked};
 ghost use Rattle.zr_imap.specs.Searches.{IsImage};
 ghost use Rattle.zr_chain.specs.Chains.{devices_in};
-ghost use Rattle.zr_chain.specs.Visits.{Follows, Visits, HasGap, PassesGap, LacksEntry};
+ghost use Rattle.zr_chain.specs.Visits.{IsTold, Follows, Visits, HasGap, PassesGap, LacksEntry};
 
 use crate::devs::{Dev, is_gone};
 use crate::visit::{ChainErr, Visit};
@@ -27,7 +27,24 @@ fn parts_of(alloc: Global, map: &Imap, dev: u32, e: Extent) -> Result<Vec<Piece>
     }
 }
 
-/// Visits a part of an address: it is there, or it is passed and then its own parts are visited.
+/// Tells of a part of an address, and answers the parts that it leads to: none where it is there, and else where its
+/// units went.
+fn tell<V: Visit>(alloc: Global, devs: &[Dev], p: Piece, v: &mut V) -> Result<Vec<Piece>, ChainErr>
+    requires { p.dev < length devs.now }
+    ensures told { IfOk result (λ parts. IsTold (devices_in devs.now) p parts.items (V.visited v.old) (V.visited v.new)) }
+    ensures gap { IfErr result (PassesGap (devices_in devs.now) p) }
+{
+    let dev = &devs[p.dev as usize];
+    let row = dev.row();
+    if !is_gone(row) {
+        v.piece(p.split, p.dev, p.at)?;
+        return Ok(Vec::new(alloc));
+    }
+    v.hop(p.dev, p.at)?;
+    parts_of(alloc, dev.map(), p.dev, p.at)
+}
+
+/// Visits a part of an address, and then the parts that it leads to.
 fn visit<V: Visit>(alloc: Global, devs: &[Dev], p: Piece, v: &mut V) -> Result<(), ChainErr>
     requires ranked { IsRanked (devices_in devs.now) }
     requires known { p.dev < length devs.now }
@@ -35,13 +52,7 @@ fn visit<V: Visit>(alloc: Global, devs: &[Dev], p: Piece, v: &mut V) -> Result<(
     ensures visits { OnOk result (Follows (devices_in devs.now) (p ∷ []) (V.visited v.old) (V.visited v.new)) }
     ensures gap { IfErr result (PassesGap (devices_in devs.now) p) }
 {
-    let dev = &devs[p.dev as usize];
-    if !is_gone(dev.row()) {
-        v.piece(p.split, p.dev, p.at)?;
-        return Ok(());
-    }
-    v.hop(p.dev, p.at)?;
-    let parts = parts_of(alloc, dev.map(), p.dev, p.at)?;
+    let parts = tell(alloc, devs, p, v)?;
     for part in parts.iter() {
         let part = Piece {
             split: p.split + part.split,
