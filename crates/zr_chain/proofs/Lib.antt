@@ -3,4 +3,5 @@ pub mod Ways
 pub mod Parts
 pub mod Places
 pub mod Passed
+pub mod Gaps
 pub mod Told

@@ -166,7 +166,7 @@ hits_behind : (ds : Devices) (d u s : ℕ) (qs : List Part) → sum_by (part_hit
 hits_behind ds d u s [] = refl
 hits_behind ds d u s (q ∷ qs) = sum_by-cons (part_hits ds d u) (behind s q) (parts_behind s qs) ∙ (ap (λ (n : ℕ). part_hits ds d u q + n) (hits_behind ds d u s qs) ∙ sym (sum_by-cons (part_hits ds d u) q qs))
 
-known_behind : (ds : Devices) (p : Part) (qs : List Part) → IsRanked ds → is_gone (state_at ds p.dev) ≡ true → AllByRecursion (IsShare (λ j. target (ds.entries p.dev) (p.at.start + j)) p.at.len) qs → AllByRecursion (λ (q : Part). q.dev < ds.count) (parts_behind p.split qs)
+pub known_behind : (ds : Devices) (p : Part) (qs : List Part) → IsRanked ds → is_gone (state_at ds p.dev) ≡ true → AllByRecursion (IsShare (λ j. target (ds.entries p.dev) (p.at.start + j)) p.at.len) qs → AllByRecursion (λ (q : Part). q.dev < ds.count) (parts_behind p.split qs)
 known_behind ds p [] ranked gone h = tt
 known_behind ds p (q ∷ qs) ranked gone h = let part : IsPartOf ds p q = part_of_share ds p q ranked gone h.0 in (part.known, known_behind ds p qs ranked gone h.1)
 

@@ -9,43 +9,41 @@ use Rattle.zr_rules.specs.Resolve.{IsRanked, resolved, pass_hits}
 use Rattle.zr_imap.specs.declared.image.Piece.{Piece as Part}
 use Rattle.zr_imap.specs.Searches.{FollowFrom, piece_target}
 use Rattle.zr_chain.specs.declared.visit.Visited.{Visited}
-use Rattle.zr_chain.specs.Visits.{AreVisits, Follows, Visits, IsWithin, whole, pieces_of, hop_hits}
+use Rattle.zr_chain.specs.Visits.{AreVisits, Follows, Visits, IsWithin, as_part, whole, pieces_of, hop_hits}
 use Rattle.zr_chain.proofs.Parts.{target_first}
 use Rattle.zr_chain.proofs.Places.{led, pieces_follow, pieces_led}
 use Rattle.zr_chain.proofs.Passed.{part_hits, hops_are}
-
--- the whole address as a part
-abbrev pub one_part : Dva → Part
-one_part a = record { split = 0; dev = a.dev; at = record { start = a.start; len = a.len } }
+use Rattle.zr_chain.proofs.Gaps.{no_gaps}
 
 not_zero : (n : ℕ) → 0 < n → (n == 0) ≡ false
 not_zero n lt = grind (arith, nat_tests)
 
-whole_is : (a : Dva) → 0 < a.len → whole a ≡ one_part a ∷ []
+whole_is : (a : Dva) → 0 < a.len → whole a ≡ as_part a ∷ []
 whole_is a some = rw (not_zero a.len some) refl
 
-follows_itself : (a : Dva) → 0 < a.len → FollowFrom 0 a.len (one_part a ∷ [])
+follows_itself : (a : Dva) → 0 < a.len → FollowFrom 0 a.len (as_part a ∷ [])
 follows_itself a some = (refl, some, omega arith)
 
-target_is : (ds : Devices) (a : Dva) (vs : List Visited) (k : ℕ) → IsRanked ds → a.dev < ds.count → AreVisits ds (one_part a ∷ []) vs → k < a.len → IsWithin ds a.dev (a.start + k) → piece_target (pieces_of vs) k ≡ resolved ds a.dev (a.start + k)
+target_is : (ds : Devices) (a : Dva) (vs : List Visited) (k : ℕ) → IsRanked ds → a.dev < ds.count → AreVisits ds (as_part a ∷ []) vs → k < a.len → IsWithin ds a.dev (a.start + k) → piece_target (pieces_of vs) k ≡ resolved ds a.dev (a.start + k)
 target_is ds a vs k ranked known order lt within =
     let some : 0 < a.len = omega arith in
     let back : k - 0 ≡ k = omega arith in
-    pieces_led ds k vs (one_part a ∷ []) 0 a.len ranked order (follows_itself a some) (record { known = known; within = λ _ _. subst (λ (n : ℕ). IsWithin ds a.dev (a.start + n)) (sym back) within }, tt) (omega arith) lt
-    ∙ (ap (λ (o : Option Place). led ds o) (target_first (one_part a) [] k (omega arith)) ∙ ap (λ (n : ℕ). resolved ds a.dev (a.start + n)) back)
+    pieces_led ds k vs (as_part a ∷ []) 0 a.len ranked order (follows_itself a some) (record { known = known; within = λ _ _. subst (λ (n : ℕ). IsWithin ds a.dev (a.start + n)) (sym back) within }, tt) (omega arith) lt
+    ∙ (ap (λ (o : Option Place). led ds o) (target_first (as_part a) [] k (omega arith)) ∙ ap (λ (n : ℕ). resolved ds a.dev (a.start + n)) back)
 
-passed_is : (ds : Devices) (a : Dva) (vs : List Visited) (d u : ℕ) → IsRanked ds → a.dev < ds.count → AreVisits ds (one_part a ∷ []) vs → hop_hits vs d u ≡ pass_hits ds a d u
+passed_is : (ds : Devices) (a : Dva) (vs : List Visited) (d u : ℕ) → IsRanked ds → a.dev < ds.count → AreVisits ds (as_part a ∷ []) vs → hop_hits vs d u ≡ pass_hits ds a d u
 passed_is ds a vs d u ranked known order =
-    let same : part_hits ds d u (one_part a) ≡ pass_hits ds a d u = refl in
-    let hops = hops_are ds d u vs (one_part a ∷ []) ranked order (known, tt) in
+    let same : part_hits ds d u (as_part a) ≡ pass_hits ds a d u = refl in
+    let hops = hops_are ds d u vs (as_part a ∷ []) ranked order (known, tt) in
     omega (arith, hops, same)
 
-pub visits_are : (ds : Devices) (a : Dva) (old new : List Visited) → IsRanked ds → a.dev < ds.count → 0 < a.len → Follows ds (one_part a ∷ []) old new → Visits ds a old new
+pub visits_are : (ds : Devices) (a : Dva) (old new : List Visited) → IsRanked ds → a.dev < ds.count → 0 < a.len → Follows ds (as_part a ∷ []) old new → Visits ds a old new
 visits_are ds a old new ranked known some h = record {
   visits = h.visits;
   appended = h.appended;
   order = subst (λ (left : List Part). AreVisits ds left h.visits) (sym (whole_is a some)) h.order;
-  follow = pieces_follow ds h.visits (one_part a ∷ []) 0 a.len h.order (follows_itself a some);
+  follow = pieces_follow ds h.visits (as_part a ∷ []) 0 a.len h.order (follows_itself a some);
   targets = λ k lt within. target_is ds a h.visits k ranked known h.order lt within;
   passed = λ d u. passed_is ds a h.visits d u ranked known h.order;
+  entries = (no_gaps ds h.visits (as_part a ∷ []) ranked h.order (known, tt)).0;
 }

@@ -51,22 +51,13 @@ pub record Follows (ds : Devices) (left : List Part) (old new : List Visited) : 
   pub appended : new ≡ old ++ visits
   pub order : AreVisits ds left visits
 
--- the address as one part; without units it has none
+-- the address as one part
+abbrev pub as_part : Dva → Part
+as_part a = record { split = 0; dev = a.dev; at = record { start = a.start; len = a.len } }
+
+-- its parts: itself, and none where it has no units
 abbrev pub whole : Dva → List Part
-whole a = if a.len == 0 then [] else record { split = 0; dev = a.dev; at = record { start = a.start; len = a.len } } ∷ []
-
--- the unit is not past the end of a device that is there
-abbrev pub IsWithin : Devices → ℕ → ℕ → Type 0
-IsWithin ds d u = (is_gone (state_at ds d) ≡ true) ⊎ (u < (ds.row d).units)
-
--- The parts that are there follow each other over all units of the address, each unit is where it leads, and the hops have each unit of a removed device as often as the address passes it.
-pub record Visits (ds : Devices) (a : Dva) (old new : List Visited) : Type 0 where
-  pub visits : List Visited
-  pub appended : new ≡ old ++ visits
-  pub order : AreVisits ds (whole a) visits
-  pub follow : FollowFrom 0 a.len (pieces_of visits)
-  pub targets : (k : ℕ) → k < a.len → IsWithin ds a.dev (a.start + k) → piece_target (pieces_of visits) k ≡ resolved ds a.dev (a.start + k)
-  pub passed : (d u : ℕ) → hop_hits visits d u ≡ pass_hits ds a d u
+whole a = if a.len == 0 then [] else as_part a ∷ []
 
 -- some unit of the part passes a unit that has no entry
 pub record PassesUnit (ds : Devices) (p : Part) (dev unit : ℕ) : Type 0 where
@@ -75,6 +66,20 @@ pub record PassesUnit (ds : Devices) (p : Part) (dev unit : ℕ) : Type 0 where
   pub passes : list_any (λ q. is_place q dev unit) (passed_units ds p.dev (p.at.start + place)) ≡ true
   pub missing : has_source (ds.entries dev) unit ≡ false
 
+-- the unit is not past the end of a device that is there
+abbrev pub IsWithin : Devices → ℕ → ℕ → Type 0
+IsWithin ds d u = (is_gone (state_at ds d) ≡ true) ⊎ (u < (ds.row d).units)
+
+-- The parts that are there follow each other over all units of the address, each unit is where it leads, the hops have each unit of a removed device as often as the address passes it, and no unit on the way lacks an entry.
+pub record Visits (ds : Devices) (a : Dva) (old new : List Visited) : Type 0 where
+  pub visits : List Visited
+  pub appended : new ≡ old ++ visits
+  pub order : AreVisits ds (whole a) visits
+  pub follow : FollowFrom 0 a.len (pieces_of visits)
+  pub targets : (k : ℕ) → k < a.len → IsWithin ds a.dev (a.start + k) → piece_target (pieces_of visits) k ≡ resolved ds a.dev (a.start + k)
+  pub passed : (d u : ℕ) → hop_hits visits d u ≡ pass_hits ds a d u
+  pub entries : (d u : ℕ) → PassesUnit ds (as_part a) d u → ⊥
+
 -- the unit that is named has no entry, and a unit of the part passes it
 abbrev pub PassesGap : Devices → Part → ChainErr → Type 0
 PassesGap ds p (NoEntry dev unit) = PassesUnit ds p dev unit
@@ -82,7 +87,7 @@ PassesGap ds p NoMemory = Unit {0}
 
 -- the same of the whole address
 abbrev pub HasGap : Devices → Dva → ChainErr → Type 0
-HasGap ds a e = PassesGap ds (record { split = 0; dev = a.dev; at = record { start = a.start; len = a.len } }) e
+HasGap ds a e = PassesGap ds (as_part a) e
 
 -- the unit that is named is one of the extent, and has no entry
 abbrev pub LacksEntry : List Entry → ℕ → Extent → ChainErr → Type 0
