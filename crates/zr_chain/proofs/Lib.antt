@@ -4,4 +4,5 @@ pub mod Parts
 pub mod Places
 pub mod Passed
 pub mod Gaps
+pub mod Touched
 pub mod Told

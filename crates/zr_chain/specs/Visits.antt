@@ -1,14 +1,15 @@
 -- What is told of the parts of an address, and what that says of its units.
-use Rattle.std.specs.Prelude.{◌≡◌, ◌⊎◌, ℕ, ◌+◌, ◌<◌, ◌==◌, ◌&&◌, true, false, List, [], ◌∷◌, ◌++◌, map, if◌then◌else◌, MatchBool}
+use Rattle.std.specs.Prelude.{◌≡◌, ◌⊎◌, ℕ, ◌+◌, ◌<◌, ◌==◌, ◌&&◌, true, false, List, [], ◌∷◌, ◌++◌, map, sum_by, count_by, if◌then◌else◌, MatchBool}
 use Rattle.std.specs.List.{list_any}
 use Rattle.zr_base.specs.declared.space.Extent.{Extent}
 use Rattle.zr_base.specs.declared.space.Dva.{Dva}
 use Rattle.zr_base.specs.declared.space.Entry.{Entry}
 use Rattle.zr_base.specs.Extents.{in_extent}
-use Rattle.zr_rules.specs.Places.{one_if, is_gone, is_place}
+use Rattle.zr_rules.specs.Places.{one_if, is_gone, is_leaving, is_place}
 use Rattle.zr_rules.specs.Devices.{Devices, state_at}
 use Rattle.zr_rules.specs.Mappings.{has_source}
 use Rattle.zr_rules.specs.Resolve.{resolved, passed_units, pass_hits}
+use Rattle.zr_rules.specs.Steps.{meets, touch}
 use Rattle.zr_imap.specs.declared.image.Piece.{Piece as Part}
 use Rattle.zr_imap.specs.Searches.{IsImage, FollowFrom, piece_target}
 use Rattle.zr_chain.specs.declared.visit.Visited.{Visited}
@@ -27,6 +28,11 @@ abbrev pub hop_hits : List Visited → ℕ → ℕ → ℕ
 hop_hits [] d u = 0
 hop_hits (Hop dev e ∷ vs) d u = one_if ((dev == d) && in_extent e u) + hop_hits vs d u
 hop_hits (Piece split dev e ∷ vs) d u = hop_hits vs d u
+
+-- how many pieces a free touches of it: a part of a removed device, or a part that is there with the copies of a device that is leaving
+abbrev pub touches : Devices → Visited → ℕ
+touches ds (Hop d e) = 1
+touches ds (Piece split d e) = if is_leaving (state_at ds d) then 1 + count_by (meets e.start e.len) (ds.entries d) else 1
 
 -- the parts of a part that has so many units of the address before it
 abbrev pub parts_behind : ℕ → List Part → List Part
@@ -70,7 +76,7 @@ pub record PassesUnit (ds : Devices) (p : Part) (dev unit : ℕ) : Type 0 where
 abbrev pub IsWithin : Devices → ℕ → ℕ → Type 0
 IsWithin ds d u = (is_gone (state_at ds d) ≡ true) ⊎ (u < (ds.row d).units)
 
--- The parts that are there follow each other over all units of the address, each unit is where it leads, the hops have each unit of a removed device as often as the address passes it, and no unit on the way lacks an entry.
+-- The parts that are there follow each other over all units of the address, each unit is where it leads, the hops have each unit of a removed device as often as the address passes it, no unit on the way lacks an entry, and the visits are the pieces that a free touches.
 pub record Visits (ds : Devices) (a : Dva) (old new : List Visited) : Type 0 where
   pub visits : List Visited
   pub appended : new ≡ old ++ visits
@@ -79,6 +85,7 @@ pub record Visits (ds : Devices) (a : Dva) (old new : List Visited) : Type 0 whe
   pub targets : (k : ℕ) → k < a.len → IsWithin ds a.dev (a.start + k) → piece_target (pieces_of visits) k ≡ resolved ds a.dev (a.start + k)
   pub passed : (d u : ℕ) → hop_hits visits d u ≡ pass_hits ds a d u
   pub entries : (d u : ℕ) → PassesUnit ds (as_part a) d u → ⊥
+  pub touched : 0 < a.len → sum_by (touches ds) visits ≡ touch ds a
 
 -- the unit that is named has no entry, and a unit of the part passes it
 abbrev pub PassesGap : Devices → Part → ChainErr → Type 0
