@@ -1,6 +1,7 @@
 pub mod Ranks
 pub mod Ways
 pub mod Parts
+pub mod Begun
 pub mod Places
 pub mod Passed
 pub mod Gaps

@@ -46,6 +46,15 @@ AreVisits ds (p ∷ left) (Piece split d e ∷ vs) = (is_gone (state_at ds p.dev
 AreVisits ds (p ∷ left) (Hop d e ∷ vs) =
     (is_gone (state_at ds p.dev) ≡ true) × (d ≡ p.dev) × (e ≡ p.at) × (parts : List Part) × IsImage (ds.entries p.dev) p.at parts × AreVisits ds (parts_behind p.split parts ++ left) vs
 
+-- These are the first visits of them: the walk may have come to its end, or not.
+abbrev pub AreFirstVisits : Devices → List Part → List Visited → Type 0
+AreFirstVisits ds left [] = Unit {0}
+AreFirstVisits ds [] (v ∷ vs) = ⊥
+AreFirstVisits ds (p ∷ left) (Piece split d e ∷ vs) = (is_gone (state_at ds p.dev) ≡ false) × (p ≡ record { split = split; dev = d; at = e }) × AreFirstVisits ds left vs
+AreFirstVisits ds (p ∷ left) (Hop d e ∷ vs) =
+    (is_gone (state_at ds p.dev) ≡ true) × (d ≡ p.dev) × (e ≡ p.at)
+    × ((vs ≡ []) ⊎ ((parts : List Part) × IsImage (ds.entries p.dev) p.at parts × AreFirstVisits ds (parts_behind p.split parts ++ left) vs))
+
 -- what is told of a part, and the parts that it leads to: none where it is there, and else those that its mapping makes of it
 abbrev pub IsTold : Devices → Part → List Part → List Visited → List Visited → Type 0
 IsTold ds p parts old new =
@@ -56,6 +65,12 @@ pub record Follows (ds : Devices) (left : List Part) (old new : List Visited) : 
   pub visits : List Visited
   pub appended : new ≡ old ++ visits
   pub order : AreVisits ds left visits
+
+-- after what was told before come first visits of these parts
+pub record Begins (ds : Devices) (left : List Part) (old new : List Visited) : Type 0 where
+  pub visits : List Visited
+  pub appended : new ≡ old ++ visits
+  pub order : AreFirstVisits ds left visits
 
 -- the address as one part
 abbrev pub as_part : Dva → Part

@@ -2,14 +2,14 @@
 //!
 //! Devices are ranked where each mapping leads to devices that are there or went later. One that is leaving counts as
 //! going after all that are gone.
-ghost use Rattle.std.specs.Prelude.{◌≡◌, ◌<◌, ◌⊎◌, ◌↔◌, List, length, map, All, IfOk, OnOk, IfErr, IsTrue, true, false};
+ghost use Rattle.std.specs.Prelude.{◌≡◌, ◌<◌, ◌⊎◌, ◌↔◌, List, length, map, All, IfOk, OnOk, OnErr, IfErr, IsTrue, true, false};
 ghost use Rattle.zr_base.specs.declared.space.DevPart.{DevPart};
 ghost use Rattle.zr_rules.specs.Places.{is_gone};
 ghost use Rattle.zr_rules.specs.Mappings.{IsRising, IsEntry};
 ghost use Rattle.zr_rules.specs.Devices.{devices_of};
 ghost use Rattle.zr_rules.specs.Resolve.{IsRanked, IsDestination};
 ghost use Rattle.zr_chain.specs.Chains.{devices_in, recorded};
-ghost use Rattle.zr_chain.specs.Visits.{Visits, HasGap};
+ghost use Rattle.zr_chain.specs.Visits.{Begins, Visits, HasGap, whole};
 
 use crate::remap::remap_in;
 use crate::visit::{ChainErr, Visit};
@@ -103,12 +103,13 @@ impl Devs {
 
     /// Visits the parts of an address in the order of its units, each part of a removed device before the parts that it
     /// leads to. For each part of a removed device it takes a search by halves of its mapping, and a step for each part
-    /// that it leads to.
+    /// that it leads to. After an error a front of them was visited.
     pub fn remap<V: Visit>(&self, alloc: Global, d: Dva, v: &mut V) -> Result<(), ChainErr>
         requires ranked { IsRanked (devices_in self.now) }
         requires known { d.dev < length self.now }
         ensures visits { OnOk result (Visits (devices_in self.now) d (V.visited v.old) (V.visited v.new)) }
         ensures gap { IfErr result (HasGap (devices_in self.now) d) }
+        ensures front { OnErr result (Begins (devices_in self.now) (whole d) (V.visited v.old) (V.visited v.new)) }
     {
         remap_in(alloc, self.devs.as_slice(), d, v)
     }

@@ -1,9 +1,9 @@
 //! The walk from an address to the places of its units.
-ghost use Rattle.std.specs.Prelude.{◌≡◌, ◌+◌, ◌<◌, ◌∷◌, ◌^◌, [], length, OnOk, IfOk, IfErr};
+ghost use Rattle.std.specs.Prelude.{◌≡◌, ◌+◌, ◌<◌, ◌∷◌, ◌^◌, [], length, OnOk, OnErr, IfOk, IfErr};
 ghost use Rattle.zr_rules.specs.Resolve.{IsRanked};
 ghost use Rattle.zr_imap.specs.Searches.{IsImage};
 ghost use Rattle.zr_chain.specs.Chains.{devices_in};
-ghost use Rattle.zr_chain.specs.Visits.{IsTold, Follows, Visits, HasGap, PassesGap, LacksEntry};
+ghost use Rattle.zr_chain.specs.Visits.{Begins, IsTold, Follows, whole, Visits, HasGap, PassesGap, LacksEntry};
 
 use crate::devs::{Dev, is_gone};
 use crate::visit::{ChainErr, Visit};
@@ -33,6 +33,7 @@ fn tell<V: Visit>(alloc: Global, devs: &[Dev], p: Piece, v: &mut V) -> Result<Ve
     requires { p.dev < length devs.now }
     ensures told { IfOk result (λ parts. IsTold (devices_in devs.now) p parts.items (V.visited v.old) (V.visited v.new)) }
     ensures gap { IfErr result (PassesGap (devices_in devs.now) p) }
+    ensures front { OnErr result (Begins (devices_in devs.now) (p ∷ []) (V.visited v.old) (V.visited v.new)) }
 {
     let dev = &devs[p.dev as usize];
     let row = dev.row();
@@ -51,6 +52,7 @@ fn visit<V: Visit>(alloc: Global, devs: &[Dev], p: Piece, v: &mut V) -> Result<(
     requires bound { p.split + p.at.len < 2 ^ 64 }
     ensures visits { OnOk result (Follows (devices_in devs.now) (p ∷ []) (V.visited v.old) (V.visited v.new)) }
     ensures gap { IfErr result (PassesGap (devices_in devs.now) p) }
+    ensures front { OnErr result (Begins (devices_in devs.now) (p ∷ []) (V.visited v.old) (V.visited v.new)) }
 {
     let parts = tell(alloc, devs, p, v)?;
     for part in parts.iter() {
@@ -70,6 +72,7 @@ pub fn remap_in<V: Visit>(alloc: Global, devs: &[Dev], d: Dva, v: &mut V) -> Res
     requires known { d.dev < length devs.now }
     ensures visits { OnOk result (Visits (devices_in devs.now) d (V.visited v.old) (V.visited v.new)) }
     ensures gap { IfErr result (HasGap (devices_in devs.now) d) }
+    ensures front { OnErr result (Begins (devices_in devs.now) (whole d) (V.visited v.old) (V.visited v.new)) }
 {
     if d.len == 0 {
         return Ok(());

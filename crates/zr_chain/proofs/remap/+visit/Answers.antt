@@ -1,10 +1,12 @@
-use Rattle.std.proofs.Common.{rules, ◌+◌, ◌^◌, ◌<◌, length, arith}
+use Rattle.std.proofs.Common.{rules, [], ◌∷◌, ◌+◌, ◌^◌, ◌<◌, length, arith}
 use Rattle.std.specs.Prelude.{slice_index_or}
 use Rattle.zr_imap.specs.declared.image.Piece.{Piece as Part}
 use Rattle.zr_chain.specs.Chains.{devices_in}
 use Rattle.zr_chain.specs.Visits.{PassesGap}
 use Rattle.zr_chain.proofs.Ranks.{later_count}
 use Rattle.zr_chain.proofs.Parts.{no_piece, IsPartOf, IsHop, part_at, hop_of, gap_below, follows_more, follows_told}
+use Rattle.zr_chain.specs.Visits.{Begins}
+use Rattle.zr_chain.proofs.Begun.{begins_part}
 use Rattle.zr_chain.proofs.remap.+visit.Goals as goal
 
 pub overflow_add-part : goal.overflow_add-part
@@ -40,3 +42,10 @@ loop-part-preserved g t c = follows_more (devices_in c.args.devs.now) c.args.p.s
 pub returns-clause-visits : goal.returns-clause-visits
 returns-clause-visits g t c =
     follows_told (devices_in c.args.devs.now) c.args.p _ c.deref-part-items.result.now c.loop-part.part-index _ _ _ c.in_ok-parts.ensures.told c.deref-part-items.ensures.value c.loop-part-test.false c.loop-part.invariant
+
+pub returns-in_err-visit-clause-front : goal.returns-in_err-visit-clause-front
+returns-in_err-visit-clause-front g t c =
+    let ds = devices_in c.args.devs.now in
+    let hop : IsHop ds c.args.p c.deref-part-items.result.now _ _ = hop_of ds c.args.p _ c.deref-part-items.result.now c.loop-part.part-index _ _ c.in_ok-parts.ensures.told c.deref-part-items.ensures.value c.loop-part-test.true in
+    let begun : Begins ds (c.args.p ∷ []) _ _ = begins_part ds c.args.p c.deref-part-items.result.now c.loop-part.part-index _ _ _ _ hop c.loop-part-test.true c.loop-part.invariant c.in_err-visit.ensures.front in
+    search rules
