@@ -6,10 +6,12 @@
 #![tactic(auto)]
 
 mod devs;
+mod laws;
 mod remap;
 #[cfg(test)]
 mod tests;
 mod visit;
 
 pub use devs::Devs;
+pub use laws::visits_of_two_removals;
 pub use visit::{ChainErr, Visit, Visited};
