@@ -1,11 +1,14 @@
 -- A search by halves in a rising list of entries.
-use Rattle.std.proofs.Common.{◌≡◌, ◌≢◌, ℕ, zero, suc, ◌+◌, ◌-◌, ◌*◌, ◌^◌, ◌<◌, ◌≤◌, max, Bool, true, false, ◌||◌, List, [], ◌∷◌, ◌++◌, length, take, drop, refl, sym, arith, nat_le, nat_lt, Some, ◌∙◌, ⊎_elim, ap, ap₂}
+use Rattle.std.proofs.Common.{◌≡◌, ◌≢◌, ℕ, zero, suc, ◌+◌, ◌-◌, ◌*◌, ◌^◌, ◌<◌, ◌≤◌, max, Bool, true, false, ◌||◌, List, [], ◌∷◌, ◌++◌, length, take, drop, map, filter, min, refl, sym, arith, nat_le, nat_lt, Some, ◌∙◌, ⊎_elim, ap, ap₂}
 use Rattle.std.proofs.lemmas.Bool.Decides.{nat_tests}
 use Rattle.std.proofs.lemmas.Bool.{or_parts, or_from, and_from, and_left, and_right, le-leb, lt-leb, lt-ltb, le-ltb, cases_lt}
 use Rattle.std.proofs.Math.Nat.{mul-le-mul_left, pow-suc}
 use Rattle.zr_base.specs.declared.space.Entry.{Entry}
 use Rattle.zr_rules.specs.Mappings.{entry_at, IsEntry, IsRisingFrom, IsRising, IsAfterAll, in_source, has_source, entry_order, target}
-use Rattle.zr_imap.specs.Searches.{piece_target, FollowFrom, IsSearchable}
+use Rattle.zr_rules.specs.Steps.{moved_part, meets}
+use Rattle.zr_base.specs.declared.space.Dva.{Dva}
+use Rattle.std.specs.Prelude.{if◌then◌else◌, ◌⊎◌}
+use Rattle.zr_imap.specs.Searches.{piece_target, FollowFrom, IsSearchable, place_of, moved_parts}
 use Rattle.zr_imap.specs.declared.image.Piece.{Piece}
 use Rattle.std.specs.declared.cmp.Ordering.{Ordering}
 use Rattle.std.specs.declared.cmp.Ordering.TheVariants.{Less, Equal, Greater}
@@ -216,3 +219,85 @@ pub take_one_more : (i : ℕ) (xs : List Entry) → i < length xs → take (suc 
 take_one_more i [] i_in = absurd (omega arith)
 take_one_more zero (x ∷ xs) i_in = refl
 take_one_more (suc i) (x ∷ xs) i_in = ap (λ (es : List Entry). x ∷ es) (take_one_more i xs (omega arith))
+
+or-true : (x : Bool) → (x || true) ≡ true
+or-true true = refl
+or-true false = refl
+
+-- the entry that has a unit is one of the entries
+pub has_source-at : (u i : ℕ) (xs : List Entry) → i < length xs → (entry_at xs i).src ≤ u → u < (entry_at xs i).src + (entry_at xs i).len → has_source xs u ≡ true
+has_source-at u i [] i_in starts ends = absurd (omega arith)
+has_source-at u zero (x ∷ xs) i_in starts ends = rw (and_from (nat_le x.src u) (nat_lt u (x.src + x.len)) (le-leb x.src u starts) (lt-ltb u (x.src + x.len) ends)) refl
+has_source-at u (suc i) (x ∷ xs) i_in starts ends = rw (has_source-at u i xs (omega arith) starts ends) (or-true (in_source x u))
+
+-- ---- pieces are cut as the entries are
+
+meets-not_before : (u n : ℕ) (e : Entry) → e.src + e.len ≤ u → meets u n e ≡ false
+meets-not_before u n e le = and_left (nat_lt u (e.src + e.len)) (nat_lt e.src (u + n)) (le-ltb u (e.src + e.len) le)
+
+meets-not_after : (u n : ℕ) (e : Entry) → u + n ≤ e.src → meets u n e ≡ false
+meets-not_after u n e le = and_right (nat_lt u (e.src + e.len)) (nat_lt e.src (u + n)) (le-ltb e.src (u + n) le)
+
+filter_step : (p : Entry → Bool) (x : Entry) (xs : List Entry) → p x ≡ false → filter p (x ∷ xs) ≡ filter p xs
+filter_step p x xs h = rw h refl
+
+-- entries that end by the extent make no part of it
+pub parts-before : (low u n i : ℕ) (xs : List Entry) → IsRisingFrom low xs → i < length xs → (entry_at xs i).src ≤ u → moved_parts (take i xs) u n ≡ []
+parts-before low u n i [] m i_in le = absurd (omega arith)
+parts-before low u n zero (x ∷ xs) m i_in le = refl
+parts-before low u n (suc i) (x ∷ xs) m i_in le =
+    let ends : x.src + x.len ≤ (entry_at xs i).src = low_le_src (x.src + x.len) i xs m.2 (omega arith) in
+    ap (map (moved_part u n)) (filter_step (meets u n) x (take i xs) (meets-not_before u n x (omega arith))) ∙ parts-before (x.src + x.len) u n i xs m.2 (omega arith) le
+
+none_after : (low u n : ℕ) (xs : List Entry) → IsRisingFrom low xs → u + n ≤ low → moved_parts xs u n ≡ []
+none_after low u n [] m le = refl
+none_after low u n (x ∷ xs) m le =
+    let from = m.0 in
+    ap (map (moved_part u n)) (filter_step (meets u n) x xs (meets-not_after u n x (omega arith))) ∙ none_after (x.src + x.len) u n xs m.2 (omega arith)
+
+-- where the next entry begins at its end or above, the others make no part of it either
+pub parts-all : (low u n i : ℕ) (xs : List Entry) → IsRisingFrom low xs → (i < length xs → u + n ≤ (entry_at xs i).src) → moved_parts (take i xs) u n ≡ moved_parts xs u n
+parts-all low u n zero [] m h = refl
+parts-all low u n (suc i) [] m h = refl
+parts-all low u n zero (x ∷ xs) m h =
+    let from = h (omega arith) in
+    sym (ap (map (moved_part u n)) (filter_step (meets u n) x xs (meets-not_after u n x from)) ∙ none_after (x.src + x.len) u n xs m.2 (omega arith))
+parts-all low u n (suc i) (x ∷ xs) m h =
+    let rest = parts-all (x.src + x.len) u n i xs m.2 (λ lt. h (omega arith)) in
+    step (meets u n x) rest
+  where
+    step : (b : Bool) → moved_parts (take i xs) u n ≡ moved_parts xs u n → map (moved_part u n) (if b then x ∷ filter (meets u n) (take i xs) else filter (meets u n) (take i xs)) ≡ map (moved_part u n) (if b then x ∷ filter (meets u n) xs else filter (meets u n) xs)
+    step true rest = ap (λ (t : List Dva). moved_part u n x ∷ t) rest
+    step false rest = rest
+
+-- one entry more that has units of it
+pub parts-more : (u n i : ℕ) (xs : List Entry) → i < length xs → meets u n (entry_at xs i) ≡ true → moved_parts (take (suc i) xs) u n ≡ moved_parts (take i xs) u n ++ moved_part u n (entry_at xs i) ∷ []
+parts-more u n i [] lt h = absurd (omega arith)
+parts-more u n zero (x ∷ xs) lt h = rw h refl
+parts-more u n (suc i) (x ∷ xs) lt h = step (meets u n x) (parts-more u n i xs (omega arith) h)
+  where
+    step : (b : Bool) → moved_parts (take (suc i) xs) u n ≡ moved_parts (take i xs) u n ++ moved_part u n (entry_at xs i) ∷ [] →
+        map (moved_part u n) (if b then x ∷ filter (meets u n) (take (suc i) xs) else filter (meets u n) (take (suc i) xs)) ≡ map (moved_part u n) (if b then x ∷ filter (meets u n) (take i xs) else filter (meets u n) (take i xs)) ++ moved_part u n (entry_at xs i) ∷ []
+    step true rest = ap (λ (t : List Dva). moved_part u n x ∷ t) rest
+    step false rest = rest
+
+pub meets-both : (u n : ℕ) (e : Entry) → u < e.src + e.len → e.src < u + n → meets u n e ≡ true
+meets-both u n e h k = and_from (nat_lt u (e.src + e.len)) (nat_lt e.src (u + n)) (lt-ltb u (e.src + e.len) h) (lt-ltb e.src (u + n) k)
+
+abbrev dva_of : ℕ → ℕ → ℕ → Dva
+dva_of dev start len = record { dev = dev; start = start; len = len }
+
+-- the piece that follows is the part of its entry
+pub part_is : (u n done m : ℕ) (e : Entry) (p : Piece) → p.dev ≡ e.dev → p.at.start ≡ e.dst + (u + done - e.src) → p.at.len ≡ m → m ≡ min (e.len - (u + done - e.src)) (n - done) → e.src ≤ u + done → u + done < e.src + e.len → done < n →
+    (done ≡ 0) ⊎ (u + done ≤ e.src) → place_of p ≡ moved_part u n e
+part_is u n done m e p dev start len least starts ends within place =
+    same p.dev p.at.start p.at.len e.dev (e.dst + (max u e.src - e.src)) (min (u + n) (e.src + e.len) - max u e.src) dev
+    (⊎_elim (λ zero_done. omega (arith, zero_done)) (λ joins. omega (arith, joins)) place)
+    (⊎_elim (λ zero_done. omega (arith, zero_done)) (λ joins. omega (arith, joins)) place)
+  where
+    same : (a b c d e f : ℕ) → a ≡ d → b ≡ e → c ≡ f → dva_of a b c ≡ dva_of d e f
+    same a b c d e f h k l = rw (h, k, l) refl
+
+pub map_push : {X Y : Type 0} (f : X → Y) (xs : List X) (x : X) → map f (xs ++ x ∷ []) ≡ map f xs ++ f x ∷ []
+map_push f [] x = refl
+map_push {Y = Y} f (y ∷ ys) x = ap (λ (t : List Y). f y ∷ t) (map_push f ys x)

@@ -1,2 +1,3 @@
 pub mod Searches
 pub mod Pages
+pub mod Spelling

@@ -1,7 +1,7 @@
 //! Where the units of an extent went.
 ghost use Rattle.std.specs.Prelude.{◌≡◌, ℕ, ◌+◌, ◌≤◌, ◌<◌, ◌^◌, length, MatchOption, IfOk, IfSome};
 ghost use Rattle.zr_rules.specs.Mappings.{IsRising, HasSourceAt};
-ghost use Rattle.zr_imap.specs.Searches.{IsImage, MissesUnit, IsCheap};
+ghost use Rattle.zr_imap.specs.Searches.{IsImage, MissesUnit, IsFirstGap, IsCheap};
 
 use crate::sorted::{Sorted, search};
 use crate::steps::Steps;
@@ -118,4 +118,40 @@ pub fn image_of<O: Sorted>(
     ensures found { IfOk result (λ found. MatchOption found (MissesUnit (O.entries sorted.now) e) (λ ps. IsImage (O.entries sorted.now) e ps.items)) }
 {
     pieces_counted::<O, Brand>(alloc, sorted, e, Blank::new(1))
+}
+
+/// The lowest unit of an extent that has no entry, where one of them has none. It takes a search and a step for each
+/// entry before it.
+pub fn first_gap<O: Sorted, L: Ledger>(sorted: &O, e: Extent, steps: &mut Steps<L>) -> u64
+    requires rising { IsRising (O.entries sorted.now) }
+    requires gap { MissesUnit (O.entries sorted.now) e }
+    ensures { IsFirstGap (O.entries sorted.now) e result }
+{
+    let mut u = e.start;
+    while let Some(i) = search(sorted, u, steps) {
+        let found = sorted.item(i, steps);
+        u = found.src + found.len as u64;
+    }
+    u
+}
+
+fn gap_counted<O: Sorted, L: Ledger>(sorted: &O, e: Extent, blank: Blank) -> u64
+    requires rising { IsRising (O.entries sorted.now) }
+    requires gap { MissesUnit (O.entries sorted.now) e }
+    requires name { blank.name ≡ L.name }
+    requires parts { blank.parts ≡ L.parts }
+    requires some { 0 < L.parts }
+    ensures { IsFirstGap (O.entries sorted.now) e result }
+{
+    let mut steps: Steps<L> = Steps::open(blank);
+    first_gap(sorted, e, &mut steps)
+}
+
+/// `first_gap` for a caller that does not read the count.
+pub fn gap_in<O: Sorted>(sorted: &O, e: Extent) -> u64
+    requires rising { IsRising (O.entries sorted.now) }
+    requires gap { MissesUnit (O.entries sorted.now) e }
+    ensures { IsFirstGap (O.entries sorted.now) e result }
+{
+    gap_counted::<O, Brand>(sorted, e, Blank::new(1))
 }

@@ -10,11 +10,13 @@ mod image;
 mod page;
 mod pages;
 mod sorted;
+mod spelling;
 mod steps;
 #[cfg(test)]
 mod tests;
 
-pub use image::{Piece, image_of, pieces};
+pub use image::{Piece, first_gap, gap_in, image_of, pieces};
 pub use pages::Imap;
 pub use sorted::{Sorted, search};
+pub use spelling::{ENTRY_BYTES, decode_entry, encode_entry, is_writable};
 pub use steps::Steps;

@@ -1,7 +1,7 @@
 //! Two mappings whose look-ups are known.
 ghost use Rattle.std.specs.Prelude.{◌≡◌, ◌<◌};
 
-use crate::{Imap, Piece, Steps, image_of};
+use crate::{Imap, Piece, Steps, decode_entry, encode_entry, gap_in, image_of, is_writable};
 use std::marker::Brand;
 use std::sync::ledger::{Blank, Ledger};
 use std::test::Fail;
@@ -50,5 +50,28 @@ fn two_entries(rt: HostRuntime) -> Result<(), Fail> {
     assert_eq!(rt; both.as_slice(), [first, second].as_slice());
     let missing = image_of(rt.alloc(), &map, Extent { start: 14, len: 2 })?;
     assert!(rt; missing.is_none());
+    assert_eq!(rt; gap_in(&map, Extent { start: 14, len: 2 }), 15);
     Ok(())
+}
+
+#[test]
+fn bytes_of_an_entry(rt: HostRuntime) {
+    let e = Entry {
+        src: 10,
+        dev: 1,
+        dst: 7,
+        len: 3,
+    };
+    assert!(rt; is_writable(&e));
+    let bytes = encode_entry(&e);
+    assert_eq!(rt; &bytes[..8], [0x50, 0, 0, 0, 0, 0, 0, 0].as_slice());
+    assert_eq!(rt; &bytes[8..16], [0x18, 0, 0, 0, 1, 0, 0, 0].as_slice());
+    assert_eq!(rt; &bytes[16..], [0x38, 0, 0, 0, 0, 0, 0, 0].as_slice());
+    assert_eq!(rt; decode_entry(&bytes), Some(e));
+    let mut odd = bytes;
+    odd[0] = 0x51;
+    assert_eq!(rt; decode_entry(&odd), None);
+    let mut high = bytes;
+    high[7] = 0x80;
+    assert_eq!(rt; decode_entry(&high), None);
 }
