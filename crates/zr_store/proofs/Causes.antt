@@ -1,5 +1,5 @@
 -- What calls take one after the other, and whose errors they answer.
-use Rattle.std.proofs.Common.{◌≡◌, ◌+◌, ◌*◌, ◌≤◌, ◌⊎◌, inl, inr, ℕ, Result, Ok, Err, refl, sym, ◌∙◌, ap, arith}
+use Rattle.std.proofs.Common.{◌≡◌, ◌+◌, ◌*◌, ◌≤◌, ◌⊎◌, inl, inr, ℕ, Result, Ok, Err, refl, sym, ◌∙◌, ap, subst, arith}
 use Rattle.std.specs.Prelude.{IfErr, IsErrOf}
 use Rattle.std.proofs.Math.Nat.{add-mul, mul-le-mul_right}
 use Rattle.zr_base.specs.Counts.{HasRisen}
@@ -95,6 +95,10 @@ cause_again {T} {U} {q} {a} {b} {e} h = record {
   unresolved = λ at expected is. h.unresolved at expected (again e (Unresolved at expected) is);
   damaged = λ at expected found is. h.damaged at expected found (again e (Damaged at expected found) is);
 }
+
+-- the error that a `?` hands on
+pub cause_from : {T U : Type 0} {q : ℕ} {a b : Account} (r : Result U StoreErr) (e : StoreErr) → (y : StoreErr) × (r ≡ Err y) × (y ≡ e) → HasCause {T = T} q a b (Err e) → HasCause q a b r
+cause_from {T} {U} {q} {a} {b} r e given h = subst (λ (x : Result U StoreErr). HasCause q a b x) (sym (given.1 ∙ ap (λ (y : StoreErr). Err y) given.2)) (cause_again {T = T} {U = U} h)
 
 -- no error has no cause
 pub cause_ok : {T : Type 0} {q : ℕ} {a b : Account} (v : T) → HasCause q a b (Ok v)

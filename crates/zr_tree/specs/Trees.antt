@@ -1,5 +1,5 @@
 -- What a tree in a store means.
-use Rattle.std.specs.Prelude.{◌≡◌, ◌/◌, ◌%◌, ◌^◌, ◌≤◌, nat_eq, nat_lt, if◌then◌else◌, ℕ, zero, suc, List, [], ◌∷◌, ◌++◌, slice_index_or, All, Result, IsErrOf, ◌+◌, sum_by, ◌<◌}
+use Rattle.std.specs.Prelude.{◌≡◌, ◌/◌, ◌%◌, ◌^◌, ◌*◌, ◌-◌, ◌≤◌, nat_eq, nat_lt, if◌then◌else◌, ℕ, zero, suc, List, [], ◌∷◌, ◌++◌, slice_index_or, All, Result, IsErrOf, ◌+◌, sum_by, ◌<◌}
 use Rattle.std.specs.List.{flat_map, AllByRecursion}
 use Rattle.zr_base.specs.declared.space.Dva.{Dva}
 use Rattle.zr_bptr.specs.declared.Bptr.{Bptr}
@@ -134,6 +134,15 @@ pub record SetsTree (changes : List (ℕ × Ptr)) (old new : Stored) (t u : Tree
   pub leaves : (index : ℕ) → tree_at new u index ≡ updated changes index (tree_at old t index)
   pub swaps : Swaps old new (tree_blocks old t) (tree_blocks new u)
   pub swaps_leaves : Rises changes → SwapsLeaves changes (tree_leaves old t) (tree_leaves new u) (tree_at old t)
+
+-- at most so many blocks are put where a tree of the one height becomes one of the other by so many changes: the way to
+-- each change, and where it grows also the way to what it was
+abbrev pub most_puts : ℕ → ℕ → ℕ → ℕ
+most_puts old new changes = if nat_eq old new then new * changes else (new - 1) * changes + (new - old)
+
+-- and at most so many are given back
+abbrev pub most_frees : ℕ → ℕ → ℕ → ℕ
+most_frees old new changes = if nat_eq old new then new * changes else (new - 1) * changes
 
 -- the least height from this one on that has room for the changes
 pub record IsHeightFor (from : ℕ) (changes : List (ℕ × Ptr)) (height : ℕ) : Type 0 where

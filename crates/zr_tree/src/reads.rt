@@ -3,7 +3,7 @@
 //! The time is linear in the height, which is at most 5.
 ghost use Rattle.std.specs.Prelude.{◌≡◌, ◌+◌, ◌*◌, ◌-◌, ◌/◌, ◌%◌, ◌^◌, ◌<◌, ◌≤◌, List, [], ◌∷◌, ℕ, length, All, IfOk};
 ghost use Rattle.zr_tree.specs.Blocks.{FitsAt};
-ghost use Rattle.zr_store.specs.Causes.{HasCause};
+ghost use Rattle.zr_store.specs.Causes.{Costs, HasCause};
 ghost use Rattle.zr_bptr.specs.Spelling.{IsTree};
 ghost use Rattle.zr_tree.specs.Trees.{kids, leaf_at, tree_at, blocks, tree_blocks, IsBadOnly, IsResolved};
 ghost use Rattle.zr_store.specs.Store.{AreStored};
@@ -36,7 +36,8 @@ pub(crate) fn read_block<B: Blocks>(
     b: &Bptr,
 ) -> Result<Vec<Ptr>, StoreErr>
     requires { below < 5 }
-    ensures cause { HasCause (B.counts store.old) (B.counts store.new) result }
+    ensures costs { Costs 0 0 (B.account store.old) (B.account store.new) }
+    ensures cause { HasCause 0 (B.account store.old) (B.account store.new) result }
     ensures told { B.tells store.old → B.tells store.new }
     ensures same { B.tells store.old → B.holds store.new ≡ B.holds store.old }
     ensures malformed { B.tells store.old → IsBadOnly (B.holds store.old) result }
@@ -64,7 +65,8 @@ pub(crate) fn get_below<B: Blocks>(
 ) -> Result<Ptr, StoreErr>
     requires tall { level ≤ 5 }
     requires fits { FitsAt level p.now }
-    ensures cause { HasCause (B.counts store.old) (B.counts store.new) result }
+    ensures costs { Costs 0 0 (B.account store.old) (B.account store.new) }
+    ensures cause { HasCause 0 (B.account store.old) (B.account store.new) result }
     ensures told { B.tells store.old → B.tells store.new }
     ensures same { B.tells store.old → B.holds store.new ≡ B.holds store.old }
     ensures malformed { B.tells store.old → IsBadOnly (B.holds store.old) result }
@@ -89,7 +91,8 @@ pub(crate) fn get_below<B: Blocks>(
 /// The leaf pointer at an index.
 pub fn get<B: Blocks>(alloc: Global, store: &mut B, t: &Tree, index: u64) -> Result<Ptr, StoreErr>
     requires tree { IsTree t.now }
-    ensures cause { HasCause (B.counts store.old) (B.counts store.new) result }
+    ensures costs { Costs 0 0 (B.account store.old) (B.account store.new) }
+    ensures cause { HasCause 0 (B.account store.old) (B.account store.new) result }
     ensures told { B.tells store.old → B.tells store.new }
     ensures same { B.tells store.old → B.holds store.new ≡ B.holds store.old }
     ensures malformed { B.tells store.old → IsBadOnly (B.holds store.old) result }

@@ -4,7 +4,7 @@
 ghost use Rattle.std.specs.Prelude.{◌≡◌, ◌+◌, ◌-◌, ◌<◌, ◌≤◌, ◌++◌, ◌∷◌, [], List, ℕ, All, OnOk, OnErr, IfOk, IsTrue, if◌then◌else◌};
 ghost use Rattle.zr_bptr.specs.declared.Bptr.{Bptr};
 ghost use Rattle.zr_tree.specs.Blocks.{FitsAt};
-ghost use Rattle.zr_store.specs.Causes.{HasCause};
+ghost use Rattle.zr_store.specs.Causes.{Costs, HasCause};
 ghost use Rattle.zr_bptr.specs.Spelling.{IsTree};
 ghost use Rattle.zr_tree.specs.Trees.{reach, tree_reach, MarksFront, IsBadOnly};
 
@@ -21,7 +21,8 @@ fn walk_below<B: Blocks>(
     out: &mut Vec<Bptr>,
 ) -> Result<(), StoreErr>
     requires { level ≤ 5 }
-    ensures cause { HasCause (B.counts store.old) (B.counts store.new) result }
+    ensures costs { Costs 0 0 (B.account store.old) (B.account store.new) }
+    ensures cause { HasCause 0 (B.account store.old) (B.account store.new) result }
     ensures told { B.tells store.old → B.tells store.new }
     ensures same { B.tells store.old → B.holds store.new ≡ B.holds store.old }
     ensures malformed { B.tells store.old → IsBadOnly (B.holds store.old) result }
@@ -46,7 +47,8 @@ fn walk_below<B: Blocks>(
 /// The tree blocks and the leaves, each block before what lies below it.
 pub fn walk<B: Blocks>(alloc: Global, store: &mut B, t: &Tree) -> Result<Vec<Bptr>, StoreErr>
     requires { IsTree t.now }
-    ensures cause { HasCause (B.counts store.old) (B.counts store.new) result }
+    ensures costs { Costs 0 0 (B.account store.old) (B.account store.new) }
+    ensures cause { HasCause 0 (B.account store.old) (B.account store.new) result }
     ensures told { B.tells store.old → B.tells store.new }
     ensures same { B.tells store.old → B.holds store.new ≡ B.holds store.old }
     ensures malformed { B.tells store.old → IsBadOnly (B.holds store.old) result }
@@ -75,7 +77,8 @@ fn walk_marked_below<B: Blocks, M: Mark>(
     m: &mut M,
 ) -> Result<bool, StoreErr>
     requires { level ≤ 5 }
-    ensures cause { HasCause (B.counts store.old) (B.counts store.new) result }
+    ensures costs { Costs 0 0 (B.account store.old) (B.account store.new) }
+    ensures cause { HasCause 0 (B.account store.old) (B.account store.new) result }
     ensures told { B.tells store.old → B.tells store.new }
     ensures same { B.tells store.old → B.holds store.new ≡ B.holds store.old }
     ensures malformed { B.tells store.old → IsBadOnly (B.holds store.old) result }
@@ -109,7 +112,8 @@ pub fn walk_marked<B: Blocks, M: Mark>(
     m: &mut M,
 ) -> Result<bool, StoreErr>
     requires { IsTree t.now }
-    ensures cause { HasCause (B.counts store.old) (B.counts store.new) result }
+    ensures costs { Costs 0 0 (B.account store.old) (B.account store.new) }
+    ensures cause { HasCause 0 (B.account store.old) (B.account store.new) result }
     ensures told { B.tells store.old → B.tells store.new }
     ensures same { B.tells store.old → B.holds store.new ≡ B.holds store.old }
     ensures malformed { B.tells store.old → IsBadOnly (B.holds store.old) result }

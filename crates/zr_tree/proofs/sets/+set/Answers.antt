@@ -1,13 +1,18 @@
-use Rattle.std.proofs.Common.{◌≡◌, ◌∙◌, ◌-◌, ◌/◌, ◌%◌, ◌^◌, ◌<◌, ℕ, List, suc, length, get_or, take, drop, set, sym, subst, arith, rules, length-drop}
+use Rattle.std.proofs.Common.{◌≡◌, ◌∙◌, ◌+◌, ◌-◌, ◌≤◌, ◌/◌, ◌%◌, ◌^◌, ◌<◌, ℕ, nat_eq, false, Bool, List, suc, length, get_or, take, drop, set, sym, subst, arith, rules, length-drop}
 use Rattle.std.specs.List.{flat_map}
 use Rattle.std.proofs.Math.Seq.{take-add}
 use Rattle.std.proofs.lemmas.Bool.{eqb-false}
-use Rattle.std.proofs.lemmas.List.{get_or_default, take_all}
+use Rattle.std.proofs.lemmas.List.{get_or_default, length-take, take_all}
 use Rattle.zr_bptr.specs.declared.Ptr.{Ptr}
 use Rattle.zr_bptr.specs.declared.Ptr.TheVariants.{Hole}
 use Rattle.zr_store.specs.Store.{Stored, AreStored}
+use Rattle.zr_tree.specs.Blocks.{FitsAt}
+use Rattle.std.proofs.lemmas.List.Elements.{All-set}
 use Rattle.zr_tree.specs.Trees.{AllAt, Sets, SetsEach, IsOpen, blocks}
 use Rattle.zr_tree.proofs.Below.{leaf_set, below_stored, own_stored, copied}
+use Rattle.zr_tree.proofs.Costing.{run_costs, run_cause, put_costs, put_cause, copy_costs, free_cause}
+use Rattle.zr_store.proofs.Causes.{cause_from}
+use Rattle.std.proofs.lemmas.Result.{err_from_is_err_and}
 use Rattle.zr_tree.proofs.Each.{one_more, child_stored, row_of}
 use Rattle.zr_tree.proofs.sets.+set.Goals as goal
 
@@ -52,9 +57,14 @@ set_each-loop-from-preserved g t c = record {
   within = search rules;
   low = search rules;
   count = search rules;
-  fit = search rules;
+  fit = All-set (FitsAt (c.args.level - 1)) c.loop-from.pointers.items (c.place_of-child.result % 32) c.in_ok-new.new c.in_ok-new.ensures.fits c.loop-from.invariant.fit;
   told = search rules;
-  later = search rules;
+  costs =
+      let changes = c.args.changes.now in
+      let from = c.loop-from.from in
+      let n = c.run_len-n.result in
+      let rest = take (length changes - from) (drop from changes) in
+      run_costs (c.args.level - 1) from (length (take n rest)) (from + n) (omega (arith, length-take n rest)) c.loop-from.invariant.costs c.set_below.ensures.costs;
   sets = λ told held.
       let below = c.args.level - 1 in
       let place = c.args.place in
@@ -89,3 +99,60 @@ set_each-loop-from-preserved g t c = record {
       subst (λ (done : List (ℕ × Ptr)). SetsEach below place done s0 s2 qs (set ps (child % 32) p)) (sym (take-add from n changes))
       (one_more below place child (take from changes) here s0 s1 s2 qs ps p count so_far one held (g.met.B.Blocks.once c.loop-from.store told1) at row);
 }
+
+some_changes : (n : ℕ) (e : Bool) → e ≡ nat_eq n 0 → e ≡ false → 0 < n
+some_changes n e is none = let ne = eqb-false n 0 (sym is ∙ none) in omega (arith, ne)
+
+pub set_below-returns-in_err-new-clause-costs : goal.set_below-returns-in_err-new-clause-costs
+set_below-returns-in_err-new-clause-costs g t c =
+    let some = some_changes (length c.args.changes.now) c.is_empty.result c.is_empty.ensures c.if-is_empty.false in
+    put_costs c.args.level (length c.args.changes.now) (omega arith) some c.open_block.ensures.costs c.set_each.ensures.costs c.put_block.ensures.costs
+
+pub set_below-returns-in_err-new-clause-cause : goal.set_below-returns-in_err-new-clause-cause
+set_below-returns-in_err-new-clause-cause g t c =
+    let some = some_changes (length c.args.changes.now) c.is_empty.result c.is_empty.ensures c.if-is_empty.false in
+    cause_from {T = Ptr} c.from_residual-in_err-new.result c.in_err-new.field-0.0 (err_from_is_err_and c.from_residual-in_err-new.result c.from_residual-in_err-new.ensures.1)
+    (put_cause c.args.level (length c.args.changes.now) (omega arith) some c.open_block.ensures.costs c.set_each.ensures.costs c.in_err-new.ensures.cause)
+
+pub set_below-returns-in_err-free_block-clause-costs : goal.set_below-returns-in_err-free_block-clause-costs
+set_below-returns-in_err-free_block-clause-costs g t c =
+    let some = some_changes (length c.args.changes.now) c.is_empty.result c.is_empty.ensures c.if-is_empty.false in
+    copy_costs c.args.level (length c.args.changes.now) (omega arith) some c.open_block.ensures.costs c.set_each.ensures.costs c.put_block.ensures.costs c.free_block.ensures.costs
+
+pub set_below-returns-in_err-free_block-clause-cause : goal.set_below-returns-in_err-free_block-clause-cause
+set_below-returns-in_err-free_block-clause-cause g t c =
+    let some = some_changes (length c.args.changes.now) c.is_empty.result c.is_empty.ensures c.if-is_empty.false in
+    let e = c.in_err-free_block in
+    let r = c.from_residual-in_err-free_block in
+    cause_from {T = Unit {0}} r.result e.field-0.0 (err_from_is_err_and r.result r.ensures.1)
+    (free_cause c.args.level (length c.args.changes.now) (omega arith) some c.open_block.ensures.costs c.set_each.ensures.costs c.put_block.ensures.costs e.ensures.cause)
+
+pub set_below-returns-clause-costs : goal.set_below-returns-clause-costs
+set_below-returns-clause-costs g t c =
+    let some = some_changes (length c.args.changes.now) c.is_empty.result c.is_empty.ensures c.if-is_empty.false in
+    copy_costs c.args.level (length c.args.changes.now) (omega arith) some c.open_block.ensures.costs c.set_each.ensures.costs c.put_block.ensures.costs c.free_block.ensures.costs
+
+-- a run lies within the changes
+run_within : (changes : List (ℕ × Ptr)) (from n : ℕ) → from ≤ length changes → from + length (take n (take (length changes - from) (drop from changes))) ≤ length changes
+run_within changes from n le =
+    let rest = take (length changes - from) (drop from changes) in
+    omega (arith, le, length-take n rest, length-take (length changes - from) (drop from changes), length-drop from changes)
+
+pub set_each-returns-in_err-new-clause-costs : goal.set_each-returns-in_err-new-clause-costs
+set_each-returns-in_err-new-clause-costs g t c =
+    let changes = c.args.changes.now in
+    let from = c.loop-from.from in
+    let n = c.run_len-n.result in
+    let some = length (take n (take (length changes - from) (drop from changes))) in
+    run_costs (c.args.level - 1) from some (length changes) (run_within changes from n (omega arith)) c.loop-from.invariant.costs c.set_below.ensures.costs
+
+pub set_each-returns-in_err-new-clause-cause : goal.set_each-returns-in_err-new-clause-cause
+set_each-returns-in_err-new-clause-cause g t c =
+    let changes = c.args.changes.now in
+    let from = c.loop-from.from in
+    let n = c.run_len-n.result in
+    let some = length (take n (take (length changes - from) (drop from changes))) in
+    let e = c.in_err-new in
+    let r = c.from_residual in
+    cause_from {T = Ptr} r.result e.field-0.0 (err_from_is_err_and r.result r.ensures.1)
+    (run_cause (c.args.level - 1) from some (length changes) (run_within changes from n (omega arith)) c.loop-from.invariant.costs e.ensures.cause)
