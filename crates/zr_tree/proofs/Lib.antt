@@ -8,3 +8,4 @@ pub mod Raise
 pub mod Walking
 pub mod Others
 pub mod Costing
+pub mod Wholes

@@ -6,7 +6,7 @@ ghost use Rattle.zr_bptr.specs.declared.Bptr.{Bptr};
 ghost use Rattle.zr_tree.specs.Blocks.{FitsAt};
 ghost use Rattle.zr_store.specs.Causes.{Costs, HasCause};
 ghost use Rattle.zr_bptr.specs.Spelling.{IsTree};
-ghost use Rattle.zr_tree.specs.Trees.{reach, tree_reach, MarksFront, IsBadOnly};
+ghost use Rattle.zr_tree.specs.Trees.{reach, tree_reach, blocks, tree_blocks, MarksFront, TellsOf};
 
 use crate::reads::read_block;
 use std::alloc::{AllocError, Global};
@@ -25,7 +25,7 @@ fn walk_below<B: Blocks>(
     ensures cause { HasCause 0 (B.account store.old) (B.account store.new) result }
     ensures told { B.tells store.old → B.tells store.new }
     ensures same { B.tells store.old → B.holds store.new ≡ B.holds store.old }
-    ensures malformed { B.tells store.old → IsBadOnly (B.holds store.old) result }
+    ensures errors { B.tells store.old → FitsAt level p.now → TellsOf (B.holds store.old) (blocks (B.holds store.old) level p.now) result }
     ensures reach { B.tells store.old → OnOk result (out.new.items ≡ out.old.items ++ reach (B.holds store.old) level p.now) }
 {
     match p {
@@ -51,7 +51,7 @@ pub fn walk<B: Blocks>(alloc: Global, store: &mut B, t: &Tree) -> Result<Vec<Bpt
     ensures cause { HasCause 0 (B.account store.old) (B.account store.new) result }
     ensures told { B.tells store.old → B.tells store.new }
     ensures same { B.tells store.old → B.holds store.new ≡ B.holds store.old }
-    ensures malformed { B.tells store.old → IsBadOnly (B.holds store.old) result }
+    ensures errors { B.tells store.old → TellsOf (B.holds store.old) (tree_blocks (B.holds store.old) t.now) result }
     ensures reach { B.tells store.old → IfOk result (λ pointers. pointers.items ≡ tree_reach (B.holds store.old) t.now) }
 {
     let mut out = Vec::new(alloc);
@@ -81,7 +81,7 @@ fn walk_marked_below<B: Blocks, M: Mark>(
     ensures cause { HasCause 0 (B.account store.old) (B.account store.new) result }
     ensures told { B.tells store.old → B.tells store.new }
     ensures same { B.tells store.old → B.holds store.new ≡ B.holds store.old }
-    ensures malformed { B.tells store.old → IsBadOnly (B.holds store.old) result }
+    ensures errors { B.tells store.old → FitsAt level p.now → TellsOf (B.holds store.old) (blocks (B.holds store.old) level p.now) result }
     ensures front { B.tells store.old → MarksFront (M.marked m.old) (M.marked m.new) (reach (B.holds store.old) level p.now) }
     ensures all { B.tells store.old → IfOk result (λ yes. IsTrue yes → M.marked m.new ≡ M.marked m.old ++ reach (B.holds store.old) level p.now) }
 {
@@ -116,7 +116,7 @@ pub fn walk_marked<B: Blocks, M: Mark>(
     ensures cause { HasCause 0 (B.account store.old) (B.account store.new) result }
     ensures told { B.tells store.old → B.tells store.new }
     ensures same { B.tells store.old → B.holds store.new ≡ B.holds store.old }
-    ensures malformed { B.tells store.old → IsBadOnly (B.holds store.old) result }
+    ensures errors { B.tells store.old → TellsOf (B.holds store.old) (tree_blocks (B.holds store.old) t.now) result }
     ensures front { B.tells store.old → MarksFront (M.marked m.old) (M.marked m.new) (tree_reach (B.holds store.old) t.now) }
     ensures all { B.tells store.old → IfOk result (λ yes. IsTrue yes → M.marked m.new ≡ M.marked m.old ++ tree_reach (B.holds store.old) t.now) }
 {
