@@ -13,12 +13,12 @@ use Rattle.zr_bptr.specs.declared.Ptr.TheVariants.{Hole, At}
 use Rattle.zr_bptr.specs.Spelling.{IsLawful, IsOfLevel, SpellsTreeBlock, fill_of}
 use Rattle.zr_store.specs.Store.{Swaps, AreStored, IsBlockOf, hits, one_at}
 use Rattle.zr_store.specs.declared.memory.Kept.{Kept}
-use Rattle.zr_store.specs.Memory.{bytes_at, is_kept, pointers_of_kept, stored_of, IsSound}
+use Rattle.zr_store.specs.Memory.{bytes_at, is_kept, is_within, pointers_of_kept, stored_of, IsSound}
 
-one_itself : (b : Bptr) → one_at b.at b ≡ 1
+pub one_itself : (b : Bptr) → one_at b.at b ≡ 1
 one_itself b = grind (arith, nat_tests)
 
-one_cases : (at : Dva) (b : Bptr) → (one_at at b ≡ 0) ⊎ (one_at at b ≡ 1)
+pub one_cases : (at : Dva) (b : Bptr) → (one_at at b ≡ 0) ⊎ (one_at at b ≡ 1)
 one_cases at b = grind (arith, nat_tests)
 
 apart : (at : Dva) (b : Bptr) → b.at.start < at.start → one_at at b ≡ 0
@@ -62,13 +62,24 @@ put_swaps ks k = record {
 same_start : (at : Dva) (b : Bptr) → one_at at b ≡ 1 → at.start ≡ b.at.start
 same_start at b e = grind (arith, nat_tests)
 
-pub put_sound : (n len : ℕ) (ks : List Kept) (k : Kept) → 0 < len → k.at.at.start ≡ n → IsSound n ks → IsSound (n + len) (ks ++ k ∷ [])
-put_sound n len ks k some is sound = record {
+within_same : (units : ℕ) (at : Dva) (b : Bptr) → one_at at b ≡ 1 → is_within units b.at ≡ true → is_within units at ≡ true
+within_same units at b e is = grind (arith, nat_tests)
+
+-- the units after the last
+pub within_end : (units next len : ℕ) → next + len ≤ units → is_within units (record { dev = 0; start = next; len = len }) ≡ true
+within_end units next len le = grind (arith, nat_tests)
+
+pub put_sound : (units n len : ℕ) (ks : List Kept) (k : Kept) → 0 < len → k.at.at.start ≡ n → is_within units k.at.at ≡ true → IsSound units n ks → IsSound units (n + len) (ks ++ k ∷ [])
+put_sound units n len ks k some is in_it sound = record {
   once = λ at. elim (one_cases at k.at) [
     | inl e ↦ let o = sound.once at in omega (arith, o, e, sum_last (one_at at) ks k)
     | inr e ↦ let z = fresh_hits n ks at sound.below (same_start at k.at e ∙ is) in omega (arith, z, e, sum_last (one_at at) ks k)
   ];
   below = All-push (λ (x : Kept). x.at.at.start < n + len) ks k (λ i d lt. let b = sound.below i d lt in omega (arith, b)) (omega (arith, is, some));
+  within = λ at met. elim (one_cases at k.at) [
+    | inl e ↦ sound.within at (omega (arith, e, met, sum_last (one_at at) ks k))
+    | inr e ↦ within_same units at k.at e in_it
+  ];
 }
 
 sum_removed : (weight : Bptr → ℕ) (ks : List Kept) (i : ℕ) (d : Kept) → i < length ks → sum_by weight (pointers_of_kept (remove ks i)) + weight (get_or ks i d).at ≡ sum_by weight (pointers_of_kept ks)
@@ -144,8 +155,9 @@ free_swaps ks i d b lt once is held = record {
       kept_removed ks i d q lt (omega (arith, w, free, sum_by-cons (one_at q.at) b []));
 }
 
-pub free_sound : (n : ℕ) (ks : List Kept) (i : ℕ) (d : Kept) → i < length ks → IsSound n ks → IsSound n (remove ks i)
-free_sound n ks i d lt sound = record {
+pub free_sound : (units n : ℕ) (ks : List Kept) (i : ℕ) (d : Kept) → i < length ks → IsSound units n ks → IsSound units n (remove ks i)
+free_sound units n ks i d lt sound = record {
+  within = λ at met. sound.within at (omega (arith, met, sum_removed (one_at at) ks i d lt));
   once = λ at. let o = sound.once at in let e = sum_removed (one_at at) ks i d lt in omega (arith, o, e);
   below = All-append (λ (k : Kept). k.at.at.start < n) (take i ks) (drop (suc i) ks) (All-take (λ (k : Kept). k.at.at.start < n) i ks sound.below) (All-drop (λ (k : Kept). k.at.at.start < n) (suc i) ks sound.below);
 }

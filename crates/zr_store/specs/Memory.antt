@@ -1,8 +1,9 @@
 -- Blocks that are kept in memory.
-use Rattle.std.specs.Prelude.{◌<◌, ◌≤◌, Bool, true, false, nat_eq, if◌then◌else◌, ℕ, List, [], ◌∷◌, All}
+use Rattle.std.specs.Prelude.{◌≡◌, ◌+◌, ◌-◌, ◌<◌, ◌≤◌, ◌&&◌, Bool, true, false, nat_eq, nat_lt, if◌then◌else◌, ℕ, List, [], ◌∷◌, All, length}
 use Rattle.zr_base.specs.declared.space.Dva.{Dva}
 use Rattle.zr_bptr.specs.declared.Bptr.{Bptr}
 use Rattle.zr_store.specs.Store.{Stored, hits, one_at}
+use Rattle.zr_store.specs.Causes.{Account}
 use Rattle.zr_store.specs.declared.memory.Kept.{Kept}
 
 -- the bytes at a pointer's address
@@ -22,7 +23,16 @@ pointers_of_kept (k ∷ ks) = k.at ∷ pointers_of_kept ks
 abbrev pub stored_of : List Kept → Stored
 stored_of ks = record { pointers = pointers_of_kept ks; bytes = bytes_at ks }
 
--- no address comes twice, and all lie below the next
-pub record IsSound (next : ℕ) (ks : List Kept) : Type 0 where
+-- the address lies within the one device, which has so many units
+abbrev pub is_within : ℕ → Dva → Bool
+is_within units at = nat_eq at.dev 0 && nat_lt (at.start + at.len) (units + 1)
+
+-- no address comes twice, and all lie below the next and within the device
+pub record IsSound (units next : ℕ) (ks : List Kept) : Type 0 where
   pub once : (at : Dva) → hits (pointers_of_kept ks) at ≤ 1
   pub below : All (λ k. k.at.at.start < next) ks
+  pub within : (at : Dva) → 0 < hits (pointers_of_kept ks) at → is_within units at ≡ true
+
+-- a block that is kept is one piece of load
+abbrev pub account_of : ℕ → ℕ → List Kept → Account
+account_of units next ks = record { faults = 0; room = units - next; load = length ks; put_load = 1; free_load = 0; resolves = is_within units }

@@ -5,11 +5,11 @@ ghost use Rattle.zr_base.specs.Blocks.{is_block_size};
 ghost use Rattle.zr_bptr.specs.Spelling.{SpellsTreeBlock};
 ghost use Rattle.zr_bptr.specs.declared.Ptr.{Ptr};
 ghost use Rattle.zr_store.specs.Store.{one_at, is_size};
-ghost use Rattle.zr_store.specs.Memory.{stored_of, is_kept, IsSound};
+ghost use Rattle.zr_store.specs.Memory.{stored_of, bytes_at, is_kept, is_within, IsSound, account_of};
 
-use crate::memory::{Kept, MemBlocks, Refused};
+use crate::memory::{Kept, MemBlocks};
 use crate::{Blocks, StoreErr};
-use std::alloc::Global;
+use std::alloc::{AllocError, Global};
 use zr_base::{Dva, NoMemory};
 use zr_bptr::{Bptr, leaves_in, sum_of};
 
@@ -54,41 +54,62 @@ fn leaves_of_bytes(alloc: Global, bytes: &[u8], level: u8) -> Result<u64, NoMemo
     Ok(leaves)
 }
 
+// Whether the address lies within the one device.
+fn resolves(at: &Dva, units: u32) -> bool
+    ensures { result ≡ is_within units at.now }
+{
+    let units = units as u64;
+    let len = at.len as u64;
+    at.dev == 0 && len <= units && at.start <= units - len
+}
+
+// The bytes at the address, none where no block is kept there.
+fn copy_at(alloc: Global, kept: &[Kept], b: &Bptr) -> Result<Vec<u8>, AllocError>
+    ensures { IfOk result (λ bytes. bytes.items ≡ bytes_at kept.now b.now) }
+{
+    for k in kept.iter() {
+        if is_at(k, &b.at) {
+            return Vec::from_slice(alloc, k.bytes.as_slice());
+        }
+    }
+    Ok(Vec::new(alloc))
+}
+
 impl MemBlocks {
     /// A store of so many units that holds no block.
     pub fn new(alloc: Global, units: u32) -> Self
-        ensures tells { IsSound result.next result.kept.items }
+        ensures tells { IsSound result.units result.next result.kept.items }
         ensures empty { result.kept.items ≡ [] }
         ensures units { result.units ≡ units }
         ensures unused { result.next ≡ 0 }
-        ensures refused { result.refused.items ≡ [] }
     {
         MemBlocks {
             kept: Vec::new(alloc),
             next: 0,
             units,
-            refused: Vec::new(alloc),
         }
     }
 }
 
 impl Blocks for MemBlocks {
-    ghost counts = { λ m. record { faults = 0; refusals = length m.refused.items } };
+    ghost account = { λ m. account_of m.units m.next m.kept.items };
 
-    ghost tells = { λ m. IsSound m.next m.kept.items };
+    ghost tells = { λ m. IsSound m.units m.next m.kept.items };
 
     ghost holds = { λ m. stored_of m.kept.items };
 
     ghost once = { λ m sound. sound.once };
 
+    ghost resolved = { λ m sound. sound.within };
+
     fn put(&mut self, alloc: Global, bytes: &[u8], level: u8) -> Result<Bptr, StoreErr> {
         let len = units_of(bytes.len());
         let rest = self.units.saturating_sub(self.next);
         if len > rest {
-            let needed = len as u64;
-            let longest = rest as u64;
-            self.refused.push(Refused { needed, longest })?;
-            return Err(StoreErr::NoRun { needed, longest });
+            return Err(StoreErr::NoRun {
+                needed: len as u64,
+                longest: rest as u64,
+            });
         }
         let fill = leaves_of_bytes(alloc, bytes, level)?;
         let copy = Vec::from_slice(alloc, bytes)?;
@@ -109,15 +130,22 @@ impl Blocks for MemBlocks {
     }
 
     fn get(&mut self, alloc: Global, b: &Bptr) -> Result<Vec<u8>, StoreErr> {
-        for k in self.kept.iter() {
-            if is_at(k, &b.at) {
-                return Ok(Vec::from_slice(alloc, k.bytes.as_slice())?);
-            }
+        if !resolves(&b.at, self.units) {
+            return Err(StoreErr::Unresolved {
+                at: b.at,
+                expected: b.sum,
+            });
         }
-        Err(StoreErr::Unresolved {
-            at: b.at,
-            expected: b.sum,
-        })
+        let bytes = copy_at(alloc, self.kept.as_slice(), b)?;
+        let found = sum_of(bytes.as_slice());
+        if found != b.sum {
+            return Err(StoreErr::Damaged {
+                at: b.at,
+                expected: b.sum,
+                found,
+            });
+        }
+        Ok(bytes)
     }
 
     fn free(&mut self, _alloc: Global, b: &Bptr) -> Result<(), StoreErr> {

@@ -8,13 +8,6 @@ pub struct Kept {
     pub bytes: Vec<u8>,
 }
 
-/// A run that was asked for and not found, in units of 4,096 bytes.
-#[derive(Clone, Copy, Debug, PartialEq, Eq)]
-pub struct Refused {
-    pub needed: u64,
-    pub longest: u64,
-}
-
 /// A store in memory of so many units of 4,096 bytes. Each block gets the units after those of the block before, on
 /// device 0; units that were given back are not given out again. A call is linear in the blocks.
 #[derive(Drop)]
@@ -22,5 +15,4 @@ pub struct MemBlocks {
     pub kept: Vec<Kept>,
     pub next: u32,
     pub units: u32,
-    pub refused: Vec<Refused>,
 }

@@ -22,14 +22,35 @@ fn blocks_come_and_go(rt: HostRuntime) -> Result<(), Fail> {
     );
     assert_eq!(rt; store.get(alloc, &b)?.len(), 8192);
     store.free(alloc, &b)?;
-    let gone = store.get(alloc, &b).err();
-    assert_eq!(rt;
-        gone,
-        Some(StoreErr::Unresolved {
-            at: b.at,
-            expected: b.sum
-        })
-    );
     assert_eq!(rt; store.get(alloc, &a)?.len(), 4096);
+    let past = Dva { start: 3, ..b.at };
+    let sum_of_nothing = zr_bptr::sum_of(b"");
+    for (pointer, error) in [
+        (
+            b,
+            StoreErr::Damaged {
+                at: b.at,
+                expected: b.sum,
+                found: sum_of_nothing,
+            },
+        ),
+        (
+            Bptr { at: past, ..b },
+            StoreErr::Unresolved {
+                at: past,
+                expected: b.sum,
+            },
+        ),
+        (
+            Bptr { sum: b.sum, ..a },
+            StoreErr::Damaged {
+                at: a.at,
+                expected: b.sum,
+                found: a.sum,
+            },
+        ),
+    ] {
+        assert_eq!(rt; store.get(alloc, &pointer).err(), Some(error));
+    }
     Ok(())
 }

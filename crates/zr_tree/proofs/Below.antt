@@ -1,5 +1,5 @@
 -- A block is replaced by a copy.
-use Rattle.std.proofs.Common.{◌≡◌, ◌+◌, ◌<◌, ℕ, zero, suc, List, [], ◌∷◌, ◌++◌, length, get_or, refl, sym, ◌∙◌, ap, arith, nat_eq, true, Bool, eq-eqb}
+use Rattle.std.proofs.Common.{◌≡◌, ◌+◌, ◌<◌, ℕ, zero, suc, List, [], ◌∷◌, ◌++◌, length, get_or, refl, sym, ◌∙◌, ap, subst, arith, nat_eq, true, Bool, eq-eqb}
 use Rattle.std.specs.Prelude.{All, if◌then◌else◌}
 use Rattle.std.specs.List.{sum_by, flat_map}
 use Rattle.std.proofs.lemmas.List.Sums.{sum_by-append, sum_by-cons}
@@ -8,11 +8,12 @@ use Rattle.zr_bptr.specs.declared.Bptr.{Bptr}
 use Rattle.zr_bptr.specs.declared.Ptr.{Ptr}
 use Rattle.zr_bptr.specs.declared.Ptr.TheVariants.{Hole, At}
 use Rattle.zr_store.specs.Store.{Stored, Swaps, AreStored, IsOnce, hits, one_at}
-use Rattle.zr_tree.specs.Trees.{digit, blocks, own, updated, AllAt, IsOpen, Sets, SetsEach, leaf_at, Rises, weigh, weight_at, SwapsLeaves, slot}
+use Rattle.zr_tree.specs.Trees.{digit, blocks, own, updated, AllAt, IsOpen, IsWholeAt, Brings, Sets, SetsEach, leaf_at, Rises, weigh, weight_at, SwapsLeaves, slot}
+use Rattle.zr_tree.proofs.Wholes.{among_hits, brings_none, brings_within, brings_block, brings_same, within_back}
 use Rattle.zr_tree.proofs.Frames.{Agree, IsSameTree, frame, each_blocks, each_leaf_list, each_leaves}
 
 pub no_change : (level place : ℕ) (s : Stored) (q : Ptr) → Sets level place [] s s q q
-no_change level place s q = record { leaves = λ index at. refl; swaps = record { stored = λ weight. refl; kept = λ b out stored. refl }; swaps_leaves = λ rises. record { stored = λ weight. refl } }
+no_change level place s q = record { leaves = λ index at. refl; swaps = record { stored = λ weight. refl; kept = λ b out stored. refl }; brings = brings_none s (blocks s level q); swaps_leaves = λ rises. record { stored = λ weight. refl } }
 
 pub updated_last : (changes : List (ℕ × Ptr)) (index n : ℕ) (p : Ptr) (d : ℕ × Ptr) → All (λ change. change.0 ≡ index) changes → length changes ≡ suc n → (get_or changes n d).1 ≡ updated changes index p
 updated_last [] index n p d at size = absurd (omega arith)
@@ -56,6 +57,7 @@ pub leaf_set : (place n : ℕ) (changes : List (ℕ × Ptr)) (s : Stored) (q : P
 leaf_set place n changes s q d at size = record {
   leaves = λ index here. updated_last changes index n q d (λ k e lt. let a = at k e lt in omega (arith, a, here)) size;
   swaps = record { stored = λ weight. refl; kept = λ b out stored. refl };
+  brings = brings_none s [];
   swaps_leaves = leaf_weighs place n changes q d at size;
 }
 
@@ -77,7 +79,7 @@ own_stored below place changes s0 s1 s2 q p qs ps open_q each put held weight =
     omega (arith, o, e, u, h)
 
 module _ (below place : ℕ) (changes : List (ℕ × Ptr)) (s0 s1 s2 s3 : Stored) (q p : Ptr) (qs ps : List Ptr) (open_q : IsOpen s0 below q qs) (each : SetsEach below place changes s0 s1 qs ps) (open_p : IsOpen s2 below p ps)
-    (put : Swaps s1 s2 [] (own p)) (free : Swaps s2 s3 (own q) []) (held : AreStored (blocks s0 (suc below) q) s0) (once : IsOnce s2) where
+    (put : Swaps s1 s2 [] (own p)) (whole : IsWholeAt s2 p) (free : Swaps s2 s3 (own q) []) (held : AreStored (blocks s0 (suc below) q) s0) (once : IsOnce s2) where
   old_blocks : (weight : Bptr → ℕ) → sum_by weight (blocks s0 (suc below) q) ≡ sum_by weight (own q) + sum_by weight (flat_map (blocks s0 below) qs)
   old_blocks weight = ap (sum_by weight) open_q.tree_blocks ∙ sum_by-append weight (own q) (flat_map (blocks s0 below) qs)
 
@@ -96,8 +98,8 @@ module _ (below place : ℕ) (changes : List (ℕ × Ptr)) (s0 s1 s2 s3 : Stored
   new_blocks : (weight : Bptr → ℕ) → sum_by weight (blocks s2 (suc below) p) ≡ sum_by weight (own p) + sum_by weight (flat_map (blocks s1 below) ps)
   new_blocks weight = ap (sum_by weight) (open_p.tree_blocks ∙ ap (λ (xs : List Bptr). own p ++ xs) same_below) ∙ sum_by-append weight (own p) (flat_map (blocks s1 below) ps)
 
-  same_tree : IsSameTree s2 s3 (suc below) p
-  same_tree = frame s2 s3 (suc below) p (record {
+  agree23 : Agree s2 s3 (blocks s2 (suc below) p)
+  agree23 = record {
     same = λ b h.
         let e = each.swaps.stored (one_at b.at) in
         let o = old_blocks (one_at b.at) in
@@ -106,7 +108,23 @@ module _ (below place : ℕ) (changes : List (ℕ × Ptr)) (s0 s1 s2 s3 : Stored
         let u = put.stored (one_at b.at) in
         let i = once b.at in
         free.kept b (omega (arith, e, o, d, n, u, i, h)) (omega (arith, e, o, d, n, u, h));
-  })
+  }
+
+  same_tree : IsSameTree s2 s3 (suc below) p
+  same_tree = frame s2 s3 (suc below) p agree23
+
+  -- the new block and those below it, when the old one is still there
+  brings2 : Brings s0 s2 (blocks s0 (suc below) q) (blocks s2 (suc below) p)
+  brings2 =
+      subst (λ (into : List Bptr). Brings s0 s2 (blocks s0 (suc below) q) into) (sym (open_p.tree_blocks ∙ ap (λ (xs : List Bptr). own p ++ xs) same_below))
+      (subst (λ (out : List Bptr). Brings s0 s2 out (own p ++ flat_map (blocks s1 below) ps)) (sym open_q.tree_blocks)
+      (brings_within s0 s2 (flat_map (blocks s0 below) qs) (own q ++ flat_map (blocks s0 below) qs) (own p ++ flat_map (blocks s1 below) ps) (within_back (own q) (flat_map (blocks s0 below) qs))
+      (brings_block s0 s1 s2 p (flat_map (blocks s0 below) qs) (flat_map (blocks s1 below) ps) each.brings whole (λ x h. agree12.same x (among_hits x (flat_map (blocks s1 below) ps) h)))))
+
+  brought : Brings s0 s3 (blocks s0 (suc below) q) (blocks s3 (suc below) p)
+  brought =
+      subst (λ (into : List Bptr). Brings s0 s3 (blocks s0 (suc below) q) into) (sym same_tree.tree_blocks)
+      (brings_same s0 s2 s3 (blocks s0 (suc below) q) (blocks s2 (suc below) p) brings2 (λ x h. agree23.same x (among_hits x (blocks s2 (suc below) p) h)))
 
   kept : (b : Bptr) → hits (blocks s0 (suc below) q) b.at ≡ 0 → 0 < hits s0.pointers b.at → s3.bytes b ≡ s0.bytes b
   kept b out stored =
@@ -130,6 +148,7 @@ module _ (below place : ℕ) (changes : List (ℕ × Ptr)) (s0 s1 s2 s3 : Stored
           omega (arith, e, o, n, u, f);
       kept = kept;
     };
+    brings = brought;
     swaps_leaves = λ rises. record {
       stored = λ weight.
           let e = (each.swaps_leaves rises).stored weight in

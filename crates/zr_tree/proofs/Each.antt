@@ -1,5 +1,5 @@
 -- One more pointer of a block has changed.
-use Rattle.std.proofs.Common.{◌≡◌, ◌≢◌, ◌+◌, ◌/◌, ◌%◌, ◌^◌, ◌<◌, ◌≤◌, ◌⊎◌, inl, inr, ℕ, suc, List, [], ◌∷◌, ◌++◌, length, set, drop, get_or, get_or-drop, refl, sym, ◌∙◌, ap, arith, nat_eq, false, Bool, get_or-set_other, get_or-set_same}
+use Rattle.std.proofs.Common.{◌≡◌, ◌≢◌, ◌+◌, ◌-◌, ◌/◌, ◌%◌, ◌^◌, ◌<◌, ◌≤◌, ◌⊎◌, inl, inr, ℕ, suc, List, [], ◌∷◌, ◌++◌, length, set, drop, get_or, get_or-drop, refl, sym, ◌∙◌, ap, arith, nat_eq, false, Bool, get_or-set_other, get_or-set_same}
 use Rattle.std.specs.Prelude.{if◌then◌else◌, All}
 use Rattle.std.specs.List.{sum_by, flat_map, AllByRecursion}
 use Rattle.std.proofs.lemmas.Bool.{cases_eq, ne_eqb}
@@ -9,9 +9,10 @@ use Rattle.zr_bptr.specs.declared.Bptr.{Bptr}
 use Rattle.zr_bptr.specs.declared.Ptr.{Ptr}
 use Rattle.zr_bptr.specs.declared.Ptr.TheVariants.{Hole}
 use Rattle.zr_store.specs.Store.{Stored, AreStored, IsOnce, hits, one_at}
-use Rattle.zr_tree.specs.Trees.{slot, digit, leaf_at, blocks, updated, AllAt, Sets, SetsEach, leaves_below, Rises, weigh, weight_at, weight_of}
+use Rattle.zr_tree.specs.Trees.{slot, digit, leaf_at, blocks, updated, AllAt, Brings, Sets, SetsEach, leaves_below, Rises, weigh, weight_at, weight_of}
 use Rattle.zr_tree.proofs.Frames.{IsSameTree, frame}
 use Rattle.zr_tree.proofs.Holes.{div-suc}
+use Rattle.zr_tree.proofs.Wholes.{like, like_less, sum_less, among_count, count_among, among_hits, among_within, within_flat, whole_again}
 use Rattle.zr_tree.proofs.Sums.{sum_flat, sum_swap, one_of, two_of}
 
 pub updated_append : (xs ys : List (ℕ × Ptr)) (index : ℕ) (p : Ptr) → updated (xs ++ ys) index p ≡ updated ys index (updated xs index p)
@@ -93,6 +94,9 @@ child_stored below place k done s0 s1 qs ps lt so_far held weight =
     let f = sum_flat weight (blocks s1 below) ps in
     omega (arith, e, h, o, f)
 
+pub kids_stored : (below place : ℕ) (done : List (ℕ × Ptr)) (s0 s1 : Stored) (qs ps : List Ptr) → SetsEach below place done s0 s1 qs ps → AreStored (flat_map (blocks s0 below) qs) s0 → AreStored (flat_map (blocks s1 below) ps) s1
+kids_stored below place done s0 s1 qs ps so_far held weight = let e = so_far.swaps.stored weight in let h = held weight in omega (arith, e, h)
+
 -- where the child of a block lies
 pub row_of : (below place child level from : ℕ) (changes : List (ℕ × Ptr)) → level ≡ suc below → child ≡ (get_or (drop from changes) 0 (0, Hole)).0 / 32 ^ below → (get_or changes from (0, Hole)).0 / 32 ^ level ≡ place → child / 32 ≡ place
 row_of below place child level from changes level_is child_is high =
@@ -173,6 +177,42 @@ module _ (below place child : ℕ) (done here : List (ℕ × Ptr)) (s0 s1 s2 : S
       let eq : digit below index ≡ child % 32 = ap (λ (n : ℕ). n % 32) here_is in
       ap (λ (j : ℕ). leaf_at s1 below (slot ps j) index) (sym eq) ∙ so_far.leaves index row_is
 
+  -- a block that is not below the one pointer is not one of those that left
+  not_child : (b : Bptr) → sum_by (like b) (blocks s1 below (slot ps (child % 32))) < sum_by (like b) (flat_map (blocks s1 below) ps) → hits (blocks s1 below (slot ps (child % 32))) b.at ≡ 0
+  not_child b lt =
+      let flat = sum_flat (λ (x : Bptr). one_at b.at x - like b x) (blocks s1 below) ps in
+      let rest = one_of (λ (x : Ptr). sum_by (λ (y : Bptr). one_at b.at y - like b y) (blocks s1 below x)) ps (child % 32) within in
+      let all = sum_less (like b) (one_at b.at) (flat_map (blocks s1 below) ps) (like_less b) in
+      let here = sum_less (like b) (one_at b.at) (blocks s1 below (slot ps (child % 32))) (like_less b) in
+      let n = stored_now (one_at b.at) in
+      let o = once b.at in
+      omega (arith, lt, flat, rest, all, here, n, o)
+
+  brought : Brings s0 s2 (flat_map (blocks s0 below) qs) (flat_map (blocks s2 below) (set ps (child % 32) p))
+  brought = record {
+    each = λ b h. elim (cases_eq (sum_by (like b) (blocks s2 below p)) 0) [
+      | inl none ↦
+          let n = among_count b (flat_map (blocks s2 below) (set ps (child % 32) p)) h in
+          let w = swapped (like b) in
+          let some : sum_by (like b) (blocks s1 below (slot ps (child % 32))) < sum_by (like b) (flat_map (blocks s1 below) ps) = omega (arith, none, n, w) in
+          let before = count_among b (flat_map (blocks s1 below) ps) (omega (arith, some)) in
+          let stored = stored_now (one_at b.at) in
+          let met = among_hits b (flat_map (blocks s1 below) ps) before in
+          let same = one.swaps.kept b (not_child b some) (omega (arith, stored, met)) in
+          elim (so_far.brings.each b before) [
+            | inl old ↦ inl (old.0, same ∙ old.1)
+            | inr whole ↦ inr (whole_again s1 s2 b same whole)
+          ]
+      | inr some ↦ elim (one.brings.each b (count_among b (blocks s2 below p) (omega (arith, some)))) [
+        | inr whole ↦ inr whole
+        | inl old ↦ elim (so_far.brings.each b (among_within b (blocks s1 below (slot ps (child % 32))) (flat_map (blocks s1 below) ps) (within_flat (blocks s1 below) ps (child % 32) within) old.0)) [
+          | inl older ↦ inl (older.0, old.1 ∙ older.1)
+          | inr whole ↦ inr (whole_again s1 s2 b old.1 whole)
+        ]
+      ]
+    ];
+  }
+
   pub one_more : SetsEach below place (done ++ here) s0 s2 qs (set ps (child % 32) p)
   one_more = record {
     leaves = λ index row_is. leaves index row_is (cases_eq (digit below index) (child % 32));
@@ -180,6 +220,7 @@ module _ (below place child : ℕ) (done here : List (ℕ × Ptr)) (s0 s1 s2 : S
       stored = λ weight. let a = swapped weight in let b = one.swaps.stored weight in let c = so_far.swaps.stored weight in omega (arith, a, b, c);
       kept = kept;
     };
+    brings = brought;
     swaps_leaves = λ rises. record {
       stored = λ weight.
           let a = swapped_leaves weight in

@@ -9,10 +9,8 @@ use Rattle.zr_bptr.specs.declared.Bptr.{Bptr}
 use Rattle.zr_bptr.specs.declared.Ptr.{Ptr}
 use Rattle.zr_bptr.specs.declared.Ptr.TheVariants.{Hole, At}
 use Rattle.zr_bptr.specs.declared.Tree.{Tree}
-use Rattle.std.specs.List.{sum_by, flat_map}
-use Rattle.std.proofs.lemmas.List.Sums.{sum_by-cons}
-use Rattle.zr_tree.proofs.Sums.{sum_flat, one_of}
-use Rattle.zr_store.specs.Store.{Stored, AreStored}
+use Rattle.std.specs.List.{flat_map}
+use Rattle.zr_store.specs.Store.{Stored}
 use Rattle.zr_tree.specs.Trees.{kids, slot, digit, leaf_at, leaves_below, tree_at, blocks, IsOpen}
 use Rattle.zr_tree.proofs.Frames.{hole_leaf}
 
@@ -72,22 +70,3 @@ below_top n h e = let pos = pow-pos h in let lt = lt-div-mul-add {a = n} {b = 32
 
 pub inside : (s : Stored) (t : Tree) (index : ℕ) → index / 32 ^ t.height ≡ 0 → tree_at s t index ≡ leaf_at s t.height t.root index
 inside s t index e = let lt = below_top index t.height e in grind (arith, nat_tests)
-
--- ---- the blocks on the way are stored
-
-pub top_stored : (s : Stored) (level below : ℕ) (p : Ptr) (b : Bptr) → level ≡ suc below → p ≡ At b → AreStored (blocks s level p) s → AreStored (b ∷ []) s
-top_stored s level below p b level_is is held weight =
-    let all = subst (λ (l : ℕ). AreStored (blocks s l p) s) level_is held in
-    let h = subst (λ (q : Ptr). AreStored (blocks s (suc below) q) s) is all weight in
-    omega (arith, h, sum_by-cons weight b (flat_map (blocks s below) (kids s below b)), sum_by-cons weight b [])
-
-pub kid_stored : (s : Stored) (level below k : ℕ) (p : Ptr) (b : Bptr) (ps : List Ptr) (next : Ptr) → level ≡ suc below → p ≡ At b → ps ≡ kids s below b → k < length ps → next ≡ get_or ps k next
-    → AreStored (blocks s level p) s → AreStored (blocks s below next) s
-kid_stored s level below k p b ps next level_is is kids_are lt next_is held weight =
-    let all = subst (λ (l : ℕ). AreStored (blocks s l p) s) level_is held in
-    let h = subst (λ (q : Ptr). AreStored (blocks s (suc below) q) s) is all weight in
-    let one = one_of (λ (q : Ptr). sum_by weight (blocks s below q)) ps k lt in
-    let this = ap (λ (q : Ptr). sum_by weight (blocks s below q)) (get_or_default ps k Hole next lt ∙ sym next_is) in
-    let sums = sum_flat weight (blocks s below) ps in
-    let same = ap (λ (qs : List Ptr). sum_by weight (flat_map (blocks s below) qs)) kids_are in
-    omega (arith, h, one, this, sums, same, sum_by-cons weight b (flat_map (blocks s below) (kids s below b)))

@@ -7,3 +7,5 @@ pub mod Each
 pub mod Raise
 pub mod Walking
 pub mod Others
+pub mod Costing
+pub mod Wholes

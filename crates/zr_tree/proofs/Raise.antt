@@ -12,9 +12,10 @@ use Rattle.zr_bptr.specs.declared.Ptr.{Ptr}
 use Rattle.zr_bptr.specs.declared.Ptr.TheVariants.{Hole}
 use Rattle.zr_bptr.specs.declared.Tree.{Tree}
 use Rattle.zr_store.specs.Store.{Stored, Swaps, AreStored, IsOnce, one_at}
-use Rattle.zr_tree.specs.Trees.{slot, digit, leaf_at, blocks, own, updated, tree_at, tree_blocks, AllAt, IsOpen, Sets, SetsEach, Raises, SetsTree, leaves_below, Rises, weigh, weight_at, SwapsLeaves, tree_leaves}
+use Rattle.zr_tree.specs.Trees.{slot, digit, leaf_at, blocks, own, updated, tree_at, tree_blocks, AllAt, IsOpen, IsWholeAt, Brings, Sets, SetsEach, Raises, SetsTree, leaves_below, Rises, weigh, weight_at, SwapsLeaves, tree_leaves}
 use Rattle.zr_tree.proofs.Frames.{Agree, frame, each_blocks, each_leaves, hole_leaf, each_leaf_list}
 use Rattle.zr_tree.proofs.Holes.{hole_slot, holes_blocks, div-suc, inside, holes_leaves}
+use Rattle.zr_tree.proofs.Wholes.{among_hits, brings_block, brings_then}
 use Rattle.zr_tree.proofs.Each.{updated_append, updated_other, rises_front, rises_back, above_of, weight_past, weight_at_append, weight_of_append}
 
 -- what came by the first may go by the second
@@ -32,7 +33,7 @@ first_blocks : (s : Stored) (level : ℕ) (hs : List Ptr) (p : Ptr) → 0 < leng
 first_blocks s level [] p lt h = absurd (omega arith)
 first_blocks s level (x ∷ hs) p lt h = ap (λ (bs : List Bptr). blocks s level p ++ bs) (holes_blocks s level hs (All-tail (λ q. q ≡ Hole) x hs h))
 
-first_only : (s : Stored) (level : ℕ) (hs : List Ptr) (p : Ptr) → 0 < length hs → All (λ h. h ≡ Hole) hs → flat_map (blocks s level) (set hs 0 p) ≡ blocks s level p
+pub first_only : (s : Stored) (level : ℕ) (hs : List Ptr) (p : Ptr) → 0 < length hs → All (λ h. h ≡ Hole) hs → flat_map (blocks s level) (set hs 0 p) ≡ blocks s level p
 first_only s level hs p lt h = first_blocks s level hs p lt h ∙ append-nil (blocks s level p)
 
 first_leaves : (s : Stored) (level : ℕ) (hs : List Ptr) (p : Ptr) → 0 < length hs → All (λ h. h ≡ Hole) hs → flat_map (leaves_below s level) (set hs 0 p) ≡ leaves_below s level p ++ []
@@ -51,6 +52,9 @@ first_stored below low s0 s1 t p1 hs size all_holes first held weight =
     let d = held weight in
     omega (arith, q, f, d)
 
+pub low_stored : (below : ℕ) (low : List (ℕ × Ptr)) (s0 s1 : Stored) (t : Tree) (p1 : Ptr) → Raises below low s0 s1 t p1 → AreStored (tree_blocks s0 t) s0 → AreStored (blocks s1 below p1) s1
+low_stored below low s0 s1 t p1 first held weight = let f = first.swaps.stored weight in let d = held weight in omega (arith, f, d)
+
 -- past the height there is nothing
 pub outside : (s : Stored) (t : Tree) (index level : ℕ) → t.height ≤ level → index / 32 ^ level ≢ 0 → tree_at s t index ≡ Hole
 outside s t index level le ne = elim (cases_lt index (32 ^ t.height)) [
@@ -59,7 +63,7 @@ outside s t index level le ne = elim (cases_lt index (32 ^ t.height)) [
 ]
 
 module _ (below : ℕ) (changes low high : List (ℕ × Ptr)) (s0 s1 s2 s3 : Stored) (t : Tree) (p1 p : Ptr) (hs ps : List Ptr) (size : 0 < length hs) (all_holes : All (λ h. h ≡ Hole) hs) (parts : low ++ high ≡ changes) (short : t.height ≤ below)
-    (first : Raises below low s0 s1 t p1) (each : SetsEach below 0 high s1 s2 (set hs 0 p1) ps) (open_p : IsOpen s3 below p ps) (put : Swaps s2 s3 [] (own p)) (at : AllAt below 0 low)
+    (first : Raises below low s0 s1 t p1) (each : SetsEach below 0 high s1 s2 (set hs 0 p1) ps) (open_p : IsOpen s3 below p ps) (put : Swaps s2 s3 [] (own p)) (whole_p : IsWholeAt s3 p) (at : AllAt below 0 low)
     (held : AreStored (tree_blocks s0 t) s0) (once : IsOnce s1) (room : AllAt (suc below) 0 (low ++ high)) where
   qs_blocks : flat_map (blocks s1 below) (set hs 0 p1) ≡ blocks s1 below p1
   qs_blocks = first_only s1 below hs p1 size all_holes
@@ -131,12 +135,20 @@ module _ (below : ℕ) (changes low high : List (ℕ × Ptr)) (s0 s1 s2 s3 : Sto
         omega (arith, a, b, q, n, w, d, e);
   }
 
+  brought : Brings s0 s3 (tree_blocks s0 t) (blocks s3 (suc below) p)
+  brought =
+      subst (λ (into : List Bptr). Brings s0 s3 (tree_blocks s0 t) into) (sym new_blocks)
+      (brings_block s0 s2 s3 p (tree_blocks s0 t) (flat_map (blocks s2 below) ps)
+      (brings_then s0 s1 s2 (tree_blocks s0 t) (blocks s1 below p1) (flat_map (blocks s2 below) ps) first.brings (subst (λ (out : List Bptr). Brings s1 s2 out (flat_map (blocks s2 below) ps)) qs_blocks each.brings))
+      whole_p (λ x h. agree.same x (among_hits x (flat_map (blocks s2 below) ps) h)))
+
   pub raised : Raises (suc below) changes s0 s3 t p
   raised = record {
     leaves = λ index here.
         open_p.leaves index ∙ each_leaves s2 s3 below (λ x h. frame s2 s3 below x h) ps agree (digit below index) index ∙ each.leaves index here
         ∙ below_leaf index here (cases_eq (digit below index) 0);
     swaps = joined s0 s1 s3 (tree_blocks s0 t) (blocks s1 below p1) (blocks s3 (suc below) p) first.swaps second once;
+    brings = brought;
     swaps_leaves = subst (λ (cs : List (ℕ × Ptr)). Rises cs → SwapsLeaves cs (tree_leaves s0 t) (leaves_below s3 (suc below) p) (tree_at s0 t)) parts raised_leaves;
   }
 
@@ -153,6 +165,7 @@ pub same_height : (changes : List (ℕ × Ptr)) (s0 s1 : Stored) (t : Tree) (p :
 same_height changes s0 s1 t p here sets = record {
   leaves = λ index at. sets.leaves index at ∙ ap (updated changes index) (sym (inside s0 t index at));
   swaps = sets.swaps;
+  brings = sets.brings;
   swaps_leaves = λ rises. record {
     stored = λ weight.
         let e = (sets.swaps_leaves rises).stored weight in
@@ -169,5 +182,6 @@ whole changes s0 s1 t u grows room raises = record {
     | inr past ↦ let o = outside s0 t index u.height grows past in outside s1 u index u.height (omega arith) past ∙ sym (updated_other u.height 0 changes index (tree_at s0 t index) room past ∙ o)
   ];
   swaps = raises.swaps;
+  brings = raises.brings;
   swaps_leaves = raises.swaps_leaves;
 }

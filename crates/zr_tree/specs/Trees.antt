@@ -1,15 +1,17 @@
 -- What a tree in a store means.
-use Rattle.std.specs.Prelude.{◌≡◌, ◌/◌, ◌%◌, ◌^◌, ◌≤◌, nat_eq, nat_lt, if◌then◌else◌, ℕ, zero, suc, List, [], ◌∷◌, ◌++◌, slice_index_or, All, Result, IsErrOf, ◌+◌, sum_by, ◌<◌}
+use Rattle.std.specs.Prelude.{◌≡◌, ◌≢◌, ◌⊎◌, ◌/◌, ◌%◌, ◌^◌, ◌*◌, ◌-◌, ◌≤◌, nat_eq, nat_lt, if◌then◌else◌, ℕ, zero, suc, List, [], ◌∷◌, ◌++◌, slice_index_or, All, Result, IsErrOf, ◌+◌, sum_by, ◌<◌}
 use Rattle.std.specs.List.{flat_map, AllByRecursion}
 use Rattle.zr_base.specs.declared.space.Dva.{Dva}
 use Rattle.zr_bptr.specs.declared.Bptr.{Bptr}
 use Rattle.zr_bptr.specs.declared.Ptr.{Ptr}
 use Rattle.zr_bptr.specs.declared.Ptr.TheVariants.{Hole, At}
 use Rattle.zr_bptr.specs.declared.Tree.{Tree}
+use Rattle.zr_bptr.specs.Spelling.{SpellsTreeBlock}
+use Rattle.sha2.specs.Sha256.{sha256}
 use Rattle.zr_tree.specs.Blocks.{FitsAt}
 use Rattle.zr_tree.specs.Blocks.{pointers_in, IsNoBlock}
 use Rattle.zr_store.specs.declared.StoreErr.{StoreErr}
-use Rattle.zr_store.specs.declared.StoreErr.TheVariants.{Malformed, Unresolved}
+use Rattle.zr_store.specs.declared.StoreErr.TheVariants.{Malformed, Damaged, Unresolved}
 use Rattle.zr_store.specs.Store.{Stored, Swaps, AreStored}
 
 -- the pointers in a tree block above this level
@@ -99,16 +101,35 @@ pub record IsOpen (s : Stored) (below : ℕ) (p : Ptr) (pointers : List Ptr) : T
   pub tree_blocks : blocks s (suc below) p ≡ own p ++ flat_map (blocks s below) pointers
   pub all_leaves : leaves_below s (suc below) p ≡ flat_map (leaves_below s below) pointers
 
+-- the block is one of these
+abbrev pub IsAmong : Bptr → List Bptr → Type 0
+IsAmong b pointers = (weight : Bptr → ℕ) → weight b ≤ sum_by weight pointers
+
+-- the block has its sum, and is a tree block of its level
+pub record IsWhole (s : Stored) (b : Bptr) : Type 0 where
+  pub checksum : b.sum ≡ sha256 (s.bytes b)
+  pub block : (pointers : List Ptr) × SpellsTreeBlock (s.bytes b) (b.level - 1) b.fill pointers
+
+abbrev pub IsWholeAt : Stored → Ptr → Type 0
+IsWholeAt s Hole = Unit {0}
+IsWholeAt s (At b) = IsWhole s b
+
+-- each block that came is one of those that left, with the bytes that it had, or is whole
+pub record Brings (old new : Stored) (out into : List Bptr) : Type 0 where
+  pub each : (b : Bptr) → IsAmong b into → (IsAmong b out × (new.bytes b ≡ old.bytes b)) ⊎ IsWhole new b
+
 -- the pointer p stands for q, with the changes made, and the store has its tree blocks in place of q's
 pub record Sets (level place : ℕ) (changes : List (ℕ × Ptr)) (old new : Stored) (q p : Ptr) : Type 0 where
   pub leaves : (index : ℕ) → index / 32 ^ level ≡ place → leaf_at new level p index ≡ updated changes index (leaf_at old level q index)
   pub swaps : Swaps old new (blocks old level q) (blocks new level p)
+  pub brings : Brings old new (blocks old level q) (blocks new level p)
   pub swaps_leaves : Rises changes → SwapsLeaves changes (leaves_below old level q) (leaves_below new level p) (leaf_at old level q)
 
 -- the same for the 32 pointers of a block above this level
 pub record SetsEach (below place : ℕ) (changes : List (ℕ × Ptr)) (old new : Stored) (qs ps : List Ptr) : Type 0 where
   pub leaves : (index : ℕ) → index / 32 ^ suc below ≡ place → leaf_at new below (slot ps (digit below index)) index ≡ updated changes index (leaf_at old below (slot qs (digit below index)) index)
   pub swaps : Swaps old new (flat_map (blocks old below) qs) (flat_map (blocks new below) ps)
+  pub brings : Brings old new (flat_map (blocks old below) qs) (flat_map (blocks new below) ps)
   pub swaps_leaves : Rises changes → SwapsLeaves changes (flat_map (leaves_below old below) qs) (flat_map (leaves_below new below) ps) (λ index. leaf_at old below (slot qs (digit below index)) index)
 
 -- the tree blocks of a tree
@@ -127,13 +148,24 @@ tree_reach s t = reach s t.height t.root
 pub record Raises (level : ℕ) (changes : List (ℕ × Ptr)) (old new : Stored) (t : Tree) (p : Ptr) : Type 0 where
   pub leaves : (index : ℕ) → index / 32 ^ level ≡ 0 → leaf_at new level p index ≡ updated changes index (tree_at old t index)
   pub swaps : Swaps old new (tree_blocks old t) (blocks new level p)
+  pub brings : Brings old new (tree_blocks old t) (blocks new level p)
   pub swaps_leaves : Rises changes → SwapsLeaves changes (tree_leaves old t) (leaves_below new level p) (tree_at old t)
 
 -- the tree u is t with the changes, and the store has u's tree blocks in place of t's
 pub record SetsTree (changes : List (ℕ × Ptr)) (old new : Stored) (t u : Tree) : Type 0 where
   pub leaves : (index : ℕ) → tree_at new u index ≡ updated changes index (tree_at old t index)
   pub swaps : Swaps old new (tree_blocks old t) (tree_blocks new u)
+  pub brings : Brings old new (tree_blocks old t) (tree_blocks new u)
   pub swaps_leaves : Rises changes → SwapsLeaves changes (tree_leaves old t) (tree_leaves new u) (tree_at old t)
+
+-- at most so many blocks are put where a tree of the one height becomes one of the other by so many changes: the way to
+-- each change, and where it grows also the way to what it was
+abbrev pub most_puts : ℕ → ℕ → ℕ → ℕ
+most_puts old new changes = if nat_eq old new then new * changes else (new - 1) * changes + (new - old)
+
+-- and at most so many are given back
+abbrev pub most_frees : ℕ → ℕ → ℕ → ℕ
+most_frees old new changes = if nat_eq old new then new * changes else (new - 1) * changes
 
 -- the least height from this one on that has room for the changes
 pub record IsHeightFor (from : ℕ) (changes : List (ℕ × Ptr)) (height : ℕ) : Type 0 where
@@ -158,18 +190,26 @@ pub record KeepsTree (old new : Stored) (t : Tree) : Type 0 where
 abbrev pub KeepsOthers : Stored → Stored → List Bptr → Type 0
 KeepsOthers old new out = (other : Tree) → AreStored (out ++ tree_blocks old other) old → KeepsTree old new other
 
--- a block with this address and this sum is no tree block of its level
-pub record HasBadBlock (s : Stored) (at : Dva) (expected : List ℕ) : Type 0 where
+-- one of these blocks, with this address and this sum, is no tree block of its level
+pub record HasBadBlock (s : Stored) (pointers : List Bptr) (at : Dva) (expected : List ℕ) : Type 0 where
   pub block : Bptr
-  pub below : ℕ
+  pub among : IsAmong block pointers
   pub address : block.at ≡ at
   pub checksum : block.sum ≡ expected
-  pub bad : IsNoBlock below block.fill (s.bytes block)
+  pub tall : 0 < block.level
+  pub bad : IsNoBlock (block.level - 1) block.fill (s.bytes block)
 
--- `Malformed` comes only where there is such a block
-abbrev pub IsBadOnly : {T : Type 0} → Stored → Result T StoreErr → Type 0
-IsBadOnly s result = (at : Dva) (expected : List ℕ) → IsErrOf result (Malformed at expected) → HasBadBlock s at expected
+-- one of these blocks, with this address and this sum, has the bytes of another sum
+pub record HasDamagedBlock (s : Stored) (pointers : List Bptr) (at : Dva) (expected found : List ℕ) : Type 0 where
+  pub block : Bptr
+  pub among : IsAmong block pointers
+  pub address : block.at ≡ at
+  pub checksum : block.sum ≡ expected
+  pub found_is : found ≡ sha256 (s.bytes block)
+  pub differs : expected ≢ found
 
--- each pointer that was met has its units
-abbrev pub IsResolved : {T : Type 0} → Result T StoreErr → Type 0
-IsResolved result = (at : Dva) (expected : List ℕ) → ¬ IsErrOf result (Unresolved at expected)
+-- an error that tells of a block tells of one of these, and never that units are missing where these are stored
+pub record TellsOf {T : Type 0} (s : Stored) (pointers : List Bptr) (result : Result T StoreErr) : Type 0 where
+  pub malformed : (at : Dva) (expected : List ℕ) → IsErrOf result (Malformed at expected) → HasBadBlock s pointers at expected
+  pub damaged : (at : Dva) (expected found : List ℕ) → IsErrOf result (Damaged at expected found) → HasDamagedBlock s pointers at expected found
+  pub resolved : (at : Dva) (expected : List ℕ) → IsErrOf result (Unresolved at expected) → ¬ AreStored pointers s

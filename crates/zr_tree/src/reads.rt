@@ -3,10 +3,9 @@
 //! The time is linear in the height, which is at most 5.
 ghost use Rattle.std.specs.Prelude.{◌≡◌, ◌+◌, ◌*◌, ◌-◌, ◌/◌, ◌%◌, ◌^◌, ◌<◌, ◌≤◌, List, [], ◌∷◌, ℕ, length, All, IfOk};
 ghost use Rattle.zr_tree.specs.Blocks.{FitsAt};
-ghost use Rattle.zr_store.specs.Causes.{HasCause};
+ghost use Rattle.zr_store.specs.Causes.{Costs, HasCause};
 ghost use Rattle.zr_bptr.specs.Spelling.{IsTree};
-ghost use Rattle.zr_tree.specs.Trees.{kids, leaf_at, tree_at, blocks, tree_blocks, IsBadOnly, IsResolved};
-ghost use Rattle.zr_store.specs.Store.{AreStored};
+ghost use Rattle.zr_tree.specs.Trees.{kids, leaf_at, tree_at, blocks, tree_blocks, TellsOf};
 
 use crate::blocks::decode_pointers;
 use std::alloc::Global;
@@ -36,11 +35,11 @@ pub(crate) fn read_block<B: Blocks>(
     b: &Bptr,
 ) -> Result<Vec<Ptr>, StoreErr>
     requires { below < 5 }
-    ensures cause { HasCause (B.counts store.old) (B.counts store.new) result }
+    ensures costs { Costs 0 0 (B.account store.old) (B.account store.new) }
+    ensures cause { HasCause 0 (B.account store.old) (B.account store.new) result }
     ensures told { B.tells store.old → B.tells store.new }
     ensures same { B.tells store.old → B.holds store.new ≡ B.holds store.old }
-    ensures malformed { B.tells store.old → IsBadOnly (B.holds store.old) result }
-    ensures resolved { B.tells store.old → AreStored (b.now ∷ []) (B.holds store.old) → IsResolved result }
+    ensures errors { B.tells store.old → b.now.level ≡ below + 1 → TellsOf (B.holds store.old) (b.now ∷ []) result }
     ensures count { IfOk result (λ pointers. length pointers.items ≡ 32) }
     ensures fit { IfOk result (λ pointers. All (FitsAt below) pointers.items) }
     ensures means { B.tells store.old → IfOk result (λ pointers. pointers.items ≡ kids (B.holds store.old) below b.now) }
@@ -64,11 +63,11 @@ pub(crate) fn get_below<B: Blocks>(
 ) -> Result<Ptr, StoreErr>
     requires tall { level ≤ 5 }
     requires fits { FitsAt level p.now }
-    ensures cause { HasCause (B.counts store.old) (B.counts store.new) result }
+    ensures costs { Costs 0 0 (B.account store.old) (B.account store.new) }
+    ensures cause { HasCause 0 (B.account store.old) (B.account store.new) result }
     ensures told { B.tells store.old → B.tells store.new }
     ensures same { B.tells store.old → B.holds store.new ≡ B.holds store.old }
-    ensures malformed { B.tells store.old → IsBadOnly (B.holds store.old) result }
-    ensures resolved { B.tells store.old → AreStored (blocks (B.holds store.old) level p.now) (B.holds store.old) → IsResolved result }
+    ensures errors { B.tells store.old → TellsOf (B.holds store.old) (blocks (B.holds store.old) level p.now) result }
     ensures fits { IfOk result (FitsAt 0) }
     ensures leaf { B.tells store.old → IfOk result (λ leaf. leaf ≡ leaf_at (B.holds store.old) level p.now index) }
 {
@@ -89,11 +88,11 @@ pub(crate) fn get_below<B: Blocks>(
 /// The leaf pointer at an index.
 pub fn get<B: Blocks>(alloc: Global, store: &mut B, t: &Tree, index: u64) -> Result<Ptr, StoreErr>
     requires tree { IsTree t.now }
-    ensures cause { HasCause (B.counts store.old) (B.counts store.new) result }
+    ensures costs { Costs 0 0 (B.account store.old) (B.account store.new) }
+    ensures cause { HasCause 0 (B.account store.old) (B.account store.new) result }
     ensures told { B.tells store.old → B.tells store.new }
     ensures same { B.tells store.old → B.holds store.new ≡ B.holds store.old }
-    ensures malformed { B.tells store.old → IsBadOnly (B.holds store.old) result }
-    ensures resolved { B.tells store.old → AreStored (tree_blocks (B.holds store.old) t.now) (B.holds store.old) → IsResolved result }
+    ensures errors { B.tells store.old → TellsOf (B.holds store.old) (tree_blocks (B.holds store.old) t.now) result }
     ensures fits { IfOk result (FitsAt 0) }
     ensures leaf { B.tells store.old → IfOk result (λ leaf. leaf ≡ tree_at (B.holds store.old) t.now index) }
 {

@@ -7,8 +7,9 @@ ghost use Rattle.zr_bptr.specs.declared.Ptr.{Ptr};
 ghost use Rattle.zr_bptr.specs.declared.Ptr.TheVariants.{Hole};
 ghost use Rattle.zr_tree.specs.Blocks.{FitsAt};
 ghost use Rattle.zr_store.specs.Store.{AreStored, Swaps};
-ghost use Rattle.zr_store.specs.Causes.{HasCause};
-ghost use Rattle.zr_tree.specs.Trees.{blocks, own, IsOpen, Sets, SetsEach, AllAt, AreLeaves};
+ghost use Rattle.zr_store.specs.Causes.{Costs, HasCause};
+ghost use Rattle.zr_tree.specs.Trees.{blocks, own, IsOpen, Sets, SetsEach, AllAt, AreLeaves, IsWholeAt, TellsOf};
+ghost use Rattle.zr_bptr.specs.Spelling.{IsOfLevel};
 
 use crate::blocks::encode_pointers;
 use crate::reads::{place_of, read_block};
@@ -46,7 +47,9 @@ fn open_block<B: Blocks>(
     p: &Ptr,
 ) -> Result<Vec<Ptr>, StoreErr>
     requires { below < 5 }
-    ensures cause { HasCause (B.counts store.old) (B.counts store.new) result }
+    ensures costs { Costs 0 0 (B.account store.old) (B.account store.new) }
+    ensures cause { HasCause 0 (B.account store.old) (B.account store.new) result }
+    ensures errors { B.tells store.old → IsOfLevel (below + 1) p.now → TellsOf (B.holds store.old) (own p.now) result }
     ensures told { B.tells store.old → B.tells store.new }
     ensures same { B.tells store.old → B.holds store.new ≡ B.holds store.old }
     ensures count { IfOk result (λ pointers. length pointers.items ≡ 32) }
@@ -69,10 +72,13 @@ pub(crate) fn put_block<B: Blocks>(
     requires low { below < 5 }
     requires count { length pointers.now ≡ 32 }
     requires fit { All (FitsAt below) pointers.now }
-    ensures cause { HasCause (B.counts store.old) (B.counts store.new) result }
+    ensures costs { Costs 1 0 (B.account store.old) (B.account store.new) }
+    ensures cause { HasCause 1 (B.account store.old) (B.account store.new) result }
+    ensures errors { TellsOf (B.holds store.old) [] result }
     ensures told { B.tells store.old → B.tells store.new }
     ensures fits { IfOk result (FitsAt (below + 1)) }
     ensures open { B.tells store.old → IfOk result (λ p. IsOpen (B.holds store.new) below p pointers.now) }
+    ensures whole { B.tells store.old → IfOk result (IsWholeAt (B.holds store.new)) }
     ensures swaps { B.tells store.old → IfOk result (λ p. Swaps (B.holds store.old) (B.holds store.new) [] (own p)) }
 {
     if are_holes(pointers) {
@@ -85,7 +91,9 @@ pub(crate) fn put_block<B: Blocks>(
 
 // Gives back a block, but not those below it.
 fn free_block<B: Blocks>(alloc: Global, store: &mut B, p: &Ptr) -> Result<(), StoreErr>
-    ensures cause { HasCause (B.counts store.old) (B.counts store.new) result }
+    ensures costs { Costs 0 1 (B.account store.old) (B.account store.new) }
+    ensures cause { HasCause 0 (B.account store.old) (B.account store.new) result }
+    ensures errors { TellsOf (B.holds store.old) [] result }
     ensures told { B.tells store.old → B.tells store.new }
     ensures swaps { B.tells store.old → AreStored (own p.now) (B.holds store.old) → OnOk result (Swaps (B.holds store.old) (B.holds store.new) (own p.now) []) }
 {
@@ -124,7 +132,9 @@ pub(crate) fn set_below<B: Blocks>(
     requires fits { FitsAt level p.now }
     requires here { AllAt level place changes.now }
     requires leaves { AreLeaves changes.now }
-    ensures cause { HasCause (B.counts store.old) (B.counts store.new) result }
+    ensures costs { Costs (level * length changes.now) (level * length changes.now) (B.account store.old) (B.account store.new) }
+    ensures cause { HasCause (level * length changes.now) (B.account store.old) (B.account store.new) result }
+    ensures errors { B.tells store.old → AreStored (blocks (B.holds store.old) level p.now) (B.holds store.old) → TellsOf (B.holds store.old) (blocks (B.holds store.old) level p.now) result }
     ensures told { B.tells store.old → B.tells store.new }
     ensures fits { IfOk result (FitsAt level) }
     ensures sets { B.tells store.old → AreStored (blocks (B.holds store.old) level p.now) (B.holds store.old) → IfOk result (Sets level place changes.now (B.holds store.old) (B.holds store.new) p.now) }
@@ -158,7 +168,9 @@ pub(crate) fn set_each<B: Blocks>(
     requires fit { All (FitsAt (level - 1)) pointers.old.items }
     requires here { AllAt level place changes.now }
     requires leaves { AreLeaves changes.now }
-    ensures cause { HasCause (B.counts store.old) (B.counts store.new) result }
+    ensures costs { Costs ((level - 1) * length changes.now) ((level - 1) * length changes.now) (B.account store.old) (B.account store.new) }
+    ensures cause { HasCause ((level - 1) * length changes.now) (B.account store.old) (B.account store.new) result }
+    ensures errors { B.tells store.old → AreStored (flat_map (blocks (B.holds store.old) (level - 1)) pointers.old.items) (B.holds store.old) → TellsOf (B.holds store.old) (flat_map (blocks (B.holds store.old) (level - 1)) pointers.old.items) result }
     ensures told { B.tells store.old → B.tells store.new }
     ensures count { length pointers.new.items ≡ 32 }
     ensures fit { All (FitsAt (level - 1)) pointers.new.items }

@@ -6,9 +6,9 @@ ghost use Rattle.zr_tree.specs.Blocks.{FitsAt};
 ghost use Rattle.zr_bptr.specs.declared.Bptr.{Bptr};
 ghost use Rattle.zr_bptr.specs.declared.Tree.{Tree};
 ghost use Rattle.zr_store.specs.Store.{Stored, AreStored, hits};
-ghost use Rattle.zr_store.specs.Causes.{HasCause};
+ghost use Rattle.zr_store.specs.Causes.{Costs, HasCause};
 ghost use Rattle.zr_bptr.specs.Spelling.{IsTree};
-ghost use Rattle.zr_tree.specs.Trees.{tree_blocks, AllAt, AreLeaves, Raises, SetsTree, IsHeightFor, KeepsTree, KeepsOthers};
+ghost use Rattle.zr_tree.specs.Trees.{tree_blocks, AllAt, AreLeaves, Raises, SetsTree, IsHeightFor, KeepsTree, KeepsOthers, most_puts, most_frees, TellsOf};
 
 use crate::reads::place_of;
 use crate::sets::{holes, put_block, run_len, set_below, set_each};
@@ -49,7 +49,9 @@ fn raise<B: Blocks>(
     requires tall { level ≤ 5 }
     requires here { AllAt level 0 changes.now }
     requires leaves { AreLeaves changes.now }
-    ensures cause { HasCause (B.counts store.old) (B.counts store.new) result }
+    ensures costs { Costs (most_puts t.now.height level (length changes.now)) (most_frees t.now.height level (length changes.now)) (B.account store.old) (B.account store.new) }
+    ensures cause { HasCause (most_puts t.now.height level (length changes.now)) (B.account store.old) (B.account store.new) result }
+    ensures errors { B.tells store.old → AreStored (tree_blocks (B.holds store.old) t.now) (B.holds store.old) → TellsOf (B.holds store.old) (tree_blocks (B.holds store.old) t.now) result }
     ensures told { B.tells store.old → B.tells store.new }
     ensures fits { IfOk result (FitsAt level) }
     ensures raises { B.tells store.old → AreStored (tree_blocks (B.holds store.old) t.now) (B.holds store.old) → IfOk result (Raises level changes.now (B.holds store.old) (B.holds store.new) t.now) }
@@ -76,7 +78,11 @@ pub fn set_all<B: Blocks>(
     requires tree { IsTree t.now }
     requires below { All (λ change. change.0 < 2 ^ 25) changes.now }
     requires leaves { AreLeaves changes.now }
-    ensures cause { HasCause (B.counts store.old) (B.counts store.new) result }
+    ensures costs { (height : ℕ) → IsHeightFor t.now.height changes.now height → Costs (most_puts t.now.height height (length changes.now)) (most_frees t.now.height height (length changes.now)) (B.account store.old) (B.account store.new) }
+    ensures cause { (height : ℕ) → IsHeightFor t.now.height changes.now height → HasCause (most_puts t.now.height height (length changes.now)) (B.account store.old) (B.account store.new) result }
+    ensures most { Costs (5 * length changes.now + 4) (5 * length changes.now) (B.account store.old) (B.account store.new) }
+    ensures most_cause { HasCause (5 * length changes.now + 4) (B.account store.old) (B.account store.new) result }
+    ensures errors { B.tells store.old → AreStored (tree_blocks (B.holds store.old) t.now) (B.holds store.old) → TellsOf (B.holds store.old) (tree_blocks (B.holds store.old) t.now) result }
     ensures told { B.tells store.old → B.tells store.new }
     ensures tree { IfOk result IsTree }
     ensures height { IfOk result (λ u. IsHeightFor t.now.height changes.now u.height) }

@@ -4,9 +4,9 @@
 ghost use Rattle.std.specs.Prelude.{◌≡◌, ◌+◌, ◌-◌, ◌<◌, ◌≤◌, ◌++◌, ◌∷◌, [], List, ℕ, All, OnOk, OnErr, IfOk, IsTrue, if◌then◌else◌};
 ghost use Rattle.zr_bptr.specs.declared.Bptr.{Bptr};
 ghost use Rattle.zr_tree.specs.Blocks.{FitsAt};
-ghost use Rattle.zr_store.specs.Causes.{HasCause};
+ghost use Rattle.zr_store.specs.Causes.{Costs, HasCause};
 ghost use Rattle.zr_bptr.specs.Spelling.{IsTree};
-ghost use Rattle.zr_tree.specs.Trees.{reach, tree_reach, MarksFront, IsBadOnly};
+ghost use Rattle.zr_tree.specs.Trees.{reach, tree_reach, blocks, tree_blocks, MarksFront, TellsOf};
 
 use crate::reads::read_block;
 use std::alloc::{AllocError, Global};
@@ -21,10 +21,11 @@ fn walk_below<B: Blocks>(
     out: &mut Vec<Bptr>,
 ) -> Result<(), StoreErr>
     requires { level ≤ 5 }
-    ensures cause { HasCause (B.counts store.old) (B.counts store.new) result }
+    ensures costs { Costs 0 0 (B.account store.old) (B.account store.new) }
+    ensures cause { HasCause 0 (B.account store.old) (B.account store.new) result }
     ensures told { B.tells store.old → B.tells store.new }
     ensures same { B.tells store.old → B.holds store.new ≡ B.holds store.old }
-    ensures malformed { B.tells store.old → IsBadOnly (B.holds store.old) result }
+    ensures errors { B.tells store.old → FitsAt level p.now → TellsOf (B.holds store.old) (blocks (B.holds store.old) level p.now) result }
     ensures reach { B.tells store.old → OnOk result (out.new.items ≡ out.old.items ++ reach (B.holds store.old) level p.now) }
 {
     match p {
@@ -46,10 +47,11 @@ fn walk_below<B: Blocks>(
 /// The tree blocks and the leaves, each block before what lies below it.
 pub fn walk<B: Blocks>(alloc: Global, store: &mut B, t: &Tree) -> Result<Vec<Bptr>, StoreErr>
     requires { IsTree t.now }
-    ensures cause { HasCause (B.counts store.old) (B.counts store.new) result }
+    ensures costs { Costs 0 0 (B.account store.old) (B.account store.new) }
+    ensures cause { HasCause 0 (B.account store.old) (B.account store.new) result }
     ensures told { B.tells store.old → B.tells store.new }
     ensures same { B.tells store.old → B.holds store.new ≡ B.holds store.old }
-    ensures malformed { B.tells store.old → IsBadOnly (B.holds store.old) result }
+    ensures errors { B.tells store.old → TellsOf (B.holds store.old) (tree_blocks (B.holds store.old) t.now) result }
     ensures reach { B.tells store.old → IfOk result (λ pointers. pointers.items ≡ tree_reach (B.holds store.old) t.now) }
 {
     let mut out = Vec::new(alloc);
@@ -75,10 +77,11 @@ fn walk_marked_below<B: Blocks, M: Mark>(
     m: &mut M,
 ) -> Result<bool, StoreErr>
     requires { level ≤ 5 }
-    ensures cause { HasCause (B.counts store.old) (B.counts store.new) result }
+    ensures costs { Costs 0 0 (B.account store.old) (B.account store.new) }
+    ensures cause { HasCause 0 (B.account store.old) (B.account store.new) result }
     ensures told { B.tells store.old → B.tells store.new }
     ensures same { B.tells store.old → B.holds store.new ≡ B.holds store.old }
-    ensures malformed { B.tells store.old → IsBadOnly (B.holds store.old) result }
+    ensures errors { B.tells store.old → FitsAt level p.now → TellsOf (B.holds store.old) (blocks (B.holds store.old) level p.now) result }
     ensures front { B.tells store.old → MarksFront (M.marked m.old) (M.marked m.new) (reach (B.holds store.old) level p.now) }
     ensures all { B.tells store.old → IfOk result (λ yes. IsTrue yes → M.marked m.new ≡ M.marked m.old ++ reach (B.holds store.old) level p.now) }
 {
@@ -109,10 +112,11 @@ pub fn walk_marked<B: Blocks, M: Mark>(
     m: &mut M,
 ) -> Result<bool, StoreErr>
     requires { IsTree t.now }
-    ensures cause { HasCause (B.counts store.old) (B.counts store.new) result }
+    ensures costs { Costs 0 0 (B.account store.old) (B.account store.new) }
+    ensures cause { HasCause 0 (B.account store.old) (B.account store.new) result }
     ensures told { B.tells store.old → B.tells store.new }
     ensures same { B.tells store.old → B.holds store.new ≡ B.holds store.old }
-    ensures malformed { B.tells store.old → IsBadOnly (B.holds store.old) result }
+    ensures errors { B.tells store.old → TellsOf (B.holds store.old) (tree_blocks (B.holds store.old) t.now) result }
     ensures front { B.tells store.old → MarksFront (M.marked m.old) (M.marked m.new) (tree_reach (B.holds store.old) t.now) }
     ensures all { B.tells store.old → IfOk result (λ yes. IsTrue yes → M.marked m.new ≡ M.marked m.old ++ tree_reach (B.holds store.old) t.now) }
 {

@@ -9,7 +9,7 @@ use Rattle.zr_store.proofs.mem_blocks.MemBlocksBlocks.free.Goals as goal
 pub returns-in-Some-clause-told : goal.returns-in-Some-clause-told
 returns-in-Some-clause-told c = λ sound.
     let lt = subst (λ (ks : List Kept). c.in-Some.i < length ks) c.as_slice.ensures.value c.in-Some.ensures.found in
-    subst (λ (ks : List Kept). IsSound c.args.self.now.next ks) (sym c.remove.ensures.items) (free_sound c.args.self.now.next c.args.self.now.kept.items c.in-Some.i c.remove.result lt sound)
+    subst (λ (ks : List Kept). IsSound c.args.self.now.units c.args.self.now.next ks) (sym c.remove.ensures.items) (free_sound c.args.self.now.units c.args.self.now.next c.args.self.now.kept.items c.in-Some.i c.remove.result lt sound)
 
 pub returns-in-Some-clause-ok : goal.returns-in-Some-clause-ok
 returns-in-Some-clause-ok c = λ sound held.
