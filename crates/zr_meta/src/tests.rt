@@ -1,0 +1,1 @@
+//! Heads that come back, and heads that are none.
