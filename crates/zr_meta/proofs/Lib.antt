@@ -1,3 +1,5 @@
 pub mod Fronts
 pub mod Backs
 pub mod Sizes
+pub mod Maps
+pub mod Logs

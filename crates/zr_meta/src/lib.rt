@@ -8,11 +8,15 @@
 
 mod form;
 mod laws;
+mod log;
+mod map;
 mod read;
 mod write;
 
 pub use form::is_head;
 pub use laws::{heads_are_short, one_head};
+pub use log::log_of;
+pub use map::{counts_of, entries_of};
 pub use read::{MetaErr, decode_head};
 pub use write::encode_head;
 use zr_base::{Blob, CkptPart, Items};
