@@ -3,3 +3,5 @@ pub mod Backs
 pub mod Sizes
 pub mod Maps
 pub mod Logs
+pub mod Cuts
+pub mod Lates

@@ -1,10 +1,13 @@
 -- What the words of one stream say.
-use Rattle.std.specs.Prelude.{◌≡◌, ℕ, ◌+◌, ◌*◌, ◌≤◌, List, length, map}
-use Rattle.std.specs.List.{AllByRecursion}
+use Rattle.std.specs.Prelude.{◌≡◌, ℕ, ◌+◌, ◌*◌, ◌<◌, ◌≤◌, List, ◌++◌, length, map, Bool, true, false, not, Option, Some, option_map, if◌then◌else◌}
+use Rattle.std.specs.List.{AllByRecursion, filter}
 use Rattle.zr_base.specs.declared.space.Extent.{Extent}
 use Rattle.zr_base.specs.declared.space.Entry.{Entry}
-use Rattle.zr_base.specs.Extents.{EndsBy}
-use Rattle.zr_rules.specs.Logs.{IsLog, IsAnew, IsStorable, entry_words}
+use Rattle.zr_base.specs.declared.space.Change.{Change}
+use Rattle.zr_base.specs.declared.space.LateRun.{LateRun}
+use Rattle.zr_base.specs.Extents.{EndsBy, IsMaximal}
+use Rattle.zr_ranges.specs.Ranges.{Ranges}
+use Rattle.zr_rules.specs.Logs.{IsLog, IsLate, IsAnew, AreCut, SpellsChanges, longest_run, IsStorable, entry_words}
 
 -- the log of a set of a device of so many units
 pub record IsLogOf (version dev units : ℕ) (words : List ℕ) (es : List Extent) : Type 0 where
@@ -27,3 +30,26 @@ pub record SpellsEntry (words : List ℕ) (e : Entry) : Type 0 where
 pub record SpellsEachEntry (pieces : List (List ℕ)) (entries : List Entry) : Type 0 where
   pub lawful : AllByRecursion IsStorable entries
   pub spelling : pieces ≡ map entry_words entries
+
+-- the runs of one kind of the changes of a late stream
+abbrev pub runs_of_kind : Bool → List Change → List Extent
+runs_of_kind free changes = map (λ c. c.at) (filter (λ c. if free then c.free else not c.free) changes)
+
+-- a late set: the extents of blocks, and then those of metadata
+abbrev pub late_list : List Extent → List Extent → List LateRun
+late_list blocks meta = map (λ e. record { at = e; meta = false }) blocks ++ map (λ e. record { at = e; meta = true }) meta
+
+-- the late set of a device of so many units
+pub record IsLateOf (version dev units : ℕ) (words : List ℕ) (runs : List LateRun) : Type 0 where
+  pub late : IsLate version dev words runs
+  pub within : EndsBy units (map (λ r. r.at) runs)
+
+-- whatever maximal extents the runs are cut from, they are those of this set
+abbrev pub IsOnlySet : List Extent → Option Ranges → Type 0
+IsOnlySet runs found = (es : List Extent) (most : ℕ) → 0 < most → IsMaximal es → AreCut most es runs → option_map (λ s. s.extents) found ≡ Some es
+
+-- the words of a set that is written anew, each of which gives back
+pub record IsFreedAnew (version dev : ℕ) (es : List Extent) (words : List ℕ) : Type 0 where
+  pub runs : List Extent
+  pub cut : AreCut (longest_run version) es runs
+  pub spelling : SpellsChanges version dev words (map (λ e. record { free = true; at = e }) runs)

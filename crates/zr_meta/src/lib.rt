@@ -7,6 +7,7 @@
 #![tactic(auto)]
 
 mod form;
+mod late;
 mod laws;
 mod log;
 mod map;
@@ -14,6 +15,7 @@ mod read;
 mod write;
 
 pub use form::is_head;
+pub use late::{late_of, late_words};
 pub use laws::{heads_are_short, one_head};
 pub use log::log_of;
 pub use map::{counts_of, entries_of};

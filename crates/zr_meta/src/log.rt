@@ -13,7 +13,7 @@ use zr_ranges::RangeSet;
 use zr_smap::{changes_of, condensed, replay};
 
 /// Whether each extent ends within so many units.
-fn ends_by(extents: &[Extent], units: u64) -> bool
+pub fn ends_by(extents: &[Extent], units: u64) -> bool
     ensures { IsTrue result ↔ EndsBy units extents.now }
 {
     for e in extents {
