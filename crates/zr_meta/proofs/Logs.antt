@@ -140,3 +140,7 @@ pub no_fit : (version dev units : ℕ) (words : List ℕ) (changes : List Change
 no_fit version dev units words changes fs s r none es h =
     let same = set_is version dev units words changes es fs s r h in
     none (subst (IsFit version dev units (length words)) same (record { within = h.within; anew = h.log.anew; is_anew = h.log.is_anew; short = h.log.short }))
+
+-- words are the log of at most one set
+pub one_log : (version dev units : ℕ) (words : List ℕ) (es fs : List Extent) → IsLogOf version dev units words es → IsLogOf version dev units words fs → es ≡ fs
+one_log version dev units words es fs h k = set_is version dev units words k.log.changes es fs k.log.spelling k.log.replay h

@@ -6,9 +6,10 @@ use Rattle.std.proofs.lemmas.List.{length-map, get_or-map}
 use Rattle.zr_base.specs.Readers.{Reads}
 use Rattle.zr_base.specs.declared.space.Entry.{Entry}
 use Rattle.zr_bptr.proofs.Pieces.{AreLong, chunks-flat_map, length-pieces, joined, flat_map-map, each_at}
-use Rattle.zr_rules.specs.Logs.{IsStorable, SpellsEntries, entry_words}
+use Rattle.zr_rules.specs.Logs.{IsStorable, SpellsEntries, SpellsCounts, entry_words}
 use Rattle.zr_rules.specs.Mappings.{entry_at}
-use Rattle.zr_meta.specs.Streams.{SpellsEntry, SpellsEachEntry}
+use Rattle.zr_meta.specs.Streams.{SpellsEntry, SpellsEachEntry, SpellsMapping}
+use Rattle.zr_meta.specs.declared.map.Mapping.{Mapping}
 
 abbrev nil : Entry
 nil = record { src = 0; dev = 0; dst = 0; len = 0 }
@@ -45,3 +46,10 @@ read_entries words pieces (Some es) whole is h =
       lawful = h.lawful;
       spelling = sym (joined 3 (length words / 3) words size) ∙ (ap (flat_map (λ (c : List ℕ). c)) (sym is ∙ h.spelling) ∙ flat_map-map entry_words es);
     }
+
+-- where a mapping is spelled, there are as many counts as entries
+pub same_size : (entries counts : List ℕ) (m : Mapping) (es : List Entry) (cs : List ℕ) → SpellsMapping entries counts m → SpellsEntries entries es → SpellsCounts counts cs → length es ≡ length cs
+same_size entries counts m es cs h e c =
+    let a = entries_size entries es e in let b = entries_size entries m.entries h.entries_are in
+    let d : length cs ≡ length m.counts = ap length (sym c.spelling ∙ h.counts_are.spelling) in
+    omega (arith, h.each)

@@ -11,14 +11,16 @@ mod late;
 mod laws;
 mod log;
 mod map;
+mod part;
 mod read;
 mod write;
 
 pub use form::is_head;
 pub use late::{late_of, late_words};
 pub use laws::{heads_are_short, one_head};
-pub use log::log_of;
-pub use map::{counts_of, entries_of};
+pub use log::{Sets, log_of, sets_of};
+pub use map::{Mapping, counts_of, entries_of, mapping_of};
+pub use part::{DevWords, PartsErr, part_of};
 pub use read::{MetaErr, decode_head};
 pub use write::encode_head;
 use zr_base::{Blob, CkptPart, Items};

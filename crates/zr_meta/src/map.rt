@@ -5,10 +5,17 @@
 ghost use Rattle.std.specs.Prelude.{◌≡◌, ◌↔◌, ◌≤◌, IsTrue, IfOk, length};
 ghost use Rattle.zr_base.specs.Readers.{Reads};
 ghost use Rattle.zr_rules.specs.Logs.{IsStorable, SpellsCounts, SpellsEntries, entry_words};
-ghost use Rattle.zr_meta.specs.Streams.{SpellsEntry, SpellsEachEntry};
+ghost use Rattle.zr_meta.specs.Streams.{SpellsEntry, SpellsEachEntry, SpellsMapping};
 
 use std::alloc::Global;
 use zr_base::{Entry, Items, NoMemory};
+
+/// A mapping: its entries, and how many units of each are obsolete.
+#[derive(Drop)]
+pub struct Mapping {
+    pub entries: Items<Entry>,
+    pub counts: Items<u32>,
+}
 
 fn is_storable(e: Entry) -> bool
     ensures { IsTrue result ↔ IsStorable e }
@@ -81,4 +88,25 @@ pub fn counts_of(alloc: Global, words: &[u64]) -> Result<Option<Items<u32>>, NoM
         counts.push(*word as u32)?;
     }
     Ok(Some(counts))
+}
+
+/// The mapping that the words of its two streams spell, None exactly where they spell none or there are not as many
+/// counts as entries.
+pub fn mapping_of(
+    alloc: Global,
+    entries: &[u64],
+    counts: &[u64],
+) -> Result<Option<Mapping>, NoMemory>
+    ensures { IfOk result (Reads (SpellsMapping entries.now counts.now)) }
+{
+    let Some(entries) = entries_of(alloc, entries)? else {
+        return Ok(None);
+    };
+    let Some(counts) = counts_of(alloc, counts)? else {
+        return Ok(None);
+    };
+    if entries.len() != counts.len() {
+        return Ok(None);
+    }
+    Ok(Some(Mapping { entries, counts }))
 }

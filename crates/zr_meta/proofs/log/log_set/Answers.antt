@@ -4,7 +4,7 @@ use Rattle.zr_base.specs.declared.space.Extent.{Extent}
 use Rattle.zr_rules.specs.Logs.{IsInTurn, IsReplay}
 use Rattle.zr_meta.specs.Streams.{IsLogOf, IsFit}
 use Rattle.zr_meta.proofs.Logs.{log_is, no_log, no_fit}
-use Rattle.zr_meta.proofs.log.log_of.Goals as goal
+use Rattle.zr_meta.proofs.log.log_set.Goals as goal
 
 pub returns-in_default-2 : goal.returns-in_default-2
 returns-in_default-2 c =
@@ -25,7 +25,6 @@ pub returns : goal.returns
 returns c =
     let s = rw c.in-Some.is at c.in_ok-changes.ensures.some in
     let r = rw c.in-Some-2.is at c.in_ok-set.ensures.some in
-    subst (IsLogOf c.args.version c.args.dev c.args.units c.args.words.now) (sym (c.from_vec.ensures ∙ (c.in_ok-extents.ensures.items ∙ c.extents.ensures.extents)))
-    (log_is c.args.version c.args.dev c.args.units c.args.words.now c.in-Some.changes.items c.in-Some-2.set.extents s
+    log_is c.args.version c.args.dev c.args.units c.args.words.now c.in-Some.changes.items c.in-Some-2.set.extents s
     (subst (λ (cs : List Change). IsReplay cs c.in-Some-2.set.extents) c.as_slice.ensures.value r)
-    (c.in_ok-is_fit.ensures.0 c.if-not-branch.false))
+    (c.in_ok-is_fit.ensures.0 c.if-not-branch.false)
