@@ -5,4 +5,4 @@ pub mod Maps
 pub mod Logs
 pub mod Cuts
 pub mod Lates
-pub mod Parts
+pub mod EqualWords

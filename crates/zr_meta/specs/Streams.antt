@@ -14,7 +14,6 @@ use Rattle.zr_meta.specs.declared.log.Sets.{Sets}
 use Rattle.zr_meta.specs.declared.part.DevWords.{DevWords}
 use Rattle.zr_meta.specs.declared.part.PartsErr.{PartsErr}
 use Rattle.zr_meta.specs.declared.part.PartsErr.TheVariants.{Rule, NoMemory}
-use Rattle.zr_base.specs.declared.space.DevRow.{DevRow}
 use Rattle.zr_base.specs.declared.space.DevPart.{DevPart}
 use Rattle.zr_rules.specs.Logs.{IsLog, IsLate, IsAnew, AreCut, SpellsChanges, longest_run, IsStorable, SpellsEntries, SpellsCounts, entry_words}
 
@@ -77,17 +76,17 @@ pub record SpellsSets (version dev units : ℕ) (ckpt : CkptPart) (held kept : L
   pub none : ckpt ≡ Clear → s.kept ≡ []
 
 -- the words of a device's streams are those of this part
-pub record SpellsPart (version dev : ℕ) (ckpt : CkptPart) (row : DevRow) (words : DevWords) (p : DevPart) : Type 0 where
-  pub row_is : p.row ≡ row
+pub record SpellsPart (version dev : ℕ) (ckpt : CkptPart) (words : DevWords) (p : DevPart) : Type 0 where
+  pub row_is : p.row ≡ words.row
   pub mapping : SpellsMapping words.entries words.counts (record { entries = p.entries; counts = p.counts })
-  pub sets : SpellsSets version dev row.units ckpt words.held words.kept (record { held = p.held; kept = p.kept })
-  pub fresh : IsLogOf version dev row.units words.fresh p.fresh
-  pub late1 : IsLateOf version dev row.units words.late1 p.late1
-  pub late2 : IsLateOf version dev row.units words.late2 p.late2
+  pub sets : SpellsSets version dev words.row.units ckpt words.held words.kept (record { held = p.held; kept = p.kept })
+  pub fresh : IsLogOf version dev words.row.units words.fresh p.fresh
+  pub late1 : IsLateOf version dev words.row.units words.late1 p.late1
+  pub late2 : IsLateOf version dev words.row.units words.late2 p.late2
 
 -- why a device's streams are no part: its mapping is not in its form, or else a log or a late set is not
-abbrev pub IsPartFault : ℕ → ℕ → CkptPart → DevRow → DevWords → PartsErr → Type 0
-IsPartFault version dev ckpt row words NoMemory = Unit {0}
-IsPartFault version dev ckpt row words (Rule n) =
+abbrev pub IsPartFault : ℕ → ℕ → CkptPart → DevWords → PartsErr → Type 0
+IsPartFault version dev ckpt words NoMemory = Unit {0}
+IsPartFault version dev ckpt words (Rule n) =
     ((n ≡ 1) × ((m : Mapping) → SpellsMapping words.entries words.counts m → ⊥))
-    ⊎ ((n ≡ 2) × (m : Mapping) × SpellsMapping words.entries words.counts m × ((p : DevPart) → SpellsPart version dev ckpt row words p → ⊥))
+    ⊎ ((n ≡ 2) × (m : Mapping) × SpellsMapping words.entries words.counts m × ((p : DevPart) → SpellsPart version dev ckpt words p → ⊥))

@@ -17,7 +17,7 @@ use zr_owed::height;
 /// The most words of a stream: those of a tree of the greatest height.
 const MOST_WORDS: u64 = 1 << 34;
 
-fn stream_count(form: u64, state: DevState) -> usize
+pub fn stream_count(form: u64, state: DevState) -> usize
     ensures value { result ≡ stream_count form state }
 {
     match state {

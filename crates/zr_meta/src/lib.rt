@@ -12,6 +12,7 @@ mod laws;
 mod log;
 mod map;
 mod part;
+mod parts;
 mod read;
 mod write;
 

@@ -29,9 +29,10 @@ impl From<NoMemory> for PartsErr {
     }
 }
 
-/// The words of the streams of a device; of a stream that it does not have, none.
+/// A device's row and the words of its streams; of a stream that it does not have, none.
 #[derive(Drop)]
 pub struct DevWords {
+    pub row: DevRow,
     pub held: Items<u64>,
     pub kept: Items<u64>,
     pub entries: Items<u64>,
@@ -46,7 +47,6 @@ pub struct DevWords {
 /// without a checkpoint. The time is that of replaying the logs.
 pub fn part_of(
     alloc: Global,
-    row: DevRow,
     words: &DevWords,
     ckpt: CkptPart,
     version: u64,
@@ -54,11 +54,11 @@ pub fn part_of(
 ) -> Result<DevPart, PartsErr>
     requires version { (version ≡ 1) ⊎ (version ≡ 2) }
     requires dev { dev < 32 }
-    requires units { row.units ≤ 2 ^ 36 }
-    ensures part { IfOk result (SpellsPart version dev ckpt row words.now) }
-    ensures fault { IfErr result (IsPartFault version dev ckpt row words.now) }
+    requires units { words.now.row.units ≤ 2 ^ 36 }
+    ensures part { IfOk result (SpellsPart version dev ckpt words.now) }
+    ensures fault { IfErr result (IsPartFault version dev ckpt words.now) }
 {
-    let units = row.units;
+    let units = words.row.units;
     let Some(mapping) = mapping_of(alloc, words.entries.as_slice(), words.counts.as_slice())?
     else {
         return Err(PartsErr::Rule(1));
@@ -77,7 +77,7 @@ pub fn part_of(
         return Err(PartsErr::Rule(2));
     };
     Ok(DevPart {
-        row,
+        row: words.row,
         held: sets.held,
         kept: sets.kept,
         entries: mapping.entries,
