@@ -6,3 +6,4 @@ pub mod Logs
 pub mod Cuts
 pub mod Lates
 pub mod EqualWords
+pub mod Whole

@@ -48,3 +48,29 @@ AreParts version ckpt dev (w ∷ words) (p ∷ parts) = SpellsPart version dev c
 -- the entries and counts of the device are in their form
 abbrev pub HasMapping : DevWords → Type 0
 HasMapping w = (m : Mapping) × SpellsMapping w.entries w.counts m
+
+-- what is condensed, whose entries and counts are the last two streams
+abbrev pub IsCondPart : Option CondAt → List (List ℕ) → Option CondPart → Type 0
+IsCondPart None ps None = Unit {0}
+IsCondPart None ps (Some c) = ⊥
+IsCondPart (Some at) ps None = ⊥
+IsCondPart (Some at) ps (Some c) =
+    (c.dev ≡ at.dev) × (c.at ≡ at.at) × SpellsMapping (piece ps (length ps - 2)) (piece ps (length ps - 1)) (record { entries = c.entries; counts = c.counts })
+
+-- the head and the words of its streams record these parts
+pub record SpellsParts (version : ℕ) (table : List DevRow) (h : Head) (words : List ℕ) (parts : SpaceParts) : Type 0 where
+  pub version_is : parts.version ≡ version
+  pub ckpt_is : parts.ckpt ≡ h.ckpt
+  pub devices : AreParts version h.ckpt 0 (devices_words h.form table (pieces h.streams words)) parts.devs
+  pub cond : IsCondPart h.cond (pieces h.streams words) parts.cond
+
+-- the entries and counts of all are in their form
+pub record HasMappings (table : List DevRow) (h : Head) (words : List ℕ) : Type 0 where
+  pub devices : AllByRecursion HasMapping (devices_words h.form table (pieces h.streams words))
+  pub cond : (c : Option CondPart) × IsCondPart h.cond (pieces h.streams words) c
+
+-- why the words record nothing: entries or counts are not in their form, or else a log or a late set is not
+abbrev pub IsPartsFault : ℕ → List DevRow → Head → List ℕ → PartsErr → Type 0
+IsPartsFault version table h words NoMemory = Unit {0}
+IsPartsFault version table h words (Rule n) =
+    ((n ≡ 1) × (HasMappings table h words → ⊥)) ⊎ ((n ≡ 2) × HasMappings table h words × ((parts : SpaceParts) → SpellsParts version table h words parts → ⊥))

@@ -22,6 +22,7 @@ pub use laws::{heads_are_short, one_head};
 pub use log::{Sets, log_of, sets_of};
 pub use map::{Mapping, counts_of, entries_of, mapping_of};
 pub use part::{DevWords, PartsErr, part_of};
+pub use parts::parts_of;
 pub use read::{MetaErr, decode_head};
 pub use write::encode_head;
 use zr_base::{Blob, CkptPart, Items};

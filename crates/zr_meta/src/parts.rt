@@ -2,18 +2,18 @@
 //!
 //! The words are first dealt out to the devices, by the streams that the state of each has. Mappings are read before
 //! logs: a mapping that is not in its form is told first, on whatever device it is.
-ghost use Rattle.std.specs.Prelude.{◌≡◌, ◌⊎◌, ℕ, List, ◌<◌, ◌≤◌, ◌^◌, ◌↔◌, IsTrue, IfOk, sum_by, length};
+ghost use Rattle.std.specs.Prelude.{◌≡◌, ◌⊎◌, ℕ, List, ◌<◌, ◌≤◌, ◌^◌, ◌↔◌, IsTrue, IfOk, IfErr, sum_by, length};
 ghost use Rattle.std.specs.List.{AllByRecursion};
 ghost use Rattle.zr_base.specs.Readers.{Reads};
-ghost use Rattle.zr_meta.specs.Heads.{stream_count};
-ghost use Rattle.zr_meta.specs.Parts.{AreParts, HasMapping, device_words, devices_words, piece, pieces};
+ghost use Rattle.zr_meta.specs.Heads.{IsHead, stream_count};
+ghost use Rattle.zr_meta.specs.Parts.{AreParts, HasMapping, IsCondPart, IsPartsFault, SpellsParts, device_words, devices_words, piece, pieces};
 
-use crate::Stream;
+use crate::{CondAt, Head, Stream};
 use crate::form::stream_count;
 use crate::map::mapping_of;
 use crate::part::{DevWords, PartsErr, part_of};
 use std::alloc::Global;
-use zr_base::{CkptPart, DevPart, DevRow, DevState, Items, NoMemory};
+use zr_base::{CkptPart, CondPart, DevPart, DevRow, DevState, Items, NoMemory, SpaceParts};
 
 fn copy_words(alloc: Global, words: &[u64]) -> Result<Items<u64>, NoMemory>
     ensures { IfOk result (λ w. w ≡ words.now) }
@@ -143,4 +143,66 @@ fn device_parts(
         }
     }
     Ok(Some(parts))
+}
+
+/// What the words of the last two streams record of what is condensed, None exactly where they are in no form.
+fn cond_part(
+    alloc: Global,
+    cond: Option<CondAt>,
+    pieces: &[Items<u64>],
+) -> Result<Option<Option<CondPart>>, NoMemory>
+    ensures { IfOk result (Reads (IsCondPart cond pieces.now)) }
+{
+    let Some(at) = cond else {
+        return Ok(Some(None));
+    };
+    let entries = piece(alloc, pieces, pieces.len().saturating_sub(2))?;
+    let counts = piece(alloc, pieces, pieces.len().saturating_sub(1))?;
+    let Some(m) = mapping_of(alloc, entries.as_slice(), counts.as_slice())? else {
+        return Ok(None);
+    };
+    Ok(Some(Some(CondPart {
+        dev: at.dev,
+        at: at.at,
+        entries: m.entries,
+        counts: m.counts,
+    })))
+}
+
+/// What a head and the words of its streams, in their order, record of the space of a pool of a version. Rule 1 is
+/// broken where entries or counts are not in their form, and else rule 2 where a log or a late set is not in its form or
+/// goes past its device, a kept unit is not held, or one is kept without a checkpoint. The time is that of replaying the
+/// logs, and the words are held twice meanwhile.
+pub fn parts_of(
+    alloc: Global,
+    h: &Head,
+    table: &[DevRow],
+    words: &[u64],
+    version: u64,
+) -> Result<SpaceParts, PartsErr>
+    requires head { IsHead table.now h.now }
+    requires version { (version ≡ 1) ⊎ (version ≡ 2) }
+    requires count { length words.now ≡ sum_by (λ s. s.words) h.now.streams }
+    requires few { length table.now ≤ 32 }
+    requires units { AllByRecursion (λ r. r.units ≤ 2 ^ 36) table.now }
+    ensures parts { IfOk result (SpellsParts version table.now h.now words.now) }
+    ensures fault { IfErr result (IsPartsFault version table.now h.now words.now) }
+{
+    let pieces = pieces_of(alloc, h.streams.as_slice(), words)?;
+    let devices = devices_words(alloc, h.form, table, pieces.as_slice())?;
+    if !are_mappings(alloc, devices.as_slice())? {
+        return Err(PartsErr::Rule(1));
+    }
+    let Some(cond) = cond_part(alloc, h.cond, pieces.as_slice())? else {
+        return Err(PartsErr::Rule(1));
+    };
+    let Some(devs) = device_parts(alloc, devices.as_slice(), h.ckpt, version)? else {
+        return Err(PartsErr::Rule(2));
+    };
+    Ok(SpaceParts {
+        version,
+        devs,
+        cond,
+        ckpt: h.ckpt,
+    })
 }
