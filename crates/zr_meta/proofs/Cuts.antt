@@ -34,7 +34,7 @@ in_order low [] before u h out = tt
 in_order low (r ∷ rs) before u h out = (
   λ there. not_true before (λ had. let a = (inside r u there).0 in let b = out had in omega (arith, h.0)),
   in_order (r.start + r.len) rs (if in_extent r u then true else before) u h.2
-  (λ now. elim (either (in_extent r u) before now) [ inl here ↦ (inside r u here).1 | inr had ↦ let b = out had in omega (arith, h.0) ]),
+      (λ now. elim (either (in_extent r u) before now) [ inl here ↦ (inside r u here).1 | inr had ↦ let b = out had in omega (arith, h.0) ]),
 )
 
 or_false : (b : Bool) → b ≡ (b || false)

@@ -1,4 +1,4 @@
-//! The head of the metadata.
+//! The head of the metadata, and what its streams record.
 //!
 //! The metadata of a root is a short head and streams of words: the logs of the sets of its devices, their mappings,
 //! and what is condensed. The head says how many words each stream has and where its tree is, so a commit writes only
@@ -17,11 +17,9 @@ mod read;
 mod write;
 
 pub use form::is_head;
-pub use late::{late_of, late_words};
+pub use late::late_words;
 pub use laws::{heads_are_short, one_head};
-pub use log::{Sets, log_of, sets_of};
-pub use map::{Mapping, counts_of, entries_of, mapping_of};
-pub use part::{DevWords, PartsErr, part_of};
+pub use part::PartsErr;
 pub use parts::parts_of;
 pub use read::{MetaErr, decode_head};
 pub use write::encode_head;

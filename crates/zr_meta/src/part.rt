@@ -59,11 +59,18 @@ pub fn part_of(
     ensures fault { IfErr result (IsPartFault version dev ckpt words.now) }
 {
     let units = words.row.units;
-    let Some(mapping) = mapping_of(alloc, words.entries.as_slice(), words.counts.as_slice())?
-    else {
+    let Some(mapping) = mapping_of(alloc, words.entries.as_slice(), words.counts.as_slice())? else {
         return Err(PartsErr::Rule(1));
     };
-    let Some(sets) = sets_of(alloc, words.held.as_slice(), words.kept.as_slice(), ckpt, version, dev, units)?
+    let Some(sets) = sets_of(
+        alloc,
+        words.held.as_slice(),
+        words.kept.as_slice(),
+        ckpt,
+        version,
+        dev,
+        units,
+    )?
     else {
         return Err(PartsErr::Rule(2));
     };

@@ -8,10 +8,10 @@ ghost use Rattle.zr_base.specs.Readers.{Reads};
 ghost use Rattle.zr_meta.specs.Heads.{IsHead, stream_count};
 ghost use Rattle.zr_meta.specs.Parts.{AreParts, HasMapping, IsCondPart, IsPartsFault, SpellsParts, device_words, devices_words, piece, pieces};
 
-use crate::{CondAt, Head, Stream};
 use crate::form::stream_count;
 use crate::map::mapping_of;
 use crate::part::{DevWords, PartsErr, part_of};
+use crate::{CondAt, Head, Stream};
 use std::alloc::Global;
 use zr_base::{CkptPart, CondPart, DevPart, DevRow, DevState, Items, NoMemory, SpaceParts};
 
@@ -23,7 +23,11 @@ fn copy_words(alloc: Global, words: &[u64]) -> Result<Items<u64>, NoMemory>
 }
 
 /// The words of each stream.
-fn pieces_of(alloc: Global, streams: &[Stream], words: &[u64]) -> Result<Items<Items<u64>>, NoMemory>
+fn pieces_of(
+    alloc: Global,
+    streams: &[Stream],
+    words: &[u64],
+) -> Result<Items<Items<u64>>, NoMemory>
     requires { sum_by (λ s. s.words) streams.now ≤ length words.now }
     ensures { IfOk result (λ ps. ps ≡ pieces streams.now words.now) }
 {

@@ -1,10 +1,14 @@
-//! Heads that come back, a head that another program wrote, and heads that are none.
+//! Heads that come back, a head that another program wrote with the words of its streams, heads that are none, and words
+//! that record nothing.
+ghost use Rattle.std.specs.Prelude.{◌≤◌, ◌^◌, IfOk};
+
 use super::*;
+use crate::part::{DevWords, part_of};
 use byteorder::{ByteOrder, LittleEndian};
 use std::alloc::Global;
 use std::test::Fail;
-use zr_base::{DevRow, DevState};
-use zr_bptr::Ptr;
+use zr_base::{DevRow, DevState, Dva, Extent, LateRun, NoMemory};
+use zr_bptr::{Bptr, Ptr};
 
 const fn row(state: DevState) -> DevRow {
     DevRow {
@@ -194,5 +198,160 @@ fn a_saved_root_and_condensing(rt: HostRuntime) -> Result<(), Fail> {
             &[row(DevState::Gone), row(DevState::Gone)]
         )
     );
+    Ok(())
+}
+
+fn leaf() -> Ptr {
+    Ptr::At(Bptr {
+        at: Dva {
+            dev: 0,
+            start: 3,
+            len: 1,
+        },
+        level: 0,
+        birth: 2,
+        fill: 1,
+        sum: [9; 32],
+    })
+}
+
+#[test]
+fn what_the_streams_record(rt: HostRuntime) -> Result<(), Fail> {
+    let alloc = rt.alloc();
+    let one = Stream {
+        words: 1,
+        tree: Tree {
+            root: leaf(),
+            height: 0,
+        },
+    };
+    let none = Stream {
+        words: 0,
+        tree: Tree {
+            root: Ptr::Hole,
+            height: 0,
+        },
+    };
+    let streams = vec![in alloc; one, none, one, one]?;
+    let h = Head {
+        form: 2,
+        dir: none.tree,
+        saved: None,
+        ckpt: CkptPart::Clear,
+        cond: None,
+        streams: Items::from_vec(streams),
+    };
+    let table = [row(DevState::On)];
+    if !is_head(&h, &table) {
+        panic!(rt; "no head");
+    }
+    let parts = parts_of(alloc, &h, &table, &[65_537, 294_913, 32_768], 2)?;
+    assert_eq!(rt; parts.version, 2);
+    assert!(rt; parts.cond.is_none());
+    for p in parts.devs.as_slice() {
+        assert_eq!(rt; p.held.as_slice(), [Extent { start: 1, len: 2 }].as_slice());
+        assert!(rt; p.kept.is_empty());
+        let late1 = LateRun {
+            at: Extent { start: 4, len: 2 },
+            meta: true,
+        };
+        assert_eq!(rt; p.late1.as_slice(), [late1].as_slice());
+        let late2 = LateRun {
+            at: Extent { start: 0, len: 1 },
+            meta: true,
+        };
+        assert_eq!(rt; p.late2.as_slice(), [late2].as_slice());
+    }
+    Ok(())
+}
+
+fn leaving(
+    alloc: Global,
+    held: &[u64],
+    kept: &[u64],
+    counts: &[u64],
+    late1: &[u64],
+) -> Result<DevWords, NoMemory>
+    ensures { IfOk result (λ w. w.row.units ≤ 2 ^ 36) }
+{
+    let held = Vec::from_slice(alloc, held)?;
+    let kept = Vec::from_slice(alloc, kept)?;
+    let entries = Vec::from_slice(alloc, &[80, 4_294_967_320, 56])?;
+    let counts = Vec::from_slice(alloc, counts)?;
+    let late1 = Vec::from_slice(alloc, late1)?;
+    Ok(DevWords {
+        row: DevRow {
+            state: DevState::Leaving,
+            added: 1,
+            units: 896,
+            gone: 0,
+        },
+        held: Items::from_vec(held),
+        kept: Items::from_vec(kept),
+        entries: Items::from_vec(entries),
+        counts: Items::from_vec(counts),
+        fresh: Items::new(alloc),
+        late1: Items::from_vec(late1),
+        late2: Items::new(alloc),
+    })
+}
+
+/// The rule that the words break, 0 where they break none.
+fn broken(
+    alloc: Global,
+    ckpt: CkptPart,
+    held: &[u64],
+    kept: &[u64],
+    counts: &[u64],
+    late1: &[u64],
+) -> Result<u8, NoMemory> {
+    let words = leaving(alloc, held, kept, counts, late1)?;
+    match part_of(alloc, &words, ckpt, 1, 0) {
+        Ok(_) => Ok(0),
+        Err(PartsErr::Rule(rule)) => Ok(rule),
+        Err(PartsErr::NoMemory) => Err(NoMemory),
+    }
+}
+
+#[test]
+fn words_that_record_nothing(rt: HostRuntime) -> Result<(), Fail> {
+    let alloc = rt.alloc();
+    let held = CkptPart::Held(4);
+    let clear = CkptPart::Clear;
+    assert_eq!(rt;
+        broken(alloc, held, &[65_537], &[65_536], &[2], &[294_913])?,
+        0
+    );
+    assert_eq!(rt;
+        broken(alloc, held, &[65_537], &[65_536], &[1 << 32], &[294_913])?,
+        1
+    );
+    assert_eq!(rt;
+        broken(alloc, held, &[65_537, 65_536], &[], &[1 << 32], &[])?,
+        1
+    );
+    assert_eq!(rt;
+        broken(alloc, held, &[65_537], &[65_536], &[], &[294_913])?,
+        1
+    );
+    assert_eq!(rt;
+        broken(alloc, clear, &[65_537], &[65_536], &[2], &[294_913])?,
+        2
+    );
+    assert_eq!(rt;
+        broken(alloc, held, &[65_537], &[655_360], &[2], &[294_913])?,
+        2
+    );
+    assert_eq!(rt; broken(alloc, held, &[65_537, 65_536], &[], &[2], &[])?, 2);
+    assert_eq!(rt;
+        broken(alloc, held, &[895 * 65_536 + 1], &[], &[2], &[])?,
+        2
+    );
+    assert_eq!(rt; broken(alloc, held, &[1 << 63], &[], &[2], &[])?, 2);
+    assert_eq!(rt;
+        broken(alloc, held, &[], &[], &[2], &[294_913, 524_288])?,
+        2
+    );
+    assert_eq!(rt; broken(alloc, held, &[], &[], &[2], &[65_536, 131_072])?, 2);
     Ok(())
 }
