@@ -241,7 +241,12 @@ fn what_the_streams_record(rt: HostRuntime) -> Result<(), Fail> {
         cond: None,
         streams: Items::from_vec(streams),
     };
-    let table = [row(DevState::On)];
+    let table = [DevRow {
+        state: DevState::On,
+        added: 1,
+        units: 896,
+        gone: 0,
+    }];
     if !is_head(&h, &table) {
         panic!(rt; "no head");
     }
