@@ -124,3 +124,7 @@ stand_at h moment = (run (start h.input.items) (calls_until moment h.calls.items
 pub record IsImage (stand : Stand) (files : List DiskFile) : Type 0 where
   pub paths : paths_of (take (length stand.paths) files) ≡ stand.paths
   pub leaves : MayLeave stand (bytes_of (take (length stand.paths) files))
+
+-- one disk more: the file of that path in the folder, or so many zeros where none is there
+abbrev pub IsAttached : List DiskFile → List ℕ → ℕ → Stand → Stand → Type 0
+IsAttached folder path size old new = (bytes : List ℕ) × IsFileOf folder path size bytes × (new ≡ with_disk old path bytes)

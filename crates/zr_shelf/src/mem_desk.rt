@@ -145,8 +145,27 @@ impl Shelf for MemDesk {
 }
 
 impl Desk for MemDesk {
+    ghost use Rattle.std.specs.Prelude.{ℕ, length, IsErrOf, unwrap_or};
+    ghost use Rattle.zr_base.specs.Counts.{HasRisen};
+    ghost use Rattle.zr_shelf.specs.Counts.{NoneFell};
+    ghost use Rattle.zr_shelf.specs.Moments.{Attaches};
+    ghost use Rattle.zr_shelf.specs.Memory.{IsAttached, sizes_of};
+    ghost use Rattle.zr_shelf.specs.declared.desk.DeskErr.TheVariants.{Failed};
+
     // It also fails where the path has no file and `make` is None.
-    fn attach(&mut self, path: &str, make: Option<u64>) -> Result<u32, DeskErr> {
+    fn attach(&mut self, path: &str, make: Option<u64>) -> Result<u32, DeskErr>
+        ensures slot { IfOk result (λ slot. slot ≡ length (sizes_of self.old.memory.disks.items)) }
+        ensures sizes { IfOk result (λ slot. (size : ℕ) × (sizes_of self.new.memory.disks.items ≡ sizes_of self.old.memory.disks.items ++ size ∷ [])) }
+        ensures err { OnErr result (sizes_of self.new.memory.disks.items ≡ sizes_of self.old.memory.disks.items) }
+        ensures none_fell { NoneFell (record { disk = self.old.disk_faults; attach = self.old.attach_faults; input = self.old.input_faults; output = self.old.output_faults }) (record { disk = self.new.disk_faults; attach = self.new.attach_faults; input = self.new.input_faults; output = self.new.output_faults }) }
+        ensures failed { IsErrOf result Failed → HasRisen self.old.attach_faults self.new.attach_faults }
+        ensures told { Unit {0} → Unit {0} }
+        ensures moment { Unit {0} → HasRisen self.old.memory.made self.new.memory.made }
+        ensures world { Unit {0} → Attaches path.now result (world_of self.old.memory.history) (world_of self.new.memory.history) }
+        // What is attached is the file of that path, as it is, or so many zeros where there is none.
+        ensures file { OnOk result (IsAttached self.old.memory.folder.items path.now (unwrap_or make 0) (world_of self.old.memory.history).now (world_of self.new.memory.history).now) }
+        ensures folder { self.new.memory.folder ≡ self.old.memory.folder }
+    {
         let due = self.is_due();
         if due || (make.is_none() && !self.memory.has_file(path)) {
             self.attach_faults = self.attach_faults.saturating_add(1);

@@ -210,6 +210,7 @@ impl Memory {
         ensures ok { OnOk result (Steps (λ old new. (bytes : List ℕ) × IsFileOf self.old.folder.items path.now size bytes × (new ≡ with_disk old path.now bytes)) (world_of self.old.history) (world_of self.new.history)) }
         ensures err { OnErr result (world_of self.new.history ≡ world_of self.old.history) }
         ensures err_sizes { OnErr result (self.new.disks.items ≡ self.old.disks.items) }
+        ensures folder { self.new.folder ≡ self.old.folder }
         ensures made { self.new.made ≡ self.old.made }
     {
         if self.disks.len() >= u32::MAX as usize {

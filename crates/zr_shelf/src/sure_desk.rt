@@ -112,8 +112,27 @@ impl Shelf for SureDesk {
 }
 
 impl Desk for SureDesk {
+    ghost use Rattle.std.specs.Prelude.{ℕ, length, IsErrOf, unwrap_or};
+    ghost use Rattle.zr_base.specs.Counts.{HasRisen};
+    ghost use Rattle.zr_shelf.specs.Counts.{NoneFell};
+    ghost use Rattle.zr_shelf.specs.Moments.{Attaches};
+    ghost use Rattle.zr_shelf.specs.Memory.{IsAttached, sizes_of};
+    ghost use Rattle.zr_shelf.specs.declared.desk.DeskErr.TheVariants.{Failed};
+
     // It makes an empty disk where the path has no file and `make` is None.
-    fn attach(&mut self, path: &str, make: Option<u64>) -> Result<u32, DeskErr> {
+    fn attach(&mut self, path: &str, make: Option<u64>) -> Result<u32, DeskErr>
+        ensures slot { IfOk result (λ slot. slot ≡ length (sizes_of self.old.memory.disks.items)) }
+        ensures sizes { IfOk result (λ slot. (size : ℕ) × (sizes_of self.new.memory.disks.items ≡ sizes_of self.old.memory.disks.items ++ size ∷ [])) }
+        ensures err { OnErr result (sizes_of self.new.memory.disks.items ≡ sizes_of self.old.memory.disks.items) }
+        ensures none_fell { NoneFell (record { disk = 0; attach = 0; input = 0; output = 0 }) (record { disk = 0; attach = 0; input = 0; output = 0 }) }
+        ensures failed { IsErrOf result Failed → HasRisen 0 0 }
+        ensures told { Unit {0} → Unit {0} }
+        ensures moment { Unit {0} → HasRisen self.old.memory.made self.new.memory.made }
+        ensures world { Unit {0} → Attaches path.now result (world_of self.old.memory.history) (world_of self.new.memory.history) }
+        // What is attached is the file of that path, as it is, or so many zeros where there is none.
+        ensures file { OnOk result (IsAttached self.old.memory.folder.items path.now (unwrap_or make 0) (world_of self.old.memory.history).now (world_of self.new.memory.history).now) }
+        ensures folder { self.new.memory.folder ≡ self.old.memory.folder }
+    {
         self.memory.count();
         Ok(self.memory.attach(path, make.unwrap_or(0))?)
     }
