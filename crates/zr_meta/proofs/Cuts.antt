@@ -1,10 +1,10 @@
 -- Runs that are cut from maximal extents: they follow each other, have the units of the extents, and are told by them.
-use Rattle.std.proofs.Common.{◌≡◌, ◌⊎◌, inl, inr, ℕ, ◌+◌, ◌*◌, ◌^◌, ◌<◌, ◌≤◌, List, [], ◌∷◌, ◌++◌, map, Bool, true, false, refl, sym, ap, subst, ◌∙◌, arith}
+use Rattle.std.proofs.Common.{◌≡◌, ◌⊎◌, inl, inr, ℕ, ◌+◌, ◌<◌, ◌≤◌, List, [], ◌∷◌, ◌++◌, map, Bool, true, false, refl, sym, ap, subst, ◌∙◌, arith}
 use Rattle.std.specs.Prelude.{nat_le, nat_lt, ◌&&◌, ◌||◌, if◌then◌else◌}
 use Rattle.std.proofs.lemmas.Bool.Decides.{nat_tests}
 use Rattle.zr_base.specs.declared.space.Extent.{Extent}
-use Rattle.zr_base.specs.Extents.{in_extent, has_unit, unit_count, IsMaximal, IsMaximalFrom}
-use Rattle.zr_rules.specs.Logs.{taken_after, IsInTurn, IsCutFrom, IsCut, AreCut}
+use Rattle.zr_base.specs.Extents.{in_extent, has_unit, unit_count, IsMaximalFrom}
+use Rattle.zr_rules.specs.Logs.{taken_after, IsInTurn, IsCutFrom, AreCut}
 use Rattle.zr_smap.specs.Cuts.{taken}
 
 -- ---- runs in order

@@ -1,13 +1,13 @@
 -- The words of a late set.
-use Rattle.std.proofs.Common.{◌≡◌, ◌⊎◌, ℕ, ◌+◌, ◌*◌, ◌^◌, ◌<◌, ◌≤◌, List, [], ◌∷◌, ◌++◌, length, map, Bool, true, false, not, Option, Some, None, refl, sym, ap, subst, ◌∙◌, ⊎_elim, append-nil, arith}
-use Rattle.std.specs.Prelude.{IfSome, IfNone, option_map, if◌then◌else◌}
-use Rattle.std.specs.List.{AllByRecursion, filter, flat_map}
+use Rattle.std.proofs.Common.{◌≡◌, ◌⊎◌, ℕ, ◌^◌, ◌<◌, ◌≤◌, List, [], ◌∷◌, ◌++◌, map, true, false, Option, Some, None, refl, sym, ap, subst, ◌∙◌, ⊎_elim, arith}
+use Rattle.std.specs.Prelude.{IfSome, IfNone, option_map}
+use Rattle.std.specs.List.{AllByRecursion, flat_map}
 use Rattle.std.proofs.lemmas.Grind.{flat_map-append}
 use Rattle.std.proofs.lemmas.Bool.Decides.{nat_tests}
 use Rattle.zr_base.specs.declared.space.Extent.{Extent}
 use Rattle.zr_base.specs.declared.space.Change.{Change}
 use Rattle.zr_base.specs.declared.space.LateRun.{LateRun}
-use Rattle.zr_base.specs.Extents.{EndsBy, IsMaximal, has_unit}
+use Rattle.zr_base.specs.Extents.{EndsBy, IsMaximal}
 use Rattle.zr_base.proofs.ExtentSets.{same_extents}
 use Rattle.zr_ranges.specs.Ranges.{Ranges}
 use Rattle.zr_rules.specs.Logs.{change_words, IsChange, SpellsChanges, IsReplay, IsInTurn, IsAnew, IsLate, AreCut, longest_run, late_runs, taken_after}

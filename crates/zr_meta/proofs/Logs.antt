@@ -1,16 +1,15 @@
 -- The words of a log spell one list of changes, and leave one set.
-use Rattle.std.proofs.Common.{◌≡◌, ◌⊎◌, ℕ, ◌+◌, ◌-◌, ◌*◌, ◌^◌, ◌<◌, ◌≤◌, List, [], ◌∷◌, ◌++◌, length, zero, suc, take, get_or, Bool, true, false, IsTrue, refl, sym, ap, subst, ◌∙◌, ⊎_elim, arith}
+use Rattle.std.proofs.Common.{◌≡◌, ◌⊎◌, ℕ, ◌+◌, ◌-◌, ◌*◌, ◌^◌, ◌<◌, ◌≤◌, List, [], ◌∷◌, ◌++◌, length, zero, suc, take, get_or, Bool, true, false, refl, sym, ap, subst, ◌∙◌, ⊎_elim, arith}
 use Rattle.std.specs.List.{AllByRecursion, flat_map}
 use Rattle.std.proofs.lemmas.List.{length-append}
 use Rattle.std.proofs.lemmas.Bool.{cases_lt, false≢true}
 use Rattle.std.proofs.lemmas.Bool.Decides.{nat_tests}
 use Rattle.zr_base.specs.declared.space.Extent.{Extent}
 use Rattle.zr_base.specs.declared.space.Change.{Change}
-use Rattle.zr_base.specs.Extents.{EndsBy, IsMaximal, has_unit}
+use Rattle.zr_base.specs.Extents.{EndsBy, IsMaximal}
 use Rattle.zr_base.proofs.ExtentSets.{same_extents, none_from}
 use Rattle.zr_rules.specs.Places.{one_if}
-use Rattle.zr_rules.specs.Logs.{change_words, IsChange, SpellsChanges, IsReplay, IsInTurn, IsLog, IsAnew, taken_after}
-use Rattle.zr_rules.specs.Owed.{set_words}
+use Rattle.zr_rules.specs.Logs.{change_words, IsChange, SpellsChanges, IsReplay, IsInTurn, IsAnew, taken_after}
 use Rattle.zr_smap.specs.Cuts.{IsInReach, reach}
 use Rattle.zr_smap.proofs.Spelling.{short_words, long_words}
 use Rattle.zr_smap.proofs.Cutting.{anew_length}

@@ -1,13 +1,12 @@
 -- The words of a mapping, piece by piece.
-use Rattle.std.proofs.Common.{◌≡◌, ℕ, ◌+◌, ◌*◌, ◌/◌, ◌%◌, ◌<◌, List, [], ◌∷◌, ◌++◌, length, map, get_or, Option, Some, None, refl, sym, ap, subst, ◌∙◌, arith}
-use Rattle.std.specs.List.{AllByRecursion, flat_map}
+use Rattle.std.proofs.Common.{◌≡◌, ℕ, ◌*◌, ◌/◌, ◌%◌, ◌<◌, List, [], ◌∷◌, length, get_or, Option, Some, None, refl, sym, ap, ◌∙◌, arith}
+use Rattle.std.specs.List.{flat_map}
 use Rattle.std.specs.Simd.{first_chunks}
 use Rattle.std.proofs.lemmas.List.{length-map, get_or-map}
 use Rattle.zr_base.specs.Readers.{Reads}
 use Rattle.zr_base.specs.declared.space.Entry.{Entry}
 use Rattle.zr_bptr.proofs.Pieces.{AreLong, chunks-flat_map, length-pieces, joined, flat_map-map, each_at}
 use Rattle.zr_rules.specs.Logs.{IsStorable, SpellsEntries, SpellsCounts, entry_words}
-use Rattle.zr_rules.specs.Mappings.{entry_at}
 use Rattle.zr_meta.specs.Streams.{SpellsEntry, SpellsEachEntry, SpellsMapping}
 use Rattle.zr_meta.specs.declared.map.Mapping.{Mapping}
 

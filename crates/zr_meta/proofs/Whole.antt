@@ -1,5 +1,5 @@
 -- The parts of all devices.
-use Rattle.std.proofs.Common.{◌≡◌, ◌⊎◌, inl, inr, ℕ, zero, suc, ◌+◌, ◌-◌, ◌^◌, ◌<◌, ◌≤◌, List, [], ◌∷◌, ◌++◌, length, take, drop, get_or, Option, Some, None, refl, sym, ap, subst, ◌∙◌, sum_by, arith}
+use Rattle.std.proofs.Common.{◌≡◌, inl, inr, ℕ, zero, suc, ◌+◌, ◌-◌, ◌^◌, ◌<◌, ◌≤◌, List, [], ◌∷◌, ◌++◌, length, take, drop, get_or, Option, Some, None, refl, sym, ap, subst, sum_by, arith}
 use Rattle.std.specs.List.{AllByRecursion}
 use Rattle.std.proofs.lemmas.List.{length-take}
 use Rattle.std.proofs.lemmas.Grind.{take_at_read}
@@ -15,7 +15,7 @@ use Rattle.zr_meta.specs.declared.map.Mapping.{Mapping}
 use Rattle.zr_meta.specs.declared.Head.{Head}
 use Rattle.zr_meta.specs.declared.part.DevWords.{DevWords}
 use Rattle.zr_meta.specs.declared.part.PartsErr.TheVariants.{Rule}
-use Rattle.zr_meta.specs.Heads.{IsHead, stream_count, cond_count}
+use Rattle.zr_meta.specs.Heads.{IsHead, stream_count}
 use Rattle.zr_meta.specs.Streams.{SpellsMapping, SpellsPart, IsPartFault}
 use Rattle.zr_meta.specs.Parts.{AreParts, IsCondPart, piece, pieces, device_words, devices_words}
 

@@ -2,10 +2,9 @@ use Rattle.std.proofs.Common.{◌≡◌, ◌∙◌, List, ℕ, true, false, ap, 
 use Rattle.std.specs.List.{AllByRecursion}
 use Rattle.zr_base.specs.declared.space.Change.{Change}
 use Rattle.zr_base.specs.declared.space.Extent.{Extent}
-use Rattle.zr_base.specs.declared.space.LateRun.{LateRun}
 use Rattle.zr_base.specs.Extents.{EndsBy}
 use Rattle.zr_smap.specs.Spellings.{IsRun}
-use Rattle.zr_rules.specs.Logs.{SpellsChanges, IsLate}
+use Rattle.zr_rules.specs.Logs.{IsLate}
 use Rattle.zr_meta.specs.Streams.{IsLateOf, IsOnlySet, late_list, runs_of_kind}
 use Rattle.zr_meta.proofs.Logs.{reach_of}
 use Rattle.zr_meta.proofs.Lates.{runs_lawful, found_blocks, found_meta, told_words, late_ends, ends_late}

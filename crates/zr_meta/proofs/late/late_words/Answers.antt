@@ -1,4 +1,4 @@
-use Rattle.std.proofs.Common.{◌≡◌, ◌∙◌, List, ℕ, ◌++◌, ap, subst, sym}
+use Rattle.std.proofs.Common.{◌∙◌, List, ℕ, ◌++◌, ap, subst, sym}
 use Rattle.zr_rules.specs.Logs.{IsLate}
 use Rattle.zr_meta.specs.Streams.{late_list}
 use Rattle.zr_meta.proofs.Lates.{late_is}

@@ -1,4 +1,4 @@
-use Rattle.std.proofs.Common.{◌≡◌, ◌∙◌, List, subst}
+use Rattle.std.proofs.Common.{◌∙◌}
 use Rattle.zr_meta.specs.Streams.{runs_of_kind}
 use Rattle.zr_meta.proofs.Lates.{only_set}
 use Rattle.zr_meta.proofs.late.set_of.Goals as goal

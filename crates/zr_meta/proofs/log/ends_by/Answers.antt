@@ -1,4 +1,4 @@
-use Rattle.std.proofs.Common.{arith, ℕ}
+use Rattle.std.proofs.Common.{arith}
 use Rattle.zr_base.specs.declared.space.Extent.{Extent}
 use Rattle.zr_meta.proofs.Logs.{ends_more, end_past}
 use Rattle.zr_meta.proofs.log.ends_by.Goals as goal

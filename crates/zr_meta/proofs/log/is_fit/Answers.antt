@@ -1,5 +1,4 @@
-use Rattle.std.proofs.Common.{◌≡◌, ◌∙◌, List, subst, arith}
-use Rattle.zr_base.specs.declared.space.Extent.{Extent}
+use Rattle.std.proofs.Common.{subst, arith}
 use Rattle.zr_base.specs.Extents.{EndsBy}
 use Rattle.zr_meta.proofs.Logs.{reach_of, fit_by}
 use Rattle.zr_meta.proofs.log.is_fit.Goals as goal

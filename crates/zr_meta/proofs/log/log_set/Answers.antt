@@ -1,8 +1,6 @@
-use Rattle.std.proofs.Common.{◌≡◌, ◌∙◌, ℕ, List, false, subst, sym}
+use Rattle.std.proofs.Common.{ℕ, List, false, subst}
 use Rattle.zr_base.specs.declared.space.Change.{Change}
-use Rattle.zr_base.specs.declared.space.Extent.{Extent}
 use Rattle.zr_rules.specs.Logs.{IsInTurn, IsReplay}
-use Rattle.zr_meta.specs.Streams.{IsLogOf, IsFit}
 use Rattle.zr_meta.proofs.Logs.{log_is, no_log, no_fit}
 use Rattle.zr_meta.proofs.log.log_set.Goals as goal
 

@@ -1,5 +1,4 @@
-use Rattle.std.proofs.Common.{◌≡◌, ◌∙◌, List, ℕ, inr, refl, sym, subst}
-use Rattle.zr_base.specs.declared.space.Extent.{Extent}
+use Rattle.std.proofs.Common.{List, ℕ, inr, refl, sym, subst}
 use Rattle.zr_meta.specs.Streams.{IsLogOf, IsLateOf}
 use Rattle.zr_meta.proofs.EqualWords.{mapping_at, sets_at}
 use Rattle.zr_meta.proofs.part.part_of.Goals as goal

@@ -1,4 +1,4 @@
-use Rattle.std.proofs.Common.{◌≡◌, ◌∙◌, ℕ, ap, sym}
+use Rattle.std.proofs.Common.{◌∙◌, ℕ, ap, sym}
 use Rattle.zr_meta.specs.Parts.{piece}
 use Rattle.zr_meta.proofs.EqualWords.{mapping_at}
 use Rattle.zr_meta.proofs.Whole.{no_cond}

@@ -1,8 +1,6 @@
-use Rattle.std.proofs.Common.{◌≡◌, ◌∙◌, ℕ, ◌+◌, ◌++◌, ◌∷◌, [], List, sym, subst, take, get_or, arith, rules}
+use Rattle.std.proofs.Common.{◌≡◌, ◌+◌, sym, subst, take, get_or, arith, rules}
 use Rattle.std.proofs.lemmas.Grind.{common_steps}
-use Rattle.zr_base.specs.declared.space.DevPart.{DevPart}
 use Rattle.zr_meta.specs.declared.part.DevWords.{DevWords}
-use Rattle.zr_meta.specs.declared.part.PartsErr.{PartsErr}
 use Rattle.zr_meta.specs.declared.part.PartsErr.TheVariants.{Rule}
 use Rattle.zr_meta.specs.Streams.{SpellsPart, IsPartFault}
 use Rattle.zr_meta.specs.Parts.{AreParts}
