@@ -1,4 +1,6 @@
 //! Spellings as the manual tells them, and values that come back.
+ghost use Rattle.std.specs.Prelude.{◌<◌};
+
 use super::*;
 use std::test::Fail;
 use zr_base::Dva;
@@ -81,4 +83,64 @@ fn what_is_written_is_spelled(rt: HostRuntime) -> Result<(), Fail> {
     pointer[..128].copy_from_slice(&encode(&Ptr::Hole));
     assert!(rt; decode_block(alloc, 4, 1, &pointer)?.is_none());
     Ok(())
+}
+
+// Whether the bytes are no pointer once one of them is another.
+fn is_none_with(bytes: &[u8; 128], at: usize, byte: u8) -> bool
+    requires { at < 128 }
+{
+    let mut other = *bytes;
+    other[at] = byte;
+    decode(&other).is_none()
+}
+
+#[test]
+fn no_pointers(rt: HostRuntime) {
+    let b = leaf(5);
+    assert!(rt; is_pointer(&b));
+    let bytes = encode(&Ptr::At(b));
+    // the length in sectors, its high bits, the bits above the device, the place in sectors, the gang bit
+    let address = [(0, 9), (0, 0), (3, 1), (7, 1), (8, 0x39), (15, 0x80)];
+    // the words of other copies, of padding and of the physical birth
+    let unused = [
+        (16, 1),
+        (24, 1),
+        (32, 1),
+        (40, 1),
+        (56, 1),
+        (64, 1),
+        (72, 1),
+    ];
+    // both lengths, the compression, the embedded bit, the sum's kind, the type, level 6, two bits and the byte order
+    let properties = [
+        (48, 6),
+        (50, 6),
+        (52, 3),
+        (52, 0x82),
+        (53, 7),
+        (54, 1),
+        (55, 0x86),
+        (55, 0xa0),
+        (55, 0xc0),
+        (55, 0),
+    ];
+    // born in no group, no leaf below it, two leaves in a leaf
+    let counts = [(80, 0), (88, 0), (88, 2)];
+    for (at, byte) in address {
+        assert!(rt; at < 128 && is_none_with(&bytes, at, byte));
+    }
+    for (at, byte) in unused {
+        assert!(rt; at < 128 && is_none_with(&bytes, at, byte));
+    }
+    for (at, byte) in properties {
+        assert!(rt; at < 128 && is_none_with(&bytes, at, byte));
+    }
+    for (at, byte) in counts {
+        assert!(rt; at < 128 && is_none_with(&bytes, at, byte));
+    }
+    let mut three_units = bytes;
+    three_units[0] = 24;
+    three_units[48] = 23;
+    three_units[50] = 23;
+    assert_eq!(rt; decode(&three_units), None);
 }

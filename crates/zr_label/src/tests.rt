@@ -182,3 +182,33 @@ fn no_roots(rt: HostRuntime) {
     // a byte behind the name
     assert_eq!(rt; Uber::decode(&changed(&block, 1282, 1)), None);
 }
+
+#[test]
+fn no_labels(rt: HostRuntime) {
+    let mut bytes = [0; 63];
+    bytes[0] = b'p';
+    let label = Label {
+        guid: 1,
+        index: 0,
+        added: 1,
+        units: 896,
+        name: Name { len: 1, bytes },
+    };
+    let block = label.encode();
+    let mut last = label;
+    last.index = 31;
+    assert_eq!(rt; Label::decode(&changed(&block, 24, 31)), Some(last));
+    // the magic, the version, no guid, an index past the last, high bytes of it, added by no group
+    let fields = [(0, b'y'), (8, 2), (16, 0), (24, 32), (28, 1), (32, 0)];
+    // a name of 64 bytes, one behind its end, and padding at its front and end
+    let padding = [(48, 64), (50, 1), (111, 1), (112, 1), (4063, 1)];
+    for (at, byte) in fields {
+        assert!(rt; at < 4064 && Label::decode(&changed(&block, at, byte)).is_none());
+    }
+    for (at, byte) in padding {
+        assert!(rt; at < 4064 && Label::decode(&changed(&block, at, byte)).is_none());
+    }
+    let mut torn = block;
+    torn[4095] ^= 1;
+    assert_eq!(rt; Label::decode(&torn), None);
+}
