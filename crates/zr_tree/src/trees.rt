@@ -68,7 +68,8 @@ fn raise<B: Blocks>(
     Ok(root)
 }
 
-/// Changes leaf pointers. The old tree blocks are given back.
+/// Changes leaf pointers. The old tree blocks are given back. At most five tree blocks a change are put and given back,
+/// and four more are put where the tree grows, also where the answer is an error.
 pub fn set_all<B: Blocks>(
     alloc: Global,
     store: &mut B,
