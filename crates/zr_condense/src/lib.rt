@@ -12,6 +12,9 @@ ghost use Rattle.zr_rules.specs.Condense.{condensed};
 ghost use Rattle.zr_rules.specs.Mappings.{IsRising};
 ghost use Rattle.zr_condense.specs.Condensing.{HasWorked};
 
+mod laws;
+
+pub use laws::leads_as_before;
 use std::alloc::Global;
 use std::marker::Model;
 use zr_base::{CondPart, Entry, Items, NoMemory};
@@ -199,6 +202,33 @@ mod tests {
         let (kept, left) = condense.finish();
         assert_eq!(rt; kept.len(), 1);
         assert_eq!(rt; left.as_slice(), [2].as_slice());
+        Ok(())
+    }
+
+    #[test]
+    fn what_was_kept_is_taken_up_again(rt: HostRuntime) -> Result<(), Fail> {
+        let map = Imap::from_entries(rt.alloc(), [FIRST, SECOND].as_slice())?;
+        let mut entries = Items::new(rt.alloc());
+        entries.push(FIRST)?;
+        let mut kept = Items::new(rt.alloc());
+        kept.push(2u32)?;
+        let part = CondPart {
+            dev: 0,
+            at: 1,
+            entries,
+            counts: kept,
+        };
+        let counts = [2u32, 2];
+        let mut condense = Condense::resume(rt.alloc(), &part)?;
+        assert_eq!(rt; condense.at(), 1);
+        let again = condense.part()?;
+        assert_eq!(rt; again.entries.as_slice(), [FIRST].as_slice());
+        assert_eq!(rt;
+            (again.dev, again.at, again.counts.as_slice()),
+            (0, 1, [2].as_slice())
+        );
+        assert_eq!(rt; condense.step(&map, counts.as_slice(), 64)?, 0);
+        assert!(rt; condense.done(&map));
         Ok(())
     }
 }
