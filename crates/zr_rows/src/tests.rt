@@ -1,0 +1,63 @@
+//! A mapping that is searched, and one that is counted and condensed.
+ghost use Rattle.std.specs.Prelude.{◌≡◌, ◌<◌};
+
+use crate::every_other;
+use std::marker::Brand;
+use std::sync::ledger::{Blank, Ledger};
+use std::test::Fail;
+use zr_base::{Entry, Extent};
+use zr_condense::Condense;
+use zr_imap::{Imap, Steps};
+use zr_obsolete::Obsolete;
+use zr_ranges::RangeSet;
+
+fn find<L: Ledger>(map: &Imap, u: u64, blank: Blank) -> Option<usize>
+    requires name { blank.name ≡ L.name }
+    requires parts { blank.parts ≡ L.parts }
+    requires some { 0 < L.parts }
+{
+    let mut steps: Steps<L> = Steps::open(blank);
+    map.find(u, &mut steps)
+}
+
+#[test]
+fn an_entry_is_found_over_pages(rt: HostRuntime) -> Result<(), Fail> {
+    let map = every_other(rt.alloc(), 341)?;
+    assert_eq!(rt; map.len(), 341);
+    assert_eq!(rt; find::<Brand>(&map, 680, Blank::new(1)), Some(340));
+    assert_eq!(rt; find::<Brand>(&map, 1, Blank::new(1)), None);
+    Ok(())
+}
+
+fn four_units(src: u64) -> Entry
+    ensures { result ≡ record { src = src; dev = 1; dst = src; len = 4 } }
+{
+    Entry {
+        src,
+        dev: 1,
+        dst: src,
+        len: 4,
+    }
+}
+
+#[test]
+fn an_entry_without_a_unit_in_use_goes(rt: HostRuntime) -> Result<(), Fail> {
+    let alloc = rt.alloc();
+    let mut map = Imap::new(alloc);
+    map.push(four_units(0))?;
+    map.push(four_units(4))?;
+    map.push(four_units(8))?;
+    let counts = vec![in alloc; 0u32, 0, 0]?;
+    let mut obsolete = Obsolete::new(RangeSet::new(alloc), counts);
+    obsolete.mark(Extent { start: 0, len: 7 })?;
+    obsolete.fold(&map);
+    let counts = [4u32, 3, 0];
+    assert_eq!(rt; obsolete.counts(), counts.as_slice());
+    let mut condense = Condense::begin(alloc, 0);
+    assert_eq!(rt; condense.step(&map, counts.as_slice(), 64)?, 2);
+    assert!(rt; condense.done(&map));
+    let (kept, left) = condense.finish();
+    assert_eq!(rt; kept.len(), 2);
+    assert_eq!(rt; left.as_slice(), [3, 0].as_slice());
+    Ok(())
+}
