@@ -2,9 +2,11 @@
 //! FULL is 1, with 95 of 100 units used, and hands out all that is free, unit by unit. It prints how many units it handed
 //! out and the nanoseconds that this took, without those of making the devices.
 //!
-//! With no words it goes once through the smallest client and prints the sum that it keeps.
+//! With no words it goes once through each of the smallest clients: it prints the sum that the one keeps, and what the
+//! other copied, freed and gave back.
 #![tactic(auto)]
 
+mod removal;
 mod store;
 
 ghost use Rattle.std.specs.Prelude.{◌≡◌, ℕ, ◌+◌, ◌*◌, ◌<◌, ◌≤◌, ◌^◌, true, false, IfOk};
@@ -13,6 +15,7 @@ ghost use Rattle.zr_base.specs.Extents.{has_unit};
 ghost use Rattle.zr_rules.specs.Choices.{AreRuns, IsPick};
 
 use anyhow::Context;
+use removal::Removal;
 use std::alloc::Global;
 use std::env;
 use std::time::{Duration, Instant};
@@ -75,6 +78,41 @@ fn rounds(
     Ok((made, spent))
 }
 
+/// What became of the units of a device whose removal was given up.
+struct GivenUp {
+    copied: u64,
+    freed: u64,
+    given_back: u64,
+}
+
+/// Removes a device that holds three runs of 10 units: copies the first two, of which the second is not synced, frees
+/// units of each run, and gives up.
+fn give_up(alloc: Global) -> Result<GivenUp, NoMemory> {
+    let mut held = RangeSet::new(alloc);
+    held.add(Extent { start: 0, len: 10 })?;
+    held.add(Extent { start: 20, len: 10 })?;
+    held.add(Extent { start: 40, len: 10 })?;
+    let mut removal = Removal::begin(alloc, 0, held)?;
+    let before = removal.held();
+    removal.copy(1, 100)?;
+    removal.sync();
+    removal.copy(1, 200)?;
+    removal.free(Extent { start: 5, len: 5 })?;
+    removal.free(Extent { start: 20, len: 5 })?;
+    removal.free(Extent { start: 44, len: 3 })?;
+    let copied = removal.copied();
+    let freed = before - removal.held();
+    let mut given_back = 0;
+    for copy in removal.cancel()?.as_slice() {
+        given_back = copy.1.len.saturating_add(given_back);
+    }
+    Ok(GivenUp {
+        copied,
+        freed,
+        given_back,
+    })
+}
+
 fn main(rt: HostRuntime) -> anyhow::Result<()> {
     let alloc = rt.alloc();
     let first = Chooser::new(
@@ -96,6 +134,12 @@ fn main(rt: HostRuntime) -> anyhow::Result<()> {
         let mut store = Store::new(alloc, 600, 100).ok().context("out of memory")?;
         store.round(20, &first).ok().context("no run of 20")?;
         println!(rt; "{} units are free", store.free())?;
+        let GivenUp {
+            copied,
+            freed,
+            given_back,
+        } = give_up(alloc).ok().context("out of memory")?;
+        println!(rt; "{copied} units were copied, {freed} freed and {given_back} given back")?;
         return Ok(());
     };
     if *units >= 1 << 40 || *count >= 1 << 20 {

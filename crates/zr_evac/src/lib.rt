@@ -97,6 +97,7 @@ impl Evac {
         ensures not_empty { IfSome result (λ e. 0 < e.len) }
         ensures in_range { IfSome result (λ e. e.start + e.len ≤ 2 ^ 62) }
         ensures none { IfNone result (self.now.left ≡ []) }
+        ensures maximal { IsMaximal self.now.left }
     {
         next_piece(self.left.extents())
     }
