@@ -1,5 +1,5 @@
 -- What one change makes of a group: at each block and object, and in the counts.
-use Rattle.std.proofs.Common.{◌≡◌, ℕ, zero, suc, ◌+◌, ◌-◌, ◌<◌, ◌≤◌, Bool, true, false, eqb, List, [], ◌∷◌, length, refl, sym, arith, Some, None, Option, ◌∙◌, ⊎_elim, ap, ap₂, subst}
+use Rattle.std.proofs.Common.{◌≡◌, ℕ, suc, ◌+◌, ◌-◌, ◌<◌, Bool, true, false, eqb, List, [], ◌∷◌, length, refl, sym, arith, Some, None, Option, ◌∙◌, ⊎_elim, ap, ap₂, subst}
 use Rattle.std.specs.Prelude.{if◌then◌else◌, ◌&&◌, is_some, not, option_map, IsTrue}
 use Rattle.std.specs.List.{AllByRecursion}
 use Rattle.std.proofs.lemmas.Bool.{lt-ltb, le-ltb, eq-eqb, ne_eqb, cases_lt}
@@ -222,3 +222,12 @@ pub record_object_count : (g : Changes) (os ns : Objects) (id : ℕ) (r : Option
 record_object_count g os ns id r same up put =
     subst (λ (xs : Objects). length ns ≡ length xs + (if is_some (option_map (λ c. c.object) (value_at xs id)) then 0 else 1)) same
     (rw put (object_count-record os id r up))
+
+there_of : (c : ObjectChange) (x : Option ObjRec) → c.object ≡ x → IsChange c → 0 < length c.blocks → (r : ObjRec) × (Some c.object ≡ Some (Some r))
+there_of c None is change some = absurd (omega (arith, some, ap (λ (b : List (ℕ × Ptr)). length b) (change.dropped is)))
+there_of c (Some r) is change some = (r, ap (λ (x : Option ObjRec). Some x) is)
+
+-- an object with changed blocks is there
+pub kept_record : (o : Option ObjectChange) → ((c : ObjectChange) → o ≡ Some c → IsChange c) → 0 < length (blocks_of o) → (r : ObjRec) × (option_map (λ c. c.object) o ≡ Some (Some r))
+kept_record None each some = absurd (omega (arith, some))
+kept_record (Some c) each some = there_of c c.object refl (each c refl) some

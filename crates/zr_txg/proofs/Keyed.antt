@@ -1,12 +1,11 @@
 -- Lists of keys and values by rising key: where a key is, and what an edit at that place makes.
-use Rattle.std.proofs.Common.{◌≡◌, ◌≢◌, ℕ, zero, suc, ◌+◌, ◌<◌, ◌≤◌, Bool, true, false, eqb, ltb, List, [], ◌∷◌, length, take, drop, set, refl, sym, arith, Some, None, Option, ◌∙◌, ⊎_elim, ap, subst}
+use Rattle.std.proofs.Common.{◌≡◌, ◌≢◌, ℕ, zero, suc, ◌+◌, ◌<◌, ◌≤◌, eqb, List, [], ◌∷◌, length, set, refl, sym, arith, Some, None, Option, ◌∙◌, ⊎_elim, ap, subst}
 use Rattle.std.specs.Prelude.{insert, slice_index_or, if◌then◌else◌, is_some, Result, Ok, Err, unwrap_or}
 use Rattle.std.specs.List.{AllByRecursion}
 use Rattle.std.specs.List.Sorted.{IsBinarySearchResult, IsSearchInRange, IsNonDecreasingBy, IsPartitionPoint}
 use Rattle.std.specs.Ordering.{nat_cmp, ordering_index}
-use Rattle.std.specs.declared.cmp.Ordering.{Ordering}
 use Rattle.std.specs.declared.cmp.Ordering.TheVariants.{Less, Equal, Greater}
-use Rattle.std.specs.Result.{MatchResult, IfOk, IfErr}
+use Rattle.std.specs.Result.{IfOk, IfErr}
 use Rattle.std.proofs.lemmas.Bool.Decides.{nat_tests}
 use Rattle.std.proofs.lemmas.Bool.{lt-ltb, le-ltb, eq-eqb, ne_eqb, cases_lt}
 use Rattle.zr_txg.specs.Tables.{IsRisingFrom, IsRising, value_at, count_below, put_value, HasKeyAt, LacksKeyAt}
@@ -179,6 +178,7 @@ found_at {V} es k i up lt same = record {
   where
     key : (d : ℕ × V) → (slice_index_or es i d).0 ≡ k
     key d = equal_keys (slice_index_or es i d).0 k (same d)
+
     first : (es : List (ℕ × V)) → i < length es → ℕ × V
     first [] lt = absurd (omega arith)
     first (e ∷ es) lt = e
@@ -195,6 +195,7 @@ missing_at {V} es k i le point = record {
   where
     below : (j : ℕ) (d : ℕ × V) → j < i → (slice_index_or es j d).0 < k
     below j d lt = less_key (slice_index_or es j d).0 k (point.0 j d (omega arith) lt)
+
     above : (j : ℕ) (d : ℕ × V) → i ≤ j → j < length es → k < (slice_index_or es j d).0
     above j d ge lt = greater_key (slice_index_or es j d).0 k (point.1 j d ge lt)
 

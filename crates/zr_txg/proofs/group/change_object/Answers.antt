@@ -1,4 +1,4 @@
-use Rattle.std.proofs.Common.{◌≡◌, ◌∙◌, ap, sym, ℕ, Option, set}
+use Rattle.std.proofs.Common.{◌≡◌, ◌∙◌, ap, sym, Option, set}
 use Rattle.std.specs.Prelude.{unwrap_or}
 use Rattle.zr_txg.specs.Changes.{ObjectChange, with_block}
 use Rattle.zr_txg.proofs.Keyed.{set_value, value_of}

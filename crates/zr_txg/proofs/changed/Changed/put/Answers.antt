@@ -1,4 +1,4 @@
-use Rattle.std.proofs.Common.{◌≡◌, ◌∙◌, ap, sym, subst, ℕ, List}
+use Rattle.std.proofs.Common.{◌∙◌, ap, sym, subst, ℕ, List}
 use Rattle.zr_bptr.specs.declared.Ptr.{Ptr}
 use Rattle.zr_txg.specs.Tables.{IsRising}
 use Rattle.zr_txg.specs.Changes.{ObjectChange, with_block}
