@@ -1,6 +1,5 @@
 //! The changes of a group.
 ghost use Rattle.std.specs.Prelude.{◌≡◌, ℕ, ◌+◌, ◌<◌, ◌≤◌, ◌↔◌, ◌==◌, ◌&&◌, [], length, is_some, not, if◌then◌else◌, slice_index_or, IsTrue, IsOk, IfOk, OnOk, OnErr, Some, None};
-ghost use Rattle.std.specs.Option.{option_copied};
 ghost use Rattle.std.specs.List.{AllByRecursion};
 ghost use Rattle.zr_txg.specs.Tables.{IsRising, value_at, count_below, put_value};
 ghost use Rattle.zr_txg.specs.Changes.{ObjectChange, IsChange, IsRecorded, object_in, changes_in, change_in, block_count, blocks_of, with_block, with_record};
@@ -55,7 +54,7 @@ impl Group {
     }
 
     /// Whether so many more changed blocks and objects keep the group within 64 of each. What the group has changed
-    /// already counts once, so a caller counts the new ones alone.
+    /// already counts once, so a caller counts the new ones alone. Constant, and it takes no memory.
     pub fn fits(&self, blocks: u64, objects: u64) -> bool
         ensures { IsTrue result ↔ (block_count self.now.objects + blocks ≤ 64) × (length self.now.objects + objects ≤ 64) }
     {
@@ -66,8 +65,9 @@ impl Group {
             && objects <= GROUP_LIMIT - changed
     }
 
-    /// Puts the last change of a block. A group of 2^64 - 1 blocks takes no more, as if memory ran out. Logarithmic in
-    /// the objects and blocks, and the move of the object's blocks above it where the block had no change.
+    /// Puts the last change of a block of an object that is recorded and not dropped. A group of 2^64 - 1 blocks takes
+    /// no more, as if memory ran out. Logarithmic in the objects and blocks, and the move of the object's blocks above it
+    /// where the block had no change. After an error nothing is changed.
     pub fn change(&mut self, id: u32, index: u64, p: Ptr) -> Result<(), NoMemory>
         requires { IsRecorded self.old id }
         ensures blocks { OnOk result ((i k : ℕ) → change_in self.new i k ≡ (if id == i && index == k then Some p else change_in self.old i k)) }
@@ -86,7 +86,8 @@ impl Group {
     }
 
     /// Puts the last record of an object, None where it is dropped; then the changes of its blocks are gone. Logarithmic
-    /// in the objects, and the move of those above it where the object had no change.
+    /// in the objects, and the move of those above it where the object had no change. It takes no memory where the
+    /// object is changed already. After an error nothing is changed.
     pub fn record_object(&mut self, id: u32, r: Option<ObjRec>) -> Result<(), NoMemory>
         ensures blocks { OnOk result ((i k : ℕ) → change_in self.new i k ≡ (if id == i && not (is_some r) then None else change_in self.old i k)) }
         ensures objects { OnOk result ((i : ℕ) → object_in self.new i ≡ (if id == i then Some r else object_in self.old i)) }
@@ -131,7 +132,7 @@ impl Group {
         self.blocks
     }
 
-    /// How many objects are changed, dropped ones among them.
+    /// How many objects are changed, dropped ones among them. Constant.
     pub fn objects(&self) -> u64
         ensures count { result ≡ length self.now.objects }
         ensures rising { IsRising self.now.objects }
@@ -139,7 +140,7 @@ impl Group {
         self.objects.len() as u64
     }
 
-    /// The changed ID that has `i` lower ones. Constant.
+    /// The changed ID that has `i` lower ones, where `i` is below `objects()`. Constant.
     pub fn id_at(&self, i: u64) -> u32
         requires { i < length self.now.objects }
         ensures changed { IsTrue (is_some (object_in self.now result)) }
@@ -161,7 +162,7 @@ impl Group {
         }
     }
 
-    /// Takes out all changes, and keeps the number.
+    /// Takes out all changes, and keeps the number. Linear in the objects.
     pub fn clear(&mut self)
         ensures txg { self.new.txg ≡ self.old.txg }
         ensures empty { self.new.objects ≡ [] }
