@@ -1,13 +1,13 @@
 -- What copying, freeing and giving up does to the copies of the held units.
-use Rattle.std.proofs.Common.{◌≡◌, ℕ, ◌+◌, ◌-◌, ◌≤◌, ◌<◌, true, false, not, ◌&&◌, ◌||◌, ◌==◌, List, [], ◌∷◌, ◌++◌, length, Some, refl, ap, sym, ◌∙◌, arith, ⊎_elim}
-use Rattle.std.specs.Prelude.{nat_le, nat_lt, IfSome}
+use Rattle.std.proofs.Common.{◌≡◌, ℕ, ◌+◌, ◌-◌, ◌≤◌, ◌<◌, true, false, not, ◌&&◌, ◌||◌, List, [], ◌∷◌, ◌++◌, Some, refl, ap, sym, ◌∙◌, arith, ⊎_elim}
+use Rattle.std.specs.Prelude.{nat_lt, IfSome}
 use Rattle.std.proofs.lemmas.Grind.{common_steps}
 use Rattle.std.proofs.lemmas.Bool.{cases_lt, or_left, or_right}
 use Rattle.std.proofs.lemmas.Bool.Decides.{nat_tests}
 use Rattle.std.proofs.lemmas.List.Sums.{sum_by-cons}
 use Rattle.zr_base.specs.declared.space.Extent.{Extent}
 use Rattle.zr_base.specs.declared.space.Entry.{Entry}
-use Rattle.zr_base.specs.Extents.{extent_at, has_unit, in_extent, IsMaximal, HasAll, HasNone, RemovesUnits}
+use Rattle.zr_base.specs.Extents.{has_unit, in_extent, IsMaximal, HasAll, RemovesUnits}
 use Rattle.zr_rules.specs.Mappings.{has_source, in_source}
 use Rattle.zr_rules.specs.Places.{one_if}
 use Rattle.zr_evac.specs.Evacuations.{Evacuation, IsFront, next_of, copies_at, is_copy_in}

@@ -3,9 +3,9 @@
 //! It copies, frees and gives up over the public clauses of the evacuation alone. At every moment the copies that are
 //! not marked are those of the units that the device holds below the open frontier, and what it holds from there on is
 //! left to copy. So a cancel gives back a copy of each such unit and no other, and at the end each held unit is copied.
-ghost use Rattle.std.specs.Prelude.{◌≡◌, ℕ, ◌+◌, ◌<◌, ◌≤◌, ◌^◌, ◌++◌, ◌∷◌, [], true, false, IfOk, OnErr, OnOk, IsTrue, IfSome};
+ghost use Rattle.std.specs.Prelude.{◌≡◌, ℕ, ◌+◌, ◌<◌, ◌≤◌, ◌^◌, ◌++◌, ◌∷◌, [], false, length, IfOk, OnErr, OnOk, IsTrue, IfSome};
 ghost use Rattle.zr_base.specs.Extents.{HasAll, has_unit, unit_count};
-ghost use Rattle.zr_rules.specs.Mappings.{mapped_units, has_source};
+ghost use Rattle.zr_rules.specs.Mappings.{mapped_units};
 ghost use Rattle.zr_evac.specs.Evacuations.{AreLawful, hits_at, next_of};
 ghost use Rattle.zr_bench.specs.Removal.{CopiesPiece, DropsUnits, has_copy, held_copies_at};
 
@@ -51,6 +51,7 @@ impl Removal {
         requires destination { dst + 256 ≤ 2 ^ 62 }
         ensures copied { IfOk result (λ more. IsTrue more → IfSome (next_of self.old.left) (CopiesPiece self.old self.new)) }
         ensures entry { IfOk result (λ more. IsTrue more → IfSome (next_of self.old.left) (λ e. self.new.entries ≡ self.old.entries ++ record { src = e.start; dev = dev; dst = dst; len = e.len } ∷ [])) }
+        ensures some { IfOk result (λ more. IsTrue more → 0 < length self.old.left) }
         ensures none { IfOk result (λ more. more ≡ false → self.old.left ≡ []) }
         ensures rest { IfOk result (λ more. more ≡ false → self.new ≡ self.old) }
         ensures held { self.new.held ≡ self.old.held }
