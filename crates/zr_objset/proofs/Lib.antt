@@ -1,0 +1,4 @@
+pub mod Spelled
+pub mod Within
+pub mod Tells
+pub mod Walking
