@@ -2,3 +2,4 @@ pub mod Spelled
 pub mod Within
 pub mod Tells
 pub mod Walking
+pub mod Keeping

@@ -1,5 +1,5 @@
 -- The objects of a directory, and their blocks.
-use Rattle.std.specs.Prelude.{◌*◌, ◌/◌, ◌%◌, ◌++◌, nat_eq, if◌then◌else◌, ℕ, List, [], map, take, drop, replicate, slice_index_or, Option, Some, None}
+use Rattle.std.specs.Prelude.{◌≡◌, ◌*◌, ◌/◌, ◌%◌, ◌++◌, nat_eq, if◌then◌else◌, ℕ, List, [], map, take, drop, replicate, slice_index_or, Option, Some, None}
 use Rattle.std.specs.List.{flat_map}
 use Rattle.std.specs.Simd.{first_chunks}
 use Rattle.zr_bptr.specs.declared.Bptr.{Bptr}
@@ -51,3 +51,8 @@ leaf_reach s b = if nat_eq b.level 0 then flat_map (object_reach s) (records_in 
 -- the blocks of a directory, and then those of its objects by rising ID
 abbrev pub all_reach : Stored → Tree → List Bptr
 all_reach s dir = tree_reach s dir ++ flat_map (leaf_reach s) (tree_reach s dir)
+
+-- the directory has the same objects, and the same blocks
+pub record KeepsObjects (old new : Stored) (dir : Tree) : Type 0 where
+  pub records : (id : ℕ) → record_of new dir id ≡ record_of old dir id
+  pub reach : all_reach new dir ≡ all_reach old dir

@@ -4,9 +4,11 @@
 //! that object's blocks. What a directory means is a total function of its root and of the bytes that the store has.
 #![tactic(auto)]
 
+mod laws;
 mod reads;
 mod walks;
 
+pub use laws::frame;
 pub use reads::{block, look};
 pub use walks::walk;
 
