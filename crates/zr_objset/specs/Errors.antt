@@ -28,6 +28,10 @@ abbrev pub IsRecordLeaf : Stored → Ptr → Type 0
 IsRecordLeaf s Hole = Unit {0}
 IsRecordLeaf s (At b) = (records : List (Option ObjRec)) × SpellsRecords (s.bytes b) records
 
+-- sixteen records, where it is a leaf of the directory
+abbrev pub IsFormed : Stored → Bptr → Type 0
+IsFormed s b = b.level ≡ 0 → IsRecordLeaf s (At b)
+
 -- a hole, or a leaf of this length
 abbrev pub IsOfSize : ℕ → Ptr → Type 0
 IsOfSize units Hole = Unit {0}

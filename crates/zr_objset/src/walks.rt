@@ -1,10 +1,10 @@
 //! The walk over all that a directory leads to: its own tree, then the objects by rising ID.
-ghost use Rattle.std.specs.Prelude.{◌≡◌, ◌≤◌, ◌++◌, ◌∷◌, [], OnOk, IfOk, IfSome};
+ghost use Rattle.std.specs.Prelude.{◌≡◌, ◌≤◌, ◌++◌, ◌∷◌, [], All, OnOk, IfOk, IfSome};
 ghost use Rattle.zr_store.specs.Causes.{Costs, HasCause};
 ghost use Rattle.zr_bptr.specs.Spelling.{IsTree, IsObject};
 ghost use Rattle.zr_tree.specs.Trees.{tree_reach, TellsOf};
 ghost use Rattle.zr_objset.specs.Records.{object_reach, leaf_reach, all_reach};
-ghost use Rattle.zr_objset.specs.Errors.{IsBadLeaf, TellsOfLeaves};
+ghost use Rattle.zr_objset.specs.Errors.{IsBadLeaf, IsFormed, TellsOfLeaves};
 
 use crate::reads::read_records;
 use std::alloc::Global;
@@ -45,6 +45,7 @@ fn walk_leaf<B: Blocks>(
     ensures told { B.tells store.old → B.tells store.new }
     ensures same { B.tells store.old → B.holds store.new ≡ B.holds store.old }
     ensures errors { B.tells store.old → TellsOfLeaves (B.holds store.old) (b.now ∷ leaf_reach (B.holds store.old) b.now) (b.now ∷ []) (IsBadLeaf (B.holds store.old)) result }
+    ensures formed { B.tells store.old → OnOk result (IsFormed (B.holds store.old) b.now) }
     ensures reach { B.tells store.old → OnOk result (out.new.items ≡ out.old.items ++ leaf_reach (B.holds store.old) b.now) }
 {
     if b.level != 0 {
@@ -67,6 +68,7 @@ pub fn walk<B: Blocks>(alloc: Global, store: &mut B, dir: &Tree) -> Result<Vec<B
     ensures told { B.tells store.old → B.tells store.new }
     ensures same { B.tells store.old → B.holds store.new ≡ B.holds store.old }
     ensures errors { B.tells store.old → TellsOfLeaves (B.holds store.old) (all_reach (B.holds store.old) dir.now) (tree_reach (B.holds store.old) dir.now) (IsBadLeaf (B.holds store.old)) result }
+    ensures formed { B.tells store.old → OnOk result (All (IsFormed (B.holds store.old)) (tree_reach (B.holds store.old) dir.now)) }
     ensures reach { B.tells store.old → IfOk result (λ pointers. pointers.items ≡ all_reach (B.holds store.old) dir.now) }
 {
     let own = zr_tree::walk(alloc, store, dir)?;
