@@ -1,5 +1,5 @@
 -- Stores that agree on the blocks of a directory give it one meaning.
-use Rattle.std.proofs.Common.{◌≡◌, ◌<◌, ◌∙◌, ℕ, List, [], ◌∷◌, ◌++◌, Bool, true, false, nat_eq, Option, Some, None, refl, ap, arith}
+use Rattle.std.proofs.Common.{◌≡◌, ◌∙◌, ℕ, List, [], ◌∷◌, ◌++◌, Bool, true, false, nat_eq, Option, Some, None, refl, ap, arith}
 use Rattle.std.specs.Prelude.{if◌then◌else◌, slice_index_or, ◌/◌, ◌%◌}
 use Rattle.std.specs.List.{flat_map}
 use Rattle.std.proofs.lemmas.List.Sums.{sum_by-append}
@@ -9,8 +9,8 @@ use Rattle.zr_bptr.specs.declared.Ptr.TheVariants.{Hole, At}
 use Rattle.zr_bptr.specs.declared.Tree.{Tree}
 use Rattle.zr_bptr.specs.declared.ObjRec.{ObjRec}
 use Rattle.zr_store.specs.Store.{Stored, Swaps, AreStored, IsOnce, hits, one_at}
-use Rattle.zr_tree.specs.Trees.{tree_at, tree_blocks, tree_reach, own, KeepsTree}
-use Rattle.zr_tree.proofs.Frames.{Agree, one_itself, first_of, agree_rest, agree_front, agree_back}
+use Rattle.zr_tree.specs.Trees.{tree_at, tree_reach, own, KeepsTree}
+use Rattle.zr_tree.proofs.Frames.{Agree, first_of, agree_rest, agree_front, agree_back}
 use Rattle.zr_tree.proofs.Others.{keeps}
 use Rattle.zr_objset.specs.Records.{records_in, record_in, record_of, bytes_of, block_of, object_reach, leaf_reach, all_reach, KeepsObjects}
 use Rattle.zr_objset.proofs.Within.{blocks_within, leaf_within}

@@ -1,5 +1,5 @@
 -- A walk, leaf by leaf and object by object.
-use Rattle.std.proofs.Common.{◌≡◌, ◌∙◌, ◌<◌, ◌≤◌, ◌+◌, ℕ, suc, List, [], ◌∷◌, ◌++◌, length, get_or, take, nat_eq, Result, sym, ap, subst, arith, append_assoc, append-nil, take-suc}
+use Rattle.std.proofs.Common.{◌≡◌, ◌∙◌, ◌<◌, ◌+◌, ℕ, suc, List, [], ◌∷◌, ◌++◌, length, get_or, take, nat_eq, Result, sym, ap, subst, arith, append_assoc, append-nil, take-suc}
 use Rattle.std.specs.Prelude.{if◌then◌else◌, Option, All}
 use Rattle.std.specs.List.{sum_by, flat_map}
 use Rattle.std.proofs.lemmas.List.Sums.{sum_by-append, sum_by-cons}

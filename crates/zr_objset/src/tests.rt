@@ -99,3 +99,41 @@ fn finds_objects_and_their_blocks(rt: HostRuntime) -> Result<(), Fail> {
     assert_eq!(rt; &all[9..], [a, b].as_slice());
     Ok(())
 }
+
+#[test]
+fn tells_of_leaves_outside_their_form(rt: HostRuntime) -> Result<(), Fail> {
+    let alloc = rt.alloc();
+    let mut store = MemBlocks::new(alloc, 8);
+    let ones = store.put(alloc, &[1; 4096], 0)?;
+    let at = ones.at;
+    let dir = Tree {
+        root: Ptr::At(ones),
+        height: 0,
+    };
+    let bad = StoreErr::Malformed {
+        at,
+        expected: ones.sum,
+    };
+    assert_eq!(rt; look(alloc, &mut store, &dir, 3).err(), Some(bad));
+    assert_eq!(rt; look(alloc, &mut store, &dir, 16)?, None);
+    assert_eq!(rt; walk(alloc, &mut store, &dir).err(), Some(bad));
+    let wide = ObjRec {
+        units: 2,
+        tree: dir,
+    };
+    assert_eq!(rt; block(alloc, &mut store, &wide, 0).err(), Some(bad));
+    store.free(alloc, &ones)?;
+    let damaged = StoreErr::Damaged {
+        at,
+        expected: ones.sum,
+        found: zr_bptr::sum_of(b""),
+    };
+    let narrow = ObjRec {
+        units: 1,
+        tree: dir,
+    };
+    assert_eq!(rt; look(alloc, &mut store, &dir, 0).err(), Some(damaged));
+    assert_eq!(rt; block(alloc, &mut store, &narrow, 0).err(), Some(damaged));
+    frame();
+    Ok(())
+}
