@@ -1,0 +1,16 @@
+//! The directory of objects, and their blocks.
+//!
+//! The directory is a tree whose leaf at ID / 16 has the records of sixteen objects, and each record leads to the tree of
+//! that object's blocks. What a directory means is a total function of its root and of the bytes that the store has.
+#![tactic(auto)]
+
+mod laws;
+mod reads;
+mod walks;
+
+pub use laws::frame;
+pub use reads::{block, look};
+pub use walks::walk;
+
+#[cfg(test)]
+mod tests;
