@@ -96,10 +96,10 @@ groups level zero ps fit long some = λ i d lt. absurd (omega arith)
 groups level (suc k) ps fit long some =
     All-cons (IsGroup level) (take 32 ps) (first_chunks 32 k (drop 32 ps)) (record { fit = All-take (FitsAt level) 32 ps fit; some = first })
     (groups level k (drop 32 ps) (All-drop (FitsAt level) 32 ps fit) (omega (arith, length-drop 32 ps, long)) (λ i lt.
-        let here = some (suc i) (omega (arith, lt)) in
-        let same : slot (drop 32 ps) (32 * i) ≡ slot ps (32 * suc i) = get_or-drop 32 ps (32 * i) Hole ∙ ap (λ (j : ℕ). slot ps j) (omega arith) in
-        let w : fill_of (slot (drop 32 ps) (32 * i)) ≡ fill_of (slot ps (32 * suc i)) = ap fill_of same in
-        omega (arith, here, w)))
+    let here = some (suc i) (omega (arith, lt)) in
+    let same : slot (drop 32 ps) (32 * i) ≡ slot ps (32 * suc i) = get_or-drop 32 ps (32 * i) Hole ∙ ap (λ (j : ℕ). slot ps j) (omega arith) in
+    let w : fill_of (slot (drop 32 ps) (32 * i)) ≡ fill_of (slot ps (32 * suc i)) = ap fill_of same in
+    omega (arith, here, w)))
   where
     first : 0 < sum_by fill_of (take 32 ps)
     first =
@@ -118,7 +118,7 @@ level_groups level n m bs units long low =
 
 -- ---- one block is its own tree
 
-div_small : (index m : ℕ) → index / m ≢ 0 → nat_lt index m ≡ false
+pub div_small : (index m : ℕ) → index / m ≢ 0 → nat_lt index m ≡ false
 div_small index m ne = grind (arith, nat_tests)
 
 past_one : (b : Bptr) (k : ℕ) → k ≢ 0 → slot (At b ∷ []) k ≡ Hole

@@ -4,3 +4,4 @@ pub mod Puts
 pub mod Joining
 pub mod Costing
 pub mod Written
+pub mod Words

@@ -11,7 +11,7 @@ use Rattle.zr_bptr.specs.Spelling.{fill_of}
 use Rattle.zr_store.specs.Store.{Stored, Swaps, hits}
 use Rattle.zr_meta.specs.declared.Stream.{Stream}
 use Rattle.zr_tree.specs.Blocks.{FitsAt}
-use Rattle.zr_tree.specs.Trees.{kids, slot, leaf_at, leaves_below, blocks, IsAmong, IsWhole, tree_at, tree_blocks, tree_leaves}
+use Rattle.zr_tree.specs.Trees.{kids, slot, leaf_at, leaves_below, blocks, IsAmong, IsWhole, tree_at, tree_blocks, tree_leaves, tree_reach}
 
 -- each of these blocks has its sum, and is a tree block of its level
 abbrev pub AreWhole : Stored → List Bptr → Type 0
@@ -34,6 +34,11 @@ pub record HasBytes (s : Stored) (t : Tree) (bytes : List ℕ) : Type 0 where
   pub count : length leaves ≡ div_ceil (length bytes) 4096
   pub long : All (λ b. length (s.bytes b) ≡ 4096) leaves
   pub spelling : flat_map s.bytes leaves ≡ bytes ++ zeros (4096 * length leaves - length bytes)
+
+-- the blocks of the tree came, and the bytes stand in it
+pub record StoresBytes (old new : Stored) (t : Tree) (bytes : List ℕ) : Type 0 where
+  pub came : Swaps old new [] (tree_reach new t)
+  pub bytes : HasBytes new t bytes
 
 -- the words stand in the leaves of a stream, 512 in each, and zeros behind the last of them
 pub record HasWords (s : Stored) (stream : Stream) (ns : List ℕ) : Type 0 where

@@ -7,12 +7,13 @@ ghost use Rattle.zr_base.specs.Trees.{IsHeight, tree_units};
 ghost use Rattle.zr_base.specs.Words.{zeros};
 ghost use Rattle.zr_bptr.specs.Spelling.{IsTree};
 ghost use Rattle.zr_bptr.specs.declared.Ptr.TheVariants.{Hole, At};
+ghost use Rattle.zr_bptr.specs.declared.Bptr.{Bptr};
 ghost use Rattle.zr_bptr.specs.declared.Tree.{Tree};
 ghost use Rattle.zr_store.specs.Causes.{Costs, HasCause};
 ghost use Rattle.zr_store.specs.Store.{Swaps};
 ghost use Rattle.zr_meta.specs.Heads.{IsTreeOf};
-ghost use Rattle.zr_tree.specs.Trees.{tree_reach};
-ghost use Rattle.zr_root.specs.Streams.{IsUnitAt, PutsLeaves, HasBytes};
+ghost use Rattle.zr_tree.specs.Trees.{tree_reach, TellsOf};
+ghost use Rattle.zr_root.specs.Streams.{IsUnitAt, PutsLeaves, HasBytes, StoresBytes};
 
 use crate::levels::join;
 use std::alloc::{AllocError, Global};
@@ -34,6 +35,7 @@ fn padded(alloc: Global, bytes: &[u8]) -> Result<Vec<u8>, AllocError>
 fn put_leaf<B: Blocks>(alloc: Global, store: &mut B, bytes: &[u8; 4096]) -> Result<Bptr, StoreErr>
     ensures costs { Costs 1 0 (B.account store.old) (B.account store.new) }
     ensures cause { HasCause 1 (B.account store.old) (B.account store.new) result }
+    ensures errors { TellsOf (B.holds store.old) [] result }
     ensures told { B.tells store.old → B.tells store.new }
     ensures unit { IfOk result (IsUnitAt 0) }
     ensures bytes { B.tells store.old → IfOk result (λ b. (B.holds store.new).bytes b ≡ bytes.now) }
@@ -51,6 +53,7 @@ fn put_leaves<B: Blocks>(
 ) -> Result<Vec<Bptr>, StoreErr>
     ensures costs { Costs (length pieces.now) 0 (B.account store.old) (B.account store.new) }
     ensures cause { HasCause (length pieces.now) (B.account store.old) (B.account store.new) result }
+    ensures errors { TellsOf (B.holds store.old) [] result }
     ensures told { B.tells store.old → B.tells store.new }
     ensures count { IfOk result (λ leaves. length leaves.items ≡ length pieces.now) }
     ensures units { IfOk result (λ leaves. All (IsUnitAt 0) leaves.items) }
@@ -65,15 +68,12 @@ fn put_leaves<B: Blocks>(
 }
 
 /// Stores the bytes as a tree, and answers it.
-pub fn write_bytes<B: Blocks>(
-    alloc: Global,
-    store: &mut B,
-    bytes: &[u8],
-) -> Result<Tree, StoreErr>
+pub fn write_bytes<B: Blocks>(alloc: Global, store: &mut B, bytes: &[u8]) -> Result<Tree, StoreErr>
     requires some { 0 < length bytes.now }
     requires most { length bytes.now ≤ 2 ^ 37 }
     ensures costs { Costs (tree_units (div_ceil (length bytes.now) 4096)) 0 (B.account store.old) (B.account store.new) }
     ensures cause { HasCause (tree_units (div_ceil (length bytes.now) 4096)) (B.account store.old) (B.account store.new) result }
+    ensures errors { TellsOf (B.holds store.old) [] result }
     ensures told { B.tells store.old → B.tells store.new }
     ensures height { IfOk result (λ t. IsHeight (div_ceil (length bytes.now) 4096) t.height) }
     ensures root { IfOk result (λ t. (b : Bptr) × (t.root ≡ At b) × IsUnitAt t.height b) }
@@ -85,4 +85,19 @@ pub fn write_bytes<B: Blocks>(
     let leaves = put_leaves(alloc, store, pieces)?;
     let t = join(alloc, store, 0, leaves.as_slice())?;
     Ok(t)
+}
+
+/// Stores the bytes of a head, and answers the root of their tree, whose height follows from their number.
+pub fn write_root<B: Blocks>(alloc: Global, store: &mut B, bytes: &[u8]) -> Result<Ptr, StoreErr>
+    requires some { 0 < length bytes.now }
+    requires most { length bytes.now ≤ 2 ^ 37 }
+    ensures costs { Costs (tree_units (div_ceil (length bytes.now) 4096)) 0 (B.account store.old) (B.account store.new) }
+    ensures cause { HasCause (tree_units (div_ceil (length bytes.now) 4096)) (B.account store.old) (B.account store.new) result }
+    ensures errors { TellsOf (B.holds store.old) [] result }
+    ensures told { B.tells store.old → B.tells store.new }
+    ensures root { IfOk result (λ root. (height : ℕ) → IsHeight (div_ceil (length bytes.now) 4096) height → (b : Bptr) × (root ≡ At b) × IsUnitAt height b) }
+    ensures stores { B.tells store.old → IfOk result (λ root. (height : ℕ) → IsHeight (div_ceil (length bytes.now) 4096) height → StoresBytes (B.holds store.old) (B.holds store.new) (record { root = root; height = height }) bytes.now) }
+{
+    let t = write_bytes(alloc, store, bytes)?;
+    Ok(t.root)
 }

@@ -10,7 +10,7 @@ ghost use Rattle.zr_bptr.specs.declared.Ptr.TheVariants.{Hole, At};
 ghost use Rattle.zr_store.specs.Causes.{Costs, HasCause};
 ghost use Rattle.zr_store.specs.Store.{AreStored, IsPointerTo, IsBlockOf, Swaps};
 ghost use Rattle.zr_tree.specs.Blocks.{FitsAt, pointers_in};
-ghost use Rattle.zr_tree.specs.Trees.{blocks, kids, IsWhole};
+ghost use Rattle.zr_tree.specs.Trees.{blocks, kids, IsWhole, TellsOf};
 ghost use Rattle.zr_root.specs.Streams.{IsUnitAt, IsGroup, PutsBlocks, Joins};
 
 use std::alloc::{AllocError, Global};
@@ -61,6 +61,7 @@ fn put_group<B: Blocks>(
     requires group { IsGroup below pointers.now }
     ensures costs { Costs 1 0 (B.account store.old) (B.account store.new) }
     ensures cause { HasCause 1 (B.account store.old) (B.account store.new) result }
+    ensures errors { TellsOf (B.holds store.old) [] result }
     ensures told { B.tells store.old → B.tells store.new }
     ensures fits { IfOk result (IsUnitAt (below + 1)) }
     ensures pointers { B.tells store.old → IfOk result (λ b. kids (B.holds store.new) below b ≡ pointers.now) }
@@ -83,6 +84,7 @@ fn put_groups<B: Blocks>(
     requires groups { All (IsGroup below) pieces.now }
     ensures costs { Costs (length pieces.now) 0 (B.account store.old) (B.account store.new) }
     ensures cause { HasCause (length pieces.now) (B.account store.old) (B.account store.new) result }
+    ensures errors { TellsOf (B.holds store.old) [] result }
     ensures told { B.tells store.old → B.tells store.new }
     ensures count { IfOk result (λ tops. length tops.items ≡ length pieces.now) }
     ensures fit { IfOk result (λ tops. All (IsUnitAt (below + 1)) tops.items) }
@@ -109,6 +111,7 @@ pub(crate) fn join<B: Blocks>(
     requires fit { All (IsUnitAt level) bs.now }
     ensures costs { Costs (tree_units (length bs.now) - length bs.now) 0 (B.account store.old) (B.account store.new) }
     ensures cause { HasCause (tree_units (length bs.now) - length bs.now) (B.account store.old) (B.account store.new) result }
+    ensures errors { TellsOf (B.holds store.old) [] result }
     ensures told { B.tells store.old → B.tells store.new }
     ensures above { IfOk result (λ t. level ≤ t.height) }
     ensures height { IfOk result (λ t. IsHeight (length bs.now) (t.height - level)) }

@@ -7,5 +7,10 @@
 
 mod bytes;
 mod levels;
+mod streams;
 
-pub use bytes::write_bytes;
+pub use bytes::{write_bytes, write_root};
+pub use streams::{stream_units, write_stream};
+
+#[cfg(test)]
+mod tests;

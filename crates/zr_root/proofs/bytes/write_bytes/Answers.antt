@@ -7,6 +7,7 @@ use Rattle.zr_bptr.specs.declared.Bptr.{Bptr}
 use Rattle.zr_bptr.specs.declared.Tree.{Tree}
 use Rattle.zr_store.specs.Store.{Stored, Swaps}
 use Rattle.zr_store.proofs.Causes.{cause_from}
+use Rattle.zr_tree.proofs.Wholes.{tells_from, tells_empty}
 use Rattle.zr_root.specs.Streams.{IsUnitAt, Joins}
 use Rattle.zr_root.proofs.Lists.{chunks_are}
 use Rattle.zr_root.proofs.Costing.{leaves_costs, leaves_cause, all_costs, all_cause}
@@ -68,3 +69,9 @@ returns-clause-bytes g c = λ told.
     let joins = c.in_ok-t.ensures.joins (c.put_leaves.ensures.told told) (none_held s1 c.as_slice-2.result.now) in
     written_bytes s0 s1 s2 c.in_ok-t.t leaves c.as_chunks.result.0.now (c.in_ok-leaves.ensures.puts told) (subst (λ (xs : List Bptr). Joins 0 xs s1 s2 c.in_ok-t.t) c.as_slice-2.ensures.value joins)
     k c.args.bytes.now c.in_ok-all.all.items c.in_ok-leaves.ensures.units cut leaves_count (omega arith) c.in_ok-all.ensures.len c.in_ok-all.ensures.items
+
+pub returns-in_err-t-clause-errors : goal.returns-in_err-t-clause-errors
+returns-in_err-t-clause-errors g c =
+    let e = c.in_err-t in
+    let x = c.from_residual-in_err-t in
+    tells_from {T = Tree} (g.B.Blocks.holds c.args.store.now) [] x.result e.field-0.0 (err_from_is_err_and x.result x.ensures.1) (tells_empty (g.B.Blocks.holds c.put_leaves.new.store) (g.B.Blocks.holds c.args.store.now) [] _ e.ensures.errors)

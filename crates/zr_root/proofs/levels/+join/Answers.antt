@@ -10,6 +10,7 @@ use Rattle.zr_bptr.specs.declared.Ptr.{Ptr}
 use Rattle.zr_bptr.specs.declared.Ptr.TheVariants.{Hole, At}
 use Rattle.zr_bptr.specs.declared.Tree.{Tree}
 use Rattle.zr_store.proofs.Causes.{cause_from}
+use Rattle.zr_tree.proofs.Wholes.{tells_from, tells_empty}
 use Rattle.zr_tree.specs.Trees.{kids}
 use Rattle.zr_root.specs.Streams.{IsUnitAt, IsGroup}
 use Rattle.zr_root.proofs.Lists.{chunks_are, flat_pieces}
@@ -113,3 +114,9 @@ returns-clause-joins g t c = λ told held.
     let holds = flat_pieces (kids s1 c.args.level) tops 32 m c.in_ok-pointers.pointers.items c.in_ok-pointers.ensures.len (puts.pointers ∙ cut) ∙ c.in_ok-pointers.ensures.items in
     join_all c.args.level (c.args.level + 1) (32 * m - n) c.args.bs.now tops c.as_slice-2.result.now s0 s1 s2 c.in_ok-t.t (omega arith) c.as_slice-2.ensures.value puts.came holds held puts.whole
     (c.in_ok-t.ensures.joins (c.put_groups.ensures.told told))
+
+pub returns-in_err-t-clause-errors : goal.returns-in_err-t-clause-errors
+returns-in_err-t-clause-errors g t c =
+    let e = c.in_err-t in
+    let x = c.from_residual-in_err-t in
+    tells_from {T = Tree} (g.B.Blocks.holds c.args.store.now) [] x.result e.field-0.0 (err_from_is_err_and x.result x.ensures.1) (tells_empty (g.B.Blocks.holds c.put_groups.new.store) (g.B.Blocks.holds c.args.store.now) [] _ e.ensures.errors)
