@@ -52,7 +52,7 @@ one_height n a b h k = le_antisymm (h.least b k.reaches) (k.least a h.reaches)
 
 pub stores_bytes : (old new : Stored) (t : Tree) (n height : ℕ) (bytes : List ℕ) → IsHeight n t.height → IsHeight n height → Swaps old new [] (tree_reach new t) → HasBytes new t bytes → StoresBytes old new (record { root = t.root; height = height }) bytes
 stores_bytes old new t n height bytes tall is came has =
-    subst (λ (h : ℕ). StoresBytes old new (record { root = t.root; height = h }) bytes) (one_height n t.height height tall is) (record { came = came; bytes = has })
+    subst (λ (h : ℕ). StoresBytes old new (record { root = t.root; height = h }) bytes) (one_height n t.height height tall is) (record { came = came; stands = has })
 
 pub root_unit : (t : Tree) (n height : ℕ) → IsHeight n t.height → IsHeight n height → (b : Bptr) × (t.root ≡ At b) × IsUnitAt t.height b → (b : Bptr) × (t.root ≡ At b) × IsUnitAt height b
 root_unit t n height tall is (b, root_is, unit) = (b, root_is, subst (λ (h : ℕ). IsUnitAt h b) (one_height n t.height height tall is) unit)

@@ -38,7 +38,7 @@ pub record HasBytes (s : Stored) (t : Tree) (bytes : List ℕ) : Type 0 where
 -- the blocks of the tree came, and the bytes stand in it
 pub record StoresBytes (old new : Stored) (t : Tree) (bytes : List ℕ) : Type 0 where
   pub came : Swaps old new [] (tree_reach new t)
-  pub bytes : HasBytes new t bytes
+  pub stands : HasBytes new t bytes
 
 -- the words stand in the leaves of a stream, 512 in each, and zeros behind the last of them
 pub record HasWords (s : Stored) (stream : Stream) (ns : List ℕ) : Type 0 where
