@@ -1,0 +1,16 @@
+//! Streams of words and the head, as trees of leaves of one unit.
+//!
+//! A string of bytes is cut into leaves of 4,096 bytes, and the last one is filled up with zeros. The leaves are put
+//! first, then the blocks above them level by level, so that a tree of n leaves takes as many blocks as it must and no
+//! block twice. What reads them back refuses a hole within, and padding that is not zero.
+#![tactic(auto)]
+
+mod bytes;
+mod levels;
+mod streams;
+
+pub use bytes::{write_bytes, write_root};
+pub use streams::{stream_units, write_stream};
+
+#[cfg(test)]
+mod tests;
