@@ -12,6 +12,9 @@ fn words_stand_in_leaves(rt: HostRuntime) -> Result<(), Fail> {
     for n in 0..1300 {
         ns.push(n)?;
     }
+    if ns.len() != 1300 {
+        return Err(Fail::new("not so many words"));
+    }
     let s = write_stream(alloc, &mut store, ns.as_slice())?;
     assert_eq!(rt; (s.words, s.tree.height, store.next), (1300, 1, 4));
     let last = &store.kept[2].bytes;
