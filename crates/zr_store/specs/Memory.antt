@@ -2,7 +2,8 @@
 use Rattle.std.specs.Prelude.{◌≡◌, ◌+◌, ◌-◌, ◌<◌, ◌≤◌, ◌&&◌, Bool, true, false, nat_eq, nat_lt, if◌then◌else◌, ℕ, List, [], ◌∷◌, All, length}
 use Rattle.zr_base.specs.declared.space.Dva.{Dva}
 use Rattle.zr_bptr.specs.declared.Bptr.{Bptr}
-use Rattle.zr_store.specs.Store.{Stored, hits, one_at}
+use Rattle.zr_store.specs.Store.{Stored, IsOnce, hits, one_at}
+use Rattle.std.proofs.Common.{sym, subst}
 use Rattle.zr_store.specs.Causes.{Account}
 use Rattle.zr_store.specs.declared.memory.Kept.{Kept}
 
@@ -33,6 +34,19 @@ pub record IsSound (units next : ℕ) (ks : List Kept) : Type 0 where
   pub below : All (λ k. k.at.at.start < next) ks
   pub within : (at : Dva) → 0 < hits (pointers_of_kept ks) at → is_within units at ≡ true
 
+-- the blocks of a sound store in memory are what it holds
+pub record IsHeld (units next : ℕ) (ks : List Kept) (s : Stored) : Type 0 where
+  pub sound : IsSound units next ks
+  pub same : s ≡ stored_of ks
+
 -- a block that is kept is one piece of load
 abbrev pub account_of : ℕ → ℕ → List Kept → Account
 account_of units next ks = record { faults = 0; room = units - next; load = length ks; put_load = 1; free_load = 0; resolves = is_within units }
+
+-- ---- the laws of the trait
+
+pub held_once : (units next : ℕ) (ks : List Kept) (s : Stored) → IsHeld units next ks s → IsOnce s
+held_once units next ks s held = subst IsOnce (sym held.same) held.sound.once
+
+pub held_resolved : (units next : ℕ) (ks : List Kept) (s : Stored) → IsHeld units next ks s → (at : Dva) → 0 < hits s.pointers at → is_within units at ≡ true
+held_resolved units next ks s held = let P : Stored → Type 0 = λ (t : Stored). (at : Dva) → 0 < hits t.pointers at → is_within units at ≡ true in subst P (sym held.same) held.sound.within

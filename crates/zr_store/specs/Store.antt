@@ -1,5 +1,5 @@
 -- What a store of blocks holds, and what a call does to that.
-use Rattle.std.specs.Prelude.{◌≡◌, ◌+◌, ◌<◌, ◌≤◌, ◌*◌, ◌-◌, ◌&&◌, ◌||◌, Bool, nat_eq, if◌then◌else◌, ℕ, List, length}
+use Rattle.std.specs.Prelude.{◌≡◌, ◌+◌, ◌<◌, ◌≤◌, ◌*◌, ◌-◌, ◌&&◌, ◌||◌, Bool, nat_eq, if◌then◌else◌, ℕ, List, [], ◌∷◌, length}
 use Rattle.std.specs.List.{sum_by}
 use Rattle.zr_base.specs.declared.space.Dva.{Dva}
 use Rattle.zr_bptr.specs.declared.Bptr.{Bptr}
@@ -25,6 +25,18 @@ hits pointers at = sum_by (one_at at) pointers
 pub record Swaps (old new : Stored) (out into : List Bptr) : Type 0 where
   pub stored : (weight : Bptr → ℕ) → sum_by weight new.pointers + sum_by weight out ≡ sum_by weight old.pointers + sum_by weight into
   pub kept : (b : Bptr) → hits out b.at ≡ 0 → 0 < hits old.pointers b.at → new.bytes b ≡ old.bytes b
+
+-- the block came, at an address where none was
+pub record Puts (old : Stored) (b : Bptr) (bytes : List ℕ) (new : Stored) : Type 0 where
+  pub fresh : hits old.pointers b.at ≡ 0
+  pub given : new.bytes b ≡ bytes
+  pub swaps : Swaps old new [] (b ∷ [])
+
+-- what is held now, of which the fact is true
+pub record Now (holds Is : Stored → Type 0) : Type 0 where
+  pub stored : Stored
+  pub held : holds stored
+  pub is : Is stored
 
 -- each of these is stored
 abbrev pub AreStored : List Bptr → Stored → Type 0

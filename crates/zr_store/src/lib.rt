@@ -1,8 +1,11 @@
 //! Stores of blocks, and what a call does to what they hold.
 //!
-//! A store is a list of the pointers that it holds and a function from pointers to bytes. What a call did is one
-//! equation: the pointers before, without those that left and with those that came. It is said for every weight of
-//! pointers, so that a layer above may count whatever it counts: blocks, units on a device, leaves.
+//! What a store holds is a list of pointers and a function from pointers to bytes. What a call did is one equation: the
+//! pointers before, without those that left and with those that came. It is said for every weight of pointers, so that a
+//! layer above may count whatever it counts: blocks, units on a device, leaves.
+//!
+//! A store over a device has no list of its pointers: it knows units. So holding is a relation between a store and a
+//! list, and each call leads from what was held before it to something that is held after it.
 #![tactic(auto)]
 
 ghost use Rattle.std.specs.Prelude.{◌≡◌, ◌+◌, ◌*◌, ◌-◌, ◌/◌, ◌<◌, ◌≤◌, ◌⊎◌, List, [], ◌∷◌, ℕ, length, OnErr, OnOk, IsErrOf, IfOk, IfErr, true, MatchResult};
@@ -11,7 +14,7 @@ ghost use Rattle.zr_bptr.specs.declared.Bptr.{Bptr};
 ghost use Rattle.zr_bptr.specs.declared.Ptr.{Ptr};
 ghost use Rattle.zr_bptr.specs.Spelling.{SpellsTreeBlock};
 ghost use Rattle.zr_store.specs.declared.StoreErr.TheVariants.{NoMemory, Malformed, NoRun, Failed, Unresolved, Damaged};
-ghost use Rattle.zr_store.specs.Store.{Stored, Swaps, AreStored, IsPointerTo, IsOnce, IsBlockOf, hits, is_size};
+ghost use Rattle.zr_store.specs.Store.{Stored, Swaps, Puts, Now, AreStored, IsPointerTo, IsOnce, IsBlockOf, hits, is_size};
 ghost use Rattle.zr_store.specs.Causes.{Account, Costs, Spends, HasCause, IsNoRun, IsOf};
 ghost use Rattle.zr_base.specs.Counts.{HasRisen};
 ghost use Rattle.sha2.specs.Sha256.{sha256};
@@ -79,20 +82,18 @@ impl From<zr_base::NoMemory> for StoreErr {
     }
 }
 
-/// A store of blocks. What a store that tells holds is named in each clause; the account and the errors' causes hold
-/// everywhere.
+/// A store of blocks. A clause that names what is held says nothing of a store that does not tell; the account and the
+/// errors' causes hold everywhere.
 pub trait Blocks {
     /// What it reckons with.
     ghost account: { Self → Account };
 
-    /// Holds where the store tells what it holds.
-    ghost tells: { Self → Type 0 };
-
-    /// What it holds.
-    ghost holds: { Self → Stored };
+    /// Whether it holds just these blocks. A store that does not tell holds nothing that can be named.
+    ghost holds: { Self → Stored → Type 0 };
 
     /// Stores a block, and answers its pointer. A level above 0 takes the bytes of one tree block of pointers of the
-    /// level below. After an error the units may stay taken.
+    /// level below. Where a run is missing the store is as before; after another error its units may stay taken, and the
+    /// store serves for nothing more.
     fn put(&mut self, alloc: Global, bytes: &[u8], level: u8) -> Result<Bptr, StoreErr>
         requires level { level ≤ 5 }
         requires size { is_size (length bytes.now) ≡ true }
@@ -102,39 +103,34 @@ pub trait Blocks {
         ensures failed { IsErrOf result Failed → HasRisen (account self.old).faults (account self.new).faults }
         ensures no_run { (needed longest : ℕ) → IsErrOf result (NoRun needed longest) → IsNoRun (length bytes.now / 4096) (account self.old) needed longest }
         ensures errors { IfErr result (λ e. (e ≡ Failed) ⊎ ((e ≡ NoMemory) ⊎ ((needed longest : ℕ) × (e ≡ NoRun needed longest)))) }
-        ensures told { tells self.old → tells self.new }
         ensures pointer { IfOk result (IsPointerTo level bytes.now) }
-        ensures fresh { tells self.old → IfOk result (λ b. hits (holds self.old).pointers b.at ≡ 0) }
-        ensures given { tells self.old → IfOk result (λ b. (holds self.new).bytes b ≡ bytes.now) }
-        ensures ok { tells self.old → IfOk result (λ b. Swaps (holds self.old) (holds self.new) [] (b ∷ [])) }
-        ensures err { tells self.old → OnErr result (Swaps (holds self.old) (holds self.new) [] []) };
+        ensures ok { (s : Stored) → holds self.old s → IfOk result (λ b. Now (holds self.new) (Puts s b bytes.now)) }
+        ensures refused { (s : Stored) → holds self.old s → (needed longest : ℕ) → IsErrOf result (NoRun needed longest) → holds self.new s };
 
-    /// The bytes of a block.
+    /// The bytes of a block. Nothing that is held changes, also where the answer is an error.
     fn get(&mut self, alloc: Global, b: &Bptr) -> Result<Vec<u8>, StoreErr>
         ensures costs { Costs 0 0 (account self.old) (account self.new) }
         ensures cause { HasCause 0 (account self.old) (account self.new) result }
         ensures unresolved { (at : Dva) (expected : List ℕ) → IsErrOf result (Unresolved at expected) → IsOf b.now at expected }
         ensures damaged { (at : Dva) (expected found : List ℕ) → IsErrOf result (Damaged at expected found) → IsOf b.now at expected }
-        ensures found { tells self.old → (at : Dva) (expected found : List ℕ) → IsErrOf result (Damaged at expected found) → found ≡ sha256 ((holds self.old).bytes b.now) }
+        ensures found { (s : Stored) → holds self.old s → (at : Dva) (expected found : List ℕ) → IsErrOf result (Damaged at expected found) → found ≡ sha256 (s.bytes b.now) }
         ensures formed { (at : Dva) (expected : List ℕ) → IsErrOf result (Malformed at expected) → ⊥ }
-        ensures told { tells self.old → tells self.new }
         ensures sum { IfOk result (λ bytes. sha256 bytes.items ≡ b.now.sum) }
-        ensures bytes { tells self.old → IfOk result (λ bytes. bytes.items ≡ (holds self.old).bytes b.now) }
-        ensures same { tells self.old → holds self.new ≡ holds self.old };
+        ensures bytes { (s : Stored) → holds self.old s → IfOk result (λ bytes. bytes.items ≡ s.bytes b.now) }
+        ensures same { (s : Stored) → holds self.old s → holds self.new s };
 
     /// Gives back a block that is stored.
     fn free(&mut self, alloc: Global, b: &Bptr) -> Result<(), StoreErr>
         ensures costs { Costs 0 1 (account self.old) (account self.new) }
         ensures memory { IfErr result (λ e. e ≡ NoMemory) }
-        ensures told { tells self.old → tells self.new }
-        ensures ok { tells self.old → AreStored (b.now ∷ []) (holds self.old) → OnOk result (Swaps (holds self.old) (holds self.new) (b.now ∷ []) []) }
-        ensures err { tells self.old → OnErr result (Swaps (holds self.old) (holds self.new) [] []) };
+        ensures ok { (s : Stored) → holds self.old s → AreStored (b.now ∷ []) s → OnOk result (Now (holds self.new) (λ n. Swaps s n (b.now ∷ []) [])) }
+        ensures err { (s : Stored) → holds self.old s → OnErr result (holds self.new s) };
 
     /// No address is stored twice.
-    ghost once: { (s : Self) → tells s → IsOnce (holds s) };
+    ghost once: { (store : Self) (s : Stored) → holds store s → IsOnce s };
 
     /// An address at which a block is stored leads to units.
-    ghost resolved: { (s : Self) → tells s → (at : Dva) → 0 < hits (holds s).pointers at → (account s).resolves at ≡ true };
+    ghost resolved: { (store : Self) (s : Stored) → holds store s → (at : Dva) → 0 < hits s.pointers at → (account store).resolves at ≡ true };
 }
 
 #[cfg(test)]

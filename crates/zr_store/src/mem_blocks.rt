@@ -5,7 +5,7 @@ ghost use Rattle.zr_base.specs.Blocks.{is_block_size};
 ghost use Rattle.zr_bptr.specs.Spelling.{SpellsTreeBlock};
 ghost use Rattle.zr_bptr.specs.declared.Ptr.{Ptr};
 ghost use Rattle.zr_store.specs.Store.{one_at, is_size};
-ghost use Rattle.zr_store.specs.Memory.{stored_of, bytes_at, is_kept, is_within, IsSound, account_of};
+ghost use Rattle.zr_store.specs.Memory.{bytes_at, is_kept, is_within, stored_of, IsHeld, account_of, held_once, held_resolved};
 
 use crate::memory::{Kept, MemBlocks};
 use crate::{Blocks, StoreErr};
@@ -78,7 +78,7 @@ fn copy_at(alloc: Global, kept: &[Kept], b: &Bptr) -> Result<Vec<u8>, AllocError
 impl MemBlocks {
     /// A store of so many units that holds no block.
     pub fn new(alloc: Global, units: u32) -> Self
-        ensures tells { IsSound result.units result.next result.kept.items }
+        ensures holds { IsHeld result.units result.next result.kept.items (stored_of []) }
         ensures empty { result.kept.items ≡ [] }
         ensures units { result.units ≡ units }
         ensures unused { result.next ≡ 0 }
@@ -94,13 +94,11 @@ impl MemBlocks {
 impl Blocks for MemBlocks {
     ghost account = { λ m. account_of m.units m.next m.kept.items };
 
-    ghost tells = { λ m. IsSound m.units m.next m.kept.items };
+    ghost holds = { λ m s. IsHeld m.units m.next m.kept.items s };
 
-    ghost holds = { λ m. stored_of m.kept.items };
+    ghost once = { λ m s held. held_once m.units m.next m.kept.items s held };
 
-    ghost once = { λ m sound. sound.once };
-
-    ghost resolved = { λ m sound. sound.within };
+    ghost resolved = { λ m s held. held_resolved m.units m.next m.kept.items s held };
 
     fn put(&mut self, alloc: Global, bytes: &[u8], level: u8) -> Result<Bptr, StoreErr> {
         let len = units_of(bytes.len());
