@@ -91,6 +91,10 @@ pub trait Blocks {
     /// Whether it holds just these blocks. A store that does not tell holds nothing that can be named.
     ghost holds: { Self → Stored → Type 0 };
 
+    /// What calls do to it besides, one after another: which writes they make, and what they leave alone. A clause says
+    /// it of all that was done since some start, so that calls in a row add up by themselves.
+    ghost follows: { Self → Self → Type 0 };
+
     /// Stores a block, and answers its pointer. A level above 0 takes the bytes of one tree block of pointers of the
     /// level below. Where a run is missing the store is as before; after another error its units may stay taken, and the
     /// store serves for nothing more.
@@ -99,6 +103,7 @@ pub trait Blocks {
         requires size { is_size (length bytes.now) ≡ true }
         requires one_unit { 0 < level → length bytes.now ≡ 4096 }
         requires block { 0 < level → IsBlockOf (level - 1) bytes.now }
+        ensures follows { (start : Self) → follows start self.old → follows start self.new }
         ensures costs { Spends (length bytes.now / 4096) 1 0 (account self.old) (account self.new) }
         ensures failed { IsErrOf result Failed → HasRisen (account self.old).faults (account self.new).faults }
         ensures no_run { (needed longest : ℕ) → IsErrOf result (NoRun needed longest) → IsNoRun (length bytes.now / 4096) (account self.old) needed longest }
@@ -109,6 +114,7 @@ pub trait Blocks {
 
     /// The bytes of a block. Nothing that is held changes, also where the answer is an error.
     fn get(&mut self, alloc: Global, b: &Bptr) -> Result<Vec<u8>, StoreErr>
+        ensures follows { (start : Self) → follows start self.old → follows start self.new }
         ensures costs { Costs 0 0 (account self.old) (account self.new) }
         ensures cause { HasCause 0 (account self.old) (account self.new) result }
         ensures unresolved { (at : Dva) (expected : List ℕ) → IsErrOf result (Unresolved at expected) → IsOf b.now at expected }
@@ -121,6 +127,7 @@ pub trait Blocks {
 
     /// Gives back a block that is stored.
     fn free(&mut self, alloc: Global, b: &Bptr) -> Result<(), StoreErr>
+        ensures follows { (start : Self) → follows start self.old → follows start self.new }
         ensures costs { Costs 0 1 (account self.old) (account self.new) }
         ensures memory { IfErr result (λ e. e ≡ NoMemory) }
         ensures ok { (s : Stored) → holds self.old s → AreStored (b.now ∷ []) s → OnOk result (Now (holds self.new) (λ n. Swaps s n (b.now ∷ []) [])) }
