@@ -1,0 +1,62 @@
+//! Reading and writing runs of units.
+ghost use Rattle.std.specs.Prelude.{◌≡◌, ◌+◌, ◌*◌, ◌<◌, ◌≤◌, ◌^◌, ◌++◌, ℕ, List, length, take, drop, slice_index, IsErrOf, OnOk, IfOk, Some, None};
+ghost use Rattle.std.specs.List.{flat_map, AllByRecursion};
+ghost use Rattle.zr_base.specs.Counts.{HasRisen};
+ghost use Rattle.zr_shelf.specs.Counts.{NoneFell};
+ghost use Rattle.zr_shelf.specs.Disks.{disk, part};
+ghost use Rattle.zr_shelf.specs.Moments.{IsStill, Writes};
+ghost use Rattle.zr_shelf.specs.declared.desk.DeskErr.TheVariants as is_desk;
+ghost use Rattle.zr_imap.specs.Searches.{FollowFrom};
+ghost use Rattle.zr_label.specs.Geometry.{unit_at};
+ghost use Rattle.zr_view.specs.Views.{slot_of};
+ghost use Rattle.zr_view.specs.Runs.{run_bytes, IsOnDisk, HasDisk};
+
+use std::alloc::Global;
+use zr_base::Extent;
+use zr_imap::Piece;
+use zr_shelf::{DeskErr, Shelf};
+
+/// The bytes of a unit.
+const UNIT: u64 = 4096;
+
+/// The first byte of a unit of a device, behind the labels.
+pub fn place_of_unit(u: u64) -> u64
+    requires { u < 2 ^ 40 }
+    ensures { result ≡ unit_at u }
+{
+    4194304 + UNIT * u
+}
+
+// The slot of a device that has a disk.
+fn slot_of(slots: &[Option<u32>], dev: u32) -> u32
+    requires { (slot : ℕ) × (slot_of slots.now dev ≡ Some slot) }
+    ensures { slot_of slots.now dev ≡ Some result }
+{
+    match slots.get(dev as usize) {
+        Some(Some(slot)) => *slot,
+        Some(None) | None => unreachable!(),
+    }
+}
+
+// Reads a run into the whole of a buffer.
+fn read_run<S: Shelf>(
+    shelf: &mut S,
+    slots: &[Option<u32>],
+    run: &Piece,
+    out: &mut [u8],
+) -> Result<(), DeskErr>
+    requires disk { IsOnDisk (S.sizes shelf.old) slots.now run.now }
+    requires small { run.now.at.start < 2 ^ 40 }
+    requires size { length out.old ≡ 4096 * run.now.at.len }
+    ensures sizes { S.sizes shelf.new ≡ S.sizes shelf.old }
+    ensures none_fell { NoneFell (S.counts shelf.old) (S.counts shelf.new) }
+    ensures failed { IsErrOf result is_desk.Failed → HasRisen (S.counts shelf.old).disk (S.counts shelf.new).disk }
+    ensures memory { IsErrOf result is_desk.NoMemory → ⊥ }
+    ensures told { S.tells shelf.old → S.tells shelf.new }
+    ensures still { S.tells shelf.old → IsStill (S.world shelf.old) (S.world shelf.new) }
+    ensures bytes { S.tells shelf.old → OnOk result (out.new ≡ run_bytes (S.world shelf.old).now.seen slots.now run.now) }
+{
+    let slot = slot_of(slots, run.dev);
+    shelf.read(slot, place_of_unit(run.at.start), out)?;
+    Ok(())
+}
