@@ -7,4 +7,4 @@
 
 mod runs;
 
-pub use runs::place_of_unit;
+pub use runs::{place_of_unit, read_runs, write_run};
