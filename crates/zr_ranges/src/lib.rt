@@ -7,7 +7,8 @@
 //! command was accepted goes through the calls that end in `_reserved`.
 //!
 //! A set is often emptied from its lowest unit up. So the runs begin at an index, and to take out the first ones only
-//! raises it. The room below it is spare like that behind the last run.
+//! raises it. The room below it is spare like that behind the last run, and the first other change moves all runs down
+//! over it, once.
 #![tactic(auto)]
 
 ghost use Rattle.std.specs.Prelude.{◌≡◌, ℕ, ◌+◌, ◌-◌, ◌^◌, ◌<◌, ◌≤◌, ◌↔◌, ◌∷◌, [], take, remove, length, min, drop, IsTrue, IsOk, IfSome, IfNone, OnOk, OnErr, vec_len};
@@ -55,7 +56,7 @@ impl RangeSet {
     }
 
     /// Puts in the units of an extent that has none in the set. Logarithmic in the extents, and the move of those above
-    /// it where one comes or goes.
+    /// it where one comes or goes, or of all where the lowest were taken out before.
     #[tactic(auto, using(crate::proofs::Edits::count_bound))]
     pub fn add(&mut self, e: Extent) -> Result<(), NoMemory>
         requires not_empty { 0 < e.len }
@@ -140,7 +141,7 @@ impl RangeSet {
         first_part(live(&self.runs, self.from), u)
     }
 
-    /// The maximal extents in order.
+    /// The maximal extents in order. It costs nothing.
     pub fn extents(&self) -> &[Extent]
         ensures extents { result.now ≡ self.now.extents }
         ensures maximal { IsMaximal self.now.extents }
@@ -189,8 +190,7 @@ impl RangeSet {
     }
 
     /// Takes out the front of the extent at `i`: `n` units or, where it has fewer, all of it. No extent is split, so
-    /// it takes no memory. At 0 it moves nothing, and elsewhere the extents above one that is gone, or all where lower ones
-    /// went before.
+    /// it takes no memory. At 0 it moves nothing. Elsewhere it moves what `remove` does.
     pub fn take_from(&mut self, i: usize, n: u64) -> Extent
         requires index { i < length self.old.extents }
         requires some { 0 < n }
@@ -227,7 +227,7 @@ impl RangeSet {
         self.units = 0;
     }
 
-    /// Makes room for `n` changes that take no memory. Where there is that room it costs nothing.
+    /// Makes room for `n` changes that take no memory. Where that room is there it costs nothing.
     pub fn reserve(&mut self, n: usize) -> Result<(), NoMemory>
         ensures ok { OnOk result (n ≤ self.new.spare) }
         ensures extents { self.new.extents ≡ self.old.extents }
