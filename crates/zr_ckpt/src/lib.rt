@@ -138,8 +138,8 @@ impl Ckpt {
         self.state = CkptPart::Discarding;
     }
 
-    /// Takes out the lowest `n` kept extents, or all where there are fewer, those of the lowest device first. It goes
-    /// over the devices, and for each extent that it takes it moves those of the device.
+    /// Takes out the lowest `n` kept extents, or all where there are fewer, those of the lowest device first. It costs the
+    /// devices and the extents that it takes, however many stay.
     pub fn step(&mut self, n: usize) -> Result<Vec<(u32, Extent)>, NoMemory>
         ensures taken { IfOk result (λ list. list.items ≡ take n (all_kept self.old)) }
         ensures left { OnOk result (all_kept self.new ≡ drop n (all_kept self.old)) }
@@ -217,19 +217,8 @@ fn drop_lowest(sets: &mut Vec<RangeSet>, n: usize)
     for d in 0..sets.len() {
         let set = &mut sets[d];
         let count = left.min(set.extents().len());
-        drop_front(set, count);
+        set.drop_front(count);
         left -= count;
-    }
-}
-
-// Takes the lowest extents out of a set.
-fn drop_front(set: &mut RangeSet, n: usize)
-    requires { n ≤ length set.old.extents }
-    ensures left { set.new.extents ≡ drop n set.old.extents }
-    ensures spare { set.old.spare ≤ set.new.spare }
-{
-    for _ in 0..n {
-        let _lowest = set.take_front(u64::MAX);
     }
 }
 

@@ -55,7 +55,7 @@ pub struct Routed {
 
 impl Evac {
     /// Goes on at the end of the last entry of a mapping, where both frontiers then are. What is left to copy is what
-    /// the device holds from there on. It goes over the held extents.
+    /// the device holds from there on. It goes over the held extents from there, with a search for each.
     pub fn begin(
         alloc: Global,
         dev: u32,
@@ -90,7 +90,8 @@ impl Evac {
         self.dev
     }
 
-    /// The next piece to copy: the front of the lowest extent that is left, 256 units at most.
+    /// The next piece to copy: the front of the lowest extent that is left, 256 units at most. It costs the same however
+    /// much is left.
     pub fn next(&self) -> Option<Extent>
         ensures value { result ≡ next_of self.now.left }
         ensures front { IfSome result (IsFront self.now.left) }
@@ -102,7 +103,8 @@ impl Evac {
         next_piece(self.left.extents())
     }
 
-    /// Makes room, so that the next `n` calls of `copied` and `freed` take no memory.
+    /// Makes room, so that the next `n` calls of `copied` and `freed` take no memory. Where that room is there it costs
+    /// nothing.
     pub fn reserve(&mut self, n: usize) -> Result<(), NoMemory>
         ensures ok { OnOk result (n ≤ self.new.spare) }
         ensures same { self.new ≡ record self.old { spare = self.new.spare } }
@@ -113,7 +115,8 @@ impl Evac {
         self.left.reserve(n)
     }
 
-    /// A front of the next piece was copied to a device from `dst` on. It takes no memory.
+    /// A front of the next piece was copied to a device from `dst` on. It takes no memory, and costs the same however much
+    /// is left and however many entries there are.
     pub fn copied(&mut self, e: Extent, dev: u32, dst: u64)
         requires not_empty { 0 < e.len }
         requires front { IsFront self.old.left e }
@@ -137,7 +140,8 @@ impl Evac {
         self.opened = end;
     }
 
-    /// The parts of an extent below the synced frontier, from there to the open one, and above that.
+    /// The parts of an extent below the synced frontier, from there to the open one, and above that. It costs the same
+    /// whatever there is.
     pub fn route(&self, e: Extent) -> Routed
         ensures { IsRouted self.now.synced self.now.opened e result.below result.flying result.above }
     {
@@ -149,7 +153,8 @@ impl Evac {
     }
 
     /// Units are freed that were copied or are left to copy: what was copied is marked, and the rest is left no more. It
-    /// takes no memory.
+    /// takes no memory. It costs a change of the marks and one of what is left: a search in each, and the move of the
+    /// extents above.
     pub fn freed(&mut self, e: Extent)
         requires not_empty { 0 < e.len }
         requires unmarked { HasNone self.old.marks e }
@@ -193,7 +198,7 @@ impl Evac {
     }
 
     /// The destinations of all entries without the copies of marked units, each unit once: what is freed when the
-    /// removal is given up.
+    /// removal is given up. It goes over the entries, with a search in the marks for each of their parts.
     pub fn cancelled(&self) -> Result<Vec<(u32, Extent)>, NoMemory>
         ensures copies { IfOk result (λ list. (d u : ℕ) → hits_at list.items d u ≡ copies_at self.now.marks self.now.entries d u) }
         ensures lawful { IfOk result (λ list. AreLawful list.items) }

@@ -1,5 +1,5 @@
 -- What contracts see of a RangeSet.
-use Rattle.std.specs.Prelude.{◌≡◌, ℕ, ◌<◌, List, length}
+use Rattle.std.specs.Prelude.{◌≡◌, ℕ, ◌<◌, ◌≤◌, List, length, drop}
 use Rattle.zr_base.specs.declared.space.Extent.{Extent}
 use Rattle.zr_base.specs.Extents.{IsMaximal, unit_count, extent_at}
 
@@ -8,10 +8,11 @@ pub record Ranges : Type 0 where
   pub extents : List Extent
   pub spare : ℕ
 
--- the runs are maximal and in order, and their units are counted
-pub record IsKept (runs : List Extent) (units : ℕ) : Type 0 where
-  pub maximal : IsMaximal runs
-  pub counted : units ≡ unit_count runs
+-- the runs from the index on are maximal and in order, and their units are counted
+pub record IsKept (runs : List Extent) (from units : ℕ) : Type 0 where
+  pub within : from ≤ length runs
+  pub maximal : IsMaximal (drop from runs)
+  pub counted : units ≡ unit_count (drop from runs)
 
 -- one of the extents has so many units
 pub record HasRunOf (runs : List Extent) (n : ℕ) : Type 0 where

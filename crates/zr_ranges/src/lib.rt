@@ -5,13 +5,20 @@
 //! neighbour that is met is joined at once. A change costs a search and the move of the runs above it. Each change
 //! makes at most one run more, so `reserve(n)` is room for n changes that take no memory: what must not fail after a
 //! command was accepted goes through the calls that end in `_reserved`.
+//!
+//! A set is often emptied from its lowest unit up. So the runs begin at an index, and to take out the first ones only
+//! raises it. The room below it is spare like that behind the last run, and the first other change moves all runs down
+//! over it, once.
 #![tactic(auto)]
 
-ghost use Rattle.std.specs.Prelude.{◌≡◌, ℕ, ◌+◌, ◌-◌, ◌^◌, ◌<◌, ◌≤◌, ◌↔◌, ◌∷◌, [], take, remove, length, min, IsTrue, IsOk, IfSome, IfNone, OnOk, OnErr, vec_len};
+ghost use Rattle.std.specs.Prelude.{◌≡◌, ℕ, ◌+◌, ◌-◌, ◌^◌, ◌<◌, ◌≤◌, ◌↔◌, ◌∷◌, [], take, remove, length, min, drop, IsTrue, IsOk, IfSome, IfNone, OnOk, OnErr, vec_len};
 ghost use Rattle.std.specs.Vec.{vec_capacity};
 ghost use Rattle.zr_ranges.specs.Ranges.{HasRunOf};
 ghost use Rattle.zr_base.specs.Extents.{IsMaximal, HasAll, HasNone, AddsUnits, RemovesUnits, unit_count, longest_len, first_part_from, end_of, extent_at, EndsBy, IsFirstPart, HasNoneFrom};
 
+mod front;
+
+use front::{count_units, live, settle, take_first};
 use std::alloc::{AllocError, Global};
 use std::marker::Model;
 use zr_base::{Extent, NoMemory};
@@ -20,19 +27,20 @@ use zr_base::{Extent, NoMemory};
 #[derive(Drop)]
 pub struct RangeSet {
     runs: Vec<Extent>,
+    from: usize,
     units: u64,
 }
 
 impl Model for RangeSet {
-    ghost use Rattle.std.specs.Prelude.{◌-◌, vec_len};
+    ghost use Rattle.std.specs.Prelude.{◌-◌, vec_len, drop};
     ghost use Rattle.std.specs.Vec.{vec_capacity};
     ghost use Rattle.zr_ranges.specs.Ranges.{Ranges, IsKept};
 
     ghost Value = { Ranges };
 
-    ghost view = { λ a. record { extents = a.runs.items; spare = vec_capacity a.runs - vec_len a.runs } };
+    ghost view = { λ a. record { extents = drop a.from a.runs.items; spare = vec_capacity a.runs - (vec_len a.runs - a.from) } };
 
-    ghost invariant = { λ a. IsKept a.runs.items a.units };
+    ghost invariant = { λ a. IsKept a.runs.items a.from a.units };
 }
 
 impl RangeSet {
@@ -42,12 +50,13 @@ impl RangeSet {
     {
         RangeSet {
             runs: Vec::new(alloc),
+            from: 0,
             units: 0,
         }
     }
 
     /// Puts in the units of an extent that has none in the set. Logarithmic in the extents, and the move of those above
-    /// it where one comes or goes.
+    /// it where one comes or goes, or of all where the lowest were taken out before.
     #[tactic(auto, using(crate::proofs::Edits::count_bound))]
     pub fn add(&mut self, e: Extent) -> Result<(), NoMemory>
         requires not_empty { 0 < e.len }
@@ -63,6 +72,7 @@ impl RangeSet {
         ensures capacity { length self.old.extents + self.old.spare ≤ length self.new.extents + self.new.spare }
         ensures growth { length self.new.extents ≤ length self.old.extents + 1 }
     {
+        settle(&mut self.runs, &mut self.from);
         add_run(&mut self.runs, e)?;
         self.units += e.len;
         Ok(())
@@ -82,6 +92,7 @@ impl RangeSet {
         ensures capacity { length self.old.extents + self.old.spare ≤ length self.new.extents + self.new.spare }
         ensures growth { length self.new.extents ≤ length self.old.extents + 1 }
     {
+        settle(&mut self.runs, &mut self.from);
         remove_run(&mut self.runs, e)?;
         self.units -= e.len;
         Ok(())
@@ -91,14 +102,14 @@ impl RangeSet {
     pub fn covers(&self, e: Extent) -> bool
         ensures { IsTrue result ↔ HasAll self.now.extents e }
     {
-        has_all(self.runs.as_slice(), e)
+        has_all(live(&self.runs, self.from), e)
     }
 
     /// Whether the set has no unit of the extent. Logarithmic in the extents.
     pub fn is_apart(&self, e: Extent) -> bool
         ensures { IsTrue result ↔ HasNone self.now.extents e }
     {
-        has_none(self.runs.as_slice(), e)
+        has_none(live(&self.runs, self.from), e)
     }
 
     /// How many units the set has. It is kept, not counted.
@@ -118,7 +129,7 @@ impl RangeSet {
         ensures one_as_long { 0 < result → HasRunOf self.now.extents result }
         ensures bound { result ≤ unit_count self.now.extents }
     {
-        longest_run(self.runs.as_slice())
+        longest_run(live(&self.runs, self.from))
     }
 
     /// The part at or above `u` of the lowest extent that ends above `u`. Logarithmic in the extents.
@@ -127,18 +138,19 @@ impl RangeSet {
         ensures some { IfSome result (IsFirstPart self.now.extents u) }
         ensures none { IfNone result (HasNoneFrom self.now.extents u) }
     {
-        first_part(self.runs.as_slice(), u)
+        first_part(live(&self.runs, self.from), u)
     }
 
-    /// The maximal extents in order.
+    /// The maximal extents in order. It costs nothing.
     pub fn extents(&self) -> &[Extent]
         ensures extents { result.now ≡ self.now.extents }
         ensures maximal { IsMaximal self.now.extents }
     {
-        self.runs.as_slice()
+        live(&self.runs, self.from)
     }
 
-    /// Takes out the lowest units, `n` or, where the lowest extent has fewer, that extent.
+    /// Takes out the lowest units, `n` or, where the lowest extent has fewer, that extent. It takes no memory and moves
+    /// nothing, whatever the set has.
     pub fn take_front(&mut self, n: u64) -> Extent
         requires not_empty { 0 < length self.old.extents }
         requires some { 0 < n }
@@ -157,11 +169,28 @@ impl RangeSet {
         ensures spare { self.old.spare ≤ self.new.spare }
         ensures capacity { length self.old.extents + self.old.spare ≤ length self.new.extents + self.new.spare }
     {
-        self.take_from(0, n)
+        let (taken, from) = take_first(&mut self.runs, self.from, n);
+        self.from = from;
+        self.units -= taken.len;
+        taken
+    }
+
+    /// Takes out the lowest `n` extents, or all where there are fewer. It reads those that it takes out, to count their
+    /// units, and moves nothing.
+    #[tactic(auto, using(crate::proofs::Parts::maximal_take, crate::proofs::Parts::count_split))]
+    pub fn drop_front(&mut self, n: usize)
+        ensures left { self.new.extents ≡ drop n self.old.extents }
+        ensures spare { self.old.spare ≤ self.new.spare }
+        ensures capacity { length self.old.extents + self.old.spare ≤ length self.new.extents + self.new.spare }
+    {
+        let runs = live(&self.runs, self.from);
+        let count = n.min(runs.len());
+        self.units -= count_units(&runs[..count]);
+        self.from += count;
     }
 
     /// Takes out the front of the extent at `i`: `n` units or, where it has fewer, all of it. No extent is split, so
-    /// it takes no memory.
+    /// it takes no memory. At 0 it moves nothing. Elsewhere it moves what `remove` does.
     pub fn take_from(&mut self, i: usize, n: u64) -> Extent
         requires index { i < length self.old.extents }
         requires some { 0 < n }
@@ -178,6 +207,10 @@ impl RangeSet {
         ensures spare { self.old.spare ≤ self.new.spare }
         ensures capacity { length self.old.extents + self.old.spare ≤ length self.new.extents + self.new.spare }
     {
+        if i == 0 {
+            return self.take_front(n);
+        }
+        settle(&mut self.runs, &mut self.from);
         let taken = take_run(&mut self.runs, i, n);
         self.units -= taken.len;
         taken
@@ -190,16 +223,21 @@ impl RangeSet {
         ensures capacity { length self.old.extents + self.old.spare ≤ length self.new.extents + self.new.spare }
     {
         self.runs.clear();
+        self.from = 0;
         self.units = 0;
     }
 
-    /// Makes room for `n` changes that take no memory.
+    /// Makes room for `n` changes that take no memory. Where that room is there it costs nothing.
     pub fn reserve(&mut self, n: usize) -> Result<(), NoMemory>
         ensures ok { OnOk result (n ≤ self.new.spare) }
         ensures extents { self.new.extents ≡ self.old.extents }
         ensures spare { self.old.spare ≤ self.new.spare }
         ensures capacity { length self.old.extents + self.old.spare ≤ length self.new.extents + self.new.spare }
     {
+        if n <= self.runs.capacity() - (self.runs.len() - self.from) {
+            return Ok(());
+        }
+        settle(&mut self.runs, &mut self.from);
         self.runs.reserve(n)?;
         Ok(())
     }
@@ -497,6 +535,25 @@ mod tests {
         set.add_reserved(Extent { start: 20, len: 1 });
         set.remove_reserved(Extent { start: 20, len: 1 });
         assert_eq!(rt; set.extents(), [Extent { start: 7, len: 3 }].as_slice());
+        Ok(())
+    }
+
+    #[test]
+    fn room_below_the_first_run_is_used_again(rt: HostRuntime) -> Result<(), Fail> {
+        let mut set = RangeSet::new(rt.alloc());
+        set.add(Extent { start: 1, len: 2 })?;
+        set.add(Extent { start: 5, len: 2 })?;
+        set.drop_front(1);
+        assert_eq!(rt; set.units(), 2);
+        let low = Extent { start: 0, len: 4 };
+        assert!(rt; set.is_apart(low));
+        set.add(low)?;
+        assert_eq!(rt;
+            set.extents(),
+            [low, Extent { start: 5, len: 2 }].as_slice()
+        );
+        set.drop_front(9);
+        assert!(rt; set.extents().is_empty());
         Ok(())
     }
 

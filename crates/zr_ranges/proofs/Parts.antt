@@ -1,0 +1,65 @@
+-- What is left of a list of maximal extents without its first ones.
+use Rattle.std.proofs.Common.{◌≡◌, ℕ, zero, suc, ◌+◌, ◌-◌, ◌<◌, ◌≤◌, ◌^◌, List, [], ◌∷◌, length, take, drop, set, refl, ap, sym, subst, ◌∙◌, arith, add-zero, length-drop}
+use Rattle.std.proofs.lemmas.List.{drop-drop, drop-set-add}
+use Rattle.zr_base.specs.declared.space.Extent.{Extent}
+use Rattle.zr_base.specs.Extents.{IsMaximal, IsMaximalFrom, RemovesUnits, extent_at, unit_count}
+use Rattle.zr_base.proofs.ExtentSets.{unit_count-more, unit_count-le}
+use Rattle.zr_ranges.specs.Ranges.{IsKept}
+use Rattle.zr_ranges.proofs.Edits.{removes-whole, removes-front}
+
+abbrev none : Extent
+none = record { start = 0; len = 0 }
+
+-- one extent more is counted, and all fit
+pub count_more : (i : ℕ) (xs : List Extent) → IsMaximal xs → i < length xs → (unit_count (take (i + 1) xs) ≡ unit_count (take i xs) + (extent_at xs i).len) × (unit_count (take (i + 1) xs) ≤ 2 ^ 62)
+count_more i xs m inside = (unit_count-more i xs none inside, omega (arith, unit_count-le 0 (i + 1) xs m))
+
+lower : (low : ℕ) (xs : List Extent) → IsMaximalFrom low xs → IsMaximalFrom 0 xs
+lower low [] m = tt
+lower low (x ∷ xs) m = (omega arith, m.1, m.2, m.3)
+
+maximal_take_from : (low n : ℕ) (xs : List Extent) → IsMaximalFrom low xs → IsMaximalFrom low (take n xs)
+maximal_take_from low zero xs m = tt
+maximal_take_from low (suc n) [] m = tt
+maximal_take_from low (suc n) (x ∷ xs) m = (m.0, m.1, m.2, maximal_take_from (x.start + x.len + 1) n xs m.3)
+
+maximal_drop_from : (low n : ℕ) (xs : List Extent) → IsMaximalFrom low xs → IsMaximalFrom 0 (drop n xs)
+maximal_drop_from low zero xs m = lower low xs m
+maximal_drop_from low (suc n) [] m = tt
+maximal_drop_from low (suc n) (x ∷ xs) m = maximal_drop_from (x.start + x.len + 1) n xs m.3
+
+-- the first extents, and the others, are maximal too
+pub maximal_take : (n : ℕ) (xs : List Extent) → IsMaximal xs → IsMaximal (take n xs)
+maximal_take n xs m = maximal_take_from 0 n xs m
+
+pub maximal_drop : (n : ℕ) (xs : List Extent) → IsMaximal xs → IsMaximal (drop n xs)
+maximal_drop n xs m = maximal_drop_from 0 n xs m
+
+pub count_split : (n : ℕ) (xs : List Extent) → unit_count (take n xs) + unit_count (drop n xs) ≡ unit_count xs
+count_split zero xs = omega arith
+count_split (suc n) [] = omega arith
+count_split (suc n) (x ∷ xs) = omega (arith, count_split n xs)
+
+-- the first extent goes, or its front
+pub removes_first : (from : ℕ) (xs : List Extent) (r : Extent) → IsMaximal (drop from xs) → from < length xs → extent_at (drop from xs) 0 ≡ r → 0 < r.len → RemovesUnits (drop from xs) (drop (from + 1) xs) r
+removes_first from xs r m inside is some =
+    subst (λ (l : List Extent). RemovesUnits (drop from xs) l r) (drop-drop 1 from xs)
+    (removes-whole (drop from xs) r r 0 (record { maximal = m; not_empty = some; index = omega (arith, length-drop from xs); value = is }) refl refl)
+
+drop_set : (from : ℕ) (xs : List Extent) (e : Extent) → drop from (set xs from e) ≡ set (drop from xs) 0 e
+drop_set from xs e = ap (λ i. drop from (set xs i e)) (sym (add-zero from)) ∙ drop-set-add from xs 0 e
+
+pub removes_front : (from n : ℕ) (xs : List Extent) (r : Extent) → IsMaximal (drop from xs) → from < length xs → extent_at (drop from xs) 0 ≡ r → n < r.len → RemovesUnits (drop from xs) (drop from (set xs from (record { start = r.start + n; len = r.len - n }))) (record { start = r.start; len = n })
+removes_front from n xs r m inside is lt =
+    subst (λ (l : List Extent). RemovesUnits (drop from xs) l (record { start = r.start; len = n })) (sym (drop_set from xs (record { start = r.start + n; len = r.len - n })))
+    (removes-front (drop from xs) r n 0 m (omega (arith, length-drop from xs)) is lt)
+
+-- the set without its first extents
+pub kept_without : (from units n count : ℕ) (xs : List Extent) → IsKept xs from units → n ≤ length (drop from xs) → count ≡ unit_count (take n (drop from xs)) → IsKept xs (from + n) (units - count)
+kept_without from units n count xs kept few counted =
+    let same : drop n (drop from xs) ≡ drop (from + n) xs = drop-drop n from xs in
+    record {
+      within = omega (arith, length-drop from xs, kept.within);
+      maximal = subst (λ (l : List Extent). IsMaximal l) same (maximal_drop n (drop from xs) kept.maximal);
+      counted = subst (λ (l : List Extent). units - count ≡ unit_count l) same (omega (arith, count_split n (drop from xs), kept.counted, counted));
+    }
