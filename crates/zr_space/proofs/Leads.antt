@@ -16,11 +16,11 @@ use Rattle.zr_rules.specs.Frees.{copy_from, is_copy_of, marks}
 use Rattle.zr_space.specs.Views.{Kept, kept_of, part_in, space_of}
 use Rattle.zr_space.proofs.Views.{part_is}
 
-leads_within : (n : ℕ) (ds : Devices) (d u : ℕ) → 0 < n → is_gone (state_at ds d) ≡ false → is_there ds d u ≡ true → resolve n ds d u ≡ Some (d, u)
+pub leads_within : (n : ℕ) (ds : Devices) (d u : ℕ) → 0 < n → is_gone (state_at ds d) ≡ false → is_there ds d u ≡ true → resolve n ds d u ≡ Some (d, u)
 leads_within zero ds d u some on there = absurd (omega (arith, some))
 leads_within (suc n) ds d u some on there = rw on rw there refl
 
-passes_none : (n : ℕ) (ds : Devices) (d u : ℕ) → is_gone (state_at ds d) ≡ false → passed n ds d u ≡ []
+pub passes_none : (n : ℕ) (ds : Devices) (d u : ℕ) → is_gone (state_at ds d) ≡ false → passed n ds d u ≡ []
 passes_none zero ds d u on = refl
 passes_none (suc n) ds d u on = rw on refl
 
@@ -33,7 +33,7 @@ any_at ds dev from (suc n) d u here =
     let more = list_any-append (λ (p : Option Place). is_at p d u) (resolved ds dev from ∷ []) (map (λ (p : Place). resolved ds p.0 p.1) (map (λ (v : ℕ). (dev, v)) (range_with_len (from + 1) n))) in
     more ∙ grind (arith, nat_tests, first, rest)
 
-hits_none : (ds : Devices) (dev from n d u : ℕ) → is_gone (state_at ds dev) ≡ false
+pub hits_none : (ds : Devices) (dev from n d u : ℕ) → is_gone (state_at ds dev) ≡ false
     → sum_by (λ (p : Place). sum_by (λ (q : Place). one_if (is_place q d u)) (passed_units ds p.0 p.1)) (map (λ (v : ℕ). (dev, v)) (range_with_len from n)) ≡ 0
 hits_none ds dev from zero d u on = refl
 hits_none ds dev from (suc n) d u on =

@@ -14,3 +14,4 @@ pub mod Commits
 pub mod Drops
 pub mod Counting
 pub mod Lives
+pub mod Paths

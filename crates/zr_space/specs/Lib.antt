@@ -2,3 +2,4 @@ pub mod Views
 pub mod Live
 pub mod Causes
 pub mod Drops
+pub mod Paths

@@ -3,7 +3,7 @@ ghost use Rattle.std.specs.Prelude.{◌≡◌, ℕ, ◌+◌, ◌^◌, ◌<◌, �
 ghost use Rattle.std.specs.Vec.{vec_capacity};
 ghost use Rattle.zr_base.specs.declared.space.Dva.{Dva};
 ghost use Rattle.zr_rules.specs.Columns.{columns};
-ghost use Rattle.zr_rules.specs.Places.{state_of_dev};
+ghost use Rattle.zr_rules.specs.Places.{state_of_dev, units_of_dev};
 ghost use Rattle.zr_space.specs.Drops.{IsMeta, KeepsParts};
 ghost use Rattle.zr_rules.specs.Frees.{Allocates, AllocatesMeta, Frees, DropsMeta};
 ghost use Rattle.zr_rules.specs.Steps.{AddsDevice, Commits};
@@ -36,7 +36,7 @@ pub struct Space {
     alloc: Global,
     version: u64,
     slabs: Slabs,
-    devs: Vec<Device>,
+    pub(crate) devs: Vec<Device>,
 }
 
 impl Model for Space {
@@ -217,6 +217,14 @@ impl Space {
         ensures { result ≡ state_of_dev self.now.parts.devs dev }
     {
         self.devs[dev as usize].row.state
+    }
+
+    /// How many units a device has.
+    pub fn units_of(&self, dev: u32) -> u64
+        requires { dev < length self.now.parts.devs }
+        ensures { result ≡ units_of_dev self.now.parts.devs dev }
+    {
+        self.devs[dev as usize].row.units
     }
 
     /// How many devices there are.

@@ -1,0 +1,18 @@
+-- Addresses that lead nowhere.
+use Rattle.std.specs.Prelude.{◌≡◌, ℕ, ◌+◌, ◌<◌, false, None}
+use Rattle.zr_base.specs.declared.space.Dva.{Dva}
+use Rattle.zr_rules.specs.Devices.{Devices, state_at}
+use Rattle.zr_rules.specs.Places.{is_gone, is_leaving}
+use Rattle.zr_rules.specs.Resolve.{resolved}
+use Rattle.zr_chain.specs.declared.visit.ChainErr.{ChainErr}
+use Rattle.zr_chain.specs.declared.visit.ChainErr.TheVariants.{NoEntry, NoMemory}
+
+-- no device is leaving or gone
+pub record AreInService (ds : Devices) : Type 0 where
+  pub there : (d : ℕ) → is_gone (state_at ds d) ≡ false
+  pub stays : (d : ℕ) → is_leaving (state_at ds d) ≡ false
+
+-- the unit that is named is on the way of a unit of the address that leads nowhere
+abbrev pub LeadsNowhere : Devices → Dva → ChainErr → Type 0
+LeadsNowhere ds a (NoEntry dev unit) = (k : ℕ) × (k < a.len) × (resolved ds a.dev (a.start + k) ≡ None)
+LeadsNowhere ds a NoMemory = Unit {0}
