@@ -3,21 +3,20 @@ use Rattle.std.proofs.lemmas.Result.{err_from_is_err_and}
 use Rattle.zr_bptr.specs.declared.Ptr.{Ptr}
 use Rattle.zr_store.specs.Causes.{Costs}
 use Rattle.zr_store.proofs.Causes.{costs_most, cause_most, cause_from}
-use Rattle.zr_tree.specs.Trees.{tree_blocks, most_puts, most_frees}
+use Rattle.zr_tree.specs.Trees.{most_puts, most_frees}
 use Rattle.zr_tree.proofs.Costing.{one_height, puts_most, frees_most}
 use Rattle.zr_tree.proofs.Raise.{whole}
-use Rattle.zr_tree.proofs.Others.{keeps_others}
 use Rattle.zr_tree.proofs.trees.set_all.Goals as goal
 
 pub returns-clause-sets : goal.returns-clause-sets
-returns-clause-sets g c = λ told held.
-    whole c.args.changes.now (g.B.Blocks.holds c.args.store.now) (g.B.Blocks.holds c.raise.new.store) c.args.t.now (record { root = c.in_ok-root.root; height = c.height_for-height.result })
-    c.height_for-height.ensures.height.grows c.height_for-height.ensures.height.room (c.in_ok-root.ensures.raises told held)
-
-pub returns-clause-others : goal.returns-clause-others
-returns-clause-others g c = λ told held.
-    keeps_others (g.B.Blocks.holds c.args.store.now) (g.B.Blocks.holds c.raise.new.store) (tree_blocks (g.B.Blocks.holds c.args.store.now) c.args.t.now) (tree_blocks (g.B.Blocks.holds c.raise.new.store) (record { root = c.in_ok-root.root; height = c.height_for-height.result }))
-    (c.in_ok-root.ensures.raises told held).swaps (g.met.B.Blocks.once c.args.store.now told)
+returns-clause-sets g c = λ s holds held.
+    let tall = c.height_for-height.ensures.height in
+    let root = c.in_ok-root.ensures.raises s holds held in
+    record {
+      stored = root.stored;
+      held = root.held;
+      is = whole c.args.changes.now s root.stored c.args.t.now (record { root = c.in_ok-root.root; height = c.height_for-height.result }) tall.grows tall.room c.requires.rises (g.met.B.Blocks.once c.args.store.now s holds) root.is;
+    }
 
 pub returns-clause-costs : goal.returns-clause-costs
 returns-clause-costs g c = λ height is.
