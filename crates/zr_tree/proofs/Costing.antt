@@ -1,5 +1,5 @@
 -- How many blocks a change puts and gives back.
-use Rattle.std.proofs.Common.{◌≡◌, ◌+◌, ◌*◌, ◌-◌, ◌<◌, ◌≤◌, inl, inr, ℕ, zero, suc, List, [], ◌∷◌, length, Result, refl, sym, ◌∙◌, ap, subst, arith, Bool, eq-eqb}
+use Rattle.std.proofs.Common.{◌≡◌, ◌+◌, ◌*◌, ◌-◌, ◌<◌, ◌≤◌, inl, inr, ℕ, zero, suc, List, [], ◌∷◌, length, Result, refl, sym, ◌∙◌, ap, subst, arith, Bool, true, false, nat_eq, eq-eqb}
 use Rattle.std.specs.Prelude.{if◌then◌else◌}
 use Rattle.std.proofs.Math.Nat.{mul-add, suc-mul, mul-le-mul_left, mul-le-mul_right, le_antisymm}
 use Rattle.std.proofs.lemmas.Bool.{ne_eqb, cases_eq}
@@ -64,6 +64,18 @@ frees_raised h m low high n le parts = elim (cases_eq h m) [
   where
     product : m * n ≡ m * low + m * high
     product = ap (λ (k : ℕ). m * k) (sym parts) ∙ mul-add m low high
+
+pub puts_fewer : (h l n m : ℕ) → n ≤ m → most_puts h l n ≤ most_puts h l m
+puts_fewer h l n m le =
+    let same : l * n ≤ l * m = mul-le-mul_left l le in
+    let more : (l - 1) * n ≤ (l - 1) * m = mul-le-mul_left (l - 1) le in
+    elim (nat_eq h l) as (λ (b : Bool). (if b then l * n else (l - 1) * n + (l - h)) ≤ (if b then l * m else (l - 1) * m + (l - h))) [ true ↦ same | false ↦ omega (arith, more) ]
+
+pub frees_fewer : (h l n m : ℕ) → n ≤ m → most_frees h l n ≤ most_frees h l m
+frees_fewer h l n m le =
+    let same : l * n ≤ l * m = mul-le-mul_left l le in
+    let more : (l - 1) * n ≤ (l - 1) * m = mul-le-mul_left (l - 1) le in
+    elim (nat_eq h l) as (λ (b : Bool). (if b then l * n else (l - 1) * n) ≤ (if b then l * m else (l - 1) * m)) [ true ↦ same | false ↦ more ]
 
 -- there is one least height
 pub one_height : (from a b : ℕ) (changes : List (ℕ × Ptr)) → IsHeightFor from changes a → IsHeightFor from changes b → a ≡ b

@@ -196,11 +196,15 @@ most_puts old new changes = if nat_eq old new then new * changes else (new - 1) 
 abbrev pub most_frees : ℕ → ℕ → ℕ → ℕ
 most_frees old new changes = if nat_eq old new then new * changes else (new - 1) * changes
 
+-- the changes lie below a block of this level, but for holes
+abbrev pub HasRoom : ℕ → List (ℕ × Ptr) → Type 0
+HasRoom level = All (λ change. (change.1 ≡ Hole) ⊎ (change.0 / 32 ^ level ≡ 0))
+
 -- the least height from this one on that has room for the changes
 pub record IsHeightFor (from : ℕ) (changes : List (ℕ × Ptr)) (height : ℕ) : Type 0 where
   pub grows : from ≤ height
-  pub room : AllAt height 0 changes
-  pub least : (lower : ℕ) → from ≤ lower → AllAt lower 0 changes → height ≤ lower
+  pub room : HasRoom height changes
+  pub least : (lower : ℕ) → from ≤ lower → HasRoom lower changes → height ≤ lower
 
 -- a front of these was marked
 pub record MarksFront (old new pointers : List Bptr) : Type 0 where

@@ -1,7 +1,7 @@
 //! Changing: a block on the way to a changed leaf is read, changed, put anew and given back.
 //!
 //! The changes are handed down in runs that lie below one pointer. A block of which nothing is left becomes a hole.
-ghost use Rattle.std.specs.Prelude.{◌≡◌, ◌+◌, ◌*◌, ◌-◌, ◌/◌, ◌%◌, ◌^◌, ◌<◌, ◌≤◌, ◌↔◌, List, [], ℕ, length, All, IfOk, OnOk, IsTrue, IfSome, take, drop, slice_index_or};
+ghost use Rattle.std.specs.Prelude.{◌≡◌, ◌≢◌, ◌+◌, ◌*◌, ◌-◌, ◌/◌, ◌%◌, ◌^◌, ◌<◌, ◌≤◌, ◌↔◌, List, [], ℕ, length, All, IfOk, OnOk, IsTrue, IfSome, take, drop, slice_index_or};
 ghost use Rattle.std.specs.List.{flat_map};
 ghost use Rattle.zr_bptr.specs.declared.Ptr.{Ptr};
 ghost use Rattle.zr_bptr.specs.declared.Ptr.TheVariants.{Hole};
@@ -17,7 +17,7 @@ use std::alloc::{AllocError, Global};
 use zr_bptr::Ptr;
 use zr_store::{Blocks, StoreErr};
 
-fn is_hole(p: &Ptr) -> bool
+pub(crate) fn is_hole(p: &Ptr) -> bool
     ensures { IsTrue result ↔ (p.now ≡ Hole) }
 {
     match p {
@@ -104,6 +104,7 @@ pub(crate) fn run_len(rest: &[(u64, Ptr)], level: u32, place: u64) -> usize
     ensures within { result ≤ length rest.now }
     ensures here { AllAt level place (take result rest.now) }
     ensures some { (d : ℕ × Ptr) → 0 < length rest.now → (slice_index_or rest.now 0 d).0 / 32 ^ level ≡ place → 0 < result }
+    ensures past { (d : ℕ × Ptr) → result < length rest.now → (slice_index_or rest.now result d).0 / 32 ^ level ≢ place }
 {
     for (i, change) in rest.iter().enumerate() {
         if place_of(change.0, level) != place {

@@ -8,19 +8,19 @@ ghost use Rattle.zr_bptr.specs.declared.Tree.{Tree};
 ghost use Rattle.zr_store.specs.Store.{Stored, Now, AreStored, hits};
 ghost use Rattle.zr_store.specs.Causes.{Costs, HasCause};
 ghost use Rattle.zr_bptr.specs.Spelling.{IsTree};
-ghost use Rattle.zr_tree.specs.Trees.{tree_blocks, AllAt, AreLeaves, Rises, Raises, SetsTree, IsHeightFor, KeepsTree, most_puts, most_frees, TellsOf};
+ghost use Rattle.zr_tree.specs.Trees.{tree_blocks, AllAt, AreLeaves, Rises, HasRoom, Raises, SetsTree, IsHeightFor, KeepsTree, most_puts, most_frees, TellsOf};
 
 use crate::reads::place_of;
-use crate::sets::{holes, put_block, run_len, set_below, set_each};
+use crate::sets::{holes, is_hole, put_block, run_len, set_below, set_each};
 use std::alloc::Global;
 use zr_bptr::{Ptr, Tree};
 use zr_store::{Blocks, StoreErr};
 
 fn has_room(level: u32, changes: &[(u64, Ptr)]) -> bool
     requires { level ≤ 5 }
-    ensures { IsTrue result ↔ AllAt level 0 changes.now }
+    ensures { IsTrue result ↔ HasRoom level changes.now }
 {
-    changes.iter().all(|change| place_of(change.0, level) == 0)
+    changes.iter().all(|change| is_hole(&change.1) || place_of(change.0, level) == 0)
 }
 
 fn height_for(from: u32, changes: &[(u64, Ptr)]) -> u32
@@ -68,7 +68,8 @@ fn raise<B: Blocks>(
 }
 
 /// Changes leaf pointers. The old tree blocks are given back. At most five tree blocks a change are put and given back,
-/// and four more are put where the tree grows, also where the answer is an error.
+/// and four more are put where the tree grows, also where the answer is an error. Only a leaf makes a tree taller: a hole
+/// past its end changes nothing.
 pub fn set_all<B: Blocks>(
     alloc: Global,
     store: &mut B,
@@ -89,7 +90,8 @@ pub fn set_all<B: Blocks>(
     ensures sets { (s : Stored) → B.holds store.old s → AreStored (tree_blocks s t.now) s → IfOk result (λ u. Now (B.holds store.new) (λ n. SetsTree changes.now s n t.now u)) }
 {
     let height = height_for(t.height, changes);
-    let root = raise(alloc, store, t, height, changes)?;
+    let n = run_len(changes, height, 0);
+    let root = raise(alloc, store, t, height, &changes[..n])?;
     Ok(Tree { root, height })
 }
 
