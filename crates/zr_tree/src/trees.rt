@@ -82,6 +82,8 @@ pub fn set_all<B: Blocks>(
     requires rises { Rises changes.now }
     ensures costs { (height : ℕ) → IsHeightFor t.now.height changes.now height → Costs (most_puts t.now.height height (length changes.now)) (most_frees t.now.height height (length changes.now)) (B.account store.old) (B.account store.new) }
     ensures cause { (height : ℕ) → IsHeightFor t.now.height changes.now height → HasCause (most_puts t.now.height height (length changes.now)) (B.account store.old) (B.account store.new) result }
+    ensures within { (top : ℕ) → t.now.height ≤ top → HasRoom top changes.now → Costs (top * length changes.now + (top - 1)) (top * length changes.now) (B.account store.old) (B.account store.new) }
+    ensures within_cause { (top : ℕ) → t.now.height ≤ top → HasRoom top changes.now → HasCause (top * length changes.now + (top - 1)) (B.account store.old) (B.account store.new) result }
     ensures most { Costs (5 * length changes.now + 4) (5 * length changes.now) (B.account store.old) (B.account store.new) }
     ensures most_cause { HasCause (5 * length changes.now + 4) (B.account store.old) (B.account store.new) result }
     ensures errors { (s : Stored) → B.holds store.old s → AreStored (tree_blocks s t.now) s → TellsOf s (tree_blocks s t.now) result }

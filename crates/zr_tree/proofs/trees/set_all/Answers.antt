@@ -1,4 +1,4 @@
-use Rattle.std.proofs.Common.{◌≡◌, ◌+◌, ◌*◌, ◌≤◌, ◌++◌, ℕ, List, length, take, drop, subst, sym, arith}
+use Rattle.std.proofs.Common.{◌≡◌, ◌+◌, ◌*◌, ◌-◌, ◌≤◌, ◌++◌, ℕ, List, length, take, drop, subst, sym, arith}
 use Rattle.std.proofs.lemmas.Result.{err_from_is_err_and}
 use Rattle.std.proofs.lemmas.List.{length-take, take-append-drop}
 use Rattle.std.proofs.lemmas.List.Elements.{All-drop}
@@ -7,7 +7,7 @@ use Rattle.zr_bptr.specs.declared.Tree.{Tree}
 use Rattle.zr_store.specs.Causes.{Costs, HasCause}
 use Rattle.zr_store.proofs.Causes.{costs_most, cause_most, cause_from}
 use Rattle.zr_tree.specs.Trees.{most_puts, most_frees, Rises}
-use Rattle.zr_tree.proofs.Costing.{one_height, puts_most, frees_most, puts_fewer, frees_fewer}
+use Rattle.zr_tree.proofs.Costing.{one_height, puts_within, frees_within, puts_fewer, frees_fewer}
 use Rattle.zr_tree.proofs.Raise.{whole}
 use Rattle.zr_tree.proofs.Each.{rises_front, rises_back}
 use Rattle.zr_tree.proofs.Past.{InRoom, later_past, first_past, with_past}
@@ -50,12 +50,24 @@ pub returns-clause-most : goal.returns-clause-most
 returns-clause-most g c =
     let changes = c.args.changes.now in
     let h = c.args.t.now.height in
-    let top = c.height_for-height.result in
+    let l = c.height_for-height.result in
     let e = c.height_for-height.ensures in
     let few = fewer changes c.run_len-n.result in
-    let puts = puts_fewer h top (length (take c.run_len-n.result changes)) (length changes) few in
-    let frees = frees_fewer h top (length (take c.run_len-n.result changes)) (length changes) few in
-    costs_most (5 * length changes + 4) (5 * length changes) (omega (arith, puts, puts_most h top changes e.tall e.height)) (omega (arith, frees, frees_most h top changes e.tall e.height)) c.raise.ensures.costs
+    let puts = puts_fewer h l (length (take c.run_len-n.result changes)) (length changes) few in
+    let frees = frees_fewer h l (length (take c.run_len-n.result changes)) (length changes) few in
+    costs_most (5 * length changes + 4) (5 * length changes) (omega (arith, puts, puts_within h l 5 changes e.tall e.height)) (omega (arith, frees, frees_within h l 5 changes e.tall e.height)) c.raise.ensures.costs
+
+pub returns-clause-within : goal.returns-clause-within
+returns-clause-within g c = λ top grows room.
+    let changes = c.args.changes.now in
+    let h = c.args.t.now.height in
+    let l = c.height_for-height.result in
+    let e = c.height_for-height.ensures in
+    let few = fewer changes c.run_len-n.result in
+    let puts = puts_fewer h l (length (take c.run_len-n.result changes)) (length changes) few in
+    let frees = frees_fewer h l (length (take c.run_len-n.result changes)) (length changes) few in
+    let tall = e.height.least top grows room in
+    costs_most (top * length changes + (top - 1)) (top * length changes) (omega (arith, puts, puts_within h l top changes tall e.height)) (omega (arith, frees, frees_within h l top changes tall e.height)) c.raise.ensures.costs
 
 pub returns-in_err-root-clause-costs : goal.returns-in_err-root-clause-costs
 returns-in_err-root-clause-costs g c = λ height is.
@@ -80,20 +92,44 @@ pub returns-in_err-root-clause-most : goal.returns-in_err-root-clause-most
 returns-in_err-root-clause-most g c =
     let changes = c.args.changes.now in
     let h = c.args.t.now.height in
-    let top = c.height_for-height.result in
+    let l = c.height_for-height.result in
     let e = c.height_for-height.ensures in
     let few = fewer changes c.run_len-n.result in
-    let puts = puts_fewer h top (length (take c.run_len-n.result changes)) (length changes) few in
-    let frees = frees_fewer h top (length (take c.run_len-n.result changes)) (length changes) few in
-    costs_most (5 * length changes + 4) (5 * length changes) (omega (arith, puts, puts_most h top changes e.tall e.height)) (omega (arith, frees, frees_most h top changes e.tall e.height)) c.raise.ensures.costs
+    let puts = puts_fewer h l (length (take c.run_len-n.result changes)) (length changes) few in
+    let frees = frees_fewer h l (length (take c.run_len-n.result changes)) (length changes) few in
+    costs_most (5 * length changes + 4) (5 * length changes) (omega (arith, puts, puts_within h l 5 changes e.tall e.height)) (omega (arith, frees, frees_within h l 5 changes e.tall e.height)) c.raise.ensures.costs
+
+pub returns-in_err-root-clause-within : goal.returns-in_err-root-clause-within
+returns-in_err-root-clause-within g c = λ top grows room.
+    let changes = c.args.changes.now in
+    let h = c.args.t.now.height in
+    let l = c.height_for-height.result in
+    let e = c.height_for-height.ensures in
+    let few = fewer changes c.run_len-n.result in
+    let puts = puts_fewer h l (length (take c.run_len-n.result changes)) (length changes) few in
+    let frees = frees_fewer h l (length (take c.run_len-n.result changes)) (length changes) few in
+    let tall = e.height.least top grows room in
+    costs_most (top * length changes + (top - 1)) (top * length changes) (omega (arith, puts, puts_within h l top changes tall e.height)) (omega (arith, frees, frees_within h l top changes tall e.height)) c.raise.ensures.costs
 
 pub returns-in_err-root-clause-most_cause : goal.returns-in_err-root-clause-most_cause
 returns-in_err-root-clause-most_cause g c =
     let changes = c.args.changes.now in
     let h = c.args.t.now.height in
-    let top = c.height_for-height.result in
+    let l = c.height_for-height.result in
     let e = c.height_for-height.ensures in
     let few = fewer changes c.run_len-n.result in
-    let puts = puts_fewer h top (length (take c.run_len-n.result changes)) (length changes) few in
+    let puts = puts_fewer h l (length (take c.run_len-n.result changes)) (length changes) few in
     let x = c.from_residual in
-    cause_from {T = Ptr} x.result c.in_err-root.field-0.0 (err_from_is_err_and x.result x.ensures.1) (cause_most (5 * length changes + 4) (omega (arith, puts, puts_most h top changes e.tall e.height)) c.in_err-root.ensures.cause)
+    cause_from {T = Ptr} x.result c.in_err-root.field-0.0 (err_from_is_err_and x.result x.ensures.1) (cause_most (5 * length changes + 4) (omega (arith, puts, puts_within h l 5 changes e.tall e.height)) c.in_err-root.ensures.cause)
+
+pub returns-in_err-root-clause-within_cause : goal.returns-in_err-root-clause-within_cause
+returns-in_err-root-clause-within_cause g c = λ top grows room.
+    let changes = c.args.changes.now in
+    let h = c.args.t.now.height in
+    let l = c.height_for-height.result in
+    let e = c.height_for-height.ensures in
+    let few = fewer changes c.run_len-n.result in
+    let puts = puts_fewer h l (length (take c.run_len-n.result changes)) (length changes) few in
+    let tall = e.height.least top grows room in
+    let x = c.from_residual in
+    cause_from {T = Ptr} x.result c.in_err-root.field-0.0 (err_from_is_err_and x.result x.ensures.1) (cause_most (top * length changes + (top - 1)) (omega (arith, puts, puts_within h l top changes tall e.height)) c.in_err-root.ensures.cause)
