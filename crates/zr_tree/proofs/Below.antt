@@ -1,4 +1,5 @@
 -- A block is replaced by a copy.
+use Rattle.std.proofs.lemmas.Bool.{eqb-true}
 use Rattle.std.proofs.Common.{◌≡◌, ◌+◌, ◌<◌, ℕ, zero, suc, List, [], ◌∷◌, ◌++◌, length, get_or, refl, sym, ◌∙◌, ap, subst, arith, nat_eq, true, Bool, eq-eqb}
 use Rattle.std.specs.Prelude.{All, if◌then◌else◌}
 use Rattle.std.specs.List.{sum_by, flat_map}
@@ -12,8 +13,12 @@ use Rattle.zr_tree.specs.Trees.{digit, blocks, own, updated, AllAt, IsOpen, IsWh
 use Rattle.zr_tree.proofs.Wholes.{among_hits, brings_none, brings_within, brings_block, brings_same, within_back}
 use Rattle.zr_tree.proofs.Frames.{Agree, IsSameTree, frame, each_blocks, each_leaf_list, each_leaves}
 
-pub no_change : (level place : ℕ) (s : Stored) (q : Ptr) → Sets level place [] s s q q
+no_change : (level place : ℕ) (s : Stored) (q : Ptr) → Sets level place [] s s q q
 no_change level place s q = record { leaves = λ index at. refl; swaps = record { stored = λ weight. refl; kept = λ b out stored. refl }; brings = brings_none s (blocks s level q); swaps_leaves = λ rises. record { stored = λ weight. refl } }
+
+pub unchanged : (level place : ℕ) (s : Stored) (q : Ptr) (changes : List (ℕ × Ptr)) → nat_eq (length changes) 0 ≡ true → Sets level place changes s s q q
+unchanged level place s q [] none = no_change level place s q
+unchanged level place s q (x ∷ xs) none = absurd (let e : length (x ∷ xs) ≡ 0 = eqb-true (length (x ∷ xs)) 0 none in omega (arith, e))
 
 pub updated_last : (changes : List (ℕ × Ptr)) (index n : ℕ) (p : Ptr) (d : ℕ × Ptr) → All (λ change. change.0 ≡ index) changes → length changes ≡ suc n → (get_or changes n d).1 ≡ updated changes index p
 updated_last [] index n p d at size = absurd (omega arith)

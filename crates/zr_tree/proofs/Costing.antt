@@ -1,5 +1,5 @@
 -- How many blocks a change puts and gives back.
-use Rattle.std.proofs.Common.{◌≡◌, ◌+◌, ◌*◌, ◌-◌, ◌<◌, ◌≤◌, inl, inr, ℕ, zero, suc, List, [], ◌∷◌, length, Result, refl, sym, ◌∙◌, ap, subst, arith, Bool, eq-eqb}
+use Rattle.std.proofs.Common.{◌≡◌, ◌+◌, ◌*◌, ◌-◌, ◌<◌, ◌≤◌, inl, inr, ℕ, zero, suc, List, [], ◌∷◌, length, Result, refl, sym, ◌∙◌, ap, subst, arith, Bool, true, false, nat_eq, eq-eqb}
 use Rattle.std.specs.Prelude.{if◌then◌else◌}
 use Rattle.std.proofs.Math.Nat.{mul-add, suc-mul, mul-le-mul_left, mul-le-mul_right, le_antisymm}
 use Rattle.std.proofs.lemmas.Bool.{ne_eqb, cases_eq}
@@ -20,6 +20,13 @@ one_level zero n high some = absurd (omega arith)
 one_level (suc below) n high some =
     let e : (suc below - 1) * n ≡ below * n = ap (λ (k : ℕ). k * n) (less_one below) in
     omega (arith, suc-mul below n, e, some)
+
+-- one level less
+one_less : (l n : ℕ) → 0 < l → (l - 1) * n + n ≡ l * n
+one_less zero n high = absurd (omega arith)
+one_less (suc below) n high =
+    let e : (suc below - 1) * n ≡ below * n = ap (λ (k : ℕ). k * n) (less_one below) in
+    omega (arith, suc-mul below n, e)
 
 puts_same : (h n : ℕ) → most_puts h h n ≡ h * n
 puts_same h n = ap (λ (b : Bool). if b then h * n else (h - 1) * n + (h - h)) (eq-eqb h h refl)
@@ -65,37 +72,51 @@ frees_raised h m low high n le parts = elim (cases_eq h m) [
     product : m * n ≡ m * low + m * high
     product = ap (λ (k : ℕ). m * k) (sym parts) ∙ mul-add m low high
 
+pub puts_fewer : (h l n m : ℕ) → n ≤ m → most_puts h l n ≤ most_puts h l m
+puts_fewer h l n m le =
+    let same : l * n ≤ l * m = mul-le-mul_left l le in
+    let more : (l - 1) * n ≤ (l - 1) * m = mul-le-mul_left (l - 1) le in
+    elim (nat_eq h l) as (λ (b : Bool). (if b then l * n else (l - 1) * n + (l - h)) ≤ (if b then l * m else (l - 1) * m + (l - h))) [ true ↦ same | false ↦ omega (arith, more) ]
+
+pub frees_fewer : (h l n m : ℕ) → n ≤ m → most_frees h l n ≤ most_frees h l m
+frees_fewer h l n m le =
+    let same : l * n ≤ l * m = mul-le-mul_left l le in
+    let more : (l - 1) * n ≤ (l - 1) * m = mul-le-mul_left (l - 1) le in
+    elim (nat_eq h l) as (λ (b : Bool). (if b then l * n else (l - 1) * n) ≤ (if b then l * m else (l - 1) * m)) [ true ↦ same | false ↦ more ]
+
 -- there is one least height
 pub one_height : (from a b : ℕ) (changes : List (ℕ × Ptr)) → IsHeightFor from changes a → IsHeightFor from changes b → a ≡ b
 one_height from a b changes h k = le_antisymm (h.least b k.grows k.room) (k.least a h.grows h.room)
 
-pub puts_most : (h l : ℕ) (changes : List (ℕ × Ptr)) → l ≤ 5 → IsHeightFor h changes l → most_puts h l (length changes) ≤ 5 * length changes + 4
-puts_most h l changes tall is = elim (cases_eq h l) [
+-- where a height has room, at most so many
+pub puts_within : (h l top : ℕ) (changes : List (ℕ × Ptr)) → l ≤ top → IsHeightFor h changes l → most_puts h l (length changes) ≤ top * length changes + (top - 1)
+puts_within h l top changes tall is = elim (cases_eq h l) [
   | inl e ↦
       let same : most_puts h l (length changes) ≡ l * length changes = subst (λ (k : ℕ). most_puts h k (length changes) ≡ k * length changes) e (puts_same h (length changes)) in
-      let most : l * length changes ≤ 5 * length changes = mul-le-mul_right (length changes) tall in
+      let most : l * length changes ≤ top * length changes = mul-le-mul_right (length changes) tall in
       omega (arith, same, most)
   | inr ne ↦ grown changes is ne
 ]
   where
-    grown : (cs : List (ℕ × Ptr)) → IsHeightFor h cs l → ¬ (h ≡ l) → most_puts h l (length cs) ≤ 5 * length cs + 4
+    grown : (cs : List (ℕ × Ptr)) → IsHeightFor h cs l → ¬ (h ≡ l) → most_puts h l (length cs) ≤ top * length cs + (top - 1)
     grown [] some ne = absurd (ne (let g = some.grows in let least = some.least h (omega arith) (λ k d lt. absurd (omega arith)) in omega (arith, g, least)))
     grown (c ∷ cs) some ne =
         let g = some.grows in
         let more = puts_more h l (length (c ∷ cs)) (omega (arith, g, ne)) in
-        let most : (l - 1) * length (c ∷ cs) ≤ 4 * length (c ∷ cs) = mul-le-mul_right (length (c ∷ cs)) (omega (arith, tall)) in
-        omega (arith, more, most, tall)
+        let most : l * length (c ∷ cs) ≤ top * length (c ∷ cs) = mul-le-mul_right (length (c ∷ cs)) tall in
+        let one = one_less l (length (c ∷ cs)) (omega (arith, g, ne)) in
+        omega (arith, more, most, one, g, ne, tall)
 
-pub frees_most : (h l : ℕ) (changes : List (ℕ × Ptr)) → l ≤ 5 → IsHeightFor h changes l → most_frees h l (length changes) ≤ 5 * length changes
-frees_most h l changes tall is = elim (cases_eq h l) [
+pub frees_within : (h l top : ℕ) (changes : List (ℕ × Ptr)) → l ≤ top → IsHeightFor h changes l → most_frees h l (length changes) ≤ top * length changes
+frees_within h l top changes tall is = elim (cases_eq h l) [
   | inl e ↦
       let same : most_frees h l (length changes) ≡ l * length changes = subst (λ (k : ℕ). most_frees h k (length changes) ≡ k * length changes) e (frees_same h (length changes)) in
-      let most : l * length changes ≤ 5 * length changes = mul-le-mul_right (length changes) tall in
+      let most : l * length changes ≤ top * length changes = mul-le-mul_right (length changes) tall in
       omega (arith, same, most)
   | inr ne ↦
       let g = is.grows in
       let more = frees_more h l (length changes) (omega (arith, g, ne)) in
-      let most : (l - 1) * length changes ≤ 5 * length changes = mul-le-mul_right (length changes) (omega (arith, tall)) in
+      let most : (l - 1) * length changes ≤ top * length changes = mul-le-mul_right (length changes) (omega (arith, tall)) in
       omega (arith, more, most)
 ]
 

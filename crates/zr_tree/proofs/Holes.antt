@@ -11,7 +11,8 @@ use Rattle.zr_bptr.specs.declared.Ptr.TheVariants.{Hole, At}
 use Rattle.zr_bptr.specs.declared.Tree.{Tree}
 use Rattle.std.specs.List.{flat_map}
 use Rattle.zr_store.specs.Store.{Stored}
-use Rattle.zr_tree.specs.Trees.{kids, slot, digit, leaf_at, leaves_below, tree_at, blocks, IsOpen}
+use Rattle.zr_tree.specs.Blocks.{pointers_in}
+use Rattle.zr_tree.specs.Trees.{kids, slot, digit, leaf_at, leaves_below, tree_at, blocks, IsOpen, IsWhole, IsWay}
 use Rattle.zr_tree.proofs.Frames.{hole_leaf}
 
 pub hole_blocks : (s : Stored) (level : ℕ) → blocks s level Hole ≡ []
@@ -49,6 +50,16 @@ open_hole s below ps h = record {
   all_leaves = sym (holes_leaves s below ps h);
 }
 
+-- a block stands for the pointers in its bytes
+pub opened : (s : Stored) (below : ℕ) (b : Bptr) (bytes : List ℕ) (ps : List Ptr) → s.bytes b ≡ bytes → pointers_in bytes ≡ ps → IsOpen s below (At b) ps
+opened s below b bytes ps given are =
+    let same : kids s below b ≡ ps = ap (λ (xs : List ℕ). pointers_in xs) given ∙ are in
+    record {
+      leaves = λ index. ap (λ (qs : List Ptr). leaf_at s below (slot qs (digit below index)) index) same;
+      tree_blocks = ap (λ (qs : List Ptr). b ∷ flat_map (blocks s below) qs) same;
+      all_leaves = ap (λ (qs : List Ptr). flat_map (leaves_below s below) qs) same;
+    }
+
 -- one block down
 pub leaf_step : (s : Stored) (level below : ℕ) (p : Ptr) (b : Bptr) (index k : ℕ) (ps : List Ptr) (next : Ptr) → level ≡ suc below → p ≡ At b → ps ≡ kids s below b → k ≡ digit below index → k < length ps → next ≡ get_or ps k next
     → leaf_at s level p index ≡ leaf_at s below next index
@@ -57,6 +68,16 @@ leaf_step s level below p b index k ps next level_is is kids_are k_is lt next_is
     ∙ ap (λ (qs : List Ptr). leaf_at s below (slot qs (digit below index)) index) (sym kids_are)
     ∙ ap (λ (j : ℕ). leaf_at s below (slot ps j) index) (sym k_is)
     ∙ ap (λ (q : Ptr). leaf_at s below q index) (get_or_default ps k Hole next lt ∙ sym next_is)
+
+pub way_step : (s : Stored) (level below : ℕ) (p : Ptr) (b : Bptr) (index k : ℕ) (ps : List Ptr) (next : Ptr) → level ≡ suc below → p ≡ At b → ps ≡ kids s below b → k ≡ digit below index → k < length ps → next ≡ get_or ps k next → IsWhole s b
+    → IsWay s below next index → IsWay s level p index
+way_step s level below p b index k ps next level_is is kids_are k_is lt next_is whole way =
+    let slot_is = next_is ∙ sym (get_or_default ps k Hole next lt) ∙ ap (slot ps) k_is ∙ ap (λ (qs : List Ptr). slot qs (digit below index)) kids_are in
+    subst (λ (l : ℕ). IsWay s l p index) (sym level_is) (subst (λ (q : Ptr). IsWay s (suc below) q index) (sym is) (whole, subst (λ (q : Ptr). IsWay s below q index) slot_is way))
+
+pub way_hole : (s : Stored) (level index : ℕ) → IsWay s level Hole index
+way_hole s zero index = tt
+way_hole s (suc below) index = tt
 
 pub div-suc : (n h : ℕ) → n / 32 ^ suc h ≡ n / 32 ^ h / 32
 div-suc n h = ap (λ (m : ℕ). n / m) (pow-suc 32 h) ∙ sym (div-div-eq-div-mul n (32 ^ h) 32)

@@ -5,6 +5,7 @@ pub mod Holes
 pub mod Below
 pub mod Each
 pub mod Raise
+pub mod Past
 pub mod Walking
 pub mod Others
 pub mod Costing

@@ -16,6 +16,7 @@ use Rattle.zr_tree.specs.Trees.{slot, digit, leaf_at, blocks, own, updated, tree
 use Rattle.zr_tree.proofs.Frames.{Agree, frame, each_blocks, each_leaves, hole_leaf, each_leaf_list}
 use Rattle.zr_tree.proofs.Holes.{hole_slot, holes_blocks, div-suc, inside, holes_leaves}
 use Rattle.zr_tree.proofs.Wholes.{among_hits, brings_block, brings_then}
+use Rattle.zr_tree.proofs.Others.{keeps_others}
 use Rattle.zr_tree.proofs.Each.{updated_append, updated_other, rises_front, rises_back, above_of, weight_past, weight_at_append, weight_of_append}
 
 -- what came by the first may go by the second
@@ -175,13 +176,14 @@ same_height changes s0 s1 t p here sets = record {
 }
 
 -- from the block at the top to the tree
-pub whole : (changes : List (ℕ × Ptr)) (s0 s1 : Stored) (t u : Tree) → t.height ≤ u.height → AllAt u.height 0 changes → Raises u.height changes s0 s1 t u.root → SetsTree changes s0 s1 t u
-whole changes s0 s1 t u grows room raises = record {
+pub whole : (changes : List (ℕ × Ptr)) (s0 s1 : Stored) (t u : Tree) → t.height ≤ u.height → AllAt u.height 0 changes → Rises changes → IsOnce s0 → Raises u.height changes s0 s1 t u.root → SetsTree changes s0 s1 t u
+whole changes s0 s1 t u grows room rises once raises = record {
   leaves = λ index. elim (cases_eq (index / 32 ^ u.height) 0) [
     | inl here ↦ inside s1 u index here ∙ raises.leaves index here
     | inr past ↦ let o = outside s0 t index u.height grows past in outside s1 u index u.height (omega arith) past ∙ sym (updated_other u.height 0 changes index (tree_at s0 t index) room past ∙ o)
   ];
   swaps = raises.swaps;
   brings = raises.brings;
-  swaps_leaves = raises.swaps_leaves;
+  swaps_leaves = raises.swaps_leaves rises;
+  others = keeps_others s0 s1 (tree_blocks s0 t) (tree_blocks s1 u) raises.swaps once;
 }

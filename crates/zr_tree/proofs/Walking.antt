@@ -1,5 +1,6 @@
 -- A walk, pointer by pointer.
-use Rattle.std.proofs.Common.{◌≡◌, ◌<◌, ◌≤◌, ℕ, suc, List, [], ◌∷◌, ◌++◌, length, get_or, take, drop, refl, sym, ◌∙◌, ap, append_assoc, append-nil, drop-cons}
+use Rattle.std.specs.Prelude.{All}
+use Rattle.std.proofs.Common.{◌≡◌, ◌<◌, ◌≤◌, ℕ, suc, List, [], ◌∷◌, ◌++◌, length, get_or, take, drop, refl, sym, ◌∙◌, ap, subst, append_assoc, append-nil, drop-cons}
 use Rattle.std.specs.List.{flat_map}
 use Rattle.std.proofs.lemmas.Grind.{flat_map-append}
 use Rattle.std.proofs.lemmas.List.{take_all, take-append-drop}
@@ -7,7 +8,8 @@ use Rattle.zr_bptr.specs.declared.Bptr.{Bptr}
 use Rattle.zr_bptr.specs.declared.Ptr.{Ptr}
 use Rattle.zr_bptr.specs.declared.Ptr.TheVariants.{At}
 use Rattle.zr_store.specs.Store.{Stored}
-use Rattle.zr_tree.specs.Trees.{kids, reach, MarksFront}
+use Rattle.zr_tree.specs.Blocks.{FitsAt}
+use Rattle.zr_tree.specs.Trees.{kids, reach, IsWhole, IsSoundAt, MarksFront}
 
 pub reach_of : (s : Stored) (level below : ℕ) (p : Ptr) (b : Bptr) (ps : List Ptr) → level ≡ suc below → p ≡ At b → ps ≡ kids s below b → reach s level p ≡ b ∷ flat_map (reach s below) ps
 reach_of s level below p b ps level_is is kids_are =
@@ -32,6 +34,13 @@ split_at : (f : Ptr → List Bptr) (items : List Ptr) (i : ℕ) (x : Ptr) → i 
 split_at f items i x lt is =
     ap (flat_map f) (sym (take-append-drop i items)) ∙ flat_map-append f (take i items) (drop i items)
     ∙ ap (λ (qs : List Ptr). flat_map f (take i items) ++ flat_map f qs) (drop-cons items i x lt ∙ ap (λ (y : Ptr). y ∷ drop (suc i) items) (sym is))
+
+-- ---- what was read is sound
+
+pub sound_block : (s : Stored) (level below n : ℕ) (p : Ptr) (b : Bptr) (ps items : List Ptr) → level ≡ suc below → p ≡ At b → ps ≡ kids s below b → items ≡ ps → length items ≤ n → FitsAt level p → IsWhole s b → All (IsSoundAt s below) (take n items) → IsSoundAt s level p
+sound_block s level below n p b ps items level_is is kids_are same le fits whole all =
+    let here = subst (λ (q : Ptr). FitsAt (suc below) q) is (subst (λ (l : ℕ). FitsAt l p) level_is fits) in
+    subst (λ (l : ℕ). IsSoundAt s l p) (sym level_is) (subst (IsSoundAt s (suc below)) (sym is) (here, whole, subst (All (IsSoundAt s below)) (take_all n items le ∙ same ∙ kids_are) all))
 
 -- a walk that ended below one of the pointers
 pub ended_below : (s : Stored) (level below i : ℕ) (p x : Ptr) (b : Bptr) (ps items : List Ptr) (old first mid new : List Bptr) → level ≡ suc below → p ≡ At b → ps ≡ kids s below b → items ≡ ps → i < length items → x ≡ get_or items i x → first ≡ old ++ b ∷ []

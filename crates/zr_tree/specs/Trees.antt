@@ -118,6 +118,24 @@ IsWholeAt s (At b) = IsWhole s b
 pub record Brings (old new : Stored) (out into : List Bptr) : Type 0 where
   pub each : (b : Bptr) → IsAmong b into → (IsAmong b out × (new.bytes b ≡ old.bytes b)) ⊎ IsWhole new b
 
+-- the tree blocks on the way to an index are whole
+abbrev pub IsWay : Stored → ℕ → Ptr → ℕ → Type 0
+IsWay s zero p index = Unit {0}
+IsWay s (suc below) Hole index = Unit {0}
+IsWay s (suc below) (At b) index = IsWhole s b × IsWay s below (slot (kids s below b) (digit below index)) index
+
+-- from here down each pointer is lawful and of its level, and each tree block is whole
+abbrev pub IsSoundAt : Stored → ℕ → Ptr → Type 0
+IsSoundAt s zero p = FitsAt 0 p
+IsSoundAt s (suc below) Hole = Unit {0}
+IsSoundAt s (suc below) (At b) = FitsAt (suc below) (At b) × IsWhole s b × All (IsSoundAt s below) (kids s below b)
+
+-- the pointer p came for a block of these pointers, a hole where all are holes
+pub record PutsBlock (below : ℕ) (pointers : List Ptr) (old new : Stored) (p : Ptr) : Type 0 where
+  pub opens : IsOpen new below p pointers
+  pub whole : IsWholeAt new p
+  pub swaps : Swaps old new [] (own p)
+
 -- the pointer p stands for q, with the changes made, and the store has its tree blocks in place of q's
 pub record Sets (level place : ℕ) (changes : List (ℕ × Ptr)) (old new : Stored) (q p : Ptr) : Type 0 where
   pub leaves : (index : ℕ) → index / 32 ^ level ≡ place → leaf_at new level p index ≡ updated changes index (leaf_at old level q index)
@@ -151,12 +169,23 @@ pub record Raises (level : ℕ) (changes : List (ℕ × Ptr)) (old new : Stored)
   pub brings : Brings old new (tree_blocks old t) (blocks new level p)
   pub swaps_leaves : Rises changes → SwapsLeaves changes (tree_leaves old t) (leaves_below new level p) (tree_at old t)
 
--- the tree u is t with the changes, and the store has u's tree blocks in place of t's
+-- the tree means what it meant
+pub record KeepsTree (old new : Stored) (t : Tree) : Type 0 where
+  pub same_blocks : tree_blocks new t ≡ tree_blocks old t
+  pub same_reach : tree_reach new t ≡ tree_reach old t
+  pub leaves : (index : ℕ) → tree_at new t index ≡ tree_at old t index
+
+-- so does each tree whose blocks are stored beside those that were given back
+abbrev pub KeepsOthers : Stored → Stored → List Bptr → Type 0
+KeepsOthers old new out = (other : Tree) → AreStored (out ++ tree_blocks old other) old → KeepsTree old new other
+
+-- the tree u is t with the changes, the store has u's tree blocks in place of t's, and trees beside it are kept
 pub record SetsTree (changes : List (ℕ × Ptr)) (old new : Stored) (t u : Tree) : Type 0 where
   pub leaves : (index : ℕ) → tree_at new u index ≡ updated changes index (tree_at old t index)
   pub swaps : Swaps old new (tree_blocks old t) (tree_blocks new u)
   pub brings : Brings old new (tree_blocks old t) (tree_blocks new u)
-  pub swaps_leaves : Rises changes → SwapsLeaves changes (tree_leaves old t) (tree_leaves new u) (tree_at old t)
+  pub swaps_leaves : SwapsLeaves changes (tree_leaves old t) (tree_leaves new u) (tree_at old t)
+  pub others : KeepsOthers old new (tree_blocks old t)
 
 -- at most so many blocks are put where a tree of the one height becomes one of the other by so many changes: the way to
 -- each change, and where it grows also the way to what it was
@@ -167,11 +196,15 @@ most_puts old new changes = if nat_eq old new then new * changes else (new - 1) 
 abbrev pub most_frees : ℕ → ℕ → ℕ → ℕ
 most_frees old new changes = if nat_eq old new then new * changes else (new - 1) * changes
 
+-- the changes lie below a block of this level, but for holes
+abbrev pub HasRoom : ℕ → List (ℕ × Ptr) → Type 0
+HasRoom level = All (λ change. (change.1 ≡ Hole) ⊎ (change.0 / 32 ^ level ≡ 0))
+
 -- the least height from this one on that has room for the changes
 pub record IsHeightFor (from : ℕ) (changes : List (ℕ × Ptr)) (height : ℕ) : Type 0 where
   pub grows : from ≤ height
-  pub room : AllAt height 0 changes
-  pub least : (lower : ℕ) → from ≤ lower → AllAt lower 0 changes → height ≤ lower
+  pub room : HasRoom height changes
+  pub least : (lower : ℕ) → from ≤ lower → HasRoom lower changes → height ≤ lower
 
 -- a front of these was marked
 pub record MarksFront (old new pointers : List Bptr) : Type 0 where
@@ -179,16 +212,6 @@ pub record MarksFront (old new pointers : List Bptr) : Type 0 where
   pub rest : List Bptr
   pub marked : new ≡ old ++ front
   pub parts : front ++ rest ≡ pointers
-
--- the tree means what it meant
-pub record KeepsTree (old new : Stored) (t : Tree) : Type 0 where
-  pub same_blocks : tree_blocks new t ≡ tree_blocks old t
-  pub same_reach : tree_reach new t ≡ tree_reach old t
-  pub leaves : (index : ℕ) → tree_at new t index ≡ tree_at old t index
-
--- so does each tree whose blocks are stored beside those that were given back
-abbrev pub KeepsOthers : Stored → Stored → List Bptr → Type 0
-KeepsOthers old new out = (other : Tree) → AreStored (out ++ tree_blocks old other) old → KeepsTree old new other
 
 -- one of these blocks, with this address and this sum, is no tree block of its level
 pub record HasBadBlock (s : Stored) (pointers : List Bptr) (at : Dva) (expected : List ℕ) : Type 0 where

@@ -1,5 +1,6 @@
 //! The pointers of a tree block and its bytes.
 ghost use Rattle.std.specs.Prelude.{◌≡◌, ◌<◌, List, ℕ, length, All, IfOk, IfSome, MatchOption};
+ghost use Rattle.zr_bptr.specs.Spelling.{SpellsTreeBlock};
 ghost use Rattle.zr_bptr.specs.declared.Ptr.TheVariants.{Hole};
 ghost use Rattle.zr_store.specs.Store.{IsBlockOf};
 ghost use Rattle.zr_tree.specs.Blocks.{FitsAt, pointers_in, IsNoBlock};
@@ -35,6 +36,7 @@ pub(crate) fn decode_pointers(
 ) -> Result<Option<Vec<Ptr>>, NoMemory>
     requires { below < 5 }
     ensures pointers { IfOk result (λ read. MatchOption read (IsNoBlock below fill bytes.now) (λ ps. pointers_in bytes.now ≡ ps.items)) }
+    ensures spelled { IfOk result (λ read. IfSome read (λ ps. SpellsTreeBlock bytes.now below fill ps.items)) }
     ensures count { IfOk result (λ read. IfSome read (λ ps. length ps.items ≡ 32)) }
     ensures fit { IfOk result (λ read. IfSome read (λ ps. All (FitsAt below) ps.items)) }
 {

@@ -5,7 +5,8 @@ ghost use Rattle.std.specs.Prelude.{◌≡◌, ◌+◌, ◌*◌, ◌-◌, ◌/�
 ghost use Rattle.zr_tree.specs.Blocks.{FitsAt};
 ghost use Rattle.zr_store.specs.Causes.{Costs, HasCause};
 ghost use Rattle.zr_bptr.specs.Spelling.{IsTree};
-ghost use Rattle.zr_tree.specs.Trees.{kids, leaf_at, tree_at, blocks, tree_blocks, TellsOf};
+ghost use Rattle.zr_store.specs.Store.{Stored};
+ghost use Rattle.zr_tree.specs.Trees.{kids, leaf_at, tree_at, blocks, tree_blocks, IsWhole, IsWay, TellsOf};
 
 use crate::blocks::decode_pointers;
 use std::alloc::Global;
@@ -37,12 +38,12 @@ pub(crate) fn read_block<B: Blocks>(
     requires { below < 5 }
     ensures costs { Costs 0 0 (B.account store.old) (B.account store.new) }
     ensures cause { HasCause 0 (B.account store.old) (B.account store.new) result }
-    ensures told { B.tells store.old → B.tells store.new }
-    ensures same { B.tells store.old → B.holds store.new ≡ B.holds store.old }
-    ensures errors { B.tells store.old → b.now.level ≡ below + 1 → TellsOf (B.holds store.old) (b.now ∷ []) result }
+    ensures same { (s : Stored) → B.holds store.old s → B.holds store.new s }
+    ensures errors { (s : Stored) → B.holds store.old s → b.now.level ≡ below + 1 → TellsOf s (b.now ∷ []) result }
     ensures count { IfOk result (λ pointers. length pointers.items ≡ 32) }
     ensures fit { IfOk result (λ pointers. All (FitsAt below) pointers.items) }
-    ensures means { B.tells store.old → IfOk result (λ pointers. pointers.items ≡ kids (B.holds store.old) below b.now) }
+    ensures means { (s : Stored) → B.holds store.old s → IfOk result (λ pointers. pointers.items ≡ kids s below b.now) }
+    ensures whole { (s : Stored) → B.holds store.old s → b.now.level ≡ below + 1 → IfOk result (λ pointers. IsWhole s b.now) }
 {
     let bytes = store.get(alloc, b)?;
     match decode_pointers(alloc, below, b.fill, bytes.as_slice())? {
@@ -65,11 +66,11 @@ pub(crate) fn get_below<B: Blocks>(
     requires fits { FitsAt level p.now }
     ensures costs { Costs 0 0 (B.account store.old) (B.account store.new) }
     ensures cause { HasCause 0 (B.account store.old) (B.account store.new) result }
-    ensures told { B.tells store.old → B.tells store.new }
-    ensures same { B.tells store.old → B.holds store.new ≡ B.holds store.old }
-    ensures errors { B.tells store.old → TellsOf (B.holds store.old) (blocks (B.holds store.old) level p.now) result }
+    ensures same { (s : Stored) → B.holds store.old s → B.holds store.new s }
+    ensures errors { (s : Stored) → B.holds store.old s → TellsOf s (blocks s level p.now) result }
     ensures fits { IfOk result (FitsAt 0) }
-    ensures leaf { B.tells store.old → IfOk result (λ leaf. leaf ≡ leaf_at (B.holds store.old) level p.now index) }
+    ensures leaf { (s : Stored) → B.holds store.old s → IfOk result (λ leaf. leaf ≡ leaf_at s level p.now index) }
+    ensures way { (s : Stored) → B.holds store.old s → IfOk result (λ leaf. IsWay s level p.now index) }
 {
     if level == 0 {
         return Ok(*p);
@@ -90,11 +91,11 @@ pub fn get<B: Blocks>(alloc: Global, store: &mut B, t: &Tree, index: u64) -> Res
     requires tree { IsTree t.now }
     ensures costs { Costs 0 0 (B.account store.old) (B.account store.new) }
     ensures cause { HasCause 0 (B.account store.old) (B.account store.new) result }
-    ensures told { B.tells store.old → B.tells store.new }
-    ensures same { B.tells store.old → B.holds store.new ≡ B.holds store.old }
-    ensures errors { B.tells store.old → TellsOf (B.holds store.old) (tree_blocks (B.holds store.old) t.now) result }
+    ensures same { (s : Stored) → B.holds store.old s → B.holds store.new s }
+    ensures errors { (s : Stored) → B.holds store.old s → TellsOf s (tree_blocks s t.now) result }
     ensures fits { IfOk result (FitsAt 0) }
-    ensures leaf { B.tells store.old → IfOk result (λ leaf. leaf ≡ tree_at (B.holds store.old) t.now index) }
+    ensures leaf { (s : Stored) → B.holds store.old s → IfOk result (λ leaf. leaf ≡ tree_at s t.now index) }
+    ensures way { (s : Stored) → B.holds store.old s → index < 32 ^ t.now.height → IfOk result (λ leaf. IsWay s t.now.height t.now.root index) }
 {
     if place_of(index, t.height) != 0 {
         return Ok(Ptr::Hole);

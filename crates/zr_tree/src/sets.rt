@@ -1,14 +1,14 @@
 //! Changing: a block on the way to a changed leaf is read, changed, put anew and given back.
 //!
 //! The changes are handed down in runs that lie below one pointer. A block of which nothing is left becomes a hole.
-ghost use Rattle.std.specs.Prelude.{◌≡◌, ◌+◌, ◌*◌, ◌-◌, ◌/◌, ◌%◌, ◌^◌, ◌<◌, ◌≤◌, ◌↔◌, List, [], ℕ, length, All, IfOk, OnOk, IsTrue, IfSome, take, drop, slice_index_or};
+ghost use Rattle.std.specs.Prelude.{◌≡◌, ◌≢◌, ◌+◌, ◌*◌, ◌-◌, ◌/◌, ◌%◌, ◌^◌, ◌<◌, ◌≤◌, ◌↔◌, List, [], ℕ, length, All, IfOk, OnOk, IsTrue, IfSome, take, drop, slice_index_or};
 ghost use Rattle.std.specs.List.{flat_map};
 ghost use Rattle.zr_bptr.specs.declared.Ptr.{Ptr};
 ghost use Rattle.zr_bptr.specs.declared.Ptr.TheVariants.{Hole};
 ghost use Rattle.zr_tree.specs.Blocks.{FitsAt};
-ghost use Rattle.zr_store.specs.Store.{AreStored, Swaps};
+ghost use Rattle.zr_store.specs.Store.{Stored, Now, AreStored, Swaps};
 ghost use Rattle.zr_store.specs.Causes.{Costs, HasCause};
-ghost use Rattle.zr_tree.specs.Trees.{blocks, own, IsOpen, Sets, SetsEach, AllAt, AreLeaves, IsWholeAt, TellsOf};
+ghost use Rattle.zr_tree.specs.Trees.{blocks, own, IsOpen, PutsBlock, Sets, SetsEach, AllAt, AreLeaves, TellsOf};
 ghost use Rattle.zr_bptr.specs.Spelling.{IsOfLevel};
 
 use crate::blocks::encode_pointers;
@@ -17,7 +17,7 @@ use std::alloc::{AllocError, Global};
 use zr_bptr::Ptr;
 use zr_store::{Blocks, StoreErr};
 
-fn is_hole(p: &Ptr) -> bool
+pub(crate) fn is_hole(p: &Ptr) -> bool
     ensures { IsTrue result ↔ (p.now ≡ Hole) }
 {
     match p {
@@ -49,12 +49,11 @@ fn open_block<B: Blocks>(
     requires { below < 5 }
     ensures costs { Costs 0 0 (B.account store.old) (B.account store.new) }
     ensures cause { HasCause 0 (B.account store.old) (B.account store.new) result }
-    ensures errors { B.tells store.old → IsOfLevel (below + 1) p.now → TellsOf (B.holds store.old) (own p.now) result }
-    ensures told { B.tells store.old → B.tells store.new }
-    ensures same { B.tells store.old → B.holds store.new ≡ B.holds store.old }
+    ensures errors { (s : Stored) → B.holds store.old s → IsOfLevel (below + 1) p.now → TellsOf s (own p.now) result }
+    ensures same { (s : Stored) → B.holds store.old s → B.holds store.new s }
     ensures count { IfOk result (λ pointers. length pointers.items ≡ 32) }
     ensures fit { IfOk result (λ pointers. All (FitsAt below) pointers.items) }
-    ensures open { B.tells store.old → IfOk result (λ pointers. IsOpen (B.holds store.old) below p.now pointers.items) }
+    ensures open { (s : Stored) → B.holds store.old s → IfOk result (λ pointers. IsOpen s below p.now pointers.items) }
 {
     match p {
         Ptr::Hole => Ok(holes(alloc)?),
@@ -74,12 +73,9 @@ pub(crate) fn put_block<B: Blocks>(
     requires fit { All (FitsAt below) pointers.now }
     ensures costs { Costs 1 0 (B.account store.old) (B.account store.new) }
     ensures cause { HasCause 1 (B.account store.old) (B.account store.new) result }
-    ensures errors { TellsOf (B.holds store.old) [] result }
-    ensures told { B.tells store.old → B.tells store.new }
+    ensures errors { (s : Stored) → TellsOf s [] result }
     ensures fits { IfOk result (FitsAt (below + 1)) }
-    ensures open { B.tells store.old → IfOk result (λ p. IsOpen (B.holds store.new) below p pointers.now) }
-    ensures whole { B.tells store.old → IfOk result (IsWholeAt (B.holds store.new)) }
-    ensures swaps { B.tells store.old → IfOk result (λ p. Swaps (B.holds store.old) (B.holds store.new) [] (own p)) }
+    ensures puts { (s : Stored) → B.holds store.old s → IfOk result (λ p. Now (B.holds store.new) (λ n. PutsBlock below pointers.now s n p)) }
 {
     if are_holes(pointers) {
         return Ok(Ptr::Hole);
@@ -93,9 +89,8 @@ pub(crate) fn put_block<B: Blocks>(
 fn free_block<B: Blocks>(alloc: Global, store: &mut B, p: &Ptr) -> Result<(), StoreErr>
     ensures costs { Costs 0 1 (B.account store.old) (B.account store.new) }
     ensures cause { HasCause 0 (B.account store.old) (B.account store.new) result }
-    ensures errors { TellsOf (B.holds store.old) [] result }
-    ensures told { B.tells store.old → B.tells store.new }
-    ensures swaps { B.tells store.old → AreStored (own p.now) (B.holds store.old) → OnOk result (Swaps (B.holds store.old) (B.holds store.new) (own p.now) []) }
+    ensures errors { (s : Stored) → TellsOf s [] result }
+    ensures swaps { (s : Stored) → B.holds store.old s → AreStored (own p.now) s → OnOk result (Now (B.holds store.new) (λ n. Swaps s n (own p.now) [])) }
 {
     match p {
         Ptr::Hole => Ok(()),
@@ -109,6 +104,7 @@ pub(crate) fn run_len(rest: &[(u64, Ptr)], level: u32, place: u64) -> usize
     ensures within { result ≤ length rest.now }
     ensures here { AllAt level place (take result rest.now) }
     ensures some { (d : ℕ × Ptr) → 0 < length rest.now → (slice_index_or rest.now 0 d).0 / 32 ^ level ≡ place → 0 < result }
+    ensures past { (d : ℕ × Ptr) → result < length rest.now → (slice_index_or rest.now result d).0 / 32 ^ level ≢ place }
 {
     for (i, change) in rest.iter().enumerate() {
         if place_of(change.0, level) != place {
@@ -134,10 +130,9 @@ pub(crate) fn set_below<B: Blocks>(
     requires leaves { AreLeaves changes.now }
     ensures costs { Costs (level * length changes.now) (level * length changes.now) (B.account store.old) (B.account store.new) }
     ensures cause { HasCause (level * length changes.now) (B.account store.old) (B.account store.new) result }
-    ensures errors { B.tells store.old → AreStored (blocks (B.holds store.old) level p.now) (B.holds store.old) → TellsOf (B.holds store.old) (blocks (B.holds store.old) level p.now) result }
-    ensures told { B.tells store.old → B.tells store.new }
+    ensures errors { (s : Stored) → B.holds store.old s → AreStored (blocks s level p.now) s → TellsOf s (blocks s level p.now) result }
     ensures fits { IfOk result (FitsAt level) }
-    ensures sets { B.tells store.old → AreStored (blocks (B.holds store.old) level p.now) (B.holds store.old) → IfOk result (Sets level place changes.now (B.holds store.old) (B.holds store.new) p.now) }
+    ensures sets { (s : Stored) → B.holds store.old s → AreStored (blocks s level p.now) s → IfOk result (λ root. Now (B.holds store.new) (λ n. Sets level place changes.now s n p.now root)) }
 {
     if changes.is_empty() {
         return Ok(*p);
@@ -170,11 +165,10 @@ pub(crate) fn set_each<B: Blocks>(
     requires leaves { AreLeaves changes.now }
     ensures costs { Costs ((level - 1) * length changes.now) ((level - 1) * length changes.now) (B.account store.old) (B.account store.new) }
     ensures cause { HasCause ((level - 1) * length changes.now) (B.account store.old) (B.account store.new) result }
-    ensures errors { B.tells store.old → AreStored (flat_map (blocks (B.holds store.old) (level - 1)) pointers.old.items) (B.holds store.old) → TellsOf (B.holds store.old) (flat_map (blocks (B.holds store.old) (level - 1)) pointers.old.items) result }
-    ensures told { B.tells store.old → B.tells store.new }
+    ensures errors { (s : Stored) → B.holds store.old s → AreStored (flat_map (blocks s (level - 1)) pointers.old.items) s → TellsOf s (flat_map (blocks s (level - 1)) pointers.old.items) result }
     ensures count { length pointers.new.items ≡ 32 }
     ensures fit { All (FitsAt (level - 1)) pointers.new.items }
-    ensures sets { B.tells store.old → AreStored (flat_map (blocks (B.holds store.old) (level - 1)) pointers.old.items) (B.holds store.old) → OnOk result (SetsEach (level - 1) place changes.now (B.holds store.old) (B.holds store.new) pointers.old.items pointers.new.items) }
+    ensures sets { (s : Stored) → B.holds store.old s → AreStored (flat_map (blocks s (level - 1)) pointers.old.items) s → OnOk result (Now (B.holds store.new) (λ n. SetsEach (level - 1) place changes.now s n pointers.old.items pointers.new.items)) }
 {
     let below = level - 1;
     let mut from = 0;

@@ -1,10 +1,20 @@
 //! Trees in memory: a tree that grows to its full height, changes beside a table, and roots that lead nowhere.
+ghost use Rattle.std.specs.Prelude.{◌<◌, ◌^◌, IfOk};
+ghost use Rattle.zr_bptr.specs.Spelling.{IsTree};
+ghost use Rattle.zr_tree.specs.Blocks.{FitsAt};
+
 use super::*;
-use std::alloc::AllocError;
+use std::alloc::{AllocError, Global};
+use std::collections::BTreeMap;
 use std::test::Fail;
 use zr_base::Dva;
 use zr_bptr::{Bptr, Ptr, Tree, is_pointer, is_tree};
 use zr_store::{Blocks, MemBlocks, StoreErr};
+
+const NO_TREE: Tree = Tree {
+    root: Ptr::Hole,
+    height: 0,
+};
 
 // Lets so many pointers be marked.
 #[derive(Drop)]
@@ -169,5 +179,155 @@ fn tells_of_a_bad_root(rt: HostRuntime) -> Result<(), Fail> {
         })
     );
     frame();
+    Ok(())
+}
+
+// A hole, or one of two leaves.
+fn one_of(n: u64, a: Ptr, b: Ptr) -> Ptr
+    requires first { FitsAt 0 a }
+    requires second { FitsAt 0 b }
+    ensures { FitsAt 0 result }
+{
+    match n % 3 {
+        0 => Ptr::Hole,
+        1 => a,
+        _ => b,
+    }
+}
+
+// Three rising indices, of which the last is often past the end of a lower tree.
+fn three(n: u64) -> (u64, u64, u64)
+    ensures low { result.0 < result.1 }
+    ensures high { result.1 < result.2 }
+    ensures most { result.2 < 2 ^ 25 }
+{
+    let low = n % 40;
+    let mid = low + 1 + n / 40 % 1200;
+    let high = mid + 1 + n / 48000 % 40000;
+    (low, mid, high)
+}
+
+// The leaf that a map has at an index.
+fn leaf_in(map: &BTreeMap<u64, Ptr>, index: u64) -> Ptr {
+    match map.get(&index) {
+        Some(leaf) => *leaf,
+        None => Ptr::Hole,
+    }
+}
+
+// Three changes of the tree, and the same of the map; the indices and some beside them then have the same leaves.
+fn round(
+    alloc: Global,
+    store: &mut MemBlocks,
+    map: &mut BTreeMap<u64, Ptr>,
+    t: &Tree,
+    n: u64,
+    leaves: (Ptr, Ptr),
+) -> Result<Tree, Fail>
+    requires tree { IsTree t.now }
+    requires first { FitsAt 0 leaves.0 }
+    requires second { FitsAt 0 leaves.1 }
+    ensures { IfOk result IsTree }
+{
+    let (a, b) = leaves;
+    let (low, mid, high) = three(n);
+    let changes = [
+        (low, one_of(n / 7, a, b)),
+        (mid, one_of(n / 11, a, b)),
+        (high, one_of(n / 13, a, b)),
+    ];
+    let u = set_all(alloc, store, t, &changes)?;
+    for (index, leaf) in &changes {
+        map.insert(*index, *leaf)?;
+    }
+    for index in [low, low + 1, mid, mid + 32, high, high + 1024] {
+        let leaf = get(alloc, store, &u, index)?;
+        if leaf != leaf_in(map, index) {
+            return Err(Fail::new("another leaf than the map's"));
+        }
+    }
+    Ok(u)
+}
+
+// The leaves of a tree, by rising index.
+fn leaves_of(alloc: Global, store: &mut MemBlocks, t: &Tree) -> Result<Vec<Ptr>, StoreErr>
+    requires { IsTree t.now }
+{
+    let mut leaves = Vec::new(alloc);
+    for b in &walk(alloc, store, t)? {
+        if b.level == 0 {
+            leaves.push(Ptr::At(*b))?;
+        }
+    }
+    Ok(leaves)
+}
+
+// The tree without the leaves of the map, taken out one after the other.
+fn emptied(
+    alloc: Global,
+    store: &mut MemBlocks,
+    map: &BTreeMap<u64, Ptr>,
+    t: &Tree,
+) -> Result<Tree, StoreErr>
+    requires { IsTree t.now }
+    ensures { IfOk result IsTree }
+{
+    let mut u = *t;
+    for (index, _) in map {
+        if *index < 33554432 {
+            u = set_all(alloc, store, &u, &[(*index, Ptr::Hole)])?;
+        }
+    }
+    Ok(u)
+}
+
+#[test]
+fn changes_as_a_map_does(rt: HostRuntime) -> Result<(), Fail> {
+    let alloc = rt.alloc();
+    let mut store = MemBlocks::new(alloc, 4000);
+    let a = Ptr::At(store.put(alloc, &[1; 4096], 0)?);
+    let b = Ptr::At(store.put(alloc, &[2; 4096], 0)?);
+    let mut map = BTreeMap::new(alloc);
+    let mut t = NO_TREE;
+    let mut seed: u64 = 1;
+    for _ in 0..36 {
+        seed = seed
+            .wrapping_mul(6364136223846793005)
+            .wrapping_add(1442695040888963407);
+        t = round(alloc, &mut store, &mut map, &t, seed / 2048, (a, b))?;
+    }
+    assert_eq!(rt; t.height, 4);
+    let mut wanted = Vec::new(alloc);
+    for (_, leaf) in &map {
+        if *leaf != Ptr::Hole {
+            wanted.push(*leaf)?;
+        }
+    }
+    let found = leaves_of(alloc, &mut store, &t)?;
+    assert_eq!(rt; found.as_slice(), wanted.as_slice());
+    let none = emptied(alloc, &mut store, &map, &t)?;
+    assert_eq!(rt;
+        (none, store.kept.len()),
+        (
+            Tree {
+                root: Ptr::Hole,
+                height: 4
+            },
+            2
+        )
+    );
+    Ok(())
+}
+
+#[test]
+fn holes_past_the_end_change_nothing(rt: HostRuntime) -> Result<(), Fail> {
+    let alloc = rt.alloc();
+    let mut store = MemBlocks::new(alloc, 64);
+    let a = Ptr::At(store.put(alloc, &[1; 4096], 0)?);
+    let t = Tree { root: a, height: 0 };
+    let same = set_all(alloc, &mut store, &t, &[(40, Ptr::Hole)])?;
+    assert_eq!(rt; (same, store.next), (t, 1));
+    let grown = set_all(alloc, &mut store, &t, &[(1, a), (40, Ptr::Hole)])?;
+    assert_eq!(rt; (grown.height, store.next), (1, 2));
     Ok(())
 }

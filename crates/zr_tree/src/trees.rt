@@ -5,22 +5,22 @@ ghost use Rattle.std.specs.Prelude.{◌≡◌, ◌+◌, ◌*◌, ◌-◌, ◌/�
 ghost use Rattle.zr_tree.specs.Blocks.{FitsAt};
 ghost use Rattle.zr_bptr.specs.declared.Bptr.{Bptr};
 ghost use Rattle.zr_bptr.specs.declared.Tree.{Tree};
-ghost use Rattle.zr_store.specs.Store.{Stored, AreStored, hits};
+ghost use Rattle.zr_store.specs.Store.{Stored, Now, AreStored, hits};
 ghost use Rattle.zr_store.specs.Causes.{Costs, HasCause};
 ghost use Rattle.zr_bptr.specs.Spelling.{IsTree};
-ghost use Rattle.zr_tree.specs.Trees.{tree_blocks, AllAt, AreLeaves, Raises, SetsTree, IsHeightFor, KeepsTree, KeepsOthers, most_puts, most_frees, TellsOf};
+ghost use Rattle.zr_tree.specs.Trees.{tree_blocks, AllAt, AreLeaves, Rises, HasRoom, Raises, SetsTree, IsHeightFor, KeepsTree, most_puts, most_frees, TellsOf};
 
 use crate::reads::place_of;
-use crate::sets::{holes, put_block, run_len, set_below, set_each};
+use crate::sets::{holes, is_hole, put_block, run_len, set_below, set_each};
 use std::alloc::Global;
 use zr_bptr::{Ptr, Tree};
 use zr_store::{Blocks, StoreErr};
 
 fn has_room(level: u32, changes: &[(u64, Ptr)]) -> bool
     requires { level ≤ 5 }
-    ensures { IsTrue result ↔ AllAt level 0 changes.now }
+    ensures { IsTrue result ↔ HasRoom level changes.now }
 {
-    changes.iter().all(|change| place_of(change.0, level) == 0)
+    changes.iter().all(|change| is_hole(&change.1) || place_of(change.0, level) == 0)
 }
 
 fn height_for(from: u32, changes: &[(u64, Ptr)]) -> u32
@@ -51,10 +51,9 @@ fn raise<B: Blocks>(
     requires leaves { AreLeaves changes.now }
     ensures costs { Costs (most_puts t.now.height level (length changes.now)) (most_frees t.now.height level (length changes.now)) (B.account store.old) (B.account store.new) }
     ensures cause { HasCause (most_puts t.now.height level (length changes.now)) (B.account store.old) (B.account store.new) result }
-    ensures errors { B.tells store.old → AreStored (tree_blocks (B.holds store.old) t.now) (B.holds store.old) → TellsOf (B.holds store.old) (tree_blocks (B.holds store.old) t.now) result }
-    ensures told { B.tells store.old → B.tells store.new }
+    ensures errors { (s : Stored) → B.holds store.old s → AreStored (tree_blocks s t.now) s → TellsOf s (tree_blocks s t.now) result }
     ensures fits { IfOk result (FitsAt level) }
-    ensures raises { B.tells store.old → AreStored (tree_blocks (B.holds store.old) t.now) (B.holds store.old) → IfOk result (Raises level changes.now (B.holds store.old) (B.holds store.new) t.now) }
+    ensures raises { (s : Stored) → B.holds store.old s → AreStored (tree_blocks s t.now) s → IfOk result (λ p. Now (B.holds store.new) (λ n. Raises level changes.now s n t.now p)) }
 {
     if level == t.height {
         return set_below(alloc, store, level, 0, &t.root, changes);
@@ -69,7 +68,8 @@ fn raise<B: Blocks>(
 }
 
 /// Changes leaf pointers. The old tree blocks are given back. At most five tree blocks a change are put and given back,
-/// and four more are put where the tree grows, also where the answer is an error.
+/// and four more are put where the tree grows, also where the answer is an error. Only a leaf makes a tree taller: a hole
+/// past its end changes nothing.
 pub fn set_all<B: Blocks>(
     alloc: Global,
     store: &mut B,
@@ -79,19 +79,21 @@ pub fn set_all<B: Blocks>(
     requires tree { IsTree t.now }
     requires below { All (λ change. change.0 < 2 ^ 25) changes.now }
     requires leaves { AreLeaves changes.now }
+    requires rises { Rises changes.now }
     ensures costs { (height : ℕ) → IsHeightFor t.now.height changes.now height → Costs (most_puts t.now.height height (length changes.now)) (most_frees t.now.height height (length changes.now)) (B.account store.old) (B.account store.new) }
     ensures cause { (height : ℕ) → IsHeightFor t.now.height changes.now height → HasCause (most_puts t.now.height height (length changes.now)) (B.account store.old) (B.account store.new) result }
+    ensures within { (top : ℕ) → t.now.height ≤ top → HasRoom top changes.now → Costs (top * length changes.now + (top - 1)) (top * length changes.now) (B.account store.old) (B.account store.new) }
+    ensures within_cause { (top : ℕ) → t.now.height ≤ top → HasRoom top changes.now → HasCause (top * length changes.now + (top - 1)) (B.account store.old) (B.account store.new) result }
     ensures most { Costs (5 * length changes.now + 4) (5 * length changes.now) (B.account store.old) (B.account store.new) }
     ensures most_cause { HasCause (5 * length changes.now + 4) (B.account store.old) (B.account store.new) result }
-    ensures errors { B.tells store.old → AreStored (tree_blocks (B.holds store.old) t.now) (B.holds store.old) → TellsOf (B.holds store.old) (tree_blocks (B.holds store.old) t.now) result }
-    ensures told { B.tells store.old → B.tells store.new }
+    ensures errors { (s : Stored) → B.holds store.old s → AreStored (tree_blocks s t.now) s → TellsOf s (tree_blocks s t.now) result }
     ensures tree { IfOk result IsTree }
     ensures height { IfOk result (λ u. IsHeightFor t.now.height changes.now u.height) }
-    ensures sets { B.tells store.old → AreStored (tree_blocks (B.holds store.old) t.now) (B.holds store.old) → IfOk result (SetsTree changes.now (B.holds store.old) (B.holds store.new) t.now) }
-    ensures others { B.tells store.old → AreStored (tree_blocks (B.holds store.old) t.now) (B.holds store.old) → OnOk result (KeepsOthers (B.holds store.old) (B.holds store.new) (tree_blocks (B.holds store.old) t.now)) }
+    ensures sets { (s : Stored) → B.holds store.old s → AreStored (tree_blocks s t.now) s → IfOk result (λ u. Now (B.holds store.new) (λ n. SetsTree changes.now s n t.now u)) }
 {
     let height = height_for(t.height, changes);
-    let root = raise(alloc, store, t, height, changes)?;
+    let n = run_len(changes, height, 0);
+    let root = raise(alloc, store, t, height, &changes[..n])?;
     Ok(Tree { root, height })
 }
 

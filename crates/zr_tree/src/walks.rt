@@ -6,7 +6,8 @@ ghost use Rattle.zr_bptr.specs.declared.Bptr.{Bptr};
 ghost use Rattle.zr_tree.specs.Blocks.{FitsAt};
 ghost use Rattle.zr_store.specs.Causes.{Costs, HasCause};
 ghost use Rattle.zr_bptr.specs.Spelling.{IsTree};
-ghost use Rattle.zr_tree.specs.Trees.{reach, tree_reach, blocks, tree_blocks, MarksFront, TellsOf};
+ghost use Rattle.zr_store.specs.Store.{Stored};
+ghost use Rattle.zr_tree.specs.Trees.{reach, tree_reach, blocks, tree_blocks, IsSoundAt, MarksFront, TellsOf};
 
 use crate::reads::read_block;
 use std::alloc::{AllocError, Global};
@@ -23,10 +24,10 @@ fn walk_below<B: Blocks>(
     requires { level ≤ 5 }
     ensures costs { Costs 0 0 (B.account store.old) (B.account store.new) }
     ensures cause { HasCause 0 (B.account store.old) (B.account store.new) result }
-    ensures told { B.tells store.old → B.tells store.new }
-    ensures same { B.tells store.old → B.holds store.new ≡ B.holds store.old }
-    ensures errors { B.tells store.old → FitsAt level p.now → TellsOf (B.holds store.old) (blocks (B.holds store.old) level p.now) result }
-    ensures reach { B.tells store.old → OnOk result (out.new.items ≡ out.old.items ++ reach (B.holds store.old) level p.now) }
+    ensures same { (s : Stored) → B.holds store.old s → B.holds store.new s }
+    ensures errors { (s : Stored) → B.holds store.old s → FitsAt level p.now → TellsOf s (blocks s level p.now) result }
+    ensures reach { (s : Stored) → B.holds store.old s → OnOk result (out.new.items ≡ out.old.items ++ reach s level p.now) }
+    ensures sound { (s : Stored) → B.holds store.old s → FitsAt level p.now → OnOk result (IsSoundAt s level p.now) }
 {
     match p {
         Ptr::Hole => Ok(()),
@@ -49,10 +50,10 @@ pub fn walk<B: Blocks>(alloc: Global, store: &mut B, t: &Tree) -> Result<Vec<Bpt
     requires { IsTree t.now }
     ensures costs { Costs 0 0 (B.account store.old) (B.account store.new) }
     ensures cause { HasCause 0 (B.account store.old) (B.account store.new) result }
-    ensures told { B.tells store.old → B.tells store.new }
-    ensures same { B.tells store.old → B.holds store.new ≡ B.holds store.old }
-    ensures errors { B.tells store.old → TellsOf (B.holds store.old) (tree_blocks (B.holds store.old) t.now) result }
-    ensures reach { B.tells store.old → IfOk result (λ pointers. pointers.items ≡ tree_reach (B.holds store.old) t.now) }
+    ensures same { (s : Stored) → B.holds store.old s → B.holds store.new s }
+    ensures errors { (s : Stored) → B.holds store.old s → TellsOf s (tree_blocks s t.now) result }
+    ensures reach { (s : Stored) → B.holds store.old s → IfOk result (λ pointers. pointers.items ≡ tree_reach s t.now) }
+    ensures sound { (s : Stored) → B.holds store.old s → OnOk result (IsSoundAt s t.now.height t.now.root) }
 {
     let mut out = Vec::new(alloc);
     walk_below(alloc, store, t.height, &t.root, &mut out)?;
@@ -79,11 +80,11 @@ fn walk_marked_below<B: Blocks, M: Mark>(
     requires { level ≤ 5 }
     ensures costs { Costs 0 0 (B.account store.old) (B.account store.new) }
     ensures cause { HasCause 0 (B.account store.old) (B.account store.new) result }
-    ensures told { B.tells store.old → B.tells store.new }
-    ensures same { B.tells store.old → B.holds store.new ≡ B.holds store.old }
-    ensures errors { B.tells store.old → FitsAt level p.now → TellsOf (B.holds store.old) (blocks (B.holds store.old) level p.now) result }
-    ensures front { B.tells store.old → MarksFront (M.marked m.old) (M.marked m.new) (reach (B.holds store.old) level p.now) }
-    ensures all { B.tells store.old → IfOk result (λ yes. IsTrue yes → M.marked m.new ≡ M.marked m.old ++ reach (B.holds store.old) level p.now) }
+    ensures same { (s : Stored) → B.holds store.old s → B.holds store.new s }
+    ensures errors { (s : Stored) → B.holds store.old s → FitsAt level p.now → TellsOf s (blocks s level p.now) result }
+    ensures front { (s : Stored) → B.holds store.old s → MarksFront (M.marked m.old) (M.marked m.new) (reach s level p.now) }
+    ensures all { (s : Stored) → B.holds store.old s → IfOk result (λ yes. IsTrue yes → M.marked m.new ≡ M.marked m.old ++ reach s level p.now) }
+    ensures sound { (s : Stored) → B.holds store.old s → FitsAt level p.now → IfOk result (λ yes. IsTrue yes → IsSoundAt s level p.now) }
 {
     let b = match p {
         Ptr::Hole => return Ok(true),
@@ -114,11 +115,11 @@ pub fn walk_marked<B: Blocks, M: Mark>(
     requires { IsTree t.now }
     ensures costs { Costs 0 0 (B.account store.old) (B.account store.new) }
     ensures cause { HasCause 0 (B.account store.old) (B.account store.new) result }
-    ensures told { B.tells store.old → B.tells store.new }
-    ensures same { B.tells store.old → B.holds store.new ≡ B.holds store.old }
-    ensures errors { B.tells store.old → TellsOf (B.holds store.old) (tree_blocks (B.holds store.old) t.now) result }
-    ensures front { B.tells store.old → MarksFront (M.marked m.old) (M.marked m.new) (tree_reach (B.holds store.old) t.now) }
-    ensures all { B.tells store.old → IfOk result (λ yes. IsTrue yes → M.marked m.new ≡ M.marked m.old ++ tree_reach (B.holds store.old) t.now) }
+    ensures same { (s : Stored) → B.holds store.old s → B.holds store.new s }
+    ensures errors { (s : Stored) → B.holds store.old s → TellsOf s (tree_blocks s t.now) result }
+    ensures front { (s : Stored) → B.holds store.old s → MarksFront (M.marked m.old) (M.marked m.new) (tree_reach s t.now) }
+    ensures all { (s : Stored) → B.holds store.old s → IfOk result (λ yes. IsTrue yes → M.marked m.new ≡ M.marked m.old ++ tree_reach s t.now) }
+    ensures sound { (s : Stored) → B.holds store.old s → IfOk result (λ yes. IsTrue yes → IsSoundAt s t.now.height t.now.root) }
 {
     walk_marked_below(alloc, store, t.height, &t.root, m)
 }

@@ -9,7 +9,7 @@ use Rattle.zr_store.specs.Store.{Stored, AreStored}
 use Rattle.zr_tree.specs.Blocks.{FitsAt}
 use Rattle.std.proofs.lemmas.List.Elements.{All-set}
 use Rattle.zr_tree.specs.Trees.{AllAt, Sets, SetsEach, IsOpen, TellsOf, own, slot, blocks}
-use Rattle.zr_tree.proofs.Below.{leaf_set, below_stored, own_stored, copied}
+use Rattle.zr_tree.proofs.Below.{unchanged, leaf_set, below_stored, own_stored, copied}
 use Rattle.zr_tree.proofs.Costing.{one_level, run_costs, run_cause, put_costs, put_cause, copy_costs, free_cause}
 use Rattle.zr_store.proofs.Causes.{cause_from, cause_most, cause_then, costs_most, costs_none}
 use Rattle.zr_bptr.specs.Spelling.{IsOfLevel}
@@ -18,15 +18,26 @@ use Rattle.std.proofs.lemmas.Result.{err_from_is_err_and}
 use Rattle.zr_tree.proofs.Each.{one_more, child_stored, kids_stored, row_of}
 use Rattle.zr_tree.proofs.sets.+set.Goals as goal
 
+pub set_below-returns-then-is_empty-clause-sets : goal.set_below-returns-then-is_empty-clause-sets
+set_below-returns-then-is_empty-clause-sets g t c = λ s holds held. record {
+  stored = s;
+  held = holds;
+  is = unchanged c.args.level c.args.place s c.args.p.now c.args.changes.now (sym c.is_empty.ensures ∙ c.if-is_empty.true);
+}
+
 pub set_below-returns-then-level-eq0-clause-sets : goal.set_below-returns-then-level-eq0-clause-sets
-set_below-returns-then-level-eq0-clause-sets g t c = λ told held.
+set_below-returns-then-level-eq0-clause-sets g t c = λ s holds held.
     let ne = eqb-false (length c.args.changes.now) 0 (sym c.is_empty.ensures ∙ c.if-is_empty.false) in
     let size : length c.args.changes.now ≡ suc (length c.args.changes.now - 1) = omega (arith, ne) in
-    subst (λ (n : ℕ). Sets n c.args.place c.args.changes.now (g.B.Blocks.holds c.args.store.now) (g.B.Blocks.holds c.args.store.now) c.args.p.now (get_or c.args.changes.now (length c.args.changes.now - 1) (0, Hole)).1) (sym c.if-level-eq0.true)
-    (leaf_set c.args.place (length c.args.changes.now - 1) c.args.changes.now (g.B.Blocks.holds c.args.store.now) c.args.p.now (0, Hole) (subst (λ (n : ℕ). AllAt n c.args.place c.args.changes.now) c.if-level-eq0.true c.requires.here) size)
+    record {
+      stored = s;
+      held = holds;
+      is = subst (λ (n : ℕ). Sets n c.args.place c.args.changes.now s s c.args.p.now (get_or c.args.changes.now (length c.args.changes.now - 1) (0, Hole)).1) (sym c.if-level-eq0.true)
+          (leaf_set c.args.place (length c.args.changes.now - 1) c.args.changes.now s c.args.p.now (0, Hole) (subst (λ (n : ℕ). AllAt n c.args.place c.args.changes.now) c.if-level-eq0.true c.requires.here) size);
+    }
 
 pub set_below-returns-clause-sets : goal.set_below-returns-clause-sets
-set_below-returns-clause-sets g t c = λ told held.
+set_below-returns-clause-sets g t c = λ s0 holds held.
     let below = c.args.level - 1 in
     let place = c.args.place in
     let changes = c.args.changes.now in
@@ -34,26 +45,23 @@ set_below-returns-clause-sets g t c = λ told held.
     let p = c.in_ok-new.new in
     let qs = c.in_ok-pointers.pointers.items in
     let ps = c.set_each.new.pointers.items in
-    let s0 = g.B.Blocks.holds c.args.store.now in
-    let s0b = g.B.Blocks.holds c.open_block.new.store in
-    let s1 = g.B.Blocks.holds c.set_each.new.store in
-    let s2 = g.B.Blocks.holds c.put_block.new.store in
-    let s3 = g.B.Blocks.holds c.free_block.new.store in
-    let same = c.open_block.ensures.same told in
-    let told1 = c.open_block.ensures.told told in
-    let told2 = c.set_each.ensures.told told1 in
-    let told3 = c.put_block.ensures.told told2 in
     let level_is : c.args.level ≡ suc (c.args.level - 1) = omega arith in
     let held_suc = subst (λ (n : ℕ). AreStored (blocks s0 n q) s0) level_is held in
-    let open_q = c.in_ok-pointers.ensures.open told in
-    let each_b = c.in_ok-set_each.ensures.sets told1 (subst (λ (u : Stored). AreStored (flat_map (blocks u below) qs) u) (sym same) (below_stored below s0 q qs open_q held_suc)) in
-    let each = subst (λ (u : Stored). SetsEach below place changes u s1 qs ps) same each_b in
-    let open_p = subst (λ (xs : List Ptr). IsOpen s2 below p xs) c.as_slice.ensures.value (c.in_ok-new.ensures.open told2) in
-    let put = c.in_ok-new.ensures.swaps told2 in
-    let whole = c.in_ok-new.ensures.whole told2 in
-    let free = c.in_ok-free_block.ensures.swaps told3 (own_stored below place changes s0 s1 s2 q p qs ps open_q each put held_suc) in
-    let once = g.met.B.Blocks.once c.put_block.new.store told3 in
-    subst (λ (n : ℕ). Sets n place changes s0 s3 q p) (sym level_is) (copied below place changes s0 s1 s2 s3 q p qs ps open_q each open_p put whole free held_suc once)
+    let open_q = c.in_ok-pointers.ensures.open s0 holds in
+    let first = c.in_ok-set_each.ensures.sets s0 (c.open_block.ensures.same s0 holds) (below_stored below s0 q qs open_q held_suc) in
+    let s1 = first.stored in
+    let second = c.in_ok-new.ensures.puts s1 first.held in
+    let s2 = second.stored in
+    let open_p = subst (λ (xs : List Ptr). IsOpen s2 below p xs) c.as_slice.ensures.value second.is.opens in
+    let put = second.is.swaps in
+    let third = c.in_ok-free_block.ensures.swaps s2 second.held (own_stored below place changes s0 s1 s2 q p qs ps open_q first.is put held_suc) in
+    let s3 = third.stored in
+    let once = g.met.B.Blocks.once c.put_block.new.store s2 second.held in
+    record {
+      stored = s3;
+      held = third.held;
+      is = subst (λ (n : ℕ). Sets n place changes s0 s3 q p) (sym level_is) (copied below place changes s0 s1 s2 s3 q p qs ps open_q first.is open_p put second.is.whole third.is held_suc once);
+    }
 
 pub set_each-loop-from-preserved : goal.set_each-loop-from-preserved
 set_each-loop-from-preserved g t c = record {
@@ -61,14 +69,13 @@ set_each-loop-from-preserved g t c = record {
   low = search rules;
   count = search rules;
   fit = All-set (FitsAt (c.args.level - 1)) c.loop-from.pointers.items (c.place_of-child.result % 32) c.in_ok-new.new c.in_ok-new.ensures.fits c.loop-from.invariant.fit;
-  told = search rules;
   costs =
       let changes = c.args.changes.now in
       let from = c.loop-from.from in
       let n = c.run_len-n.result in
       let rest = take (length changes - from) (drop from changes) in
       run_costs (c.args.level - 1) from (length (take n rest)) (from + n) (omega (arith, length-take n rest)) c.loop-from.invariant.costs c.set_below.ensures.costs;
-  sets = λ told held.
+  sets = λ s0 holds held.
       let below = c.args.level - 1 in
       let place = c.args.place in
       let changes = c.args.changes.now in
@@ -81,17 +88,16 @@ set_each-loop-from-preserved g t c = record {
       let p = c.in_ok-new.new in
       let qs = c.args.pointers.now.items in
       let ps = c.loop-from.pointers.items in
-      let s0 = g.B.Blocks.holds c.args.store.now in
-      let s1 = g.B.Blocks.holds c.loop-from.store in
-      let s2 = g.B.Blocks.holds c.set_below.new.store in
       let count = c.loop-from.invariant.count in
-      let so_far = c.loop-from.invariant.sets told held in
-      let told1 = c.loop-from.invariant.told told in
+      let before = c.loop-from.invariant.sets s0 holds held in
+      let s1 = before.stored in
+      let so_far = before.is in
       let within : child % 32 < length ps = omega (arith, count) in
       let old_is = c.index.ensures ∙ get_or_default ps (child % 32) old Hole within in
       let stored = child_stored below place (child % 32) (take from changes) s0 s1 qs ps within so_far held in
-      let one_b = c.in_ok-new.ensures.sets told1 (subst (λ (q : Ptr). AreStored (blocks s1 below q) s1) (sym old_is) stored) in
-      let one_c = subst (λ (xs : List (ℕ × Ptr)). Sets below child (take n xs) s1 s2 old p) rest_is one_b in
+      let after = c.in_ok-new.ensures.sets s1 before.held (subst (λ (q : Ptr). AreStored (blocks s1 below q) s1) (sym old_is) stored) in
+      let s2 = after.stored in
+      let one_c = subst (λ (xs : List (ℕ × Ptr)). Sets below child (take n xs) s1 s2 old p) rest_is after.is in
       let one = subst (λ (q : Ptr). Sets below child here s1 s2 q p) old_is one_c in
       let at = subst (λ (xs : List (ℕ × Ptr)). AllAt below child (take n xs)) rest_is c.run_len-n.ensures.here in
       let child_is = subst (λ (xs : List (ℕ × Ptr)). child ≡ (get_or xs 0 (0, Hole)).0 / 32 ^ below) rest_is c.place_of-child.ensures in
@@ -99,8 +105,12 @@ set_each-loop-from-preserved g t c = record {
       let high = c.requires.here from (0, Hole) lt in
       let level_is : c.args.level ≡ suc (c.args.level - 1) = omega arith in
       let row : child / 32 ≡ place = row_of below place child c.args.level from changes level_is child_is high in
-      subst (λ (done : List (ℕ × Ptr)). SetsEach below place done s0 s2 qs (set ps (child % 32) p)) (sym (take-add from n changes))
-      (one_more below place child (take from changes) here s0 s1 s2 qs ps p count so_far one held (g.met.B.Blocks.once c.loop-from.store told1) at row);
+      record {
+        stored = s2;
+        held = after.held;
+        is = subst (λ (done : List (ℕ × Ptr)). SetsEach below place done s0 s2 qs (set ps (child % 32) p)) (sym (take-add from n changes))
+            (one_more below place child (take from changes) here s0 s1 s2 qs ps p count so_far one held (g.met.B.Blocks.once c.loop-from.store s1 before.held) at row);
+      };
 }
 
 some_changes : (n : ℕ) (e : Bool) → e ≡ nat_eq n 0 → e ≡ false → 0 < n
@@ -175,50 +185,43 @@ set_below-returns-in_err-set_each-clause-cause g t c =
     cause_from {T = Unit {0}} x.result e.field-0.0 (err_from_is_err_and x.result x.ensures.1) (cause_most (c.args.level * n) (omega (arith, more)) (cause_then c.open_block.ensures.costs e.ensures.cause))
 
 pub set_below-returns-in_err-pointers-clause-errors : goal.set_below-returns-in_err-pointers-clause-errors
-set_below-returns-in_err-pointers-clause-errors g t c = λ told held.
-    let s0 = g.B.Blocks.holds c.args.store.now in
+set_below-returns-in_err-pointers-clause-errors g t c = λ s0 holds held.
     let q = c.args.p.now in
     let e = c.in_err-pointers in
     let x = c.from_residual in
     let level_is : c.args.level ≡ suc (c.args.level - 1) = omega arith in
     let of_level = subst (λ (n : ℕ). IsOfLevel n q) (let up : c.args.level ≡ c.args.level - 1 + 1 = omega arith in up) c.requires.fits.0 in
     tells_from s0 (blocks s0 c.args.level q) x.result e.field-0.0 (err_from_is_err_and x.result x.ensures.1)
-    (tells_within s0 (own q) (blocks s0 c.args.level q) _ (own_within s0 c.args.level (c.args.level - 1) q level_is) (e.ensures.errors told of_level))
+    (tells_within s0 (own q) (blocks s0 c.args.level q) _ (own_within s0 c.args.level (c.args.level - 1) q level_is) (e.ensures.errors s0 holds of_level))
 
 pub set_below-returns-in_err-set_each-clause-errors : goal.set_below-returns-in_err-set_each-clause-errors
-set_below-returns-in_err-set_each-clause-errors g t c = λ told held.
+set_below-returns-in_err-set_each-clause-errors g t c = λ s0 holds held.
     let below = c.args.level - 1 in
     let q = c.args.p.now in
     let qs = c.in_ok-pointers.pointers.items in
-    let s0 = g.B.Blocks.holds c.args.store.now in
     let e = c.in_err-set_each in
     let x = c.from_residual-in_err-set_each in
-    let same = c.open_block.ensures.same told in
-    let told1 = c.open_block.ensures.told told in
     let level_is : c.args.level ≡ suc (c.args.level - 1) = omega arith in
     let held_suc = subst (λ (n : ℕ). AreStored (blocks s0 n q) s0) level_is held in
-    let open_q = c.in_ok-pointers.ensures.open told in
-    let each_b = e.ensures.errors told1 (subst (λ (u : Stored). AreStored (flat_map (blocks u below) qs) u) (sym same) (below_stored below s0 q qs open_q held_suc)) in
-    let each = subst (λ (u : Stored). TellsOf {T = Unit {0}} u (flat_map (blocks u below) qs) (Err e.field-0.0)) same each_b in
+    let open_q = c.in_ok-pointers.ensures.open s0 holds in
+    let each = e.ensures.errors s0 (c.open_block.ensures.same s0 holds) (below_stored below s0 q qs open_q held_suc) in
     tells_from s0 (blocks s0 c.args.level q) x.result e.field-0.0 (err_from_is_err_and x.result x.ensures.1)
     (tells_within s0 (flat_map (blocks s0 below) qs) (blocks s0 c.args.level q) _ (open_within s0 c.args.level below q qs level_is open_q) each)
 
 pub set_below-returns-in_err-new-clause-errors : goal.set_below-returns-in_err-new-clause-errors
-set_below-returns-in_err-new-clause-errors g t c = λ told held.
-    let s0 = g.B.Blocks.holds c.args.store.now in
+set_below-returns-in_err-new-clause-errors g t c = λ s0 holds held.
     let e = c.in_err-new in
     let x = c.from_residual-in_err-new in
-    tells_from s0 (blocks s0 c.args.level c.args.p.now) x.result e.field-0.0 (err_from_is_err_and x.result x.ensures.1) (tells_empty (g.B.Blocks.holds c.set_each.new.store) s0 (blocks s0 c.args.level c.args.p.now) _ e.ensures.errors)
+    tells_from s0 (blocks s0 c.args.level c.args.p.now) x.result e.field-0.0 (err_from_is_err_and x.result x.ensures.1) (tells_empty s0 s0 (blocks s0 c.args.level c.args.p.now) _ (e.ensures.errors s0))
 
 pub set_below-returns-in_err-free_block-clause-errors : goal.set_below-returns-in_err-free_block-clause-errors
-set_below-returns-in_err-free_block-clause-errors g t c = λ told held.
-    let s0 = g.B.Blocks.holds c.args.store.now in
+set_below-returns-in_err-free_block-clause-errors g t c = λ s0 holds held.
     let e = c.in_err-free_block in
     let x = c.from_residual-in_err-free_block in
-    tells_from s0 (blocks s0 c.args.level c.args.p.now) x.result e.field-0.0 (err_from_is_err_and x.result x.ensures.1) (tells_empty (g.B.Blocks.holds c.put_block.new.store) s0 (blocks s0 c.args.level c.args.p.now) _ e.ensures.errors)
+    tells_from s0 (blocks s0 c.args.level c.args.p.now) x.result e.field-0.0 (err_from_is_err_and x.result x.ensures.1) (tells_empty s0 s0 (blocks s0 c.args.level c.args.p.now) _ (e.ensures.errors s0))
 
 pub set_each-returns-in_err-new-clause-errors : goal.set_each-returns-in_err-new-clause-errors
-set_each-returns-in_err-new-clause-errors g t c = λ told held.
+set_each-returns-in_err-new-clause-errors g t c = λ s0 holds held.
     let below = c.args.level - 1 in
     let place = c.args.place in
     let changes = c.args.changes.now in
@@ -227,17 +230,16 @@ set_each-returns-in_err-new-clause-errors g t c = λ told held.
     let old = c.index.result.now in
     let qs = c.args.pointers.now.items in
     let ps = c.loop-from.pointers.items in
-    let s0 = g.B.Blocks.holds c.args.store.now in
-    let s1 = g.B.Blocks.holds c.loop-from.store in
     let e = c.in_err-new in
     let x = c.from_residual in
     let count = c.loop-from.invariant.count in
-    let so_far = c.loop-from.invariant.sets told held in
-    let told1 = c.loop-from.invariant.told told in
+    let before = c.loop-from.invariant.sets s0 holds held in
+    let s1 = before.stored in
+    let so_far = before.is in
     let within : k < length ps = omega (arith, count) in
     let old_is = c.index.ensures ∙ get_or_default ps k old Hole within in
     let stored = child_stored below place k (take from changes) s0 s1 qs ps within so_far held in
-    let one_b = e.ensures.errors told1 (subst (λ (q : Ptr). AreStored (blocks s1 below q) s1) (sym old_is) stored) in
+    let one_b = e.ensures.errors s1 before.held (subst (λ (q : Ptr). AreStored (blocks s1 below q) s1) (sym old_is) stored) in
     let one = subst (λ (q : Ptr). TellsOf {T = Ptr} s1 (blocks s1 below q) (Err e.field-0.0)) old_is one_b in
     tells_from s0 (flat_map (blocks s0 below) qs) x.result e.field-0.0 (err_from_is_err_and x.result x.ensures.1)
     (tells_before s0 s1 (flat_map (blocks s0 below) qs) (flat_map (blocks s1 below) ps) _ so_far.brings (kids_stored below place (take from changes) s0 s1 qs ps so_far held)

@@ -2,7 +2,7 @@ use Rattle.std.proofs.Common.{◌≡◌, ◌+◌, ◌*◌, ◌-◌, ◌≤◌, l
 use Rattle.std.specs.Prelude.{All}
 use Rattle.zr_tree.specs.Blocks.{FitsAt}
 use Rattle.std.specs.List.{flat_map}
-use Rattle.zr_store.specs.Store.{AreStored}
+use Rattle.zr_store.specs.Store.{Stored, Now, AreStored}
 use Rattle.zr_store.specs.Causes.{Costs}
 use Rattle.zr_tree.specs.Trees.{SetsEach, blocks}
 use Rattle.zr_tree.proofs.sets.+set.Given as goal
@@ -19,9 +19,8 @@ invariant-set_each-loop-from g l = record {
   low : l.below + 1 ≡ l.level;
   count : length l.pointers.items ≡ 32;
   fit : All (FitsAt l.below) l.pointers.items;
-  told : g.B.Blocks.tells l.fn.store → g.B.Blocks.tells l.store;
   costs : Costs (l.below * l.from) (l.below * l.from) (g.B.Blocks.account l.fn.store) (g.B.Blocks.account l.store);
-  sets : g.B.Blocks.tells l.fn.store → AreStored (flat_map (blocks (g.B.Blocks.holds l.fn.store) l.below) l.fn.pointers.items) (g.B.Blocks.holds l.fn.store) → SetsEach l.below l.place (take l.from l.changes) (g.B.Blocks.holds l.fn.store) (g.B.Blocks.holds l.store) l.fn.pointers.items l.pointers.items;
+  sets : (s : Stored) → g.B.Blocks.holds l.fn.store s → AreStored (flat_map (blocks s l.below) l.fn.pointers.items) s → Now (g.B.Blocks.holds l.store) (λ n. SetsEach l.below l.place (take l.from l.changes) s n l.fn.pointers.items l.pointers.items);
 }
 
 abbrev pub decreases-set_each-loop-from : goal.decreases-set_each-loop-from

@@ -13,17 +13,19 @@ use Rattle.zr_bptr.specs.declared.Bptr.{Bptr}
 use Rattle.zr_tree.proofs.trees.+raise.Goals as goal
 
 pub returns-then-level-t-clause-raises : goal.returns-then-level-t-clause-raises
-returns-then-level-t-clause-raises g r c = λ told held.
-    let s0 = g.B.Blocks.holds c.args.store.now in
-    let s1 = g.B.Blocks.holds c.set_below.new.store in
+returns-then-level-t-clause-raises g r c = λ s0 holds held.
     let t = c.args.t.now in
     let changes = c.args.changes.now in
     let held_level = subst (λ (n : ℕ). AreStored (blocks s0 n t.root) s0) (sym c.if-level-t.true) held in
-    IfOk-weaker c.set_below.result _ _ (λ p sets.
-    subst (λ (n : ℕ). Raises n changes s0 s1 t p) (sym c.if-level-t.true) (same_height changes s0 s1 t p (subst (λ (n : ℕ). AllAt n 0 changes) c.if-level-t.true c.requires.here) (subst (λ (n : ℕ). Sets n 0 changes s0 s1 t.root p) c.if-level-t.true sets))) (c.set_below.ensures.sets told held_level)
+    IfOk-weaker c.set_below.result _ _ (λ p now. record {
+      stored = now.stored;
+      held = now.held;
+      is = subst (λ (n : ℕ). Raises n changes s0 now.stored t p) (sym c.if-level-t.true)
+          (same_height changes s0 now.stored t p (subst (λ (n : ℕ). AllAt n 0 changes) c.if-level-t.true c.requires.here) (subst (λ (n : ℕ). Sets n 0 changes s0 now.stored t.root p) c.if-level-t.true now.is));
+    }) (c.set_below.ensures.sets s0 holds held_level)
 
 pub returns-clause-raises : goal.returns-clause-raises
-returns-clause-raises g r c = λ told held.
+returns-clause-raises g r c = λ s0 holds held.
     let below = c.args.level - 1 in
     let t = c.args.t.now in
     let changes = c.args.changes.now in
@@ -34,28 +36,30 @@ returns-clause-raises g r c = λ told held.
     let p1 = c.in_ok-low.low in
     let hs = c.in_ok-pointers.pointers.items in
     let ps = c.set_each.new.pointers.items in
-    let s0 = g.B.Blocks.holds c.args.store.now in
-    let s1 = g.B.Blocks.holds c.raise.new.store in
-    let s2 = g.B.Blocks.holds c.set_each.new.store in
-    let s3 = g.B.Blocks.holds c.put_block.new.store in
-    let told1 = c.raise.ensures.told told in
-    let told2 = c.set_each.ensures.told told1 in
     let count = c.in_ok-pointers.ensures.count in
     let size : 0 < length hs = omega (arith, count) in
     let all_holes = c.in_ok-pointers.ensures.holes in
     let level_is : c.args.level ≡ suc (c.args.level - 1) = omega arith in
     let short : t.height ≤ below = omega arith in
     let rest_is : rest ≡ high = take_all (length changes - n) high (omega (arith, length-drop n changes)) in
-    let first = c.in_ok-low.ensures.raises told held in
-    let each = subst (λ (xs : List (ℕ × Ptr)). SetsEach below 0 xs s1 s2 (set hs 0 p1) ps) rest_is (c.in_ok-set_each.ensures.sets told1 (first_stored below low s0 s1 t p1 hs size all_holes first held)) in
-    let once = g.met.B.Blocks.once c.raise.new.store told1 in
+    let first = c.in_ok-low.ensures.raises s0 holds held in
+    let s1 = first.stored in
+    let second = c.in_ok-set_each.ensures.sets s1 first.held (first_stored below low s0 s1 t p1 hs size all_holes first.is held) in
+    let s2 = second.stored in
+    let each = subst (λ (xs : List (ℕ × Ptr)). SetsEach below 0 xs s1 s2 (set hs 0 p1) ps) rest_is second.is in
+    let once = g.met.B.Blocks.once c.raise.new.store s1 first.held in
     let at = c.run_len-n.ensures.here in
     let parts : low ++ high ≡ changes = take-append-drop n changes in
     let p = c.in_ok-root.root in
     let room = subst (λ (cs : List (ℕ × Ptr)). AllAt (suc below) 0 cs) (sym parts) (subst (λ (l : ℕ). AllAt l 0 changes) level_is c.requires.here) in
-    let open_p = subst (λ (xs : List Ptr). IsOpen s3 below p xs) c.as_slice.ensures.value (c.in_ok-root.ensures.open told2) in
-    let put = c.in_ok-root.ensures.swaps told2 in
-    subst (λ (l : ℕ). Raises l changes s0 s3 t p) (sym level_is) (raised below changes low high s0 s1 s2 s3 t p1 p hs ps size all_holes parts short first each open_p put (c.in_ok-root.ensures.whole told2) at held once room)
+    let third = c.in_ok-root.ensures.puts s2 second.held in
+    let s3 = third.stored in
+    let open_p = subst (λ (xs : List Ptr). IsOpen s3 below p xs) c.as_slice.ensures.value third.is.opens in
+    record {
+      stored = s3;
+      held = third.held;
+      is = subst (λ (l : ℕ). Raises l changes s0 s3 t p) (sym level_is) (raised below changes low high s0 s1 s2 s3 t p1 p hs ps size all_holes parts short first.is each open_p third.is.swaps third.is.whole at held once room);
+    }
 
 -- the two runs of changes
 two_runs : (changes : List (ℕ × Ptr)) (n : ℕ) → n ≤ length changes → length (take n changes) + length (take (length changes - n) (drop n changes)) ≡ length changes
@@ -167,28 +171,25 @@ returns-in_err-root-clause-cause g r c =
     (raised_cause h m (length (take n changes)) (length (take (length changes - n) (drop n changes))) (length changes) (omega arith) (two_runs changes n (omega arith)) c.raise.ensures.costs c.set_each.ensures.costs e.ensures.cause))
 
 pub returns-in_err-set_each-clause-errors : goal.returns-in_err-set_each-clause-errors
-returns-in_err-set_each-clause-errors g r c = λ told held.
+returns-in_err-set_each-clause-errors g r c = λ s0 holds held.
     let below = c.args.level - 1 in
     let t = c.args.t.now in
     let low = take c.run_len-n.result c.args.changes.now in
     let p1 = c.in_ok-low.low in
     let hs = c.in_ok-pointers.pointers.items in
-    let s0 = g.B.Blocks.holds c.args.store.now in
-    let s1 = g.B.Blocks.holds c.raise.new.store in
-    let told1 = c.raise.ensures.told told in
     let count = c.in_ok-pointers.ensures.count in
     let size : 0 < length hs = omega (arith, count) in
     let all_holes = c.in_ok-pointers.ensures.holes in
-    let first = c.in_ok-low.ensures.raises told held in
+    let first = c.in_ok-low.ensures.raises s0 holds held in
+    let s1 = first.stored in
     let e = c.in_err-set_each in
     let x = c.from_residual-in_err-set_each in
-    let each = subst (λ (bs : List Bptr). TellsOf {T = Unit {0}} s1 bs (Err e.field-0.0)) (first_only s1 below hs p1 size all_holes) (e.ensures.errors told1 (first_stored below low s0 s1 t p1 hs size all_holes first held)) in
+    let each = subst (λ (bs : List Bptr). TellsOf {T = Unit {0}} s1 bs (Err e.field-0.0)) (first_only s1 below hs p1 size all_holes) (e.ensures.errors s1 first.held (first_stored below low s0 s1 t p1 hs size all_holes first.is held)) in
     tells_from s0 (tree_blocks s0 t) x.result e.field-0.0 (err_from_is_err_and x.result x.ensures.1)
-    (tells_before s0 s1 (tree_blocks s0 t) (blocks s1 below p1) _ first.brings (low_stored below low s0 s1 t p1 first held) each)
+    (tells_before s0 s1 (tree_blocks s0 t) (blocks s1 below p1) _ first.is.brings (low_stored below low s0 s1 t p1 first.is held) each)
 
 pub returns-in_err-root-clause-errors : goal.returns-in_err-root-clause-errors
-returns-in_err-root-clause-errors g r c = λ told held.
-    let s0 = g.B.Blocks.holds c.args.store.now in
+returns-in_err-root-clause-errors g r c = λ s0 holds held.
     let e = c.in_err-root in
     let x = c.from_residual-in_err-root in
-    tells_from s0 (tree_blocks s0 c.args.t.now) x.result e.field-0.0 (err_from_is_err_and x.result x.ensures.1) (tells_empty (g.B.Blocks.holds c.set_each.new.store) s0 (tree_blocks s0 c.args.t.now) _ e.ensures.errors)
+    tells_from s0 (tree_blocks s0 c.args.t.now) x.result e.field-0.0 (err_from_is_err_and x.result x.ensures.1) (tells_empty s0 s0 (tree_blocks s0 c.args.t.now) _ (e.ensures.errors s0))

@@ -1,52 +1,135 @@
-use Rattle.std.proofs.Common.{◌+◌, ◌*◌, ℕ, length, subst}
+use Rattle.std.proofs.Common.{◌≡◌, ◌+◌, ◌*◌, ◌-◌, ◌≤◌, ◌++◌, ℕ, List, length, take, drop, subst, sym, arith}
 use Rattle.std.proofs.lemmas.Result.{err_from_is_err_and}
+use Rattle.std.proofs.lemmas.List.{length-take, take-append-drop}
+use Rattle.std.proofs.lemmas.List.Elements.{All-drop}
 use Rattle.zr_bptr.specs.declared.Ptr.{Ptr}
-use Rattle.zr_store.specs.Causes.{Costs}
+use Rattle.zr_bptr.specs.declared.Tree.{Tree}
+use Rattle.zr_store.specs.Causes.{Costs, HasCause}
 use Rattle.zr_store.proofs.Causes.{costs_most, cause_most, cause_from}
-use Rattle.zr_tree.specs.Trees.{tree_blocks, most_puts, most_frees}
-use Rattle.zr_tree.proofs.Costing.{one_height, puts_most, frees_most}
+use Rattle.zr_tree.specs.Trees.{most_puts, most_frees, Rises}
+use Rattle.zr_tree.proofs.Costing.{one_height, puts_within, frees_within, puts_fewer, frees_fewer}
 use Rattle.zr_tree.proofs.Raise.{whole}
-use Rattle.zr_tree.proofs.Others.{keeps_others}
+use Rattle.zr_tree.proofs.Each.{rises_front, rises_back}
+use Rattle.zr_tree.proofs.Past.{InRoom, later_past, first_past, with_past}
 use Rattle.zr_tree.proofs.trees.set_all.Goals as goal
 
 pub returns-clause-sets : goal.returns-clause-sets
-returns-clause-sets g c = λ told held.
-    whole c.args.changes.now (g.B.Blocks.holds c.args.store.now) (g.B.Blocks.holds c.raise.new.store) c.args.t.now (record { root = c.in_ok-root.root; height = c.height_for-height.result })
-    c.height_for-height.ensures.height.grows c.height_for-height.ensures.height.room (c.in_ok-root.ensures.raises told held)
+returns-clause-sets g c = λ s holds held.
+    let changes = c.args.changes.now in
+    let height = c.height_for-height.result in
+    let n = c.run_len-n.result in
+    let low = take n changes in
+    let high = drop n changes in
+    let parts : low ++ high ≡ changes = take-append-drop n changes in
+    let rises = subst Rises (sym parts) c.requires.rises in
+    let room = All-drop (InRoom height) n changes c.height_for-height.ensures.height.room in
+    let t = c.args.t.now in
+    let u : Tree = record { root = c.in_ok-root.root; height = height } in
+    let root = c.in_ok-root.ensures.raises s holds held in
+    record {
+      stored = root.stored;
+      held = root.held;
+      is = with_past changes low high s root.stored t u parts c.height_for-height.ensures.height.grows (later_past height high (rises_back low high rises) room (first_past height n changes c.run_len-n.ensures.past))
+          (whole low s root.stored t u c.height_for-height.ensures.height.grows c.run_len-n.ensures.here (rises_front low high rises) (g.met.B.Blocks.once c.args.store.now s holds) root.is);
+    }
 
-pub returns-clause-others : goal.returns-clause-others
-returns-clause-others g c = λ told held.
-    keeps_others (g.B.Blocks.holds c.args.store.now) (g.B.Blocks.holds c.raise.new.store) (tree_blocks (g.B.Blocks.holds c.args.store.now) c.args.t.now) (tree_blocks (g.B.Blocks.holds c.raise.new.store) (record { root = c.in_ok-root.root; height = c.height_for-height.result }))
-    (c.in_ok-root.ensures.raises told held).swaps (g.met.B.Blocks.once c.args.store.now told)
+-- the changes that are made are not more than all
+fewer : (changes : List (ℕ × Ptr)) (n : ℕ) → length (take n changes) ≤ length changes
+fewer changes n = omega (arith, length-take n changes)
 
 pub returns-clause-costs : goal.returns-clause-costs
 returns-clause-costs g c = λ height is.
     let changes = c.args.changes.now in
     let h = c.args.t.now.height in
     let top = c.height_for-height.result in
-    subst (λ (l : ℕ). Costs (most_puts h l (length changes)) (most_frees h l (length changes)) (g.B.Blocks.account c.args.store.now) (g.B.Blocks.account c.raise.new.store)) (one_height h top height changes c.height_for-height.ensures.height is) c.raise.ensures.costs
+    let few = fewer changes c.run_len-n.result in
+    subst (λ (l : ℕ). Costs (most_puts h l (length changes)) (most_frees h l (length changes)) (g.B.Blocks.account c.args.store.now) (g.B.Blocks.account c.raise.new.store)) (one_height h top height changes c.height_for-height.ensures.height is)
+    (costs_most (most_puts h top (length changes)) (most_frees h top (length changes)) (puts_fewer h top _ (length changes) few) (frees_fewer h top _ (length changes) few) c.raise.ensures.costs)
 
 pub returns-clause-most : goal.returns-clause-most
 returns-clause-most g c =
     let changes = c.args.changes.now in
     let h = c.args.t.now.height in
-    let top = c.height_for-height.result in
+    let l = c.height_for-height.result in
     let e = c.height_for-height.ensures in
-    costs_most (5 * length changes + 4) (5 * length changes) (puts_most h top changes e.tall e.height) (frees_most h top changes e.tall e.height) c.raise.ensures.costs
+    let few = fewer changes c.run_len-n.result in
+    let puts = puts_fewer h l (length (take c.run_len-n.result changes)) (length changes) few in
+    let frees = frees_fewer h l (length (take c.run_len-n.result changes)) (length changes) few in
+    costs_most (5 * length changes + 4) (5 * length changes) (omega (arith, puts, puts_within h l 5 changes e.tall e.height)) (omega (arith, frees, frees_within h l 5 changes e.tall e.height)) c.raise.ensures.costs
+
+pub returns-clause-within : goal.returns-clause-within
+returns-clause-within g c = λ top grows room.
+    let changes = c.args.changes.now in
+    let h = c.args.t.now.height in
+    let l = c.height_for-height.result in
+    let e = c.height_for-height.ensures in
+    let few = fewer changes c.run_len-n.result in
+    let puts = puts_fewer h l (length (take c.run_len-n.result changes)) (length changes) few in
+    let frees = frees_fewer h l (length (take c.run_len-n.result changes)) (length changes) few in
+    let tall = e.height.least top grows room in
+    costs_most (top * length changes + (top - 1)) (top * length changes) (omega (arith, puts, puts_within h l top changes tall e.height)) (omega (arith, frees, frees_within h l top changes tall e.height)) c.raise.ensures.costs
+
+pub returns-in_err-root-clause-costs : goal.returns-in_err-root-clause-costs
+returns-in_err-root-clause-costs g c = λ height is.
+    let changes = c.args.changes.now in
+    let h = c.args.t.now.height in
+    let top = c.height_for-height.result in
+    let few = fewer changes c.run_len-n.result in
+    subst (λ (l : ℕ). Costs (most_puts h l (length changes)) (most_frees h l (length changes)) (g.B.Blocks.account c.args.store.now) (g.B.Blocks.account c.raise.new.store)) (one_height h top height changes c.height_for-height.ensures.height is)
+    (costs_most (most_puts h top (length changes)) (most_frees h top (length changes)) (puts_fewer h top _ (length changes) few) (frees_fewer h top _ (length changes) few) c.raise.ensures.costs)
+
+pub returns-in_err-root-clause-cause : goal.returns-in_err-root-clause-cause
+returns-in_err-root-clause-cause g c = λ height is.
+    let changes = c.args.changes.now in
+    let h = c.args.t.now.height in
+    let top = c.height_for-height.result in
+    let few = fewer changes c.run_len-n.result in
+    let x = c.from_residual in
+    subst (λ (l : ℕ). HasCause (most_puts h l (length changes)) (g.B.Blocks.account c.args.store.now) (g.B.Blocks.account c.raise.new.store) x.result) (one_height h top height changes c.height_for-height.ensures.height is)
+    (cause_from {T = Ptr} x.result c.in_err-root.field-0.0 (err_from_is_err_and x.result x.ensures.1) (cause_most (most_puts h top (length changes)) (puts_fewer h top _ (length changes) few) c.in_err-root.ensures.cause))
 
 pub returns-in_err-root-clause-most : goal.returns-in_err-root-clause-most
 returns-in_err-root-clause-most g c =
     let changes = c.args.changes.now in
     let h = c.args.t.now.height in
-    let top = c.height_for-height.result in
+    let l = c.height_for-height.result in
     let e = c.height_for-height.ensures in
-    costs_most (5 * length changes + 4) (5 * length changes) (puts_most h top changes e.tall e.height) (frees_most h top changes e.tall e.height) c.raise.ensures.costs
+    let few = fewer changes c.run_len-n.result in
+    let puts = puts_fewer h l (length (take c.run_len-n.result changes)) (length changes) few in
+    let frees = frees_fewer h l (length (take c.run_len-n.result changes)) (length changes) few in
+    costs_most (5 * length changes + 4) (5 * length changes) (omega (arith, puts, puts_within h l 5 changes e.tall e.height)) (omega (arith, frees, frees_within h l 5 changes e.tall e.height)) c.raise.ensures.costs
+
+pub returns-in_err-root-clause-within : goal.returns-in_err-root-clause-within
+returns-in_err-root-clause-within g c = λ top grows room.
+    let changes = c.args.changes.now in
+    let h = c.args.t.now.height in
+    let l = c.height_for-height.result in
+    let e = c.height_for-height.ensures in
+    let few = fewer changes c.run_len-n.result in
+    let puts = puts_fewer h l (length (take c.run_len-n.result changes)) (length changes) few in
+    let frees = frees_fewer h l (length (take c.run_len-n.result changes)) (length changes) few in
+    let tall = e.height.least top grows room in
+    costs_most (top * length changes + (top - 1)) (top * length changes) (omega (arith, puts, puts_within h l top changes tall e.height)) (omega (arith, frees, frees_within h l top changes tall e.height)) c.raise.ensures.costs
 
 pub returns-in_err-root-clause-most_cause : goal.returns-in_err-root-clause-most_cause
 returns-in_err-root-clause-most_cause g c =
     let changes = c.args.changes.now in
     let h = c.args.t.now.height in
-    let top = c.height_for-height.result in
+    let l = c.height_for-height.result in
     let e = c.height_for-height.ensures in
+    let few = fewer changes c.run_len-n.result in
+    let puts = puts_fewer h l (length (take c.run_len-n.result changes)) (length changes) few in
     let x = c.from_residual in
-    cause_from {T = Ptr} x.result c.in_err-root.field-0.0 (err_from_is_err_and x.result x.ensures.1) (cause_most (5 * length changes + 4) (puts_most h top changes e.tall e.height) c.in_err-root.ensures.cause)
+    cause_from {T = Ptr} x.result c.in_err-root.field-0.0 (err_from_is_err_and x.result x.ensures.1) (cause_most (5 * length changes + 4) (omega (arith, puts, puts_within h l 5 changes e.tall e.height)) c.in_err-root.ensures.cause)
+
+pub returns-in_err-root-clause-within_cause : goal.returns-in_err-root-clause-within_cause
+returns-in_err-root-clause-within_cause g c = λ top grows room.
+    let changes = c.args.changes.now in
+    let h = c.args.t.now.height in
+    let l = c.height_for-height.result in
+    let e = c.height_for-height.ensures in
+    let few = fewer changes c.run_len-n.result in
+    let puts = puts_fewer h l (length (take c.run_len-n.result changes)) (length changes) few in
+    let tall = e.height.least top grows room in
+    let x = c.from_residual in
+    cause_from {T = Ptr} x.result c.in_err-root.field-0.0 (err_from_is_err_and x.result x.ensures.1) (cause_most (top * length changes + (top - 1)) (omega (arith, puts, puts_within h l top changes tall e.height)) c.in_err-root.ensures.cause)

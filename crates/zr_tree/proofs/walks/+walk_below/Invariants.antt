@@ -1,7 +1,9 @@
 use Rattle.std.proofs.Common.{◌≡◌, ◌-◌, ◌++◌, take}
+use Rattle.std.specs.Prelude.{All}
 use Rattle.std.specs.List.{flat_map}
 use Rattle.zr_store.specs.Causes.{Costs}
-use Rattle.zr_tree.specs.Trees.{reach}
+use Rattle.zr_store.specs.Store.{Stored}
+use Rattle.zr_tree.specs.Trees.{reach, IsSoundAt}
 use Rattle.zr_tree.proofs.walks.+walk_below.Given as goal
 
 abbrev pub decreases-walk_below : goal.decreases-walk_below
@@ -9,8 +11,8 @@ decreases-walk_below g l = l.level
 
 abbrev pub invariant-loop-next : goal.invariant-loop-next
 invariant-loop-next g l = record {
-  told : g.B.Blocks.tells l.fn.store → g.B.Blocks.tells l.store;
   costs : Costs 0 0 (g.B.Blocks.account l.fn.store) (g.B.Blocks.account l.store);
-  same : g.B.Blocks.tells l.fn.store → g.B.Blocks.holds l.store ≡ g.B.Blocks.holds l.fn.store;
-  so_far : g.B.Blocks.tells l.fn.store → l.out.items ≡ l.initial.out.items ++ flat_map (reach (g.B.Blocks.holds l.fn.store) (l.level - 1)) (take l.next-index l.next-items);
+  same : (s : Stored) → g.B.Blocks.holds l.fn.store s → g.B.Blocks.holds l.store s;
+  so_far : (s : Stored) → g.B.Blocks.holds l.fn.store s → l.out.items ≡ l.initial.out.items ++ flat_map (reach s (l.level - 1)) (take l.next-index l.next-items);
+  sound : (s : Stored) → g.B.Blocks.holds l.fn.store s → All (IsSoundAt s (l.level - 1)) (take l.next-index l.next-items);
 }
