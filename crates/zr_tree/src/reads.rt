@@ -36,6 +36,7 @@ pub(crate) fn read_block<B: Blocks>(
     b: &Bptr,
 ) -> Result<Vec<Ptr>, StoreErr>
     requires { below < 5 }
+    ensures follows { (start : B) → B.follows start store.old → B.follows start store.new }
     ensures costs { Costs 0 0 (B.account store.old) (B.account store.new) }
     ensures cause { HasCause 0 (B.account store.old) (B.account store.new) result }
     ensures same { (s : Stored) → B.holds store.old s → B.holds store.new s }
@@ -64,6 +65,7 @@ pub(crate) fn get_below<B: Blocks>(
 ) -> Result<Ptr, StoreErr>
     requires tall { level ≤ 5 }
     requires fits { FitsAt level p.now }
+    ensures follows { (start : B) → B.follows start store.old → B.follows start store.new }
     ensures costs { Costs 0 0 (B.account store.old) (B.account store.new) }
     ensures cause { HasCause 0 (B.account store.old) (B.account store.new) result }
     ensures same { (s : Stored) → B.holds store.old s → B.holds store.new s }
@@ -89,6 +91,7 @@ pub(crate) fn get_below<B: Blocks>(
 /// The leaf pointer at an index.
 pub fn get<B: Blocks>(alloc: Global, store: &mut B, t: &Tree, index: u64) -> Result<Ptr, StoreErr>
     requires tree { IsTree t.now }
+    ensures follows { (start : B) → B.follows start store.old → B.follows start store.new }
     ensures costs { Costs 0 0 (B.account store.old) (B.account store.new) }
     ensures cause { HasCause 0 (B.account store.old) (B.account store.new) result }
     ensures same { (s : Stored) → B.holds store.old s → B.holds store.new s }

@@ -47,6 +47,7 @@ fn open_block<B: Blocks>(
     p: &Ptr,
 ) -> Result<Vec<Ptr>, StoreErr>
     requires { below < 5 }
+    ensures follows { (start : B) → B.follows start store.old → B.follows start store.new }
     ensures costs { Costs 0 0 (B.account store.old) (B.account store.new) }
     ensures cause { HasCause 0 (B.account store.old) (B.account store.new) result }
     ensures errors { (s : Stored) → B.holds store.old s → IsOfLevel (below + 1) p.now → TellsOf s (own p.now) result }
@@ -71,6 +72,7 @@ pub(crate) fn put_block<B: Blocks>(
     requires low { below < 5 }
     requires count { length pointers.now ≡ 32 }
     requires fit { All (FitsAt below) pointers.now }
+    ensures follows { (start : B) → B.follows start store.old → B.follows start store.new }
     ensures costs { Costs 1 0 (B.account store.old) (B.account store.new) }
     ensures cause { HasCause 1 (B.account store.old) (B.account store.new) result }
     ensures errors { (s : Stored) → TellsOf s [] result }
@@ -87,6 +89,7 @@ pub(crate) fn put_block<B: Blocks>(
 
 // Gives back a block, but not those below it.
 fn free_block<B: Blocks>(alloc: Global, store: &mut B, p: &Ptr) -> Result<(), StoreErr>
+    ensures follows { (start : B) → B.follows start store.old → B.follows start store.new }
     ensures costs { Costs 0 1 (B.account store.old) (B.account store.new) }
     ensures cause { HasCause 0 (B.account store.old) (B.account store.new) result }
     ensures errors { (s : Stored) → TellsOf s [] result }
@@ -128,6 +131,7 @@ pub(crate) fn set_below<B: Blocks>(
     requires fits { FitsAt level p.now }
     requires here { AllAt level place changes.now }
     requires leaves { AreLeaves changes.now }
+    ensures follows { (start : B) → B.follows start store.old → B.follows start store.new }
     ensures costs { Costs (level * length changes.now) (level * length changes.now) (B.account store.old) (B.account store.new) }
     ensures cause { HasCause (level * length changes.now) (B.account store.old) (B.account store.new) result }
     ensures errors { (s : Stored) → B.holds store.old s → AreStored (blocks s level p.now) s → TellsOf s (blocks s level p.now) result }
@@ -163,6 +167,7 @@ pub(crate) fn set_each<B: Blocks>(
     requires fit { All (FitsAt (level - 1)) pointers.old.items }
     requires here { AllAt level place changes.now }
     requires leaves { AreLeaves changes.now }
+    ensures follows { (start : B) → B.follows start store.old → B.follows start store.new }
     ensures costs { Costs ((level - 1) * length changes.now) ((level - 1) * length changes.now) (B.account store.old) (B.account store.new) }
     ensures cause { HasCause ((level - 1) * length changes.now) (B.account store.old) (B.account store.new) result }
     ensures errors { (s : Stored) → B.holds store.old s → AreStored (flat_map (blocks s (level - 1)) pointers.old.items) s → TellsOf s (flat_map (blocks s (level - 1)) pointers.old.items) result }

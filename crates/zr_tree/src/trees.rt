@@ -49,6 +49,7 @@ fn raise<B: Blocks>(
     requires tall { level ≤ 5 }
     requires here { AllAt level 0 changes.now }
     requires leaves { AreLeaves changes.now }
+    ensures follows { (start : B) → B.follows start store.old → B.follows start store.new }
     ensures costs { Costs (most_puts t.now.height level (length changes.now)) (most_frees t.now.height level (length changes.now)) (B.account store.old) (B.account store.new) }
     ensures cause { HasCause (most_puts t.now.height level (length changes.now)) (B.account store.old) (B.account store.new) result }
     ensures errors { (s : Stored) → B.holds store.old s → AreStored (tree_blocks s t.now) s → TellsOf s (tree_blocks s t.now) result }
@@ -80,6 +81,7 @@ pub fn set_all<B: Blocks>(
     requires below { All (λ change. change.0 < 2 ^ 25) changes.now }
     requires leaves { AreLeaves changes.now }
     requires rises { Rises changes.now }
+    ensures follows { (start : B) → B.follows start store.old → B.follows start store.new }
     ensures costs { (height : ℕ) → IsHeightFor t.now.height changes.now height → Costs (most_puts t.now.height height (length changes.now)) (most_frees t.now.height height (length changes.now)) (B.account store.old) (B.account store.new) }
     ensures cause { (height : ℕ) → IsHeightFor t.now.height changes.now height → HasCause (most_puts t.now.height height (length changes.now)) (B.account store.old) (B.account store.new) result }
     ensures within { (top : ℕ) → t.now.height ≤ top → HasRoom top changes.now → Costs (top * length changes.now + (top - 1)) (top * length changes.now) (B.account store.old) (B.account store.new) }

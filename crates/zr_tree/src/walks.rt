@@ -22,6 +22,7 @@ fn walk_below<B: Blocks>(
     out: &mut Vec<Bptr>,
 ) -> Result<(), StoreErr>
     requires { level ≤ 5 }
+    ensures follows { (start : B) → B.follows start store.old → B.follows start store.new }
     ensures costs { Costs 0 0 (B.account store.old) (B.account store.new) }
     ensures cause { HasCause 0 (B.account store.old) (B.account store.new) result }
     ensures same { (s : Stored) → B.holds store.old s → B.holds store.new s }
@@ -48,6 +49,7 @@ fn walk_below<B: Blocks>(
 /// The tree blocks and the leaves, each block before what lies below it.
 pub fn walk<B: Blocks>(alloc: Global, store: &mut B, t: &Tree) -> Result<Vec<Bptr>, StoreErr>
     requires { IsTree t.now }
+    ensures follows { (start : B) → B.follows start store.old → B.follows start store.new }
     ensures costs { Costs 0 0 (B.account store.old) (B.account store.new) }
     ensures cause { HasCause 0 (B.account store.old) (B.account store.new) result }
     ensures same { (s : Stored) → B.holds store.old s → B.holds store.new s }
@@ -78,6 +80,7 @@ fn walk_marked_below<B: Blocks, M: Mark>(
     m: &mut M,
 ) -> Result<bool, StoreErr>
     requires { level ≤ 5 }
+    ensures follows { (start : B) → B.follows start store.old → B.follows start store.new }
     ensures costs { Costs 0 0 (B.account store.old) (B.account store.new) }
     ensures cause { HasCause 0 (B.account store.old) (B.account store.new) result }
     ensures same { (s : Stored) → B.holds store.old s → B.holds store.new s }
@@ -113,6 +116,7 @@ pub fn walk_marked<B: Blocks, M: Mark>(
     m: &mut M,
 ) -> Result<bool, StoreErr>
     requires { IsTree t.now }
+    ensures follows { (start : B) → B.follows start store.old → B.follows start store.new }
     ensures costs { Costs 0 0 (B.account store.old) (B.account store.new) }
     ensures cause { HasCause 0 (B.account store.old) (B.account store.new) result }
     ensures same { (s : Stored) → B.holds store.old s → B.holds store.new s }

@@ -68,6 +68,7 @@ set_each-loop-from-preserved g t c = record {
   within = search rules;
   low = search rules;
   count = search rules;
+  follows = λ start so_far. c.set_below.ensures.follows start (c.loop-from.invariant.follows start so_far);
   fit = All-set (FitsAt (c.args.level - 1)) c.loop-from.pointers.items (c.place_of-child.result % 32) c.in_ok-new.new c.in_ok-new.ensures.fits c.loop-from.invariant.fit;
   costs =
       let changes = c.args.changes.now in

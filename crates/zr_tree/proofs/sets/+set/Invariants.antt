@@ -19,6 +19,7 @@ invariant-set_each-loop-from g l = record {
   low : l.below + 1 ≡ l.level;
   count : length l.pointers.items ≡ 32;
   fit : All (FitsAt l.below) l.pointers.items;
+  follows : (start : g.row.B.Denot) → g.B.Blocks.follows start l.fn.store → g.B.Blocks.follows start l.store;
   costs : Costs (l.below * l.from) (l.below * l.from) (g.B.Blocks.account l.fn.store) (g.B.Blocks.account l.store);
   sets : (s : Stored) → g.B.Blocks.holds l.fn.store s → AreStored (flat_map (blocks s l.below) l.fn.pointers.items) s → Now (g.B.Blocks.holds l.store) (λ n. SetsEach l.below l.place (take l.from l.changes) s n l.fn.pointers.items l.pointers.items);
 }

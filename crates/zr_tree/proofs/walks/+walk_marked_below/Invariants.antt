@@ -11,6 +11,7 @@ decreases-walk_marked_below g l = l.level
 
 abbrev pub invariant-loop-next : goal.invariant-loop-next
 invariant-loop-next g l = record {
+  follows : (start : g.row.B.Denot) → g.B.Blocks.follows start l.fn.store → g.B.Blocks.follows start l.store;
   costs : Costs 0 0 (g.B.Blocks.account l.fn.store) (g.B.Blocks.account l.store);
   same : (s : Stored) → g.B.Blocks.holds l.fn.store s → g.B.Blocks.holds l.store s;
   so_far : (s : Stored) → g.B.Blocks.holds l.fn.store s → g.M.Mark.marked l.m ≡ g.M.Mark.marked l.initial.m ++ flat_map (reach s (l.level - 1)) (take l.next-index l.next-items);
