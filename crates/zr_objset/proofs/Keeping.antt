@@ -17,7 +17,7 @@ use Rattle.zr_objset.proofs.Within.{blocks_within, leaf_within}
 
 module _ (old new : Stored) where
   -- a tree of which all blocks stay
-  tree_same : (t : Tree) → Agree old new (tree_reach old t) → KeepsTree old new t
+  pub tree_same : (t : Tree) → Agree old new (tree_reach old t) → KeepsTree old new t
   tree_same t a = keeps old new t (λ b h. let w = blocks_within old t (one_at b.at) in a.same b (omega (arith, w, h)))
 
   -- the leaf at an index has its bytes

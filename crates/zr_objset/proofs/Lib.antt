@@ -3,3 +3,8 @@ pub mod Within
 pub mod Tells
 pub mod Walking
 pub mod Keeping
+pub mod Changing
+pub mod Runs
+pub mod Freeing
+pub mod Early
+pub mod Storing

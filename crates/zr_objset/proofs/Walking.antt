@@ -34,11 +34,10 @@ directory_within s t weight =
     omega (arith, one, sum_by-append weight (tree_reach s t) (flat_map (leaf_reach s) (tree_reach s t)))
 
 -- an error that a leaf of the directory has brought
-pub leaf_tells : {T : Type 0} (s u : Stored) (t : Tree) (items : List Bptr) (i : ℕ) (d : Bptr) (r : Result T StoreErr) → u ≡ s → items ≡ tree_reach s t → i < length items
-    → TellsOfLeaves u (get_or items i d ∷ leaf_reach u (get_or items i d)) (get_or items i d ∷ []) (IsBadLeaf u) r → TellsOfLeaves s (all_reach s t) (tree_reach s t) (IsBadLeaf s) r
-leaf_tells s u t items i d r same items_are lt h =
+pub leaf_tells : {T : Type 0} (s : Stored) (t : Tree) (items : List Bptr) (i : ℕ) (d : Bptr) (r : Result T StoreErr) → items ≡ tree_reach s t → i < length items
+    → TellsOfLeaves s (get_or items i d ∷ leaf_reach s (get_or items i d)) (get_or items i d ∷ []) (IsBadLeaf s) r → TellsOfLeaves s (all_reach s t) (tree_reach s t) (IsBadLeaf s) r
+leaf_tells s t items i d r items_are lt here =
     let x = get_or items i d in
-    let here = subst (λ (v : Stored). TellsOfLeaves v (x ∷ leaf_reach v x) (x ∷ []) (IsBadLeaf v) r) same h in
     subst (λ (xs : List Bptr). TellsOfLeaves s (xs ++ flat_map (leaf_reach s) xs) xs (IsBadLeaf s) r) items_are
     (tells_more s (x ∷ leaf_reach s x) (items ++ flat_map (leaf_reach s) items) (x ∷ []) items (IsBadLeaf s) (IsBadLeaf s) r (both_within (leaf_reach s) items i d lt) (one_within items i d lt) (λ y bad. bad) here)
 
@@ -46,17 +45,15 @@ take_next : (items : List Bptr) (i : ℕ) (d : Bptr) → i < length items → ta
 take_next items i d lt = let e : i + 1 ≡ suc i = omega arith in ap (λ (n : ℕ). take n items) e ∙ take-suc items i d lt
 
 -- one leaf more has its form
-pub formed_more : (s u : Stored) (items : List Bptr) (i : ℕ) (d : Bptr) → i < length items → u ≡ s → All (IsFormed s) (take i items) → IsFormed u (get_or items i d) → All (IsFormed s) (take (i + 1) items)
-formed_more s u items i d lt same all h =
-    let x = get_or items i d in
-    subst (All (IsFormed s)) (sym (take_next items i d lt)) (All-push (IsFormed s) (take i items) x all (subst (λ (v : Stored). IsFormed v x) same h))
+pub formed_more : (s : Stored) (items : List Bptr) (i : ℕ) (d : Bptr) → i < length items → All (IsFormed s) (take i items) → IsFormed s (get_or items i d) → All (IsFormed s) (take (i + 1) items)
+formed_more s items i d lt all h = subst (All (IsFormed s)) (sym (take_next items i d lt)) (All-push (IsFormed s) (take i items) (get_or items i d) all h)
 
 -- the objects of one leaf more
-pub reach_more : (s u : Stored) (items : List Bptr) (i : ℕ) (d : Bptr) (old mid new : List Bptr) → i < length items → u ≡ s → mid ≡ old ++ flat_map (leaf_reach s) (take i items) → new ≡ mid ++ leaf_reach u (get_or items i d)
+pub reach_more : (s : Stored) (items : List Bptr) (i : ℕ) (d : Bptr) (old mid new : List Bptr) → i < length items → mid ≡ old ++ flat_map (leaf_reach s) (take i items) → new ≡ mid ++ leaf_reach s (get_or items i d)
     → new ≡ old ++ flat_map (leaf_reach s) (take (i + 1) items)
-reach_more s u items i d old mid new lt same mid_is new_is =
+reach_more s items i d old mid new lt mid_is new_is =
     let x = get_or items i d in
     let before = flat_map (leaf_reach s) (take i items) in
     let next = flat_map-append (leaf_reach s) (take i items) (x ∷ []) in
-    new_is ∙ ap (λ (m : List Bptr). m ++ leaf_reach u x) mid_is ∙ ap (λ (v : Stored). (old ++ before) ++ leaf_reach v x) same ∙ append_assoc old before (leaf_reach s x)
+    new_is ∙ ap (λ (m : List Bptr). m ++ leaf_reach s x) mid_is ∙ append_assoc old before (leaf_reach s x)
     ∙ ap (λ (ys : List Bptr). old ++ ys) (ap (λ (zs : List Bptr). before ++ zs) (sym (append-nil (leaf_reach s x))) ∙ sym next ∙ ap (flat_map (leaf_reach s)) (sym (take_next items i d lt)))

@@ -14,7 +14,7 @@ use Rattle.zr_tree.proofs.Wholes.{Within, within_front}
 pub within_same : (xs : List Bptr) → Within xs xs
 within_same xs weight = omega arith
 
-slot_within : (f : Ptr → List Bptr) → f Hole ≡ [] → (ps : List Ptr) (k : ℕ) → Within (f (slot ps k)) (flat_map f ps)
+pub slot_within : (f : Ptr → List Bptr) → f Hole ≡ [] → (ps : List Ptr) (k : ℕ) → Within (f (slot ps k)) (flat_map f ps)
 slot_within f none [] k weight = let e = ap (sum_by weight) none in omega (arith, e)
 slot_within f none (p ∷ ps) zero weight = within_front (f p) (flat_map f ps) weight
 slot_within f none (p ∷ ps) (suc k) weight =

@@ -6,10 +6,12 @@
 
 mod laws;
 mod reads;
+mod stores;
 mod walks;
 
 pub use laws::frame;
 pub use reads::{block, look};
+pub use stores::store;
 pub use walks::walk;
 
 #[cfg(test)]

@@ -4,6 +4,7 @@
 ghost use Rattle.std.specs.Prelude.{◌≡◌, ◌*◌, ◌/◌, ◌<◌, ◌≤◌, ◌∷◌, [], List, ℕ, length, replicate, IfOk, IfSome};
 ghost use Rattle.std.specs.List.{AllByRecursion};
 ghost use Rattle.zr_store.specs.Causes.{Costs, HasCause};
+ghost use Rattle.zr_store.specs.Store.{Stored};
 ghost use Rattle.zr_bptr.specs.Spelling.{IsTree, IsObject, SpellsRecords};
 ghost use Rattle.zr_tree.specs.Trees.{own, tree_at, tree_reach};
 ghost use Rattle.zr_objset.specs.Records.{records_in, record_of, block_of};
@@ -22,13 +23,12 @@ pub(crate) fn read_records<B: Blocks>(
 ) -> Result<Vec<Option<ObjRec>>, StoreErr>
     ensures costs { Costs 0 0 (B.account store.old) (B.account store.new) }
     ensures cause { HasCause 0 (B.account store.old) (B.account store.new) result }
-    ensures told { B.tells store.old → B.tells store.new }
-    ensures same { B.tells store.old → B.holds store.new ≡ B.holds store.old }
-    ensures errors { B.tells store.old → TellsOfLeaves (B.holds store.old) (b.now ∷ []) (b.now ∷ []) (IsNoLeaf (B.holds store.old)) result }
+    ensures same { (s : Stored) → B.holds store.old s → B.holds store.new s }
+    ensures errors { (s : Stored) → B.holds store.old s → TellsOfLeaves s (b.now ∷ []) (b.now ∷ []) (IsNoLeaf s) result }
     ensures count { IfOk result (λ records. length records.items ≡ 16) }
     ensures lawful { IfOk result (λ records. AllByRecursion (λ r. IfSome r IsObject) records.items) }
-    ensures formed { B.tells store.old → IfOk result (λ records. SpellsRecords ((B.holds store.old).bytes b.now) records.items) }
-    ensures means { B.tells store.old → IfOk result (λ records. records.items ≡ records_in ((B.holds store.old).bytes b.now)) }
+    ensures formed { (s : Stored) → B.holds store.old s → IfOk result (λ records. SpellsRecords (s.bytes b.now) records.items) }
+    ensures means { (s : Stored) → B.holds store.old s → IfOk result (λ records. records.items ≡ records_in (s.bytes b.now)) }
 {
     let bytes = store.get(alloc, b)?;
     match decode_records(alloc, bytes.as_slice())? {
@@ -52,12 +52,11 @@ pub fn look<B: Blocks>(
     requires id { id < 65536 }
     ensures costs { Costs 0 0 (B.account store.old) (B.account store.new) }
     ensures cause { HasCause 0 (B.account store.old) (B.account store.new) result }
-    ensures told { B.tells store.old → B.tells store.new }
-    ensures same { B.tells store.old → B.holds store.new ≡ B.holds store.old }
-    ensures errors { B.tells store.old → TellsOfLeaves (B.holds store.old) (tree_reach (B.holds store.old) dir.now) (own (tree_at (B.holds store.old) dir.now (id / 16))) (IsNoLeaf (B.holds store.old)) result }
+    ensures same { (s : Stored) → B.holds store.old s → B.holds store.new s }
+    ensures errors { (s : Stored) → B.holds store.old s → TellsOfLeaves s (tree_reach s dir.now) (own (tree_at s dir.now (id / 16))) (IsNoLeaf s) result }
     ensures lawful { IfOk result (λ r. IfSome r IsObject) }
-    ensures formed { B.tells store.old → IfOk result (λ r. IsRecordLeaf (B.holds store.old) (tree_at (B.holds store.old) dir.now (id / 16))) }
-    ensures record { B.tells store.old → IfOk result (λ r. r ≡ record_of (B.holds store.old) dir.now id) }
+    ensures formed { (s : Stored) → B.holds store.old s → IfOk result (λ r. IsRecordLeaf s (tree_at s dir.now (id / 16))) }
+    ensures record { (s : Stored) → B.holds store.old s → IfOk result (λ r. r ≡ record_of s dir.now id) }
 {
     let leaf = get(alloc, store, dir, u64::from(id / 16))?;
     match &leaf {
@@ -86,11 +85,10 @@ pub fn block<B: Blocks>(
     requires { IsObject rec.now }
     ensures costs { Costs 0 0 (B.account store.old) (B.account store.new) }
     ensures cause { HasCause 0 (B.account store.old) (B.account store.new) result }
-    ensures told { B.tells store.old → B.tells store.new }
-    ensures same { B.tells store.old → B.holds store.new ≡ B.holds store.old }
-    ensures errors { B.tells store.old → TellsOfLeaves (B.holds store.old) (tree_reach (B.holds store.old) rec.now.tree) (own (tree_at (B.holds store.old) rec.now.tree index)) (IsOtherSize rec.now.units) result }
-    ensures size { B.tells store.old → IfOk result (λ bytes. IsOfSize rec.now.units (tree_at (B.holds store.old) rec.now.tree index)) }
-    ensures bytes { B.tells store.old → IfOk result (λ bytes. bytes.items ≡ block_of (B.holds store.old) rec.now index) }
+    ensures same { (s : Stored) → B.holds store.old s → B.holds store.new s }
+    ensures errors { (s : Stored) → B.holds store.old s → TellsOfLeaves s (tree_reach s rec.now.tree) (own (tree_at s rec.now.tree index)) (IsOtherSize rec.now.units) result }
+    ensures size { (s : Stored) → B.holds store.old s → IfOk result (λ bytes. IsOfSize rec.now.units (tree_at s rec.now.tree index)) }
+    ensures bytes { (s : Stored) → B.holds store.old s → IfOk result (λ bytes. bytes.items ≡ block_of s rec.now index) }
 {
     let leaf = get(alloc, store, &rec.tree, index)?;
     let b = match &leaf {

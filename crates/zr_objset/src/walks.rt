@@ -1,6 +1,7 @@
 //! The walk over all that a directory leads to: its own tree, then the objects by rising ID.
 ghost use Rattle.std.specs.Prelude.{◌≡◌, ◌≤◌, ◌++◌, ◌∷◌, [], All, OnOk, IfOk, IfSome};
 ghost use Rattle.zr_store.specs.Causes.{Costs, HasCause};
+ghost use Rattle.zr_store.specs.Store.{Stored};
 ghost use Rattle.zr_bptr.specs.Spelling.{IsTree, IsObject};
 ghost use Rattle.zr_tree.specs.Trees.{tree_reach, TellsOf};
 ghost use Rattle.zr_objset.specs.Records.{object_reach, leaf_reach, all_reach};
@@ -20,10 +21,9 @@ fn walk_object<B: Blocks>(
     requires { IfSome object.now IsObject }
     ensures costs { Costs 0 0 (B.account store.old) (B.account store.new) }
     ensures cause { HasCause 0 (B.account store.old) (B.account store.new) result }
-    ensures told { B.tells store.old → B.tells store.new }
-    ensures same { B.tells store.old → B.holds store.new ≡ B.holds store.old }
-    ensures errors { B.tells store.old → TellsOf (B.holds store.old) (object_reach (B.holds store.old) object.now) result }
-    ensures reach { B.tells store.old → OnOk result (out.new.items ≡ out.old.items ++ object_reach (B.holds store.old) object.now) }
+    ensures same { (s : Stored) → B.holds store.old s → B.holds store.new s }
+    ensures errors { (s : Stored) → B.holds store.old s → TellsOf s (object_reach s object.now) result }
+    ensures reach { (s : Stored) → B.holds store.old s → OnOk result (out.new.items ≡ out.old.items ++ object_reach s object.now) }
 {
     let Some(r) = object else {
         return Ok(());
@@ -42,11 +42,10 @@ fn walk_leaf<B: Blocks>(
 ) -> Result<(), StoreErr>
     ensures costs { Costs 0 0 (B.account store.old) (B.account store.new) }
     ensures cause { HasCause 0 (B.account store.old) (B.account store.new) result }
-    ensures told { B.tells store.old → B.tells store.new }
-    ensures same { B.tells store.old → B.holds store.new ≡ B.holds store.old }
-    ensures errors { B.tells store.old → TellsOfLeaves (B.holds store.old) (b.now ∷ leaf_reach (B.holds store.old) b.now) (b.now ∷ []) (IsBadLeaf (B.holds store.old)) result }
-    ensures formed { B.tells store.old → OnOk result (IsFormed (B.holds store.old) b.now) }
-    ensures reach { B.tells store.old → OnOk result (out.new.items ≡ out.old.items ++ leaf_reach (B.holds store.old) b.now) }
+    ensures same { (s : Stored) → B.holds store.old s → B.holds store.new s }
+    ensures errors { (s : Stored) → B.holds store.old s → TellsOfLeaves s (b.now ∷ leaf_reach s b.now) (b.now ∷ []) (IsBadLeaf s) result }
+    ensures formed { (s : Stored) → B.holds store.old s → OnOk result (IsFormed s b.now) }
+    ensures reach { (s : Stored) → B.holds store.old s → OnOk result (out.new.items ≡ out.old.items ++ leaf_reach s b.now) }
 {
     if b.level != 0 {
         return Ok(());
@@ -65,11 +64,10 @@ pub fn walk<B: Blocks>(alloc: Global, store: &mut B, dir: &Tree) -> Result<Vec<B
     requires low { dir.now.height ≤ 3 }
     ensures costs { Costs 0 0 (B.account store.old) (B.account store.new) }
     ensures cause { HasCause 0 (B.account store.old) (B.account store.new) result }
-    ensures told { B.tells store.old → B.tells store.new }
-    ensures same { B.tells store.old → B.holds store.new ≡ B.holds store.old }
-    ensures errors { B.tells store.old → TellsOfLeaves (B.holds store.old) (all_reach (B.holds store.old) dir.now) (tree_reach (B.holds store.old) dir.now) (IsBadLeaf (B.holds store.old)) result }
-    ensures formed { B.tells store.old → OnOk result (All (IsFormed (B.holds store.old)) (tree_reach (B.holds store.old) dir.now)) }
-    ensures reach { B.tells store.old → IfOk result (λ pointers. pointers.items ≡ all_reach (B.holds store.old) dir.now) }
+    ensures same { (s : Stored) → B.holds store.old s → B.holds store.new s }
+    ensures errors { (s : Stored) → B.holds store.old s → TellsOfLeaves s (all_reach s dir.now) (tree_reach s dir.now) (IsBadLeaf s) result }
+    ensures formed { (s : Stored) → B.holds store.old s → OnOk result (All (IsFormed s) (tree_reach s dir.now)) }
+    ensures reach { (s : Stored) → B.holds store.old s → IfOk result (λ pointers. pointers.items ≡ all_reach s dir.now) }
 {
     let own = zr_tree::walk(alloc, store, dir)?;
     let mut out = Vec::from_slice(alloc, own.as_slice())?;

@@ -1,7 +1,5 @@
-use Rattle.std.proofs.Common.{◌∙◌, ◌<◌, ◌∷◌, [], Err, length, get_or, None, subst, arith}
+use Rattle.std.proofs.Common.{◌∙◌, ◌<◌, ◌∷◌, [], length, get_or, None, arith}
 use Rattle.std.proofs.lemmas.Result.{err_from_is_err_and}
-use Rattle.zr_store.specs.Store.{Stored}
-use Rattle.zr_tree.specs.Trees.{TellsOf}
 use Rattle.zr_objset.specs.Records.{object_reach, leaf_reach}
 use Rattle.zr_objset.specs.Errors.{IsBadLeaf}
 use Rattle.zr_objset.proofs.Tells.{leaves_from, tells_bad_leaf, tells_tree}
@@ -9,16 +7,14 @@ use Rattle.zr_objset.proofs.Walking.{object_within}
 use Rattle.zr_objset.proofs.walks.walk_leaf.Goals as goal
 
 pub returns-in_err-records-clause-errors : goal.returns-in_err-records-clause-errors
-returns-in_err-records-clause-errors g c = λ told.
-    let s = g.B.Blocks.holds c.args.store.now in
+returns-in_err-records-clause-errors g c = λ s holds.
     let b = c.args.b.now in
     let e = c.in_err-records in
     let x = c.from_residual in
-    leaves_from s (b ∷ leaf_reach s b) (b ∷ []) (IsBadLeaf s) x.result e.field-0.0 (err_from_is_err_and x.result x.ensures.1) (tells_bad_leaf s b (leaf_reach s b) _ c.if-b-ne0.false (e.ensures.errors told))
+    leaves_from s (b ∷ leaf_reach s b) (b ∷ []) (IsBadLeaf s) x.result e.field-0.0 (err_from_is_err_and x.result x.ensures.1) (tells_bad_leaf s b (leaf_reach s b) _ c.if-b-ne0.false (e.ensures.errors s holds))
 
 pub returns-in_err-walk_object-clause-errors : goal.returns-in_err-walk_object-clause-errors
-returns-in_err-walk_object-clause-errors g c = λ told.
-    let s = g.B.Blocks.holds c.args.store.now in
+returns-in_err-walk_object-clause-errors g c = λ s holds.
     let b = c.args.b.now in
     let items = c.deref-object-items.result.now in
     let i = c.loop-object.object-index in
@@ -26,6 +22,6 @@ returns-in_err-walk_object-clause-errors g c = λ told.
     let lt : i < length items = omega arith in
     let e = c.in_err-walk_object in
     let x = c.from_residual-in_err-walk_object in
-    let below = subst (λ (u : Stored). TellsOf {T = Unit {0}} u (object_reach u object) (Err e.field-0.0)) (c.loop-object.invariant.same told) (e.ensures.errors (c.loop-object.invariant.told told)) in
-    let within = object_within s b items i None c.if-b-ne0.false (c.deref-object-items.ensures.value ∙ c.in_ok-records.ensures.means told) lt in
+    let below = e.ensures.errors s (c.loop-object.invariant.same s holds) in
+    let within = object_within s b items i None c.if-b-ne0.false (c.deref-object-items.ensures.value ∙ c.in_ok-records.ensures.means s holds) lt in
     leaves_from s (b ∷ leaf_reach s b) (b ∷ []) (IsBadLeaf s) x.result e.field-0.0 (err_from_is_err_and x.result x.ensures.1) (tells_tree s (object_reach s object) (b ∷ leaf_reach s b) (b ∷ []) (IsBadLeaf s) _ within below)
