@@ -18,14 +18,15 @@ use Rattle.zr_bptr.specs.declared.Ptr.TheVariants.{Hole, At}
 use Rattle.zr_bptr.specs.declared.Tree.{Tree}
 use Rattle.zr_bptr.specs.Spelling.{fill_of}
 use Rattle.zr_owed.proofs.TreeUnits.{tree_units-one, tree_units-more}
-use Rattle.zr_store.specs.Store.{Stored, Swaps, AreStored, hits, one_at}
+use Rattle.zr_store.specs.Store.{Stored, Swaps, AreStored, Now, hits, one_at}
 use Rattle.zr_tree.specs.Blocks.{FitsAt}
 use Rattle.zr_tree.specs.Trees.{kids, slot, leaf_at, leaves_below, blocks, IsAmong, IsWhole, tree_at, tree_blocks, tree_leaves, tree_reach}
 use Rattle.zr_tree.proofs.Frames.{Agree, frame, each_blocks, each_leaf_list, each_leaves, hole_leaf}
 use Rattle.zr_tree.proofs.Holes.{inside}
 use Rattle.zr_tree.proofs.Sums.{one_of}
 use Rattle.zr_tree.proofs.Wholes.{among_hits, among_parts, among_own, whole_again}
-use Rattle.zr_root.specs.Streams.{AreWhole, IsUnitAt, IsGroup, Joins}
+use Rattle.zr_root.specs.Streams.{AreWhole, IsUnitAt, IsGroup, PutsBlocks, Joins}
+use Rattle.zr_root.proofs.Lists.{flat_pieces}
 use Rattle.zr_root.proofs.Steps.{blocks_at, leaves_at, level_place, level_blocks, level_leaves}
 
 -- ---- numbers
@@ -143,7 +144,7 @@ join_one level s (b ∷ []) d one = record {
 
 -- ---- one level more
 
-all_among : (s : Stored) (b : Bptr) (bs : List Bptr) → All (IsWhole s) bs → IsAmong b bs → IsWhole s b
+pub all_among : (s : Stored) (b : Bptr) (bs : List Bptr) → All (IsWhole s) bs → IsAmong b bs → IsWhole s b
 all_among s b [] h among = absurd (let n = among_hits b [] among in omega (arith, n))
 all_among s b (x ∷ xs) h among = elim (among_parts b (x ∷ []) xs among) [
   | inl here ↦ among_own s (At x) b (All-head (IsWhole s) x xs h) here
@@ -185,10 +186,13 @@ module _ (level n : ℕ) (bs tops : List Bptr) (s0 s1 : Stored) (came : Swaps s0
         ]);
   }
 
--- the same under the names of a call
-pub join_all : (level above n : ℕ) (bs tops xs : List Bptr) (s0 s1 s2 : Stored) (t : Tree) → above ≡ suc level → xs ≡ tops → Swaps s0 s1 [] tops → flat_map (kids s1 level) tops ≡ map At bs ++ replicate n Hole → AreStored (blocks_at s0 level bs) s0 → All (IsWhole s1) tops
-    → (AreStored (blocks_at s1 above xs) s1 → Joins above xs s1 s2 t) → Joins level bs s0 s2 t
-join_all level above n bs tops xs s0 s1 s2 t above_is xs_are came holds held whole up =
-    let a = subst (λ (l : ℕ). AreStored (blocks_at s1 l xs) s1 → Joins l xs s1 s2 t) above_is up in
-    let b = subst (λ (ys : List Bptr). AreStored (blocks_at s1 (suc level) ys) s1 → Joins (suc level) ys s1 s2 t) xs_are a in
-    join_more level n bs tops s0 s1 came holds held s2 t whole (b (join_held level n bs tops s0 s1 came holds held))
+-- the same of a store that goes on, under the names of a call
+pub join_now : (had has : Stored → Type 0) (level above n m : ℕ) (bs tops xs : List Bptr) (pieces : List (List Ptr)) (all : List Ptr) (s : Stored) (t : Tree) → above ≡ suc level → xs ≡ tops → Now had (λ x. PutsBlocks level pieces s x tops) → pieces ≡ first_chunks 32 m all → length all ≡ 32 * m → all ≡ map At bs ++ replicate n Hole
+    → AreStored (blocks_at s level bs) s → ((x : Stored) → had x → AreStored (blocks_at x above xs) x → Now has (λ y. Joins above xs x y t)) → Now has (λ y. Joins level bs s y t)
+join_now had has level above n m bs tops xs pieces all s t above_is xs_are put cut long is held up =
+    let s1 = put.stored in
+    let holds = flat_pieces (kids s1 level) tops 32 m all long (put.is.pointers ∙ cut) ∙ is in
+    let a = subst (λ (l : ℕ). AreStored (blocks_at s1 l xs) s1 → Now has (λ y. Joins l xs s1 y t)) above_is (up s1 put.held) in
+    let b = subst (λ (ys : List Bptr). AreStored (blocks_at s1 (suc level) ys) s1 → Now has (λ y. Joins (suc level) ys s1 y t)) xs_are a in
+    let top = b (join_held level n bs tops s s1 put.is.came holds held) in
+    record { stored = top.stored; held = top.held; is = join_more level n bs tops s s1 put.is.came holds held top.stored t put.is.whole top.is }

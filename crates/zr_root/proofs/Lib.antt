@@ -5,3 +5,7 @@ pub mod Joining
 pub mod Costing
 pub mod Written
 pub mod Words
+pub mod Shapes
+pub mod Reading
+pub mod Standing
+pub mod Beside

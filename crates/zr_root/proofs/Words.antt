@@ -8,11 +8,13 @@ use Rattle.zr_bptr.specs.declared.Bptr.{Bptr}
 use Rattle.zr_bptr.specs.declared.Ptr.{Ptr}
 use Rattle.zr_bptr.specs.declared.Ptr.TheVariants.{Hole, At}
 use Rattle.zr_bptr.specs.declared.Tree.{Tree}
-use Rattle.zr_store.specs.Store.{Stored, Swaps}
+use Rattle.zr_base.specs.Words.{words}
+use Rattle.zr_store.specs.Store.{Stored, Swaps, Now}
 use Rattle.zr_meta.specs.Heads.{IsTreeOf}
 use Rattle.zr_tree.specs.Trees.{tree_at, tree_reach}
 use Rattle.zr_tree.proofs.Wholes.{among_hits}
-use Rattle.zr_root.specs.Streams.{IsUnitAt, HasBytes, HasWords, StoresBytes}
+use Rattle.zr_root.specs.Streams.{IsUnitAt, HasBytes, HasWords, StoresBytes, StoresWords}
+use Rattle.zr_root.proofs.Puts.{came_none}
 use Rattle.zr_root.proofs.Joining.{ceil_of}
 
 -- 512 words are 4,096 bytes
@@ -40,6 +42,7 @@ hole_bytes s = record {
   };
   count = refl;
   long = λ i d lt. absurd (omega arith);
+  sums = λ i d lt. absurd (omega arith);
   spelling = refl;
 }
 
@@ -47,12 +50,24 @@ pub hole_words : (s : Stored) (ns : List ℕ) → length ns ≡ 0 → HasWords s
 hole_words s [] none = record { count = refl; bytes = hole_bytes s }
 hole_words s (n ∷ ns) none = absurd (omega (arith, none))
 
-one_height : (n a b : ℕ) → IsHeight n a → IsHeight n b → a ≡ b
+-- no words are stored without a block
+pub hole_stores : (has : Stored → Type 0) (s : Stored) (ns : List ℕ) → has s → length ns ≡ 0 → Now has (λ n. StoresWords s n (record { words = 0; tree = record { root = Hole; height = 0 } }) ns)
+hole_stores has s ns held none = record { stored = s; held = held; is = record { came = came_none s; stands = hole_words s ns none } }
+
+-- the words of the bytes
+pub stores_words : (has : Stored → Type 0) (s : Stored) (t : Tree) (bytes ns : List ℕ) (xs : List ℕ) → xs ≡ bytes → bytes ≡ words ns → Now has (λ n. StoresBytes s n t xs) → Now has (λ n. StoresWords s n (record { words = length ns; tree = t }) ns)
+stores_words has s t bytes ns xs same are h = record {
+  stored = h.stored;
+  held = h.held;
+  is = record { came = h.is.came; stands = record { count = refl; bytes = subst (HasBytes h.stored t) (same ∙ are) h.is.stands } };
+}
+
+pub one_height : (n a b : ℕ) → IsHeight n a → IsHeight n b → a ≡ b
 one_height n a b h k = le_antisymm (h.least b k.reaches) (k.least a h.reaches)
 
-pub stores_bytes : (old new : Stored) (t : Tree) (n height : ℕ) (bytes : List ℕ) → IsHeight n t.height → IsHeight n height → Swaps old new [] (tree_reach new t) → HasBytes new t bytes → StoresBytes old new (record { root = t.root; height = height }) bytes
-stores_bytes old new t n height bytes tall is came has =
-    subst (λ (h : ℕ). StoresBytes old new (record { root = t.root; height = h }) bytes) (one_height n t.height height tall is) (record { came = came; stands = has })
+pub stores_bytes : (has : Stored → Type 0) (old : Stored) (t : Tree) (n height : ℕ) (bytes : List ℕ) → IsHeight n t.height → IsHeight n height → Now has (λ new. StoresBytes old new t bytes) → Now has (λ new. StoresBytes old new (record { root = t.root; height = height }) bytes)
+stores_bytes has old t n height bytes tall is h =
+    subst (λ (k : ℕ). Now has (λ new. StoresBytes old new (record { root = t.root; height = k }) bytes)) (one_height n t.height height tall is) (record { stored = h.stored; held = h.held; is = record { came = h.is.came; stands = h.is.stands } })
 
 pub root_unit : (t : Tree) (n height : ℕ) → IsHeight n t.height → IsHeight n height → (b : Bptr) × (t.root ≡ At b) × IsUnitAt t.height b → (b : Bptr) × (t.root ≡ At b) × IsUnitAt height b
 root_unit t n height tall is (b, root_is, unit) = (b, root_is, subst (λ (h : ℕ). IsUnitAt h b) (one_height n t.height height tall is) unit)

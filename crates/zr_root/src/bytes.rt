@@ -10,10 +10,11 @@ ghost use Rattle.zr_bptr.specs.declared.Ptr.TheVariants.{Hole, At};
 ghost use Rattle.zr_bptr.specs.declared.Bptr.{Bptr};
 ghost use Rattle.zr_bptr.specs.declared.Tree.{Tree};
 ghost use Rattle.zr_store.specs.Causes.{Costs, HasCause};
-ghost use Rattle.zr_store.specs.Store.{Swaps};
+ghost use Rattle.sha2.specs.Sha256.{sha256};
+ghost use Rattle.zr_store.specs.Store.{Stored, Puts, Now};
 ghost use Rattle.zr_meta.specs.Heads.{IsTreeOf};
-ghost use Rattle.zr_tree.specs.Trees.{tree_reach, TellsOf};
-ghost use Rattle.zr_root.specs.Streams.{IsUnitAt, PutsLeaves, HasBytes, StoresBytes};
+ghost use Rattle.zr_tree.specs.Trees.{TellsOf};
+ghost use Rattle.zr_root.specs.Streams.{IsUnitAt, PutsLeaves, StoresBytes};
 
 use crate::levels::join;
 use std::alloc::{AllocError, Global};
@@ -35,11 +36,10 @@ fn padded(alloc: Global, bytes: &[u8]) -> Result<Vec<u8>, AllocError>
 fn put_leaf<B: Blocks>(alloc: Global, store: &mut B, bytes: &[u8; 4096]) -> Result<Bptr, StoreErr>
     ensures costs { Costs 1 0 (B.account store.old) (B.account store.new) }
     ensures cause { HasCause 1 (B.account store.old) (B.account store.new) result }
-    ensures errors { TellsOf (B.holds store.old) [] result }
-    ensures told { B.tells store.old → B.tells store.new }
+    ensures errors { (s : Stored) → TellsOf s [] result }
     ensures unit { IfOk result (IsUnitAt 0) }
-    ensures bytes { B.tells store.old → IfOk result (λ b. (B.holds store.new).bytes b ≡ bytes.now) }
-    ensures came { B.tells store.old → IfOk result (λ b. Swaps (B.holds store.old) (B.holds store.new) [] (b ∷ [])) }
+    ensures sum { IfOk result (λ b. b.sum ≡ sha256 bytes.now) }
+    ensures puts { (s : Stored) → B.holds store.old s → IfOk result (λ b. Now (B.holds store.new) (Puts s b bytes.now)) }
 {
     let b = store.put(alloc, bytes, 0)?;
     Ok(b)
@@ -53,11 +53,10 @@ fn put_leaves<B: Blocks>(
 ) -> Result<Vec<Bptr>, StoreErr>
     ensures costs { Costs (length pieces.now) 0 (B.account store.old) (B.account store.new) }
     ensures cause { HasCause (length pieces.now) (B.account store.old) (B.account store.new) result }
-    ensures errors { TellsOf (B.holds store.old) [] result }
-    ensures told { B.tells store.old → B.tells store.new }
+    ensures errors { (s : Stored) → TellsOf s [] result }
     ensures count { IfOk result (λ leaves. length leaves.items ≡ length pieces.now) }
     ensures units { IfOk result (λ leaves. All (IsUnitAt 0) leaves.items) }
-    ensures puts { B.tells store.old → IfOk result (λ leaves. PutsLeaves pieces.now (B.holds store.old) (B.holds store.new) leaves.items) }
+    ensures puts { (s : Stored) → B.holds store.old s → IfOk result (λ leaves. Now (B.holds store.new) (λ n. PutsLeaves pieces.now s n leaves.items)) }
 {
     let mut leaves = Vec::new(alloc);
     for piece in pieces {
@@ -73,12 +72,10 @@ pub fn write_bytes<B: Blocks>(alloc: Global, store: &mut B, bytes: &[u8]) -> Res
     requires most { length bytes.now ≤ 2 ^ 37 }
     ensures costs { Costs (tree_units (div_ceil (length bytes.now) 4096)) 0 (B.account store.old) (B.account store.new) }
     ensures cause { HasCause (tree_units (div_ceil (length bytes.now) 4096)) (B.account store.old) (B.account store.new) result }
-    ensures errors { TellsOf (B.holds store.old) [] result }
-    ensures told { B.tells store.old → B.tells store.new }
+    ensures errors { (s : Stored) → TellsOf s [] result }
     ensures height { IfOk result (λ t. IsHeight (div_ceil (length bytes.now) 4096) t.height) }
     ensures root { IfOk result (λ t. (b : Bptr) × (t.root ≡ At b) × IsUnitAt t.height b) }
-    ensures came { B.tells store.old → IfOk result (λ t. Swaps (B.holds store.old) (B.holds store.new) [] (tree_reach (B.holds store.new) t)) }
-    ensures bytes { B.tells store.old → IfOk result (λ t. HasBytes (B.holds store.new) t bytes.now) }
+    ensures stores { (s : Stored) → B.holds store.old s → IfOk result (λ t. Now (B.holds store.new) (λ n. StoresBytes s n t bytes.now)) }
 {
     let all = padded(alloc, bytes)?;
     let (pieces, _) = all.as_slice().as_chunks::<4096>();
@@ -93,10 +90,9 @@ pub fn write_root<B: Blocks>(alloc: Global, store: &mut B, bytes: &[u8]) -> Resu
     requires most { length bytes.now ≤ 2 ^ 37 }
     ensures costs { Costs (tree_units (div_ceil (length bytes.now) 4096)) 0 (B.account store.old) (B.account store.new) }
     ensures cause { HasCause (tree_units (div_ceil (length bytes.now) 4096)) (B.account store.old) (B.account store.new) result }
-    ensures errors { TellsOf (B.holds store.old) [] result }
-    ensures told { B.tells store.old → B.tells store.new }
+    ensures errors { (s : Stored) → TellsOf s [] result }
     ensures root { IfOk result (λ root. (height : ℕ) → IsHeight (div_ceil (length bytes.now) 4096) height → (b : Bptr) × (root ≡ At b) × IsUnitAt height b) }
-    ensures stores { B.tells store.old → IfOk result (λ root. (height : ℕ) → IsHeight (div_ceil (length bytes.now) 4096) height → StoresBytes (B.holds store.old) (B.holds store.new) (record { root = root; height = height }) bytes.now) }
+    ensures stores { (s : Stored) → B.holds store.old s → IfOk result (λ root. (height : ℕ) → IsHeight (div_ceil (length bytes.now) 4096) height → Now (B.holds store.new) (λ n. StoresBytes s n (record { root = root; height = height }) bytes.now)) }
 {
     let t = write_bytes(alloc, store, bytes)?;
     Ok(t.root)

@@ -8,10 +8,10 @@ ghost use Rattle.zr_base.specs.Trees.{IsHeight, tree_units};
 ghost use Rattle.zr_bptr.specs.Spelling.{IsTree, fill_of};
 ghost use Rattle.zr_bptr.specs.declared.Ptr.TheVariants.{Hole, At};
 ghost use Rattle.zr_store.specs.Causes.{Costs, HasCause};
-ghost use Rattle.zr_store.specs.Store.{AreStored, IsPointerTo, IsBlockOf, Swaps};
+ghost use Rattle.zr_store.specs.Store.{AreStored, IsPointerTo, IsBlockOf, Stored, Now};
 ghost use Rattle.zr_tree.specs.Blocks.{FitsAt, pointers_in};
-ghost use Rattle.zr_tree.specs.Trees.{blocks, kids, IsWhole, TellsOf};
-ghost use Rattle.zr_root.specs.Streams.{IsUnitAt, IsGroup, PutsBlocks, Joins};
+ghost use Rattle.zr_tree.specs.Trees.{blocks, TellsOf};
+ghost use Rattle.zr_root.specs.Streams.{IsUnitAt, IsGroup, PutsBlock, PutsBlocks, Joins};
 
 use std::alloc::{AllocError, Global};
 use zr_base::NoMemory;
@@ -61,12 +61,9 @@ fn put_group<B: Blocks>(
     requires group { IsGroup below pointers.now }
     ensures costs { Costs 1 0 (B.account store.old) (B.account store.new) }
     ensures cause { HasCause 1 (B.account store.old) (B.account store.new) result }
-    ensures errors { TellsOf (B.holds store.old) [] result }
-    ensures told { B.tells store.old → B.tells store.new }
+    ensures errors { (s : Stored) → TellsOf s [] result }
     ensures fits { IfOk result (IsUnitAt (below + 1)) }
-    ensures pointers { B.tells store.old → IfOk result (λ b. kids (B.holds store.new) below b ≡ pointers.now) }
-    ensures whole { B.tells store.old → IfOk result (IsWhole (B.holds store.new)) }
-    ensures came { B.tells store.old → IfOk result (λ b. Swaps (B.holds store.old) (B.holds store.new) [] (b ∷ [])) }
+    ensures puts { (s : Stored) → B.holds store.old s → IfOk result (λ b. Now (B.holds store.new) (λ n. PutsBlock below pointers.now s n b)) }
 {
     let bytes = encode_group(alloc, below, pointers)?;
     let b = store.put(alloc, bytes.as_slice(), below as u8 + 1)?;
@@ -84,11 +81,10 @@ fn put_groups<B: Blocks>(
     requires groups { All (IsGroup below) pieces.now }
     ensures costs { Costs (length pieces.now) 0 (B.account store.old) (B.account store.new) }
     ensures cause { HasCause (length pieces.now) (B.account store.old) (B.account store.new) result }
-    ensures errors { TellsOf (B.holds store.old) [] result }
-    ensures told { B.tells store.old → B.tells store.new }
+    ensures errors { (s : Stored) → TellsOf s [] result }
     ensures count { IfOk result (λ tops. length tops.items ≡ length pieces.now) }
     ensures fit { IfOk result (λ tops. All (IsUnitAt (below + 1)) tops.items) }
-    ensures puts { B.tells store.old → IfOk result (λ tops. PutsBlocks below pieces.now (B.holds store.old) (B.holds store.new) tops.items) }
+    ensures puts { (s : Stored) → B.holds store.old s → IfOk result (λ tops. Now (B.holds store.new) (λ n. PutsBlocks below pieces.now s n tops.items)) }
 {
     let mut tops = Vec::new(alloc);
     for piece in pieces {
@@ -111,12 +107,11 @@ pub(crate) fn join<B: Blocks>(
     requires fit { All (IsUnitAt level) bs.now }
     ensures costs { Costs (tree_units (length bs.now) - length bs.now) 0 (B.account store.old) (B.account store.new) }
     ensures cause { HasCause (tree_units (length bs.now) - length bs.now) (B.account store.old) (B.account store.new) result }
-    ensures errors { TellsOf (B.holds store.old) [] result }
-    ensures told { B.tells store.old → B.tells store.new }
+    ensures errors { (s : Stored) → TellsOf s [] result }
     ensures above { IfOk result (λ t. level ≤ t.height) }
     ensures height { IfOk result (λ t. IsHeight (length bs.now) (t.height - level)) }
     ensures root { IfOk result (λ t. (b : Bptr) × (t.root ≡ At b) × IsUnitAt t.height b) }
-    ensures joins { B.tells store.old → AreStored (flat_map (blocks (B.holds store.old) level) (map At bs.now)) (B.holds store.old) → IfOk result (Joins level bs.now (B.holds store.old) (B.holds store.new)) }
+    ensures joins { (s : Stored) → B.holds store.old s → AreStored (flat_map (blocks s level) (map At bs.now)) s → IfOk result (λ t. Now (B.holds store.new) (λ n. Joins level bs.now s n t)) }
 {
     if bs.len() == 1 {
         return Ok(Tree {

@@ -6,10 +6,17 @@
 #![tactic(auto)]
 
 mod bytes;
+mod down;
+mod heads;
+mod laws;
 mod levels;
+mod reads;
 mod streams;
 
 pub use bytes::{write_bytes, write_root};
+pub use heads::{read_root, units_of};
+pub use laws::{streams_have_one_value, streams_stand_alone, streams_take_what_they_must};
+pub use reads::{read_bytes, read_stream};
 pub use streams::{stream_units, write_stream};
 
 #[cfg(test)]

@@ -7,10 +7,10 @@ ghost use Rattle.zr_base.specs.Trees.{tree_units};
 ghost use Rattle.zr_base.specs.Words.{words};
 ghost use Rattle.zr_bptr.specs.Spelling.{IsTree};
 ghost use Rattle.zr_store.specs.Causes.{Costs, HasCause};
-ghost use Rattle.zr_store.specs.Store.{Swaps};
+ghost use Rattle.zr_store.specs.Store.{Stored, Now};
 ghost use Rattle.zr_meta.specs.Heads.{IsStream};
 ghost use Rattle.zr_tree.specs.Trees.{tree_reach, tree_blocks, TellsOf};
-ghost use Rattle.zr_root.specs.Streams.{HasWords};
+ghost use Rattle.zr_root.specs.Streams.{StoresWords};
 
 use crate::bytes::write_bytes;
 use std::alloc::{AllocError, Global};
@@ -37,11 +37,10 @@ pub fn write_stream<B: Blocks>(alloc: Global, store: &mut B, ns: &[u64]) -> Resu
     requires most { length ns.now ≤ 2 ^ 34 }
     ensures costs { Costs (tree_units (div_ceil (length ns.now) 512)) 0 (B.account store.old) (B.account store.new) }
     ensures cause { HasCause (tree_units (div_ceil (length ns.now) 512)) (B.account store.old) (B.account store.new) result }
-    ensures errors { TellsOf (B.holds store.old) [] result }
-    ensures told { B.tells store.old → B.tells store.new }
+    ensures errors { (s : Stored) → TellsOf s [] result }
     ensures stream { IfOk result IsStream }
-    ensures came { B.tells store.old → IfOk result (λ s. Swaps (B.holds store.old) (B.holds store.new) [] (tree_reach (B.holds store.new) s.tree)) }
-    ensures words { B.tells store.old → IfOk result (λ s. HasWords (B.holds store.new) s ns.now) }
+    ensures count { IfOk result (λ stream. stream.words ≡ length ns.now) }
+    ensures stores { (s : Stored) → B.holds store.old s → IfOk result (λ stream. Now (B.holds store.new) (λ n. StoresWords s n stream ns.now)) }
 {
     if ns.is_empty() {
         return Ok(Stream {
@@ -60,7 +59,8 @@ pub fn write_stream<B: Blocks>(alloc: Global, store: &mut B, ns: &[u64]) -> Resu
     })
 }
 
-fn addresses(alloc: Global, bs: &[Bptr]) -> Result<Vec<Dva>, AllocError>
+/// The addresses of these blocks.
+pub(crate) fn addresses(alloc: Global, bs: &[Bptr]) -> Result<Vec<Dva>, AllocError>
     ensures { IfOk result (λ ats. ats.items ≡ map (λ b. b.at) bs.now) }
 {
     bs.iter().map(|b| b.at).collect(alloc)
@@ -70,17 +70,16 @@ fn addresses(alloc: Global, bs: &[Bptr]) -> Result<Vec<Dva>, AllocError>
 pub fn stream_units<B: Blocks>(
     alloc: Global,
     store: &mut B,
-    s: &Stream,
+    stream: &Stream,
 ) -> Result<Vec<Dva>, StoreErr>
-    requires { IsTree s.now.tree }
+    requires { IsTree stream.now.tree }
     ensures costs { Costs 0 0 (B.account store.old) (B.account store.new) }
     ensures cause { HasCause 0 (B.account store.old) (B.account store.new) result }
-    ensures errors { B.tells store.old → TellsOf (B.holds store.old) (tree_blocks (B.holds store.old) s.now.tree) result }
-    ensures told { B.tells store.old → B.tells store.new }
-    ensures same { B.tells store.old → B.holds store.new ≡ B.holds store.old }
-    ensures units { B.tells store.old → IfOk result (λ ats. ats.items ≡ map (λ b. b.at) (tree_reach (B.holds store.old) s.now.tree)) }
+    ensures errors { (s : Stored) → B.holds store.old s → TellsOf s (tree_blocks s stream.now.tree) result }
+    ensures same { (s : Stored) → B.holds store.old s → B.holds store.new s }
+    ensures units { (s : Stored) → B.holds store.old s → IfOk result (λ ats. ats.items ≡ map (λ b. b.at) (tree_reach s stream.now.tree)) }
 {
-    let bs = walk(alloc, store, &s.tree)?;
+    let bs = walk(alloc, store, &stream.tree)?;
     let ats = addresses(alloc, bs.as_slice())?;
     Ok(ats)
 }

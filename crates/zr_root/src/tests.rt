@@ -4,6 +4,67 @@ use std::test::Fail;
 use zr_bptr::{Ptr, Tree};
 use zr_store::{MemBlocks, StoreErr};
 
+// The SHA-256 of the words 0 to 511, eight bytes each, the lowest first.
+const FIRST_LEAF: [u8; 32] = [
+    0x57, 0x38, 0x15, 0x3e, 0xc9, 0x75, 0x95, 0xb1, 0xc1, 0xe4, 0xdc, 0x02, 0x7f, 0x7b, 0x7f, 0xb4,
+    0x53, 0x4f, 0x19, 0xed, 0x2c, 0xe9, 0xf9, 0xee, 0x71, 0x2e, 0x6d, 0x34, 0xa3, 0x84, 0xcd, 0xe7,
+];
+
+#[test]
+fn words_are_read_back(rt: HostRuntime) -> Result<(), Fail> {
+    let alloc = rt.alloc();
+    for n in [0, 1, 511, 512, 513, 20000] {
+        let mut ns = Vec::new(alloc);
+        for k in 0..n {
+            ns.push(k)?;
+        }
+        if ns.len() > 20000 {
+            return Err(Fail::new("too many words"));
+        }
+        let mut store = MemBlocks::new(alloc, 64);
+        let s = write_stream(alloc, &mut store, ns.as_slice())?;
+        let back = read_stream(alloc, &mut store, &s)?;
+        assert_eq!(rt; back.as_slice(), ns.as_slice());
+        if n >= 512 {
+            if store.kept.len() == 0 {
+                return Err(Fail::new("no leaf"));
+            }
+            assert_eq!(rt; store.kept[0].at.sum, FIRST_LEAF);
+        }
+    }
+    Ok(())
+}
+
+#[test]
+fn padding_and_holes(rt: HostRuntime) -> Result<(), Fail> {
+    let alloc = rt.alloc();
+    let mut store = MemBlocks::new(alloc, 8);
+    let t = write_bytes(alloc, &mut store, &[7; 4096])?;
+    assert_eq!(rt; read_bytes(alloc, &mut store, &t, 4096)?.len(), 4096);
+    if let Ptr::At(b) = t.root {
+        let bad = read_bytes(alloc, &mut store, &t, 4095);
+        assert_eq!(rt;
+            bad.err(),
+            Some(StoreErr::Malformed {
+                at: b.at,
+                expected: b.sum
+            })
+        );
+    }
+    let two = write_bytes(alloc, &mut store, &[7; 8192])?;
+    if let Ptr::At(b) = two.root {
+        let more = read_bytes(alloc, &mut store, &two, 8193);
+        assert_eq!(rt;
+            more.err(),
+            Some(StoreErr::Malformed {
+                at: b.at,
+                expected: b.sum
+            })
+        );
+    }
+    Ok(())
+}
+
 #[test]
 fn words_stand_in_leaves(rt: HostRuntime) -> Result<(), Fail> {
     let alloc = rt.alloc();
@@ -59,6 +120,8 @@ fn a_head_and_no_room(rt: HostRuntime) -> Result<(), Fail> {
         Ptr::Hole => assert!(rt; false),
         Ptr::At(b) => assert_eq!(rt; (b.at.start, b.level, b.fill), (2, 1, 2)),
     }
+    assert_eq!(rt; read_root(alloc, &mut store, &root, 4104)?.len(), 4104);
+    assert_eq!(rt; units_of(alloc, &mut store, &root, 4104)?.len(), 3);
     let t = write_bytes(alloc, &mut store, &[7; 8]);
     assert_eq!(rt;
         t.err(),

@@ -1,41 +1,37 @@
-use Rattle.std.proofs.Common.{◌≡◌, ℕ, ◌+◌, ◌++◌, ◌∷◌, [], List, take, take-suc, get_or, subst, sym, rules, suc, arith, ap, ◌∙◌}
+use Rattle.std.proofs.Common.{◌≡◌, ◌∷◌, [], take, subst, sym, rules}
 use Rattle.std.proofs.lemmas.List.Elements.{All-push}
+use Rattle.std.proofs.lemmas.Result.{err_from_is_err_and}
 use Rattle.std.specs.Prelude.{All}
 use Rattle.zr_bptr.specs.declared.Bptr.{Bptr}
-use Rattle.zr_bptr.specs.declared.Ptr.{Ptr}
-use Rattle.std.proofs.lemmas.Result.{err_from_is_err_and}
-use Rattle.zr_tree.proofs.Wholes.{tells_from, tells_empty}
+use Rattle.zr_tree.proofs.Wholes.{tells_from}
 use Rattle.zr_store.proofs.Causes.{costs_then}
 use Rattle.zr_root.specs.Streams.{IsUnitAt, PutsLeaves}
-use Rattle.zr_root.proofs.Puts.{leaf_more}
+use Rattle.zr_root.proofs.Puts.{no_leaf_put, leaf_now}
 use Rattle.zr_root.proofs.bytes.put_leaves.Goals as goal
+
+pub loop-piece-init : goal.loop-piece-init
+loop-piece-init g c = record {
+  costs = search rules;
+  count = search rules;
+  units = search rules;
+  puts = λ s held. record { stored = s; held = held; is = no_leaf_put s c.new-leaves.result.items (search rules) };
+}
 
 pub loop-piece-preserved : goal.loop-piece-preserved
 loop-piece-preserved g c =
     let leaves = c.loop-piece.leaves.items in
-    let i = c.loop-piece.piece-index in
     let items = c.in_ok-push.ensures.items in
     record {
-      told = search rules;
       costs = costs_then c.loop-piece.invariant.costs c.put_leaf.ensures.costs;
       count = search rules;
       units = subst (All (IsUnitAt 0)) (sym items) (All-push (IsUnitAt 0) leaves c.in_ok-b.b c.loop-piece.invariant.units c.in_ok-b.ensures.unit);
-      puts = λ told.
-          let s0 = g.B.Blocks.holds c.args.store.now in
-          let s2 = g.B.Blocks.holds c.put_leaf.new.store in
-          let told1 = c.loop-piece.invariant.told told in
-          let up : i + 1 ≡ suc i = omega arith in
-          let more : take (i + 1) c.args.pieces.now ≡ take i c.args.pieces.now ++ get_or c.args.pieces.now i [] ∷ [] = ap (λ (n : ℕ). take n c.args.pieces.now) up ∙ take-suc c.args.pieces.now i [] c.loop-piece-test.true in
-          subst (λ (ps : List (List ℕ)). PutsLeaves ps s0 s2 c.push.new.self.items) (sym more)
-          (subst (PutsLeaves (take i c.args.pieces.now ++ get_or c.args.pieces.now i [] ∷ []) s0 s2) (sym items)
-          (leaf_more (take i c.args.pieces.now) (get_or c.args.pieces.now i []) (g.B.Blocks.holds c.args.store.now) (g.B.Blocks.holds c.loop-piece.store) (g.B.Blocks.holds c.put_leaf.new.store) leaves c.in_ok-b.b
-          (c.loop-piece.invariant.puts told) (c.in_ok-b.ensures.came told1) (c.in_ok-b.ensures.bytes told1)));
+      puts = λ s held.
+          leaf_now (g.B.Blocks.holds c.loop-piece.store) (g.B.Blocks.holds c.put_leaf.new.store) s c.args.pieces.now c.loop-piece.piece-index leaves c.push.new.self.items c.in_ok-b.b c.loop-piece-test.true items
+          (c.loop-piece.invariant.puts s held) (λ t h. c.in_ok-b.ensures.puts t h) c.in_ok-b.ensures.sum;
     }
 
 pub returns-in_err-b-clause-errors : goal.returns-in_err-b-clause-errors
-returns-in_err-b-clause-errors g c =
-    let s0 = g.B.Blocks.holds c.args.store.now in
-    let s1 = g.B.Blocks.holds c.loop-piece.store in
+returns-in_err-b-clause-errors g c = λ s.
     let e = c.in_err-b in
     let x = c.from_residual in
-    tells_from {T = Bptr} s0 [] x.result e.field-0.0 (err_from_is_err_and x.result x.ensures.1) (tells_empty s1 s0 [] _ e.ensures.errors)
+    tells_from {T = Bptr} s [] x.result e.field-0.0 (err_from_is_err_and x.result x.ensures.1) (e.ensures.errors s)

@@ -10,16 +10,15 @@ use Rattle.zr_bptr.specs.declared.Ptr.{Ptr}
 use Rattle.zr_bptr.specs.declared.Ptr.TheVariants.{Hole, At}
 use Rattle.zr_bptr.specs.declared.Tree.{Tree}
 use Rattle.zr_store.proofs.Causes.{cause_from}
-use Rattle.zr_tree.proofs.Wholes.{tells_from, tells_empty}
-use Rattle.zr_tree.specs.Trees.{kids}
+use Rattle.zr_tree.proofs.Wholes.{tells_from}
 use Rattle.zr_root.specs.Streams.{IsUnitAt, IsGroup}
-use Rattle.zr_root.proofs.Lists.{chunks_are, flat_pieces}
-use Rattle.zr_root.proofs.Joining.{ceil_of, tops_small, bs_small, height_up, level_groups, join_one, join_all}
+use Rattle.zr_root.proofs.Lists.{chunks_are}
+use Rattle.zr_root.proofs.Joining.{ceil_of, tops_small, bs_small, height_up, level_groups, join_one, join_now}
 use Rattle.zr_root.proofs.Costing.{groups_costs, groups_cause, join_costs, join_cause}
 use Rattle.zr_root.proofs.levels.+join.Goals as goal
 
 pub returns-then-bs-eq1-clause-joins : goal.returns-then-bs-eq1-clause-joins
-returns-then-bs-eq1-clause-joins g t c = λ told held. join_one c.args.level (g.B.Blocks.holds c.args.store.now) c.args.bs.now _ c.if-bs-eq1.true
+returns-then-bs-eq1-clause-joins g t c = λ s held stored. record { stored = s; held = held; is = join_one c.args.level s c.args.bs.now _ c.if-bs-eq1.true }
 
 pub padded-requires : goal.padded-requires
 padded-requires g t c = bs_small c.args.level (length c.args.bs.now) c.requires.small
@@ -100,23 +99,23 @@ returns-clause-height g t c =
     subst (IsHeight n) up (height_up n m (h - (c.args.level + 1)) (omega (arith, c.requires.some, c.if-bs-eq1.false)) ceil.0 ceil.1 (subst (λ (k : ℕ). IsHeight k (h - (c.args.level + 1))) long c.in_ok-t.ensures.height))
 
 pub returns-clause-joins : goal.returns-clause-joins
-returns-clause-joins g t c = λ told held.
+returns-clause-joins g t c = λ s held stored.
     let n = length c.args.bs.now in
     let m = div_ceil n 32 in
-    let s0 = g.B.Blocks.holds c.args.store.now in
-    let s1 = g.B.Blocks.holds c.put_groups.new.store in
-    let s2 = g.B.Blocks.holds c.join.new.store in
-    let puts = c.in_ok-tops.ensures.puts told in
-    let tops = c.in_ok-tops.tops.items in
     let len = ap (λ (xs : List Ptr). length xs) c.as_slice.ensures.value ∙ c.in_ok-pointers.ensures.len in
     let count : length c.as_slice.result.now / 32 ≡ m = omega (arith, len) in
     let cut = chunks_are 32 m c.as_slice.result.now c.in_ok-pointers.pointers.items c.as_chunks.result.0.now c.as_chunks.ensures.front c.as_slice.ensures.value count in
-    let holds = flat_pieces (kids s1 c.args.level) tops 32 m c.in_ok-pointers.pointers.items c.in_ok-pointers.ensures.len (puts.pointers ∙ cut) ∙ c.in_ok-pointers.ensures.items in
-    join_all c.args.level (c.args.level + 1) (32 * m - n) c.args.bs.now tops c.as_slice-2.result.now s0 s1 s2 c.in_ok-t.t (omega arith) c.as_slice-2.ensures.value puts.came holds held puts.whole
-    (c.in_ok-t.ensures.joins (c.put_groups.ensures.told told))
+    join_now (g.B.Blocks.holds c.put_groups.new.store) (g.B.Blocks.holds c.join.new.store) c.args.level (c.args.level + 1) (32 * m - n) m c.args.bs.now c.in_ok-tops.tops.items c.as_slice-2.result.now c.as_chunks.result.0.now c.in_ok-pointers.pointers.items s c.in_ok-t.t (omega arith) c.as_slice-2.ensures.value
+    (c.in_ok-tops.ensures.puts s held) cut c.in_ok-pointers.ensures.len c.in_ok-pointers.ensures.items stored (λ x h. c.in_ok-t.ensures.joins x h)
 
 pub returns-in_err-t-clause-errors : goal.returns-in_err-t-clause-errors
-returns-in_err-t-clause-errors g t c =
+returns-in_err-t-clause-errors g t c = λ s.
     let e = c.in_err-t in
     let x = c.from_residual-in_err-t in
-    tells_from {T = Tree} (g.B.Blocks.holds c.args.store.now) [] x.result e.field-0.0 (err_from_is_err_and x.result x.ensures.1) (tells_empty (g.B.Blocks.holds c.put_groups.new.store) (g.B.Blocks.holds c.args.store.now) [] _ e.ensures.errors)
+    tells_from {T = Tree} s [] x.result e.field-0.0 (err_from_is_err_and x.result x.ensures.1) (e.ensures.errors s)
+
+pub returns-in_err-tops-clause-errors : goal.returns-in_err-tops-clause-errors
+returns-in_err-tops-clause-errors g t c = λ s.
+    let e = c.in_err-tops in
+    let x = c.from_residual-in_err-tops in
+    tells_from {T = Vec Bptr Global} s [] x.result e.field-0.0 (err_from_is_err_and x.result x.ensures.1) (e.ensures.errors s)
