@@ -21,6 +21,7 @@ pub(crate) fn read_records<B: Blocks>(
     store: &mut B,
     b: &Bptr,
 ) -> Result<Vec<Option<ObjRec>>, StoreErr>
+    ensures follows { (start : B) → B.follows start store.old → B.follows start store.new }
     ensures costs { Costs 0 0 (B.account store.old) (B.account store.new) }
     ensures cause { HasCause 0 (B.account store.old) (B.account store.new) result }
     ensures same { (s : Stored) → B.holds store.old s → B.holds store.new s }
@@ -50,6 +51,7 @@ pub fn look<B: Blocks>(
     requires dir { IsTree dir.now }
     requires low { dir.now.height ≤ 3 }
     requires id { id < 65536 }
+    ensures follows { (start : B) → B.follows start store.old → B.follows start store.new }
     ensures costs { Costs 0 0 (B.account store.old) (B.account store.new) }
     ensures cause { HasCause 0 (B.account store.old) (B.account store.new) result }
     ensures same { (s : Stored) → B.holds store.old s → B.holds store.new s }
@@ -83,6 +85,7 @@ pub fn block<B: Blocks>(
     index: u64,
 ) -> Result<Vec<u8>, StoreErr>
     requires { IsObject rec.now }
+    ensures follows { (start : B) → B.follows start store.old → B.follows start store.new }
     ensures costs { Costs 0 0 (B.account store.old) (B.account store.new) }
     ensures cause { HasCause 0 (B.account store.old) (B.account store.new) result }
     ensures same { (s : Stored) → B.holds store.old s → B.holds store.new s }

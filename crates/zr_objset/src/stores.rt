@@ -34,6 +34,7 @@ fn open_leaf<B: Blocks>(
     store: &mut B,
     leaf: &Ptr,
 ) -> Result<Vec<Option<ObjRec>>, StoreErr>
+    ensures follows { (start : B) → B.follows start store.old → B.follows start store.new }
     ensures costs { Costs 0 0 (B.account store.old) (B.account store.new) }
     ensures cause { HasCause 0 (B.account store.old) (B.account store.new) result }
     ensures same { (s : Stored) → B.holds store.old s → B.holds store.new s }
@@ -77,6 +78,7 @@ fn put_leaf<B: Blocks>(
 ) -> Result<Ptr, StoreErr>
     requires count { length records.now ≡ 16 }
     requires lawful { AllByRecursion (λ r. IfSome r IsObject) records.now }
+    ensures follows { (start : B) → B.follows start store.old → B.follows start store.new }
     ensures costs { Costs 1 0 (B.account store.old) (B.account store.new) }
     ensures cause { HasCause 1 (B.account store.old) (B.account store.new) result }
     ensures errors { (s : Stored) → TellsOf s [] result }
@@ -101,6 +103,7 @@ fn change_leaf<B: Blocks>(
 ) -> Result<Ptr, StoreErr>
     requires objects { All (λ change. IfSome change.1 IsObject) run.now }
     requires here { AllIn place run.now }
+    ensures follows { (start : B) → B.follows start store.old → B.follows start store.new }
     ensures costs { Costs 1 0 (B.account store.old) (B.account store.new) }
     ensures cause { HasCause 1 (B.account store.old) (B.account store.new) result }
     ensures errors { (s : Stored) → B.holds store.old s → TellsOfLeaves s (own old.now) (own old.now) (IsNoLeaf s) result }
@@ -141,6 +144,7 @@ fn put_leaves<B: Blocks>(
     requires rises { RisesById changes.now }
     requires objects { All (λ change. IfSome change.1 IsObject) changes.now }
     requires empty { olds.old.items ≡ [] }
+    ensures follows { (start : B) → B.follows start store.old → B.follows start store.new }
     ensures costs { Costs (length changes.now) 0 (B.account store.old) (B.account store.new) }
     ensures cause { HasCause (length changes.now) (B.account store.old) (B.account store.new) result }
     ensures errors { (s : Stored) → B.holds store.old s → AreStored (tree_reach s dir.now) s → TellsOfLeaves s (tree_reach s dir.now) (leaves_of s dir.now changes.now) (IsNoLeaf s) result }
@@ -169,6 +173,7 @@ fn put_leaves<B: Blocks>(
 
 // Gives back a leaf.
 fn free_leaf<B: Blocks>(alloc: Global, store: &mut B, leaf: &Ptr) -> Result<(), StoreErr>
+    ensures follows { (start : B) → B.follows start store.old → B.follows start store.new }
     ensures costs { Costs 0 1 (B.account store.old) (B.account store.new) }
     ensures cause { HasCause 0 (B.account store.old) (B.account store.new) result }
     ensures errors { (s : Stored) → TellsOf s [] result }
@@ -182,6 +187,7 @@ fn free_leaf<B: Blocks>(alloc: Global, store: &mut B, leaf: &Ptr) -> Result<(), 
 
 // Gives back leaves.
 fn free_leaves<B: Blocks>(alloc: Global, store: &mut B, leaves: &[Ptr]) -> Result<(), StoreErr>
+    ensures follows { (start : B) → B.follows start store.old → B.follows start store.new }
     ensures costs { Costs 0 (length leaves.now) (B.account store.old) (B.account store.new) }
     ensures cause { HasCause 0 (B.account store.old) (B.account store.new) result }
     ensures errors { (s : Stored) → TellsOf s [] result }
@@ -207,6 +213,7 @@ pub fn store<B: Blocks>(
     requires ids { All (λ change. change.0 < 65536) changes.now }
     requires rises { RisesById changes.now }
     requires objects { All (λ change. IfSome change.1 IsObject) changes.now }
+    ensures follows { (start : B) → B.follows start store.old → B.follows start store.new }
     ensures costs { Costs (4 * length changes.now + 2) (4 * length changes.now) (B.account store.old) (B.account store.new) }
     ensures cause { HasCause (4 * length changes.now + 2) (B.account store.old) (B.account store.new) result }
     ensures errors { (s : Stored) → B.holds store.old s → AreStored (tree_reach s dir.now) s → TellsOfLeaves s (tree_reach s dir.now) (leaves_of s dir.now changes.now) (IsNoLeaf s) result }

@@ -19,6 +19,7 @@ fn walk_object<B: Blocks>(
     out: &mut Vec<Bptr>,
 ) -> Result<(), StoreErr>
     requires { IfSome object.now IsObject }
+    ensures follows { (start : B) → B.follows start store.old → B.follows start store.new }
     ensures costs { Costs 0 0 (B.account store.old) (B.account store.new) }
     ensures cause { HasCause 0 (B.account store.old) (B.account store.new) result }
     ensures same { (s : Stored) → B.holds store.old s → B.holds store.new s }
@@ -40,6 +41,7 @@ fn walk_leaf<B: Blocks>(
     b: &Bptr,
     out: &mut Vec<Bptr>,
 ) -> Result<(), StoreErr>
+    ensures follows { (start : B) → B.follows start store.old → B.follows start store.new }
     ensures costs { Costs 0 0 (B.account store.old) (B.account store.new) }
     ensures cause { HasCause 0 (B.account store.old) (B.account store.new) result }
     ensures same { (s : Stored) → B.holds store.old s → B.holds store.new s }
@@ -62,6 +64,7 @@ fn walk_leaf<B: Blocks>(
 pub fn walk<B: Blocks>(alloc: Global, store: &mut B, dir: &Tree) -> Result<Vec<Bptr>, StoreErr>
     requires dir { IsTree dir.now }
     requires low { dir.now.height ≤ 3 }
+    ensures follows { (start : B) → B.follows start store.old → B.follows start store.new }
     ensures costs { Costs 0 0 (B.account store.old) (B.account store.new) }
     ensures cause { HasCause 0 (B.account store.old) (B.account store.new) result }
     ensures same { (s : Stored) → B.holds store.old s → B.holds store.new s }

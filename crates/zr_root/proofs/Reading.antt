@@ -103,8 +103,7 @@ holes_only (q ∷ qs) h = ap (λ (x : Ptr). x ∷ qs) (h 0) ∙ ap (λ (xs : Lis
 
 pub cut_blocks : (below n : ℕ) (ps : List Ptr) → n ≤ length ps → All (FitsAt below) ps → IsCut n ps → (length (flat_map own ps) ≡ n) × All (IsUnitAt below) (flat_map own ps) × (ps ≡ map At (flat_map own ps) ++ replicate (length ps - n) Hole)
 cut_blocks below zero ps le fit h =
-    let none = no_own ps (λ j. h.rest j (omega arith)) in
-    (
+    let none = no_own ps (λ j. h.rest j (omega arith)) in (
       ap (λ (bs : List Bptr). length bs) none,
       subst (All (IsUnitAt below)) (sym none) (λ i d lt. absurd (omega (arith, lt))),
       holes_only ps (λ j. h.rest j (omega arith)) ∙ ap (λ (bs : List Bptr). map At bs ++ replicate (length ps) Hole) (sym none) ∙ same_holes (map At (flat_map own ps)) (length ps) (length ps - 0) (omega arith),
@@ -115,8 +114,7 @@ cut_blocks below zero ps le fit h =
 cut_blocks below (suc n) [] le fit h = absurd (omega (arith, le))
 cut_blocks below (suc n) (Hole ∷ ps) le fit h = absurd (h.front 0 (omega arith))
 cut_blocks below (suc n) (At b ∷ ps) le fit h =
-    let rest = cut_blocks below n ps (omega (arith, le)) (All-tail (FitsAt below) (At b) ps fit) (cut_tail (At b) ps n h) in
-    (
+    let rest = cut_blocks below n ps (omega (arith, le)) (All-tail (FitsAt below) (At b) ps fit) (cut_tail (At b) ps n h) in (
       ap suc rest.0,
       All-cons (IsUnitAt below) b (flat_map own ps) (All-head (FitsAt below) (At b) ps fit, h.front 0 (omega arith)) rest.1,
       ap (λ (xs : List Ptr). At b ∷ xs) (rest.2 ∙ same_holes (map At (flat_map own ps)) (length ps - n) (length (At b ∷ ps) - suc n) (omega arith)),

@@ -130,8 +130,7 @@ some_leaf s (suc below) place b fits whole =
     let (k, c, lt, at) = some_kid s below b w in
     let (index, place_is, some) = some_leaf s below (32 * place + k) c (subst (FitsAt below) at (kid_fits s below b k fits.0 w)) (whole_below s below b c k lt at whole) in
     let up = div-suc index below in
-    let digit_is : digit below index ≡ k = ap (λ (n : ℕ). n % 32) place_is ∙ omega (arith, lt) in
-    (
+    let digit_is : digit below index ≡ k = ap (λ (n : ℕ). n % 32) place_is ∙ omega (arith, lt) in (
       index,
       up ∙ ap (λ (n : ℕ). n / 32) place_is ∙ omega (arith, lt),
       λ e. some (ap (λ (p : Ptr). leaf_at s below p index) (sym at) ∙ ap (λ (j : ℕ). leaf_at s below (slot (kids s below b) j) index) (sym digit_is) ∙ e),
@@ -200,8 +199,7 @@ no_blocks_hole s below b among = absurd (let n = among_hits b [] (subst (IsAmong
 
 one_kid : (s : Stored) (below j : ℕ) (b : Bptr) → j < 32 → b.level ≡ suc below → AreWhole s (blocks s (suc below) (At b)) → FitsAt below (slot (kids s below b) j) × AreWhole s (blocks s below (slot (kids s below b) j))
 one_kid s below j b lt level_is whole =
-    let w = whole b (first_among b (flat_map (blocks s below) (kids s below b))) in
-    (
+    let w = whole b (first_among b (flat_map (blocks s below) (kids s below b))) in (
       kid_fits s below b j level_is w,
       elim (hole_or (slot (kids s below b) j)) [
         | inl none ↦ subst (λ (p : Ptr). AreWhole s (blocks s below p)) (sym none) (no_blocks_hole s below)
@@ -260,7 +258,7 @@ module _ (s : Stored) (below : ℕ) (tops leaves : List Bptr) (units : All (IsUn
         let (b, is, unit) = slot_leaf leaves index (below_ceil (length leaves) (32 ^ below) j (pow-pos below) lt) in
         let e : Hole ≡ At b = sym (hole_leaf s below index) ∙ sym (ap (λ (p : Ptr). leaf_at s below p index) (ap (λ (k : ℕ). slot ps k) place_is ∙ none)) ∙ here index ∙ is in
         cc
-      )
+        )
   ]
 
   empty : (j : ℕ) → div_ceil (length leaves) (32 ^ below) ≤ j → slot ps j ≡ Hole
@@ -276,14 +274,13 @@ module _ (s : Stored) (below : ℕ) (tops leaves : List Bptr) (units : All (IsUn
         let same : index / 32 ^ below * 32 ^ below ≡ j * 32 ^ below = ap (λ (k : ℕ). k * 32 ^ below) place_is in
         let past : length leaves ≤ index = omega (arith, low, most, same) in
         leaf (ap (λ (p : Ptr). leaf_at s below p index) (sym at) ∙ ap (λ (k : ℕ). leaf_at s below (slot ps k) index) (sym place_is) ∙ here index ∙ slot_past leaves index past)
-      )
+        )
   ]
 
   pub shaped : (bs : List Bptr) × (length bs ≡ div_ceil (length leaves) (32 ^ below)) × HavePointers s below tops bs
   shaped =
       let (bs, long, is) = cut ps (div_ceil (length leaves) (32 ^ below)) full empty in
-      let pointers : ps ≡ map At bs ++ replicate (32 * length tops - length bs) Hole = is ∙ ap (λ (n : ℕ). map At bs ++ replicate (n - length bs) Hole) (length-flat_kids s below tops) in
-      (
+      let pointers : ps ≡ map At bs ++ replicate (32 * length tops - length bs) Hole = is ∙ ap (λ (n : ℕ). map At bs ++ replicate (n - length bs) Hole) (length-flat_kids s below tops) in (
         bs,
         long,
         record {
@@ -375,7 +372,7 @@ module _ (s : Stored) (b : Bptr) (height : ℕ) (leaves : List Bptr) (unit : IsU
             let fits = past_ceil (length leaves) (32 ^ level) 1 (pow-pos level) small in
             let low = tall.least level (omega (arith, fits)) in
             omega (arith, low, is)
-          )
+            )
       ] in
       (bs, long, level_down s tree level tops bs up shape counted more)
 

@@ -104,15 +104,17 @@ module _ (s : Stored) (t : Tree) (len n : ℕ) (leaves : List Bptr) (all : List 
   has_bytes xs bytes most size xs_are padding bytes_are reads =
       let long : length bytes ≡ len = ap (λ (ys : List ℕ). length ys) bytes_are ∙ length-take-le len all (omega (arith, most, size)) in
       let rest : length xs ≡ 4096 * n - len = ap (λ (ys : List ℕ). length ys) xs_are ∙ omega (arith, length-drop len all, size) in
-      let behind : drop len all ≡ zeros (4096 * length leaves - length bytes) = sym xs_are ∙ padding ∙ ap zeros (omega (arith, rest, count, long)) in
-      (long, record {
-        leaves = leaves;
-        are_leaves = leaves_of_level s t leaves is;
-        count = count ∙ n_is ∙ ap (λ (k : ℕ). div_ceil k 4096) (sym long);
-        long = reads.long;
-        sums = reads.sums;
-        spelling = sym reads.bytes_are ∙ sym (take-append-drop len all) ∙ ap (λ (ys : List ℕ). ys ++ drop len all) (sym bytes_are) ∙ ap (λ (ys : List ℕ). bytes ++ ys) behind;
-      })
+      let behind : drop len all ≡ zeros (4096 * length leaves - length bytes) = sym xs_are ∙ padding ∙ ap zeros (omega (arith, rest, count, long)) in (
+        long,
+        record {
+          leaves = leaves;
+          are_leaves = leaves_of_level s t leaves is;
+          count = count ∙ n_is ∙ ap (λ (k : ℕ). div_ceil k 4096) (sym long);
+          long = reads.long;
+          sums = reads.sums;
+          spelling = sym reads.bytes_are ∙ sym (take-append-drop len all) ∙ ap (λ (ys : List ℕ). ys ++ drop len all) (sym bytes_are) ∙ ap (λ (ys : List ℕ). bytes ++ ys) behind;
+        },
+      )
 
 pub reads_sum : (s : Stored) (leaves bs : List Bptr) (all : List ℕ) → bs ≡ leaves → ReadsLeaves s leaves all → (i : ℕ) (d : Bptr) → i < length bs → HasSum s (get_or bs i d)
 reads_sum s leaves bs all same reads = subst (All (HasSum s)) (sym same) reads.sums
@@ -160,8 +162,7 @@ pub words_all : (ns bytes : List ℕ) (i n : ℕ) (pieces : List (List ℕ)) →
 words_all ns bytes i n pieces long cut count past most so_far =
     let k : length bytes / 8 ≡ n = omega (arith, long) in
     let here : pieces ≡ first_chunks 8 n bytes = cut ∙ ap (λ (j : ℕ). first_chunks 8 j bytes) k in
-    let size : length pieces ≡ n = ap (λ (cs : List (List ℕ)). length cs) here ∙ length-chunks 8 n bytes in
-    (
+    let size : length pieces ≡ n = ap (λ (cs : List (List ℕ)). length cs) here ∙ length-chunks 8 n bytes in (
       so_far ∙ ap (flat_map (λ (c : List ℕ). c)) (take_all i pieces past ∙ here) ∙ joined 8 n bytes long,
       omega (arith, count, past, most, size),
     )

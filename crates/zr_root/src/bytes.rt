@@ -34,6 +34,7 @@ fn padded(alloc: Global, bytes: &[u8]) -> Result<Vec<u8>, AllocError>
 }
 
 fn put_leaf<B: Blocks>(alloc: Global, store: &mut B, bytes: &[u8; 4096]) -> Result<Bptr, StoreErr>
+    ensures follows { (start : B) → B.follows start store.old → B.follows start store.new }
     ensures costs { Costs 1 0 (B.account store.old) (B.account store.new) }
     ensures cause { HasCause 1 (B.account store.old) (B.account store.new) result }
     ensures errors { (s : Stored) → TellsOf s [] result }
@@ -51,6 +52,7 @@ fn put_leaves<B: Blocks>(
     store: &mut B,
     pieces: &[[u8; 4096]],
 ) -> Result<Vec<Bptr>, StoreErr>
+    ensures follows { (start : B) → B.follows start store.old → B.follows start store.new }
     ensures costs { Costs (length pieces.now) 0 (B.account store.old) (B.account store.new) }
     ensures cause { HasCause (length pieces.now) (B.account store.old) (B.account store.new) result }
     ensures errors { (s : Stored) → TellsOf s [] result }
@@ -70,6 +72,7 @@ fn put_leaves<B: Blocks>(
 pub fn write_bytes<B: Blocks>(alloc: Global, store: &mut B, bytes: &[u8]) -> Result<Tree, StoreErr>
     requires some { 0 < length bytes.now }
     requires most { length bytes.now ≤ 2 ^ 37 }
+    ensures follows { (start : B) → B.follows start store.old → B.follows start store.new }
     ensures costs { Costs (tree_units (div_ceil (length bytes.now) 4096)) 0 (B.account store.old) (B.account store.new) }
     ensures cause { HasCause (tree_units (div_ceil (length bytes.now) 4096)) (B.account store.old) (B.account store.new) result }
     ensures errors { (s : Stored) → TellsOf s [] result }
@@ -88,6 +91,7 @@ pub fn write_bytes<B: Blocks>(alloc: Global, store: &mut B, bytes: &[u8]) -> Res
 pub fn write_root<B: Blocks>(alloc: Global, store: &mut B, bytes: &[u8]) -> Result<Ptr, StoreErr>
     requires some { 0 < length bytes.now }
     requires most { length bytes.now ≤ 2 ^ 37 }
+    ensures follows { (start : B) → B.follows start store.old → B.follows start store.new }
     ensures costs { Costs (tree_units (div_ceil (length bytes.now) 4096)) 0 (B.account store.old) (B.account store.new) }
     ensures cause { HasCause (tree_units (div_ceil (length bytes.now) 4096)) (B.account store.old) (B.account store.new) result }
     ensures errors { (s : Stored) → TellsOf s [] result }

@@ -75,6 +75,7 @@ fn read_group<B: Blocks>(
 ) -> Result<Vec<Ptr>, StoreErr>
     requires low { below < 5 }
     requires fit { IsUnitAt (below + 1) b.now }
+    ensures follows { (start : B) → B.follows start store.old → B.follows start store.new }
     ensures costs { Costs 0 0 (B.account store.old) (B.account store.new) }
     ensures cause { HasCause 0 (B.account store.old) (B.account store.new) result }
     ensures same { (s : Stored) → B.holds store.old s → B.holds store.new s }
@@ -103,6 +104,7 @@ fn read_groups<B: Blocks>(
 ) -> Result<Vec<Ptr>, StoreErr>
     requires low { below < 5 }
     requires fit { All (IsUnitAt (below + 1)) tops.now }
+    ensures follows { (start : B) → B.follows start store.old → B.follows start store.new }
     ensures costs { Costs 0 0 (B.account store.old) (B.account store.new) }
     ensures cause { HasCause 0 (B.account store.old) (B.account store.new) result }
     ensures same { (s : Stored) → B.holds store.old s → B.holds store.new s }
@@ -130,6 +132,7 @@ fn read_level<B: Blocks>(
     requires low { below < 5 }
     requires fit { All (IsUnitAt (below + 1)) tops.now }
     requires count { n ≤ 32 * length tops.now }
+    ensures follows { (start : B) → B.follows start store.old → B.follows start store.new }
     ensures costs { Costs 0 0 (B.account store.old) (B.account store.new) }
     ensures cause { HasCause 0 (B.account store.old) (B.account store.new) result }
     ensures same { (s : Stored) → B.holds store.old s → B.holds store.new s }
@@ -163,6 +166,7 @@ pub(crate) fn level_of<B: Blocks>(
     requires within { level ≤ height }
     requires some { 0 < n }
     requires count { IsHeight n (height - level) }
+    ensures follows { (start : B) → B.follows start store.old → B.follows start store.new }
     ensures costs { Costs 0 0 (B.account store.old) (B.account store.new) }
     ensures cause { HasCause 0 (B.account store.old) (B.account store.new) result }
     ensures same { (s : Stored) → B.holds store.old s → B.holds store.new s }

@@ -40,6 +40,7 @@ pub fn read_root<B: Blocks>(
     requires some { 0 < len }
     requires most { len ≤ 2 ^ 37 }
     requires root { (t : Tree) → IsTreeFor len root.now t → IsRootOf t.height t.root }
+    ensures follows { (start : B) → B.follows start store.old → B.follows start store.new }
     ensures costs { Costs 0 0 (B.account store.old) (B.account store.new) }
     ensures cause { HasCause 0 (B.account store.old) (B.account store.new) result }
     ensures same { (s : Stored) → B.holds store.old s → B.holds store.new s }
@@ -61,6 +62,7 @@ pub fn units_of<B: Blocks>(
 ) -> Result<Vec<Dva>, StoreErr>
     requires most { len ≤ 2 ^ 37 }
     requires root { (t : Tree) → IsTreeFor len root.now t → IsRootOf t.height t.root }
+    ensures follows { (start : B) → B.follows start store.old → B.follows start store.new }
     ensures costs { Costs 0 0 (B.account store.old) (B.account store.new) }
     ensures cause { HasCause 0 (B.account store.old) (B.account store.new) result }
     ensures same { (s : Stored) → B.holds store.old s → B.holds store.new s }

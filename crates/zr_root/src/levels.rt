@@ -59,6 +59,7 @@ fn put_group<B: Blocks>(
     requires low { below < 5 }
     requires count { length pointers.now ≡ 32 }
     requires group { IsGroup below pointers.now }
+    ensures follows { (start : B) → B.follows start store.old → B.follows start store.new }
     ensures costs { Costs 1 0 (B.account store.old) (B.account store.new) }
     ensures cause { HasCause 1 (B.account store.old) (B.account store.new) result }
     ensures errors { (s : Stored) → TellsOf s [] result }
@@ -79,6 +80,7 @@ fn put_groups<B: Blocks>(
 ) -> Result<Vec<Bptr>, StoreErr>
     requires low { below < 5 }
     requires groups { All (IsGroup below) pieces.now }
+    ensures follows { (start : B) → B.follows start store.old → B.follows start store.new }
     ensures costs { Costs (length pieces.now) 0 (B.account store.old) (B.account store.new) }
     ensures cause { HasCause (length pieces.now) (B.account store.old) (B.account store.new) result }
     ensures errors { (s : Stored) → TellsOf s [] result }
@@ -105,6 +107,7 @@ pub(crate) fn join<B: Blocks>(
     requires some { 0 < length bs.now }
     requires small { length bs.now ≤ 32 ^ (5 - level) }
     requires fit { All (IsUnitAt level) bs.now }
+    ensures follows { (start : B) → B.follows start store.old → B.follows start store.new }
     ensures costs { Costs (tree_units (length bs.now) - length bs.now) 0 (B.account store.old) (B.account store.new) }
     ensures cause { HasCause (tree_units (length bs.now) - length bs.now) (B.account store.old) (B.account store.new) result }
     ensures errors { (s : Stored) → TellsOf s [] result }

@@ -47,6 +47,7 @@ fn malformed(b: &Bptr) -> StoreErr
 }
 
 fn read_leaf<B: Blocks>(alloc: Global, store: &mut B, b: &Bptr) -> Result<Vec<u8>, StoreErr>
+    ensures follows { (start : B) → B.follows start store.old → B.follows start store.new }
     ensures costs { Costs 0 0 (B.account store.old) (B.account store.new) }
     ensures cause { HasCause 0 (B.account store.old) (B.account store.new) result }
     ensures same { (s : Stored) → B.holds store.old s → B.holds store.new s }
@@ -71,6 +72,7 @@ pub(crate) fn read_leaves<B: Blocks>(
     store: &mut B,
     leaves: &[Bptr],
 ) -> Result<Vec<u8>, StoreErr>
+    ensures follows { (start : B) → B.follows start store.old → B.follows start store.new }
     ensures costs { Costs 0 0 (B.account store.old) (B.account store.new) }
     ensures cause { HasCause 0 (B.account store.old) (B.account store.new) result }
     ensures same { (s : Stored) → B.holds store.old s → B.holds store.new s }
@@ -98,6 +100,7 @@ pub fn read_bytes<B: Blocks>(
     requires tall { t.now.height ≤ 5 }
     requires height { IsHeight (div_ceil len 4096) t.now.height }
     requires root { IsRootOf t.now.height t.now.root }
+    ensures follows { (start : B) → B.follows start store.old → B.follows start store.new }
     ensures costs { Costs 0 0 (B.account store.old) (B.account store.new) }
     ensures cause { HasCause 0 (B.account store.old) (B.account store.new) result }
     ensures same { (s : Stored) → B.holds store.old s → B.holds store.new s }
@@ -141,6 +144,7 @@ pub fn read_stream<B: Blocks>(
 ) -> Result<Vec<u64>, StoreErr>
     requires most { stream.now.words ≤ 2 ^ 34 }
     requires stream { IsStream stream.now }
+    ensures follows { (start : B) → B.follows start store.old → B.follows start store.new }
     ensures costs { Costs 0 0 (B.account store.old) (B.account store.new) }
     ensures cause { HasCause 0 (B.account store.old) (B.account store.new) result }
     ensures same { (s : Stored) → B.holds store.old s → B.holds store.new s }

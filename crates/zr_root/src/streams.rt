@@ -35,6 +35,7 @@ fn bytes_of(alloc: Global, ns: &[u64]) -> Result<Vec<u8>, AllocError>
 /// Stores words as a stream.
 pub fn write_stream<B: Blocks>(alloc: Global, store: &mut B, ns: &[u64]) -> Result<Stream, StoreErr>
     requires most { length ns.now ≤ 2 ^ 34 }
+    ensures follows { (start : B) → B.follows start store.old → B.follows start store.new }
     ensures costs { Costs (tree_units (div_ceil (length ns.now) 512)) 0 (B.account store.old) (B.account store.new) }
     ensures cause { HasCause (tree_units (div_ceil (length ns.now) 512)) (B.account store.old) (B.account store.new) result }
     ensures errors { (s : Stored) → TellsOf s [] result }
@@ -73,6 +74,7 @@ pub fn stream_units<B: Blocks>(
     stream: &Stream,
 ) -> Result<Vec<Dva>, StoreErr>
     requires { IsTree stream.now.tree }
+    ensures follows { (start : B) → B.follows start store.old → B.follows start store.new }
     ensures costs { Costs 0 0 (B.account store.old) (B.account store.new) }
     ensures cause { HasCause 0 (B.account store.old) (B.account store.new) result }
     ensures errors { (s : Stored) → B.holds store.old s → TellsOf s (tree_blocks s stream.now.tree) result }

@@ -1,4 +1,4 @@
-//! A run on the second of two disks.
+//! A run on the disk of the third device.
 use super::*;
 use std::test::Fail;
 use zr_base::Extent;
@@ -12,11 +12,9 @@ fn what_was_written_is_read(rt: HostRuntime) -> Result<(), Fail> {
     let alloc = rt.alloc();
     assert_eq!(rt; place_of_unit(7), 4222976);
     let mut desk = SureDesk::new(alloc, Vec::new(alloc));
-    let first = desk.attach("a", Some(BYTES))?;
-    let second = desk.attach("b", Some(BYTES))?;
-    assert_eq!(rt; (first, second), (0, 1));
-    assert_eq!(rt; (desk.size(0), desk.size(1)), (BYTES, BYTES));
-    let slots = [Some(0), None, Some(1)];
+    let slot = desk.attach("a", Some(BYTES))?;
+    assert_eq!(rt; (slot, desk.size(0)), (0, BYTES));
+    let slots = [None, None, Some(0)];
     let run = Piece {
         split: 0,
         dev: 2,
@@ -27,7 +25,7 @@ fn what_was_written_is_read(rt: HostRuntime) -> Result<(), Fail> {
     read_runs(&mut desk, &slots, &[run], &mut out)?;
     assert_eq!(rt; (out[0], out[8191]), (5, 5));
     let mut raw = [9; 2];
-    desk.read(1, 4222975, &mut raw)?;
+    desk.read(0, 4222975, &mut raw)?;
     assert_eq!(rt; raw, [0, 5]);
     Ok(())
 }

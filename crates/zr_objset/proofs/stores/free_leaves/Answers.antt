@@ -6,6 +6,7 @@ use Rattle.zr_objset.proofs.stores.free_leaves.Goals as goal
 
 pub loop-leaf-preserved : goal.loop-leaf-preserved
 loop-leaf-preserved g c = record {
+  follows = λ start so_far. c.free_leaf.ensures.follows start (c.loop-leaf.invariant.follows start so_far);
   costs = costs_then c.loop-leaf.invariant.costs c.in_ok-free_leaf.ensures.costs;
   so_far = λ s holds held.
       let leaves = c.args.leaves.now in

@@ -55,6 +55,7 @@ loop-from-preserved g c =
           subst (All (λ (leaf : ℕ × Ptr). leaf.0 < (get_or changes (from + n) d).0 / 16)) (sym news_is)
           (All-push (λ (leaf : ℕ × Ptr). leaf.0 < (get_or changes (from + n) d).0 / 16) news (place, q) (λ k e l. let b = before k e l in omega (arith, b, up)) up);
       leaves = subst (All (λ (leaf : ℕ × Ptr). FitsAt 0 leaf.1)) (sym news_is) (All-push (λ (leaf : ℕ × Ptr). FitsAt 0 leaf.1) news (place, q) inv.leaves c.in_ok-new.ensures.fits);
+      follows = λ start so_far. c.change_leaf.ensures.follows start (c.get.ensures.follows start (inv.follows start so_far));
       costs = costs_most (from + n) 0 (omega (arith, some)) (omega arith) (costs_then (costs_then inv.costs c.get.ensures.costs) c.change_leaf.ensures.costs);
       olds = λ s holds held.
           let dir = c.args.dir.now in

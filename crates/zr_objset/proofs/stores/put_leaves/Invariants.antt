@@ -15,6 +15,7 @@ invariant-loop-from g l = record {
   rises : Rises l.news.items;
   before : l.from < length l.changes → All (λ leaf. leaf.0 < (slice_index_or l.changes l.from (0, None)).0 / 16) l.news.items;
   leaves : AreLeaves l.news.items;
+  follows : (start : g.row.B.Denot) → g.B.Blocks.follows start l.fn.store → g.B.Blocks.follows start l.store;
   costs : Costs l.from 0 (g.B.Blocks.account l.fn.store) (g.B.Blocks.account l.store);
   olds : (s : Stored) → g.B.Blocks.holds l.fn.store s → AreStored (tree_reach s l.dir) s → l.olds.items ≡ map (λ leaf. tree_at s l.dir leaf.0) l.news.items;
   puts : (s : Stored) → g.B.Blocks.holds l.fn.store s → AreStored (tree_reach s l.dir) s → Now (g.B.Blocks.holds l.store) (λ n. PutsLeaves l.dir (take l.from l.changes) s n l.news.items);

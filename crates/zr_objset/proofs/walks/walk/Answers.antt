@@ -33,6 +33,7 @@ loop-b-preserved g c =
     let inv = c.loop-b.invariant in
     let h = c.in_ok-walk_leaf.ensures in
     record {
+      follows = λ start so_far. h.follows start (inv.follows start so_far);
       costs = costs_then inv.costs h.costs;
       same = λ s holds. h.same s (inv.same s holds);
       formed = λ s holds. formed_more s items i _ lt (inv.formed s holds) (h.formed s (inv.same s holds));

@@ -9,6 +9,7 @@ use Rattle.zr_objset.proofs.walks.walk.Given as goal
 
 abbrev pub invariant-loop-b : goal.invariant-loop-b
 invariant-loop-b g l = record {
+  follows : (start : g.row.B.Denot) → g.B.Blocks.follows start l.fn.store → g.B.Blocks.follows start l.store;
   costs : Costs 0 0 (g.B.Blocks.account l.fn.store) (g.B.Blocks.account l.store);
   same : (s : Stored) → g.B.Blocks.holds l.fn.store s → g.B.Blocks.holds l.store s;
   formed : (s : Stored) → g.B.Blocks.holds l.fn.store s → All (IsFormed s) (take l.b-index l.b-items);

@@ -7,6 +7,7 @@ use Rattle.zr_objset.proofs.walks.walk_leaf.Given as goal
 
 abbrev pub invariant-loop-object : goal.invariant-loop-object
 invariant-loop-object g l = record {
+  follows : (start : g.row.B.Denot) → g.B.Blocks.follows start l.fn.store → g.B.Blocks.follows start l.store;
   costs : Costs 0 0 (g.B.Blocks.account l.fn.store) (g.B.Blocks.account l.store);
   same : (s : Stored) → g.B.Blocks.holds l.fn.store s → g.B.Blocks.holds l.store s;
   so_far : (s : Stored) → g.B.Blocks.holds l.fn.store s → l.out.items ≡ l.initial.out.items ++ flat_map (object_reach s) (take l.object-index l.object-items);

@@ -16,6 +16,7 @@ loop-b-preserved g c =
     let ps = c.in_ok-pointers.pointers.items in
     let items : c.extend_from_slice.new.self.items ≡ all ++ ps = c.in_ok-extend_from_slice.ensures.items ∙ ap (λ (qs : List Ptr). all ++ qs) c.as_slice.ensures.value in
     record {
+      follows = λ start so_far. c.read_group.ensures.follows start (c.loop-b.invariant.follows start so_far);
       costs = costs_then c.loop-b.invariant.costs c.read_group.ensures.costs;
       same = λ s held. c.read_group.ensures.same s (c.loop-b.invariant.same s held);
       count = let e = ap (λ (qs : List Ptr). length qs) items in omega (arith, e, length-append all ps, c.loop-b.invariant.count, c.in_ok-pointers.ensures.count);

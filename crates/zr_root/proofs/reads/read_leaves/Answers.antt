@@ -12,6 +12,7 @@ loop-b-preserved g c =
     let bytes = c.in_ok-bytes.bytes.items in
     let items : c.extend_from_slice.new.self.items ≡ all ++ bytes = c.in_ok-extend_from_slice.ensures.items ∙ ap (λ (xs : List ℕ). all ++ xs) c.as_slice.ensures.value in
     record {
+      follows = λ start so_far. c.read_leaf.ensures.follows start (c.loop-b.invariant.follows start so_far);
       costs = costs_then c.loop-b.invariant.costs c.read_leaf.ensures.costs;
       same = λ s held. c.read_leaf.ensures.same s (c.loop-b.invariant.same s held);
       len = let e = ap (λ (xs : List ℕ). length xs) items in omega (arith, e, length-append all bytes, c.loop-b.invariant.len, c.in_ok-bytes.ensures.len);
