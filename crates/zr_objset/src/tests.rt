@@ -99,3 +99,90 @@ fn finds_objects_and_their_blocks(rt: HostRuntime) -> Result<(), Fail> {
     assert_eq!(rt; &all[9..], [a, b].as_slice());
     Ok(())
 }
+
+#[test]
+fn stores_and_drops_objects(rt: HostRuntime) -> Result<(), Fail> {
+    let alloc = rt.alloc();
+    let mut store = MemBlocks::new(alloc, 64);
+    let b = store.put(alloc, &[2; 8192], 0)?;
+    let two = ObjRec {
+        units: 2,
+        tree: Tree {
+            root: Ptr::At(b),
+            height: 0,
+        },
+    };
+    let empty = ObjRec {
+        units: 4,
+        tree: NO_TREE,
+    };
+    // two leaves, and three blocks above the first beside two above the second
+    let first = super::store(
+        alloc,
+        &mut store,
+        &NO_TREE,
+        &[(2, Some(two)), (3, Some(empty)), (65535, Some(empty))],
+    )?;
+    assert_eq!(rt; (first.height, store.kept.len()), (3, 8));
+    // the first leaf goes, and another comes
+    let second = super::store(
+        alloc,
+        &mut store,
+        &first,
+        &[(2, None), (3, None), (17, Some(two)), (65534, Some(two))],
+    )?;
+    assert_eq!(rt; (second.height, store.kept.len()), (3, 8));
+    for (id, object) in [
+        (2, None),
+        (3, None),
+        (17, Some(two)),
+        (18, None),
+        (65534, Some(two)),
+        (65535, Some(empty)),
+    ] {
+        assert_eq!(rt;
+            look(alloc, &mut store, &second, id)?,
+            object,
+            "object {id}"
+        );
+    }
+    let third = super::store(
+        alloc,
+        &mut store,
+        &second,
+        &[(17, None), (65534, None), (65535, None)],
+    )?;
+    assert_eq!(rt;
+        (third.root, third.height, store.kept.len()),
+        (Ptr::Hole, 3, 1)
+    );
+    let next = store.next;
+    let same = super::store(alloc, &mut store, &third, &[(5, None)])?;
+    assert_eq!(rt; (same, store.next), (third, next));
+    Ok(())
+}
+
+#[test]
+fn tells_of_a_leaf_outside_its_form(rt: HostRuntime) -> Result<(), Fail> {
+    let alloc = rt.alloc();
+    let mut store = MemBlocks::new(alloc, 8);
+    let b = store.put(alloc, &[1; 4096], 0)?;
+    let dir = Tree {
+        root: Ptr::At(b),
+        height: 0,
+    };
+    let at = b.at;
+    let sum = b.sum;
+    let error = Some(StoreErr::Malformed { at, expected: sum });
+    assert_eq!(rt; look(alloc, &mut store, &dir, 15).err(), error);
+    assert_eq!(rt; walk(alloc, &mut store, &dir).err(), error);
+    let stored = super::store(alloc, &mut store, &dir, &[(15, None)]);
+    assert_eq!(rt; stored.err(), error);
+    let object = ObjRec {
+        units: 2,
+        tree: dir,
+    };
+    assert_eq!(rt; block(alloc, &mut store, &object, 0).err(), error);
+    frame();
+    Ok(())
+}
