@@ -6,18 +6,18 @@ use Rattle.std.specs.Int.{div_ceil}
 use Rattle.std.proofs.lemmas.Bool.{cases_lt}
 use Rattle.std.proofs.lemmas.List.{get_or_default, length-append, get_or_past, get_or_append_left, get_or-append_right}
 use Rattle.std.proofs.lemmas.List.Sums.{sum_by-append, sum_by-cons}
-use Rattle.std.proofs.lemmas.List.Elements.{All-head, All-tail, All-cons, All-append}
+use Rattle.std.proofs.lemmas.List.Elements.{All-head, All-tail, All-cons}
 use Rattle.std.proofs.Math.Nat.{pow-suc, mul-le-mul_right, div-one, mul-div_cancel, div-mul-le_self}
 use Rattle.zr_base.specs.Trees.{IsHeight, tree_units}
 use Rattle.zr_bptr.specs.declared.Bptr.{Bptr}
 use Rattle.zr_bptr.specs.declared.Ptr.{Ptr}
 use Rattle.zr_bptr.specs.declared.Ptr.TheVariants.{Hole, At}
 use Rattle.zr_bptr.specs.declared.Tree.{Tree}
-use Rattle.zr_bptr.specs.Spelling.{SpellsTreeBlock, IsLawful, IsOfLevel, fill_of}
+use Rattle.zr_bptr.specs.Spelling.{IsLawful, IsOfLevel, fill_of}
 use Rattle.zr_owed.proofs.TreeUnits.{tree_units-one, tree_units-more}
 use Rattle.zr_store.specs.Store.{Stored}
 use Rattle.zr_tree.specs.Blocks.{FitsAt}
-use Rattle.zr_tree.specs.Trees.{kids, slot, digit, leaf_at, leaves_below, blocks, IsAmong, IsWhole, tree_at, tree_blocks, tree_leaves, tree_reach}
+use Rattle.zr_tree.specs.Trees.{kids, slot, digit, leaf_at, blocks, IsAmong, IsWhole, tree_blocks, tree_leaves, tree_reach}
 use Rattle.zr_tree.proofs.Frames.{hole_leaf}
 use Rattle.zr_tree.proofs.Holes.{div-suc, hole_blocks}
 use Rattle.zr_tree.proofs.Spelled.{spelled}
@@ -25,7 +25,7 @@ use Rattle.zr_tree.proofs.Wholes.{Within, among_hits, among_within, among_parts,
 use Rattle.zr_root.specs.Streams.{AreWhole, IsUnitAt, HasLeaves}
 use Rattle.zr_root.specs.Levels.{IsLevel, HavePointers}
 use Rattle.zr_root.proofs.Joining.{ceil_of, all_among, join_one}
-use Rattle.zr_root.proofs.Steps.{blocks_at, leaves_at, length-kids, step_blocks, step_place, level_place, level_blocks, level_leaves, parts, no_blocks, own_leaves}
+use Rattle.zr_root.proofs.Steps.{blocks_at, length-kids, step_blocks, step_place, level_place, level_blocks, level_leaves, parts, no_blocks, own_leaves}
 
 -- ---- numbers
 
@@ -130,8 +130,7 @@ some_leaf s (suc below) place b fits whole =
     let (k, c, lt, at) = some_kid s below b w in
     let (index, place_is, some) = some_leaf s below (32 * place + k) c (subst (FitsAt below) at (kid_fits s below b k fits.0 w)) (whole_below s below b c k lt at whole) in
     let up = div-suc index below in
-    let digit_is : digit below index ≡ k = ap (λ (n : ℕ). n % 32) place_is ∙ omega (arith, lt) in
-    (
+    let digit_is : digit below index ≡ k = ap (λ (n : ℕ). n % 32) place_is ∙ omega (arith, lt) in (
       index,
       up ∙ ap (λ (n : ℕ). n / 32) place_is ∙ omega (arith, lt),
       λ e. some (ap (λ (p : Ptr). leaf_at s below p index) (sym at) ∙ ap (λ (j : ℕ). leaf_at s below (slot (kids s below b) j) index) (sym digit_is) ∙ e),
@@ -200,8 +199,7 @@ no_blocks_hole s below b among = absurd (let n = among_hits b [] (subst (IsAmong
 
 one_kid : (s : Stored) (below j : ℕ) (b : Bptr) → j < 32 → b.level ≡ suc below → AreWhole s (blocks s (suc below) (At b)) → FitsAt below (slot (kids s below b) j) × AreWhole s (blocks s below (slot (kids s below b) j))
 one_kid s below j b lt level_is whole =
-    let w = whole b (first_among b (flat_map (blocks s below) (kids s below b))) in
-    (
+    let w = whole b (first_among b (flat_map (blocks s below) (kids s below b))) in (
       kid_fits s below b j level_is w,
       elim (hole_or (slot (kids s below b) j)) [
         | inl none ↦ subst (λ (p : Ptr). AreWhole s (blocks s below p)) (sym none) (no_blocks_hole s below)
@@ -260,7 +258,7 @@ module _ (s : Stored) (below : ℕ) (tops leaves : List Bptr) (units : All (IsUn
         let (b, is, unit) = slot_leaf leaves index (below_ceil (length leaves) (32 ^ below) j (pow-pos below) lt) in
         let e : Hole ≡ At b = sym (hole_leaf s below index) ∙ sym (ap (λ (p : Ptr). leaf_at s below p index) (ap (λ (k : ℕ). slot ps k) place_is ∙ none)) ∙ here index ∙ is in
         cc
-      )
+        )
   ]
 
   empty : (j : ℕ) → div_ceil (length leaves) (32 ^ below) ≤ j → slot ps j ≡ Hole
@@ -276,14 +274,13 @@ module _ (s : Stored) (below : ℕ) (tops leaves : List Bptr) (units : All (IsUn
         let same : index / 32 ^ below * 32 ^ below ≡ j * 32 ^ below = ap (λ (k : ℕ). k * 32 ^ below) place_is in
         let past : length leaves ≤ index = omega (arith, low, most, same) in
         leaf (ap (λ (p : Ptr). leaf_at s below p index) (sym at) ∙ ap (λ (k : ℕ). leaf_at s below (slot ps k) index) (sym place_is) ∙ here index ∙ slot_past leaves index past)
-      )
+        )
   ]
 
   pub shaped : (bs : List Bptr) × (length bs ≡ div_ceil (length leaves) (32 ^ below)) × HavePointers s below tops bs
   shaped =
       let (bs, long, is) = cut ps (div_ceil (length leaves) (32 ^ below)) full empty in
-      let pointers : ps ≡ map At bs ++ replicate (32 * length tops - length bs) Hole = is ∙ ap (λ (n : ℕ). map At bs ++ replicate (n - length bs) Hole) (length-flat_kids s below tops) in
-      (
+      let pointers : ps ≡ map At bs ++ replicate (32 * length tops - length bs) Hole = is ∙ ap (λ (n : ℕ). map At bs ++ replicate (n - length bs) Hole) (length-flat_kids s below tops) in (
         bs,
         long,
         record {
@@ -375,7 +372,7 @@ module _ (s : Stored) (b : Bptr) (height : ℕ) (leaves : List Bptr) (unit : IsU
             let fits = past_ceil (length leaves) (32 ^ level) 1 (pow-pos level) small in
             let low = tall.least level (omega (arith, fits)) in
             omega (arith, low, is)
-          )
+            )
       ] in
       (bs, long, level_down s tree level tops bs up shape counted more)
 

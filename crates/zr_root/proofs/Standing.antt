@@ -1,13 +1,13 @@
 -- The bytes that were read stand in the tree, and no others do.
-use Rattle.std.proofs.Common.{◌≡◌, ◌≢◌, ◌+◌, ◌*◌, ◌-◌, ◌/◌, ◌^◌, ◌<◌, ◌≤◌, ◌⊎◌, inl, inr, ℕ, zero, suc, List, [], ◌∷◌, ◌++◌, length, map, get_or, take, drop, replicate, get_or-drop, refl, sym, ◌∙◌, ap, subst, arith, append-nil}
+use Rattle.std.proofs.Common.{◌≡◌, ◌+◌, ◌*◌, ◌-◌, ◌/◌, ◌^◌, ◌<◌, ◌≤◌, inl, inr, ℕ, zero, suc, List, [], ◌∷◌, ◌++◌, length, map, get_or, take, drop, get_or-drop, refl, sym, ◌∙◌, ap, subst, arith, append-nil}
 use Rattle.std.specs.Prelude.{All}
 use Rattle.std.specs.List.{flat_map, sum_by}
-use Rattle.std.specs.Int.{div_ceil, w64, to_le_bytes, from_le_bytes}
+use Rattle.std.specs.Int.{div_ceil, w64, from_le_bytes}
 use Rattle.std.specs.Simd.{first_chunks}
 use Rattle.std.proofs.lemmas.Bool.{cases_lt}
-use Rattle.std.proofs.lemmas.Nat.{le_bytes_8, from_le_bytes-to_le_bytes_8}
+use Rattle.std.proofs.lemmas.Nat.{le_bytes_8}
 use Rattle.std.proofs.lemmas.List.{length-append, length-drop, length-take, length-take-le, take-append-drop, take_all, get_or_past, get_or-take, drop_at, length-replicate}
-use Rattle.std.proofs.lemmas.List.Elements.{All-head, All-tail, All-cons, All-push}
+use Rattle.std.proofs.lemmas.List.Elements.{All-push}
 use Rattle.std.proofs.lemmas.Grind.{flat_map-append}
 use Rattle.std.proofs.Math.Nat.{mul-suc}
 use Rattle.sha2.specs.Sha256.{sha256}
@@ -20,12 +20,12 @@ use Rattle.zr_store.specs.Store.{Stored}
 use Rattle.zr_base.specs.Trees.{IsHeight}
 use Rattle.zr_meta.specs.declared.Stream.{Stream}
 use Rattle.zr_meta.specs.Heads.{IsStream, IsTreeOf}
-use Rattle.zr_tree.specs.Trees.{slot, tree_at, tree_blocks, tree_leaves, tree_reach, IsAmong}
+use Rattle.zr_tree.specs.Trees.{slot, tree_blocks, tree_reach, IsAmong}
 use Rattle.zr_tree.proofs.Wholes.{Within, among_hits}
-use Rattle.zr_root.specs.Streams.{AreWhole, HasSum, IsRootOf, HasLeaves, HasBytes, HasWords}
+use Rattle.zr_root.specs.Streams.{HasSum, IsRootOf, HasLeaves, HasBytes, HasWords}
 use Rattle.zr_root.specs.Levels.{IsLevel, ReadsLeaves}
 use Rattle.zr_root.proofs.Lists.{joined, length-chunks}
-use Rattle.zr_root.proofs.Steps.{blocks_at, no_blocks, own_leaves, parts}
+use Rattle.zr_root.proofs.Steps.{no_blocks, own_leaves, parts}
 use Rattle.zr_root.proofs.Puts.{taken}
 use Rattle.zr_root.proofs.Shapes.{ceil_one}
 use Rattle.zr_root.proofs.Words.{leaves_same, hole_words}
@@ -104,15 +104,17 @@ module _ (s : Stored) (t : Tree) (len n : ℕ) (leaves : List Bptr) (all : List 
   has_bytes xs bytes most size xs_are padding bytes_are reads =
       let long : length bytes ≡ len = ap (λ (ys : List ℕ). length ys) bytes_are ∙ length-take-le len all (omega (arith, most, size)) in
       let rest : length xs ≡ 4096 * n - len = ap (λ (ys : List ℕ). length ys) xs_are ∙ omega (arith, length-drop len all, size) in
-      let behind : drop len all ≡ zeros (4096 * length leaves - length bytes) = sym xs_are ∙ padding ∙ ap zeros (omega (arith, rest, count, long)) in
-      (long, record {
-        leaves = leaves;
-        are_leaves = leaves_of_level s t leaves is;
-        count = count ∙ n_is ∙ ap (λ (k : ℕ). div_ceil k 4096) (sym long);
-        long = reads.long;
-        sums = reads.sums;
-        spelling = sym reads.bytes_are ∙ sym (take-append-drop len all) ∙ ap (λ (ys : List ℕ). ys ++ drop len all) (sym bytes_are) ∙ ap (λ (ys : List ℕ). bytes ++ ys) behind;
-      })
+      let behind : drop len all ≡ zeros (4096 * length leaves - length bytes) = sym xs_are ∙ padding ∙ ap zeros (omega (arith, rest, count, long)) in (
+        long,
+        record {
+          leaves = leaves;
+          are_leaves = leaves_of_level s t leaves is;
+          count = count ∙ n_is ∙ ap (λ (k : ℕ). div_ceil k 4096) (sym long);
+          long = reads.long;
+          sums = reads.sums;
+          spelling = sym reads.bytes_are ∙ sym (take-append-drop len all) ∙ ap (λ (ys : List ℕ). ys ++ drop len all) (sym bytes_are) ∙ ap (λ (ys : List ℕ). bytes ++ ys) behind;
+        },
+      )
 
 pub reads_sum : (s : Stored) (leaves bs : List Bptr) (all : List ℕ) → bs ≡ leaves → ReadsLeaves s leaves all → (i : ℕ) (d : Bptr) → i < length bs → HasSum s (get_or bs i d)
 reads_sum s leaves bs all same reads = subst (All (HasSum s)) (sym same) reads.sums
@@ -160,8 +162,7 @@ pub words_all : (ns bytes : List ℕ) (i n : ℕ) (pieces : List (List ℕ)) →
 words_all ns bytes i n pieces long cut count past most so_far =
     let k : length bytes / 8 ≡ n = omega (arith, long) in
     let here : pieces ≡ first_chunks 8 n bytes = cut ∙ ap (λ (j : ℕ). first_chunks 8 j bytes) k in
-    let size : length pieces ≡ n = ap (λ (cs : List (List ℕ)). length cs) here ∙ length-chunks 8 n bytes in
-    (
+    let size : length pieces ≡ n = ap (λ (cs : List (List ℕ)). length cs) here ∙ length-chunks 8 n bytes in (
       so_far ∙ ap (flat_map (λ (c : List ℕ). c)) (take_all i pieces past ∙ here) ∙ joined 8 n bytes long,
       omega (arith, count, past, most, size),
     )
