@@ -1,8 +1,8 @@
 -- What stands beside a tree does not matter, and what stands in it is one thing.
-use Rattle.std.proofs.Common.{◌≡◌, ◌≢◌, ◌+◌, ◌*◌, ◌-◌, ◌/◌, ◌^◌, ◌<◌, ◌≤◌, ◌⊎◌, inl, inr, ℕ, zero, suc, List, [], ◌∷◌, ◌++◌, length, map, get_or, take, drop, refl, sym, ◌∙◌, ap, subst, arith, Bool, true, false, nat_lt}
+use Rattle.std.proofs.Common.{◌≡◌, ◌*◌, ◌-◌, ◌^◌, ◌<◌, ◌≤◌, ℕ, zero, suc, List, [], ◌∷◌, ◌++◌, length, map, get_or, take, drop, refl, sym, ◌∙◌, ap, subst, arith, Bool, true, false, nat_lt}
 use Rattle.std.specs.Prelude.{All, if◌then◌else◌}
-use Rattle.std.specs.List.{flat_map, sum_by}
-use Rattle.std.specs.Int.{div_ceil, w64, to_le_bytes, from_le_bytes}
+use Rattle.std.specs.List.{flat_map}
+use Rattle.std.specs.Int.{div_ceil, w64, from_le_bytes}
 use Rattle.std.proofs.lemmas.Nat.{from_le_bytes-to_le_bytes_8}
 use Rattle.std.proofs.lemmas.List.{take_at, drop_at}
 use Rattle.std.proofs.lemmas.List.Sums.{sum_by-cons}
@@ -14,18 +14,17 @@ use Rattle.zr_bptr.specs.declared.Bptr.{Bptr}
 use Rattle.zr_bptr.specs.declared.Ptr.{Ptr}
 use Rattle.zr_bptr.specs.declared.Ptr.TheVariants.{Hole, At}
 use Rattle.zr_bptr.specs.declared.Tree.{Tree}
-use Rattle.zr_bptr.specs.Spelling.{IsTree}
 use Rattle.zr_store.specs.Store.{Stored, hits, one_at}
 use Rattle.zr_meta.specs.declared.Stream.{Stream}
 use Rattle.zr_meta.specs.Heads.{IsStream, IsTreeOf}
-use Rattle.zr_tree.specs.Trees.{kids, slot, digit, leaf_at, reach, tree_at, tree_blocks, tree_reach, IsAmong, KeepsTree}
+use Rattle.zr_tree.specs.Trees.{kids, slot, digit, leaf_at, reach, tree_at, tree_blocks, tree_reach, IsAmong}
 use Rattle.zr_tree.proofs.Others.{keeps}
-use Rattle.zr_tree.proofs.Wholes.{Within, among_within, among_hits, within_flat, within_rest, whole_again}
-use Rattle.zr_root.specs.Streams.{AreWhole, HasSum, IsRootOf, IsTreeFor, HasLeaves, HasBytes, HasWords}
-use Rattle.zr_root.proofs.Lists.{map_same, flat_map-map, all_from_map}
+use Rattle.zr_tree.proofs.Wholes.{Within, among_hits, within_flat, whole_again}
+use Rattle.zr_root.specs.Streams.{IsTreeFor, HasLeaves, HasBytes, HasWords}
+use Rattle.zr_root.proofs.Lists.{map_same, flat_map-map}
 use Rattle.zr_root.proofs.Steps.{length-kids}
-use Rattle.zr_root.proofs.Shapes.{slot_leaf, number_of_blocks}
-use Rattle.zr_root.proofs.Standing.{leaves_one, length-words, by_root, blocks_within, root_of}
+use Rattle.zr_root.proofs.Shapes.{number_of_blocks}
+use Rattle.zr_root.proofs.Standing.{leaves_one, length-words, blocks_within}
 use Rattle.zr_root.proofs.Words.{leaves_same, one_height}
 
 -- ---- the leaves are blocks of the tree

@@ -1,5 +1,5 @@
 -- What it takes to put a tree.
-use Rattle.std.proofs.Common.{◌≡◌, ◌+◌, ◌*◌, ◌-◌, ◌<◌, ◌≤◌, ℕ, Result, sym, ◌∙◌, ap, subst, arith}
+use Rattle.std.proofs.Common.{◌≡◌, ◌+◌, ◌-◌, ◌<◌, ◌≤◌, ℕ, Result, ap, arith}
 use Rattle.std.specs.Int.{div_ceil}
 use Rattle.zr_base.specs.Trees.{tree_units}
 use Rattle.zr_store.specs.declared.StoreErr.{StoreErr}

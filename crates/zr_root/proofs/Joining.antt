@@ -1,5 +1,5 @@
 -- A tree is put over the blocks of a level.
-use Rattle.std.proofs.Common.{◌≡◌, ◌≢◌, ◌+◌, ◌*◌, ◌-◌, ◌/◌, ◌^◌, ◌<◌, ◌≤◌, ◌⊎◌, inl, inr, ℕ, zero, suc, List, [], ◌∷◌, ◌++◌, length, map, get_or, take, drop, replicate, refl, sym, ◌∙◌, ap, subst, arith, Bool, false, nat_lt, append-nil, get_or-drop, lit<}
+use Rattle.std.proofs.Common.{◌≡◌, ◌≢◌, ◌+◌, ◌*◌, ◌-◌, ◌/◌, ◌^◌, ◌<◌, ◌≤◌, inl, inr, ℕ, zero, suc, List, [], ◌∷◌, ◌++◌, length, map, get_or, take, drop, replicate, refl, sym, ◌∙◌, ap, subst, arith, Bool, false, nat_lt, append-nil, get_or-drop, lit<}
 use Rattle.std.specs.Prelude.{All, if◌then◌else◌}
 use Rattle.std.specs.List.{sum_by, flat_map}
 use Rattle.std.specs.Int.{div_ceil}
@@ -8,9 +8,9 @@ use Rattle.std.proofs.lemmas.Bool.{cases_eq}
 use Rattle.std.proofs.lemmas.Bool.Decides.{nat_tests}
 use Rattle.std.proofs.lemmas.Grind.{div_ceil_times}
 use Rattle.std.proofs.lemmas.List.{length-drop, length-take-le, length-append, length-map, length-replicate}
-use Rattle.std.proofs.lemmas.List.Sums.{sum_by-append, sum_by-cons}
-use Rattle.std.proofs.lemmas.List.Elements.{All-head, All-tail, All-cons, All-take, All-drop, All-append, All-map, All-replicate}
-use Rattle.std.proofs.Math.Nat.{pow-suc, mul-suc, pow-le-pow_right}
+use Rattle.std.proofs.lemmas.List.Sums.{sum_by-append}
+use Rattle.std.proofs.lemmas.List.Elements.{All-head, All-tail, All-cons, All-take, All-drop, All-append, All-replicate}
+use Rattle.std.proofs.Math.Nat.{pow-suc, pow-le-pow_right}
 use Rattle.zr_base.specs.Trees.{IsHeight, tree_units}
 use Rattle.zr_bptr.specs.declared.Bptr.{Bptr}
 use Rattle.zr_bptr.specs.declared.Ptr.{Ptr}
@@ -18,16 +18,16 @@ use Rattle.zr_bptr.specs.declared.Ptr.TheVariants.{Hole, At}
 use Rattle.zr_bptr.specs.declared.Tree.{Tree}
 use Rattle.zr_bptr.specs.Spelling.{fill_of}
 use Rattle.zr_owed.proofs.TreeUnits.{tree_units-one, tree_units-more}
-use Rattle.zr_store.specs.Store.{Stored, Swaps, AreStored, Now, hits, one_at}
+use Rattle.zr_store.specs.Store.{Stored, Swaps, AreStored, Now, one_at}
 use Rattle.zr_tree.specs.Blocks.{FitsAt}
-use Rattle.zr_tree.specs.Trees.{kids, slot, leaf_at, leaves_below, blocks, IsAmong, IsWhole, tree_at, tree_blocks, tree_leaves, tree_reach}
+use Rattle.zr_tree.specs.Trees.{kids, slot, leaf_at, leaves_below, blocks, IsAmong, IsWhole}
 use Rattle.zr_tree.proofs.Frames.{Agree, frame, each_blocks, each_leaf_list, each_leaves, hole_leaf}
 use Rattle.zr_tree.proofs.Holes.{inside}
 use Rattle.zr_tree.proofs.Sums.{one_of}
 use Rattle.zr_tree.proofs.Wholes.{among_hits, among_parts, among_own, whole_again}
-use Rattle.zr_root.specs.Streams.{AreWhole, IsUnitAt, IsGroup, PutsBlocks, Joins}
+use Rattle.zr_root.specs.Streams.{IsUnitAt, IsGroup, PutsBlocks, Joins}
 use Rattle.zr_root.proofs.Lists.{flat_pieces}
-use Rattle.zr_root.proofs.Steps.{blocks_at, leaves_at, level_place, level_blocks, level_leaves}
+use Rattle.zr_root.proofs.Steps.{blocks_at, level_place, level_blocks, level_leaves}
 
 -- ---- numbers
 

@@ -1,7 +1,5 @@
 -- One block more.
-use Rattle.std.proofs.Common.{◌≡◌, ◌+◌, ◌*◌, ◌-◌, ◌<◌, ◌≤◌, ℕ, zero, suc, List, [], ◌∷◌, ◌++◌, length, map, get_or, take, take-suc, refl, sym, ◌∙◌, ap, subst, arith}
-use Rattle.std.specs.Prelude.{All}
-use Rattle.std.specs.List.{sum_by}
+use Rattle.std.proofs.Common.{◌≡◌, ◌+◌, ◌<◌, ℕ, zero, suc, List, [], ◌∷◌, ◌++◌, length, map, get_or, take, take-suc, refl, sym, ◌∙◌, ap, subst, arith}
 use Rattle.std.proofs.lemmas.List.{map-append}
 use Rattle.std.proofs.lemmas.List.Sums.{sum_by-append, sum_by-cons}
 use Rattle.std.proofs.lemmas.List.Elements.{All-push}
@@ -9,9 +7,9 @@ use Rattle.zr_bptr.specs.declared.Bptr.{Bptr}
 use Rattle.zr_bptr.specs.declared.Ptr.{Ptr}
 use Rattle.sha2.specs.Sha256.{sha256}
 use Rattle.zr_store.specs.Store.{Stored, Swaps, Puts, Now, IsBlockOf, IsPointerTo, hits, one_at}
-use Rattle.zr_tree.specs.Trees.{kids, IsWhole}
+use Rattle.zr_tree.specs.Trees.{IsWhole}
 use Rattle.zr_tree.specs.Blocks.{pointers_in}
-use Rattle.zr_tree.proofs.Frames.{one_itself, first_of}
+use Rattle.zr_tree.proofs.Frames.{first_of}
 use Rattle.zr_tree.proofs.Wholes.{whole_again, put_whole}
 use Rattle.zr_root.specs.Streams.{PutsBlock, PutsBlocks, PutsLeaves, HasSum}
 use Rattle.zr_root.proofs.Lists.{map_same}

@@ -1,12 +1,11 @@
 -- What was read of a level, and whose errors are told.
-use Rattle.std.proofs.Common.{◌≡◌, ◌≢◌, ◌+◌, ◌*◌, ◌-◌, ◌/◌, ◌^◌, ◌<◌, ◌≤◌, ◌⊎◌, inl, inr, ℕ, zero, suc, List, [], ◌∷◌, ◌++◌, length, map, get_or, take, replicate, Result, Err, refl, sym, ◌∙◌, ap, subst, arith, append-nil}
+use Rattle.std.proofs.Common.{◌≡◌, ◌+◌, ◌*◌, ◌-◌, ◌^◌, ◌<◌, ◌≤◌, inl, inr, ℕ, zero, suc, List, [], ◌∷◌, ◌++◌, length, map, get_or, take, replicate, Result, Err, refl, sym, ◌∙◌, ap, subst, arith, append-nil}
 use Rattle.std.specs.Prelude.{All}
-use Rattle.std.specs.List.{flat_map, sum_by, AllByRecursion}
+use Rattle.std.specs.List.{flat_map}
 use Rattle.std.specs.Int.{div_ceil}
 use Rattle.std.proofs.lemmas.Bool.{cases_lt}
-use Rattle.std.proofs.lemmas.List.{length-append, length-map, length-replicate}
-use Rattle.std.proofs.lemmas.List.Sums.{sum_by-append, sum_by-cons}
-use Rattle.std.proofs.lemmas.List.Elements.{All-head, All-tail, All-cons, All-push, All-append}
+use Rattle.std.proofs.lemmas.List.Sums.{sum_by-cons}
+use Rattle.std.proofs.lemmas.List.Elements.{All-head, All-tail, All-cons, All-push}
 use Rattle.std.proofs.lemmas.Grind.{flat_map-append}
 use Rattle.std.proofs.Math.Nat.{pow-suc}
 use Rattle.sha2.specs.Sha256.{sha256}
@@ -16,19 +15,18 @@ use Rattle.zr_bptr.specs.declared.Bptr.{Bptr}
 use Rattle.zr_bptr.specs.declared.Ptr.{Ptr}
 use Rattle.zr_bptr.specs.declared.Ptr.TheVariants.{Hole, At}
 use Rattle.zr_bptr.specs.declared.Tree.{Tree}
-use Rattle.zr_bptr.specs.Spelling.{SpellsTreeBlock, IsLawful, IsOfLevel}
-use Rattle.zr_store.specs.Store.{Stored, AreStored}
+use Rattle.zr_bptr.specs.Spelling.{SpellsTreeBlock}
+use Rattle.zr_store.specs.Store.{Stored}
 use Rattle.zr_store.specs.declared.StoreErr.{StoreErr}
 use Rattle.zr_store.specs.declared.StoreErr.TheVariants.{Malformed, Damaged, Unresolved}
 use Rattle.zr_store.proofs.Causes.{again}
 use Rattle.zr_tree.specs.Blocks.{FitsAt, pointers_in}
-use Rattle.zr_tree.specs.Trees.{kids, slot, own, blocks, leaf_at, IsAmong, IsWhole, tree_at, tree_blocks, HasDamagedBlock}
+use Rattle.zr_tree.specs.Trees.{kids, slot, own, IsAmong, IsWhole, tree_blocks, HasDamagedBlock}
 use Rattle.zr_tree.proofs.Spelled.{spelled}
 use Rattle.zr_tree.proofs.Wholes.{Within, among_within}
-use Rattle.zr_root.specs.Streams.{AreWhole, IsUnitAt, HasLeaves, HasSum}
-use Rattle.zr_root.specs.Levels.{IsLevel, HavePointers, HasBlock, TellsOfForm, IsUnit, IsCut, ReadsPointers, ReadsLeaves}
+use Rattle.zr_root.specs.Streams.{IsUnitAt, HasLeaves, HasSum}
+use Rattle.zr_root.specs.Levels.{IsLevel, HavePointers, TellsOfForm, IsUnit, IsCut, ReadsPointers}
 use Rattle.zr_root.proofs.Joining.{ceil_of}
-use Rattle.zr_root.proofs.Steps.{blocks_at}
 use Rattle.zr_root.proofs.Puts.{taken}
 use Rattle.zr_root.proofs.Shapes.{level_top, level_down, level_shaped, tops_within, ceil_up}
 

@@ -6,18 +6,18 @@ use Rattle.std.specs.Int.{div_ceil}
 use Rattle.std.proofs.lemmas.Bool.{cases_lt}
 use Rattle.std.proofs.lemmas.List.{get_or_default, length-append, get_or_past, get_or_append_left, get_or-append_right}
 use Rattle.std.proofs.lemmas.List.Sums.{sum_by-append, sum_by-cons}
-use Rattle.std.proofs.lemmas.List.Elements.{All-head, All-tail, All-cons, All-append}
+use Rattle.std.proofs.lemmas.List.Elements.{All-head, All-tail, All-cons}
 use Rattle.std.proofs.Math.Nat.{pow-suc, mul-le-mul_right, div-one, mul-div_cancel, div-mul-le_self}
 use Rattle.zr_base.specs.Trees.{IsHeight, tree_units}
 use Rattle.zr_bptr.specs.declared.Bptr.{Bptr}
 use Rattle.zr_bptr.specs.declared.Ptr.{Ptr}
 use Rattle.zr_bptr.specs.declared.Ptr.TheVariants.{Hole, At}
 use Rattle.zr_bptr.specs.declared.Tree.{Tree}
-use Rattle.zr_bptr.specs.Spelling.{SpellsTreeBlock, IsLawful, IsOfLevel, fill_of}
+use Rattle.zr_bptr.specs.Spelling.{IsLawful, IsOfLevel, fill_of}
 use Rattle.zr_owed.proofs.TreeUnits.{tree_units-one, tree_units-more}
 use Rattle.zr_store.specs.Store.{Stored}
 use Rattle.zr_tree.specs.Blocks.{FitsAt}
-use Rattle.zr_tree.specs.Trees.{kids, slot, digit, leaf_at, leaves_below, blocks, IsAmong, IsWhole, tree_at, tree_blocks, tree_leaves, tree_reach}
+use Rattle.zr_tree.specs.Trees.{kids, slot, digit, leaf_at, blocks, IsAmong, IsWhole, tree_blocks, tree_leaves, tree_reach}
 use Rattle.zr_tree.proofs.Frames.{hole_leaf}
 use Rattle.zr_tree.proofs.Holes.{div-suc, hole_blocks}
 use Rattle.zr_tree.proofs.Spelled.{spelled}
@@ -25,7 +25,7 @@ use Rattle.zr_tree.proofs.Wholes.{Within, among_hits, among_within, among_parts,
 use Rattle.zr_root.specs.Streams.{AreWhole, IsUnitAt, HasLeaves}
 use Rattle.zr_root.specs.Levels.{IsLevel, HavePointers}
 use Rattle.zr_root.proofs.Joining.{ceil_of, all_among, join_one}
-use Rattle.zr_root.proofs.Steps.{blocks_at, leaves_at, length-kids, step_blocks, step_place, level_place, level_blocks, level_leaves, parts, no_blocks, own_leaves}
+use Rattle.zr_root.proofs.Steps.{blocks_at, length-kids, step_blocks, step_place, level_place, level_blocks, level_leaves, parts, no_blocks, own_leaves}
 
 -- ---- numbers
 

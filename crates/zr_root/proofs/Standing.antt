@@ -1,13 +1,13 @@
 -- The bytes that were read stand in the tree, and no others do.
-use Rattle.std.proofs.Common.{◌≡◌, ◌≢◌, ◌+◌, ◌*◌, ◌-◌, ◌/◌, ◌^◌, ◌<◌, ◌≤◌, ◌⊎◌, inl, inr, ℕ, zero, suc, List, [], ◌∷◌, ◌++◌, length, map, get_or, take, drop, replicate, get_or-drop, refl, sym, ◌∙◌, ap, subst, arith, append-nil}
+use Rattle.std.proofs.Common.{◌≡◌, ◌+◌, ◌*◌, ◌-◌, ◌/◌, ◌^◌, ◌<◌, ◌≤◌, inl, inr, ℕ, zero, suc, List, [], ◌∷◌, ◌++◌, length, map, get_or, take, drop, get_or-drop, refl, sym, ◌∙◌, ap, subst, arith, append-nil}
 use Rattle.std.specs.Prelude.{All}
 use Rattle.std.specs.List.{flat_map, sum_by}
-use Rattle.std.specs.Int.{div_ceil, w64, to_le_bytes, from_le_bytes}
+use Rattle.std.specs.Int.{div_ceil, w64, from_le_bytes}
 use Rattle.std.specs.Simd.{first_chunks}
 use Rattle.std.proofs.lemmas.Bool.{cases_lt}
-use Rattle.std.proofs.lemmas.Nat.{le_bytes_8, from_le_bytes-to_le_bytes_8}
+use Rattle.std.proofs.lemmas.Nat.{le_bytes_8}
 use Rattle.std.proofs.lemmas.List.{length-append, length-drop, length-take, length-take-le, take-append-drop, take_all, get_or_past, get_or-take, drop_at, length-replicate}
-use Rattle.std.proofs.lemmas.List.Elements.{All-head, All-tail, All-cons, All-push}
+use Rattle.std.proofs.lemmas.List.Elements.{All-push}
 use Rattle.std.proofs.lemmas.Grind.{flat_map-append}
 use Rattle.std.proofs.Math.Nat.{mul-suc}
 use Rattle.sha2.specs.Sha256.{sha256}
@@ -20,12 +20,12 @@ use Rattle.zr_store.specs.Store.{Stored}
 use Rattle.zr_base.specs.Trees.{IsHeight}
 use Rattle.zr_meta.specs.declared.Stream.{Stream}
 use Rattle.zr_meta.specs.Heads.{IsStream, IsTreeOf}
-use Rattle.zr_tree.specs.Trees.{slot, tree_at, tree_blocks, tree_leaves, tree_reach, IsAmong}
+use Rattle.zr_tree.specs.Trees.{slot, tree_blocks, tree_reach, IsAmong}
 use Rattle.zr_tree.proofs.Wholes.{Within, among_hits}
-use Rattle.zr_root.specs.Streams.{AreWhole, HasSum, IsRootOf, HasLeaves, HasBytes, HasWords}
+use Rattle.zr_root.specs.Streams.{HasSum, IsRootOf, HasLeaves, HasBytes, HasWords}
 use Rattle.zr_root.specs.Levels.{IsLevel, ReadsLeaves}
 use Rattle.zr_root.proofs.Lists.{joined, length-chunks}
-use Rattle.zr_root.proofs.Steps.{blocks_at, no_blocks, own_leaves, parts}
+use Rattle.zr_root.proofs.Steps.{no_blocks, own_leaves, parts}
 use Rattle.zr_root.proofs.Puts.{taken}
 use Rattle.zr_root.proofs.Shapes.{ceil_one}
 use Rattle.zr_root.proofs.Words.{leaves_same, hole_words}

@@ -1,17 +1,17 @@
 -- Words and their bytes.
-use Rattle.std.proofs.Common.{◌≡◌, ◌≢◌, ◌+◌, ◌*◌, ◌-◌, ◌/◌, ◌^◌, ◌<◌, ◌≤◌, ℕ, zero, suc, inl, inr, List, [], ◌∷◌, ◌++◌, length, refl, sym, ◌∙◌, ap, subst, arith, Bool, true, false, nat_lt}
+use Rattle.std.proofs.Common.{◌≡◌, ◌+◌, ◌*◌, ◌<◌, ◌≤◌, ℕ, List, [], ◌∷◌, length, refl, sym, ◌∙◌, subst, arith, Bool, true, false, nat_lt}
 use Rattle.std.specs.Prelude.{if◌then◌else◌}
 use Rattle.std.proofs.Math.Nat.{le_antisymm}
 use Rattle.std.specs.Int.{div_ceil}
-use Rattle.zr_base.specs.Trees.{IsHeight, tree_units}
+use Rattle.zr_base.specs.Trees.{IsHeight}
 use Rattle.zr_bptr.specs.declared.Bptr.{Bptr}
 use Rattle.zr_bptr.specs.declared.Ptr.{Ptr}
 use Rattle.zr_bptr.specs.declared.Ptr.TheVariants.{Hole, At}
 use Rattle.zr_bptr.specs.declared.Tree.{Tree}
 use Rattle.zr_base.specs.Words.{words}
-use Rattle.zr_store.specs.Store.{Stored, Swaps, Now}
+use Rattle.zr_store.specs.Store.{Stored, Now}
 use Rattle.zr_meta.specs.Heads.{IsTreeOf}
-use Rattle.zr_tree.specs.Trees.{tree_at, tree_reach}
+use Rattle.zr_tree.specs.Trees.{tree_at}
 use Rattle.zr_tree.proofs.Wholes.{among_hits}
 use Rattle.zr_root.specs.Streams.{IsUnitAt, HasBytes, HasWords, StoresBytes, StoresWords}
 use Rattle.zr_root.proofs.Puts.{came_none}

@@ -1,21 +1,20 @@
 -- The bytes that were written stand in the tree.
-use Rattle.std.proofs.Common.{◌≡◌, ◌+◌, ◌*◌, ◌-◌, ◌/◌, ◌^◌, ◌<◌, ◌≤◌, ℕ, zero, suc, List, [], ◌∷◌, ◌++◌, length, map, get_or, refl, sym, ◌∙◌, ap, subst, arith}
+use Rattle.std.proofs.Common.{◌≡◌, ◌*◌, ◌-◌, ◌<◌, ℕ, List, [], ◌++◌, length, map, get_or, refl, sym, ◌∙◌, ap, subst, arith}
 use Rattle.std.specs.Prelude.{All}
-use Rattle.std.specs.List.{sum_by, flat_map}
+use Rattle.std.specs.List.{sum_by}
 use Rattle.std.specs.Int.{div_ceil}
 use Rattle.std.specs.Simd.{first_chunks}
 use Rattle.zr_base.specs.Words.{zeros}
 use Rattle.zr_bptr.specs.declared.Bptr.{Bptr}
-use Rattle.zr_bptr.specs.declared.Ptr.{Ptr}
-use Rattle.zr_bptr.specs.declared.Ptr.TheVariants.{Hole, At}
+use Rattle.zr_bptr.specs.declared.Ptr.TheVariants.{At}
 use Rattle.zr_bptr.specs.declared.Tree.{Tree}
 use Rattle.sha2.specs.Sha256.{sha256}
-use Rattle.zr_store.specs.Store.{Stored, Swaps, AreStored, Now, hits, one_at}
-use Rattle.zr_tree.specs.Trees.{slot, IsAmong, IsWhole, tree_blocks, tree_leaves, tree_reach}
+use Rattle.zr_store.specs.Store.{Stored, Swaps, AreStored, Now, one_at}
+use Rattle.zr_tree.specs.Trees.{slot, IsAmong, tree_reach}
 use Rattle.zr_tree.proofs.Wholes.{among_hits}
 use Rattle.zr_root.specs.Streams.{AreWhole, IsUnitAt, Joins, PutsLeaves, HasBytes, StoresBytes}
 use Rattle.zr_root.proofs.Lists.{map_same, flat_pieces, long_chunks, all_from_map}
-use Rattle.zr_root.proofs.Steps.{blocks_at, leaves_at, no_blocks, own_leaves, parts}
+use Rattle.zr_root.proofs.Steps.{blocks_at, no_blocks, own_leaves, parts}
 use Rattle.zr_root.proofs.Puts.{hit_at}
 
 -- no tree block is there yet

@@ -36,7 +36,7 @@ fn words_are_read_back(rt: HostRuntime) -> Result<(), Fail> {
 }
 
 #[test]
-fn padding_and_holes(rt: HostRuntime) -> Result<(), Fail> {
+fn padding_is_checked(rt: HostRuntime) -> Result<(), Fail> {
     let alloc = rt.alloc();
     let mut store = MemBlocks::new(alloc, 8);
     let t = write_bytes(alloc, &mut store, &[7; 4096])?;
@@ -52,16 +52,18 @@ fn padding_and_holes(rt: HostRuntime) -> Result<(), Fail> {
         );
     }
     let two = write_bytes(alloc, &mut store, &[7; 8192])?;
-    if let Ptr::At(b) = two.root {
-        let more = read_bytes(alloc, &mut store, &two, 8193);
-        assert_eq!(rt;
-            more.err(),
-            Some(StoreErr::Malformed {
-                at: b.at,
-                expected: b.sum
-            })
-        );
+    if store.kept.len() != 4 {
+        return Err(Fail::new("not four blocks"));
     }
+    let last = store.kept[2].at;
+    let bad = read_bytes(alloc, &mut store, &two, 8191);
+    assert_eq!(rt;
+        bad.err(),
+        Some(StoreErr::Malformed {
+            at: last.at,
+            expected: last.sum
+        })
+    );
     Ok(())
 }
 

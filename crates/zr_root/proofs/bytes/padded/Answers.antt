@@ -1,6 +1,5 @@
-use Rattle.std.proofs.Common.{ℕ, ◌*◌, ◌-◌, length, map, ap, arith}
+use Rattle.std.proofs.Common.{ℕ, ◌*◌, ◌-◌, length, ap, arith}
 use Rattle.std.specs.Int.{div_ceil}
-use Rattle.zr_bptr.specs.declared.Ptr.TheVariants.{Hole, At}
 use Rattle.zr_root.proofs.Lists.{pad_is}
 use Rattle.zr_root.proofs.Joining.{ceil_of}
 use Rattle.zr_root.proofs.bytes.padded.Goals as goal

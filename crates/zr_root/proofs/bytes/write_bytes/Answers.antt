@@ -1,14 +1,10 @@
-use Rattle.std.proofs.Common.{rules, ◌≡◌, ◌+◌, ◌*◌, ◌-◌, ◌/◌, ◌^◌, ◌<◌, ◌≤◌, ◌++◌, List, [], ℕ, suc, length, map, Vec, Global, subst, sym, ◌∙◌, ap, arith}
-use Rattle.std.specs.Prelude.{All}
+use Rattle.std.proofs.Common.{◌≡◌, ◌/◌, List, [], ℕ, length, Vec, Global, ◌∙◌, ap, arith}
 use Rattle.std.specs.Int.{div_ceil}
-use Rattle.std.specs.Simd.{first_chunks}
 use Rattle.std.proofs.lemmas.Result.{err_from_is_err_and}
 use Rattle.zr_bptr.specs.declared.Bptr.{Bptr}
 use Rattle.zr_bptr.specs.declared.Tree.{Tree}
-use Rattle.zr_store.specs.Store.{Stored, Swaps}
 use Rattle.zr_store.proofs.Causes.{cause_from}
 use Rattle.zr_tree.proofs.Wholes.{tells_from}
-use Rattle.zr_root.specs.Streams.{IsUnitAt, Joins}
 use Rattle.zr_root.proofs.Lists.{chunks_are}
 use Rattle.zr_root.proofs.Costing.{leaves_costs, leaves_cause, all_costs, all_cause}
 use Rattle.zr_root.proofs.Written.{written_now}

@@ -1,4 +1,4 @@
-use Rattle.std.proofs.Common.{◌≡◌, ◌*◌, ◌+◌, ◌-◌, ◌<◌, ◌≤◌, suc, length, ap, arith, ◌∙◌, sym, List, [], ◌∷◌, Vec, Global, rules, ℕ}
+use Rattle.std.proofs.Common.{◌≡◌, ◌+◌, ◌<◌, length, ap, arith, ◌∙◌, sym, List, [], ◌∷◌, Vec, Global, rules, ℕ}
 use Rattle.std.specs.Int.{div_ceil}
 use Rattle.std.proofs.lemmas.Result.{err_from_is_err_and}
 use Rattle.zr_bptr.specs.declared.Bptr.{Bptr}

@@ -1,4 +1,4 @@
-use Rattle.std.proofs.Common.{◌≡◌, ◌*◌, ◌+◌, length, ap, arith, rules, ◌∙◌, ◌++◌, subst, sym}
+use Rattle.std.proofs.Common.{◌≡◌, length, ap, arith, ◌∙◌, ◌++◌, subst, sym}
 use Rattle.std.proofs.lemmas.List.{length-append}
 use Rattle.std.proofs.lemmas.List.Elements.{All-append}
 use Rattle.std.proofs.lemmas.Result.{err_from_is_err_and}

@@ -1,7 +1,6 @@
-use Rattle.std.proofs.Common.{◌≡◌, ◌*◌, ◌/◌, ◌<◌, length, ap, arith, ◌∙◌, sym, List, Vec, Global}
+use Rattle.std.proofs.Common.{◌/◌, ◌<◌, length, ap, arith, ◌∙◌, sym, List, Vec, Global}
 use Rattle.std.specs.List.{flat_map}
 use Rattle.std.proofs.lemmas.Result.{err_from_is_err_and}
-use Rattle.zr_bptr.specs.declared.Bptr.{Bptr}
 use Rattle.zr_bptr.specs.declared.Ptr.{Ptr}
 use Rattle.zr_tree.specs.Trees.{own}
 use Rattle.zr_root.proofs.Reading.{form_from, form_bad, among_at, within_same, level_bad, level_count, level_has}

@@ -1,11 +1,11 @@
-use Rattle.std.proofs.Common.{◌≡◌, ◌+◌, ◌∷◌, [], take, subst, sym, rules}
+use Rattle.std.proofs.Common.{◌+◌, [], subst, sym, rules}
 use Rattle.std.proofs.lemmas.List.Elements.{All-push}
 use Rattle.std.proofs.lemmas.Result.{err_from_is_err_and}
 use Rattle.std.specs.Prelude.{All}
 use Rattle.zr_bptr.specs.declared.Bptr.{Bptr}
 use Rattle.zr_tree.proofs.Wholes.{tells_from}
 use Rattle.zr_store.proofs.Causes.{costs_then}
-use Rattle.zr_root.specs.Streams.{IsUnitAt, PutsBlocks}
+use Rattle.zr_root.specs.Streams.{IsUnitAt}
 use Rattle.zr_root.proofs.Puts.{none_put, block_now}
 use Rattle.zr_root.proofs.levels.put_groups.Goals as goal
 

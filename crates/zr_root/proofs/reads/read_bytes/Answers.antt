@@ -1,18 +1,17 @@
-use Rattle.std.proofs.Common.{◌≡◌, ◌*◌, ◌+◌, ◌-◌, ◌<◌, ◌≤◌, length, ap, arith, rules, ◌∙◌, ◌++◌, List, ℕ, Vec, Global, subst, sym, drop, Err, ◌^◌, []}
+use Rattle.std.proofs.Common.{◌≡◌, ◌*◌, ◌-◌, ◌<◌, length, ap, arith, rules, List, ℕ, Vec, Global, subst, sym, drop, Err, ◌^◌, []}
 use Rattle.std.specs.Int.{div_ceil}
 use Rattle.std.proofs.lemmas.Result.{err_from_is_err_and}
 use Rattle.zr_bptr.specs.declared.Bptr.{Bptr}
 use Rattle.zr_bptr.specs.declared.Tree.{Tree}
-use Rattle.zr_store.specs.Store.{Stored}
 use Rattle.zr_tree.specs.Trees.{tree_blocks, tree_reach}
 use Rattle.zr_tree.proofs.Wholes.{among_within}
 use Rattle.zr_root.specs.Levels.{IsLevel, TellsOfForm, ReadsLeaves}
-use Rattle.zr_root.specs.Streams.{HasLeaves, HasBytes, HasSum}
+use Rattle.zr_root.specs.Streams.{HasLeaves, HasBytes}
 use Rattle.zr_base.specs.Words.{zeros}
 use Rattle.zr_store.specs.declared.StoreErr.{StoreErr}
 use Rattle.zr_root.proofs.Joining.{ceil_of}
 use Rattle.zr_root.proofs.Reading.{form_from, form_bad, among_at}
-use Rattle.zr_root.proofs.Standing.{by_root, root_tree, blocks_within, leaves_within, no_leaves, not_long, no_padding, has_bytes, reads_sum}
+use Rattle.zr_root.proofs.Standing.{by_root, blocks_within, leaves_within, no_leaves, not_long, no_padding, has_bytes, reads_sum}
 use Rattle.zr_root.proofs.reads.read_bytes.Goals as goal
 
 pub returns-in_err-leaves-clause-errors : goal.returns-in_err-leaves-clause-errors

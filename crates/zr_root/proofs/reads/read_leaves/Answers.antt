@@ -1,4 +1,4 @@
-use Rattle.std.proofs.Common.{◌≡◌, ◌*◌, ◌+◌, length, ap, arith, ◌∙◌, ◌++◌, List, ℕ, Vec, Global}
+use Rattle.std.proofs.Common.{◌≡◌, length, ap, arith, ◌∙◌, ◌++◌, List, ℕ, Vec, Global}
 use Rattle.std.proofs.lemmas.List.{length-append}
 use Rattle.std.proofs.lemmas.Result.{err_from_is_err_and}
 use Rattle.zr_store.proofs.Causes.{costs_then}

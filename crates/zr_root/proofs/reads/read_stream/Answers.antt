@@ -1,4 +1,4 @@
-use Rattle.std.proofs.Common.{◌≡◌, ◌*◌, length, ap, arith, rules, ◌∙◌, sym, List, ℕ, Vec, Global}
+use Rattle.std.proofs.Common.{◌≡◌, ◌*◌, length, ap, arith, rules, ◌∙◌, List, ℕ, Vec, Global}
 use Rattle.std.proofs.lemmas.Result.{err_from_is_err_and}
 use Rattle.zr_tree.specs.Trees.{tree_reach}
 use Rattle.zr_root.proofs.Reading.{form_from, within_same}

@@ -1,6 +1,5 @@
-use Rattle.std.proofs.Common.{◌≡◌, ◌/◌, ◌<◌, ◌∷◌, ◌++◌, [], length, subst, sym, arith, List, ℕ, get_or, ap, ◌∙◌, ◌*◌, ◌≤◌, ◌+◌}
+use Rattle.std.proofs.Common.{◌≡◌, ◌/◌, ◌∷◌, [], length, subst, sym, arith, List, ℕ, get_or, ap, ◌∙◌}
 use Rattle.std.proofs.lemmas.List.{length-append}
-use Rattle.std.specs.Simd.{first_chunks}
 use Rattle.zr_root.proofs.Standing.{AreSmall, piece_small, piece_long, words_more, words_all}
 use Rattle.zr_root.proofs.reads.words_of.Goals as goal
 

@@ -1,4 +1,4 @@
-use Rattle.std.proofs.Common.{rules, length, ◌≡◌, [], arith}
+use Rattle.std.proofs.Common.{rules, length, ◌≡◌, []}
 use Rattle.std.proofs.lemmas.Result.{err_from_is_err_and}
 use Rattle.zr_bptr.specs.declared.Tree.{Tree}
 use Rattle.zr_tree.proofs.Wholes.{tells_from}
