@@ -15,6 +15,8 @@ use Rattle.zr_label.specs.declared.root.Label.{Label}
 use Rattle.zr_label.specs.declared.root.Uber.{Uber}
 use Rattle.zr_label.specs.declared.root.Seen.{Seen}
 use Rattle.zr_rules.specs.Devices.{devices_of}
+use Rattle.zr_image.specs.Checks.{Check, ◌>>=◌, Demands}
+use Rattle.zr_image.specs.Numbers.{Mappings, Room, broken}
 use Rattle.zr_image.specs.Reading.{View}
 use Rattle.zr_image.specs.Walks.{Setting}
 
@@ -92,3 +94,9 @@ pointer_five = record { at = unit_five; level = 0; birth = 2; fill = 1; sum = []
 abbrev pub walk_at : ℕ → Setting
 walk_at txg =
     record { view = record { disks = []; slots = []; devices = devices_of (on_with five [] ∷ []) }; txg = txg; may_be = λ d u. true; leaf_units = 1; reads = false; holes = λ i. true; blocks = λ i. true }
+
+-- two checks, with these facts
+abbrev pub two_checks : Type 0 → Type 0 → Check (Unit {0})
+two_checks A B = do
+  mappings ← Demands A (broken Mappings)
+  Demands B (broken Room)

@@ -5,3 +5,5 @@
 //! mappings of the very root that is read, so the meaning of a root does not change while its units keep their bytes.
 //! There is no code: the calls of an import cite these words.
 #![tactic(auto)]
+
+pub mod laws;
