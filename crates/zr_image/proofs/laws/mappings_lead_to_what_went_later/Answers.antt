@@ -34,7 +34,7 @@ mappings n = (
     counts = (omega arith, (omega arith, tt));
     fresh = λ u h. absurd (cc);
   },
-  (record { rising = tt; within = tt; counts = tt; fresh = λ u h. absurd (cc) }, tt))
+  (record { rising = tt; within = tt; counts = tt; fresh = λ u h. absurd (cc) }, tt)))
 
 none_leaves : (n d : ℕ) → is_leaving (state_of_dev (chain n) d) ≡ true → ⊥
 none_leaves n zero h = absurd (cc)
