@@ -1,2 +1,4 @@
 pub mod Prefix
 pub mod Account
+pub mod Tables
+pub mod Commits
