@@ -2,3 +2,5 @@ pub mod Prefix
 pub mod Account
 pub mod Tables
 pub mod Commits
+pub mod Changes
+pub mod Moves
