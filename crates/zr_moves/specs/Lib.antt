@@ -4,3 +4,4 @@ pub mod Tables
 pub mod Commits
 pub mod Changes
 pub mod Moves
+pub mod Move

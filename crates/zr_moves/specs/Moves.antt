@@ -74,19 +74,22 @@ FitsFirst c old blocks objects between mid =
 abbrev pub has_part : ℕ → ℕ → ℕ → ℕ → Bool
 has_part size off len i = nat_lt (size * i) off || nat_lt (off + len) (size * (i + 1))
 
--- the answer is the damage of a block that the command needs: one that it changes a part of
-pub record IsDamaged (s : Stored) (a : Account) (id size off len : ℕ) (touched : List ℕ) (answer : Reply) : Type 0 where
+-- the answer is the damage of a block that the command needs
+pub record IsDamaged (s : Stored) (a : Account) (id : ℕ) (Needs : ℕ → Type 0) (answer : Reply) : Type 0 where
   pub index : ℕ
-  pub among : Contains touched index
-  pub part : has_part size off len index ≡ true
+  pub needed : Needs index
   pub b : Bptr
   pub leaf : leaf_now s a id index ≡ At b
   pub lost : sha256 (s.bytes b) ≢ b.sum
   pub answer_is : answer ≡ reply.No (refusal.Damaged b.at b.sum (sha256 (s.bytes b)))
 
--- no block is lost that the change of the range needs
-abbrev pub IsUnharmed : Stored → Account → ℕ → ℕ → ℕ → ℕ → List ℕ → Type 0
-IsUnharmed s a id size off len touched = (i : ℕ) (b : Bptr) → Contains touched i → has_part size off len i ≡ true → leaf_now s a id i ≡ At b → sha256 (s.bytes b) ≡ b.sum
+-- no block is lost that the command needs
+abbrev pub IsUnharmed : Stored → Account → ℕ → (ℕ → Type 0) → Type 0
+IsUnharmed s a id Needs = (i : ℕ) (b : Bptr) → Needs i → leaf_now s a id i ≡ At b → sha256 (s.bytes b) ≡ b.sum
+
+-- a change of a range needs a block that it changes a part of
+abbrev pub NeedsPart : Object → ℕ → ℕ → ℕ → Type 0
+NeedsPart o off len i = Contains (touched_blocks o off len) i × (has_part (block_len o) off len i ≡ true)
 
 -- A change of a range of an object, behind the commit of a full group.
 pub record MovesRange (c : Course) (p : PoolState) (old : Account) (id off len : ℕ) (bytes : List ℕ) (extra : Account → ℕ) (answer : Reply) (new : Account) : Type 0 where
@@ -99,8 +102,8 @@ pub record MovesRange (c : Course) (p : PoolState) (old : Account) (id off len :
   pub reads : Reads between mid store
   pub roots : KeepsRoots between c.after
   pub moves :
-      (IsDamaged store mid id (block_len o) off len (touched_blocks o off len) answer × (new ≡ mid))
-      ⊎ (IsUnharmed store mid id (block_len o) off len (touched_blocks o off len) × ChangesRange c.policy store id o (with_bytes o off bytes) off len (extra mid) mid answer new)
+      (IsDamaged store mid id (NeedsPart o off len) answer × (new ≡ mid))
+      ⊎ (IsUnharmed store mid id (NeedsPart o off len) × ChangesRange c.policy store id o (with_bytes o off bytes) off len (extra mid) mid answer new)
 
 abbrev pub no_extra : Account → ℕ
 no_extra a = 0
@@ -159,6 +162,10 @@ GivesUp c d old new = (s : Space) × steps.Cancels old.space s d × Commits c.po
 abbrev pub Stays : Course → Account → Account → Type 0
 Stays c a new = (new ≡ a) × KeepsRoots c.before c.after
 
+-- a reading: a block that it needs is lost and told, or none is
+abbrev pub IsReading : Course → Account → ℕ → (ℕ → Type 0) → Reply → Type 0
+IsReading c a id Needs answer = (s : Stored) × Reads c.before a s × (IsDamaged s a id Needs answer ⊎ IsUnharmed s a id Needs)
+
 -- a removal begins, where there is room for what it owes
 abbrev pub BeginsRemoval : Course → ℕ → Account → Reply → Account → Type 0
 BeginsRemoval c d old answer new =
@@ -198,8 +205,8 @@ Moves c p old (cmd.Drop id) answer new =
 Moves c p old (cmd.Write id off bytes) answer new = MovesRange c p old id off (length bytes) bytes slop_of answer new
 Moves c p old (cmd.Fill id off len byte) answer new = MovesRange c p old id off len (replicate len byte) slop_of answer new
 Moves c p old (cmd.Punch id off len) answer new = MovesRange c p old id off len (replicate len 0) no_extra answer new
-Moves c p old (cmd.Read id off len) answer new = Stays c old new
-Moves c p old (cmd.Sum id) answer new = Stays c old new
+Moves c p old (cmd.Read id off len) answer new = (o : Object) × (map.get p.objects id ≡ Some o) × IsReading c old id (Contains (touched_blocks o off len)) answer × Stays c old new
+Moves c p old (cmd.Sum id) answer new = IsReading c old id (λ i. Unit {0}) answer × Stays c old new
 Moves c p old cmd.Sync (reply.Synced txg) new = (commit : Commits c.policy false c.before c.after old new) × (txg ≡ commit.root.uber.txg)
 Moves c p old (cmd.Add dev) reply.Done new = AddsDevice c dev old new
 Moves c p old (cmd.Remove dev) answer new = BeginsRemoval c (index_of p dev) old answer new
