@@ -5,3 +5,4 @@ pub mod Commits
 pub mod Changes
 pub mod Moves
 pub mod Move
+pub mod Examples

@@ -1,5 +1,5 @@
 -- One command: what it does to the account, whether a pool is open or not.
-use Rattle.std.specs.Prelude.{◌≡◌, ℕ, ◌+◌, ◌==◌, true, false, List, [], map, if◌then◌else◌, Option, Some, None, unwrap_or, MatchBool}
+use Rattle.std.specs.Prelude.{◌≡◌, ℕ, ◌+◌, ◌==◌, true, false, List, [], map, Contains, if◌then◌else◌, Option, Some, None, unwrap_or, MatchBool}
 use Rattle.zr_base.specs.declared.space.DevPart.{DevPart}
 use Rattle.zr_base.specs.declared.space.DevState.TheVariants as row
 use Rattle.zr_base.specs.declared.space.CkptPart.TheVariants as ckpt
@@ -43,7 +43,7 @@ blank_account shelf version paths =
 -- a pool is made: the slots are labelled, and then its first group is committed, as a reset
 pub record Creates (c : Course) (version : ℕ) (paths : List (List ℕ)) (new : Account) : Type 0 where
   pub labelled : Shelf
-  pub one_moment : c.IsMoment labelled
+  pub one_moment : Contains c.moments labelled
   pub first : Commits c.policy true labelled c.after (blank_account c.before version paths) new
   pub none : first.last.txg ≡ 0
 

@@ -41,11 +41,11 @@ use Rattle.zr_moves.specs.Commits.{Last, IsLast, Commits, IsAllAnew, IsOpened, K
 use Rattle.zr_moves.specs.Prefix.{has_path}
 use Rattle.zr_moves.specs.Tables.{leaving_of, list_lines, status_lines, map_lines, audit_lines, estimate}
 
--- A command: the policy of its placements, how the shelf read at the moments of the command, and before and after it.
-pub record Course : Type 1 where
+-- A command: the policy of its placements, how the shelf read before it, at each of its moments, and after it.
+pub record Course : Type 0 where
   pub policy : Policy
-  pub IsMoment : Shelf → Type 0
   pub before : Shelf
+  pub moments : List Shelf
   pub after : Shelf
 
 abbrev pub with_space : Account → Space → Account
@@ -68,7 +68,7 @@ fits blocks objects = nat_le blocks 64 && nat_le objects 64
 -- Where the open group would be too large, it is committed first, at some moment of the command.
 abbrev pub FitsFirst : Course → Account → ℕ → ℕ → Shelf → Account → Type 0
 FitsFirst c old blocks objects between mid =
-    MatchBool (fits blocks objects) ((between ≡ c.before) × (mid ≡ old)) (c.IsMoment between × Commits c.policy false c.before between old mid)
+    MatchBool (fits blocks objects) ((between ≡ c.before) × (mid ≡ old)) (Contains c.moments between × Commits c.policy false c.before between old mid)
 
 -- the range has a part of the block, but not all
 abbrev pub has_part : ℕ → ℕ → ℕ → ℕ → Bool
@@ -119,11 +119,11 @@ size_of shelf path = length (disk shelf.disks (unwrap_or (position (λ own. byte
 -- A device is added: the group is committed as it is, the slot is labelled, and then a root has the device, added in that root's group.
 pub record AddsDevice (c : Course) (path : List ℕ) (old new : Account) : Type 0 where
   pub committed : Shelf
-  pub one_moment : c.IsMoment committed
+  pub one_moment : Contains c.moments committed
   pub mid : Account
   pub first : Commits c.policy false c.before committed old mid
   pub labelled : Shelf
-  pub next_moment : c.IsMoment labelled
+  pub next_moment : Contains c.moments labelled
   pub still : KeepsRoots committed labelled
   pub units : ℕ
   pub units_are : units_of_size (size_of c.before path) old.space.parts.version ≡ Some units
@@ -134,7 +134,7 @@ pub record AddsDevice (c : Course) (path : List ℕ) (old new : Account) : Type 
 -- A checkpoint: the group is committed as it is, and then a root that holds that group's uberblock, with all metadata anew.
 pub record HoldsCheckpoint (c : Course) (old new : Account) : Type 0 where
   pub committed : Shelf
-  pub one_moment : c.IsMoment committed
+  pub one_moment : Contains c.moments committed
   pub mid : Account
   pub first : Commits c.policy false c.before committed old mid
   pub held : Space

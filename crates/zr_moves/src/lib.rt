@@ -4,3 +4,5 @@
 //! account by rules of space alone, and now and then a commit ties it to the disks again. So a stop at any moment leaves
 //! the state after a prefix of the commands, with each commit in it that was answered. There is no code.
 #![tactic(auto)]
+
+pub mod laws;
