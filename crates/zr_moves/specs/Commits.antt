@@ -6,6 +6,8 @@ use Rattle.zr_base.specs.declared.space.DevPart.{DevPart}
 use Rattle.zr_base.specs.declared.space.DevRow.{DevRow}
 use Rattle.zr_base.specs.declared.space.DevState.{DevState}
 use Rattle.zr_base.specs.declared.space.DevState.TheVariants as row
+use Rattle.zr_base.specs.declared.space.CkptPart.{CkptPart}
+use Rattle.zr_base.specs.declared.space.CkptPart.TheVariants as ckpt
 use Rattle.zr_base.specs.declared.space.Policy.{Policy}
 use Rattle.zr_base.specs.declared.refusal.Refusal.TheVariants.{NoPoolOnDevices}
 use Rattle.zr_bptr.specs.declared.Bptr.{Bptr}
@@ -20,7 +22,7 @@ use Rattle.zr_rules.specs.Space.{Space, role_at}
 use Rattle.zr_rules.specs.Frees.{Allocates, AllocatesMeta, DropsMeta, Frees, Chain}
 use Rattle.zr_rules.specs.Steps as steps
 use Rattle.zr_store.specs.Store.{Stored}
-use Rattle.zr_tree.specs.Trees.{kids, slot, digit, tree_reach}
+use Rattle.zr_tree.specs.Trees.{kids, slot, digit, tree_at, tree_reach}
 use Rattle.zr_objset.specs.Records.{record_of}
 use Rattle.zr_txg.specs.Changes.{ObjectChange}
 use Rattle.zr_model.specs.Runs.{Shelf}
@@ -29,18 +31,19 @@ use Rattle.zr_image.specs.Walks.{addresses}
 use Rattle.zr_image.specs.Roots.{Root, rows_of, head_tree, meta_of, space_with}
 use Rattle.zr_moves.specs.Account.{Account, record_now, tree_now, HasRoots, store_now, GoesOn}
 
--- what a commit goes on from: the group of the current root, that of the last reset, the metadata, and the block of the saved root
+-- what a commit goes on from: the group of the current root, that of the last reset, the metadata, the checkpoint, and the block of the saved root
 pub record Last : Type 0 where
   pub txg : ℕ
   pub reset : ℕ
   pub meta : List Bptr
+  pub ckpt : CkptPart
   pub saved : Option (List ℕ)
 
 -- a shelf with a pool goes on from its roots, and one without from nothing
 pub data IsLast (shelf : Shelf) : Last → Type 0 where
   of_root : (seen : List Seen) (r : Root) (saved : Option Root) → HasRoots shelf seen r saved
-      → IsLast shelf (record { txg = r.uber.txg; reset = reset_of r.uber; meta = r.meta ++ meta_of saved; saved = r.head.saved })
-  of_none : (seen : List Seen) → ShowsAll shelf.disks seen → FindsCurrent seen (Err NoPoolOnDevices) → IsLast shelf (record { txg = 0; reset = 0; meta = []; saved = None })
+      → IsLast shelf (record { txg = r.uber.txg; reset = reset_of r.uber; meta = r.meta ++ meta_of saved; ckpt = r.parts.ckpt; saved = r.head.saved })
+  of_none : (seen : List Seen) → ShowsAll shelf.disks seen → FindsCurrent seen (Err NoPoolOnDevices) → IsLast shelf (record { txg = 0; reset = 0; meta = []; ckpt = ckpt.Clear; saved = None })
 
 -- an allocation for each address, one after another
 abbrev pub AllocatesAll : Policy → ℕ → List Dva → Space → Space → Type 0
@@ -94,6 +97,11 @@ pub record WritesObject (policy : Policy) (s : Stored) (old : Account) (dir : Tr
 abbrev pub changed_leaves : Account → List ℕ
 changed_leaves a = map (λ (c : ℕ × ObjectChange). c.0 / 16) a.changes.objects
 
+-- a hole, or a leaf that the group wrote
+abbrev pub IsLeafAnew : ℕ → Ptr → Type 0
+IsLeafAnew txg Hole = Unit {0}
+IsLeafAnew txg (At b) = b.birth ≡ txg
+
 -- which streams of a device are late
 abbrev pub late_streams : ℕ → DevState → List Bool
 late_streams form row.On = if form == 1 then replicate 2 false else replicate 2 false ++ replicate 2 true
@@ -140,7 +148,7 @@ pub record Commits (policy : Policy) (is_reset : Bool) (before after : Shelf) (o
   pub opened : IsOpened after seen root saved new
   pub txg : root.uber.txg ≡ last.txg + 1
   pub reset : root.uber.reset ≡ (if is_reset then last.txg + 1 else last.reset)
-  pub kept_root : root.parts.ckpt ≡ old.space.parts.ckpt → last.saved ≡ root.head.saved
+  pub kept_root : root.parts.ckpt ≡ last.ckpt → root.head.saved ≡ last.saved
   pub store : Stored
   pub store_is : store ≡ store_now after seen root new root.live
   pub objects : Space
@@ -149,7 +157,8 @@ pub record Commits (policy : Policy) (is_reset : Bool) (before after : Shelf) (o
   pub dropped : Space
   pub written : Chain (WritesObject policy store old root.head.dir) old.changes.objects old.space objects
   pub directory : WritesTree policy old.changes.txg (tree_reach store old.dir) (tree_reach store root.head.dir) objects trees
-  pub leaves : AreAnew store old.changes.txg root.head.dir (changed_leaves old)
+  pub ways : AreAnew store old.changes.txg root.head.dir (changed_leaves old)
+  pub leaves : All (λ i. IsLeafAnew old.changes.txg (tree_at store root.head.dir i)) (changed_leaves old)
   pub meta : AllocatesAllMeta policy (addresses (born_in root.uber.txg (stored_meta store root))) trees full
   pub gone : List Bptr
   pub each_gone : (b : Bptr) → Contains gone b ↔ (Contains last.meta b × (Contains (root.meta ++ meta_of saved) b → ⊥))

@@ -53,7 +53,7 @@ pub record Opens (c : Course) (new : Account) : Type 0 where
   pub root : Root
   pub saved : Option Root
   pub opened : IsOpened c.after seen root saved new
-  pub still : KeepsRoots c.before c.after
+  pub still : c.after ≡ c.before
 
 -- the root with another group and another group of its last reset
 abbrev pub with_group : Uber → ℕ → ℕ → Uber
@@ -86,14 +86,14 @@ pub record GoesBackTo (c : Course) (txg : ℕ) (new : Account) : Type 0 where
   pub group : IsGroup seen root.uber txg u
   pub moves : MatchBool (txg == root.uber.txg) (Opens c new) (GoesBack c u root.uber.txg new)
 
--- what a command does where no pool is open
+-- What a command does where no pool is open. A refusal writes nothing.
 abbrev pub MovesClosed : Course → Command → Reply → Option Account → Type 0
 MovesClosed c (cmd.Create name guid devs) reply.Done (Some new) = Creates c 2 devs new
 MovesClosed c (cmd.CreateOld name guid devs) reply.Done (Some new) = Creates c 1 devs new
 MovesClosed c cmd.Import reply.Done (Some new) = Opens c new
 MovesClosed c cmd.ImportRewind reply.Done (Some new) = Rewinds c new
 MovesClosed c (cmd.ImportTxg txg) reply.Done (Some new) = GoesBackTo c txg new
-MovesClosed c command (reply.No r) new = (new ≡ None) × KeepsRoots c.before c.after
+MovesClosed c command (reply.No r) new = (new ≡ None) × (c.after ≡ c.before)
 MovesClosed c command answer new = ⊥
 
 -- The refusals of an open pool that its account decides. All others follow from its state and its slots.

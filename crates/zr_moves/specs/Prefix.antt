@@ -31,22 +31,22 @@ pub record IsBehind (disks : List (List ℕ)) (txg : ℕ) : Type 0 where
   pub below : txg < current.txg
 
 -- the command commits with this answer, where the disks were so before
-abbrev pub Commits : List (List ℕ) → Command → Reply → Type 0
-Commits disks (cmd.Create name guid devs) answer = IsDone answer
-Commits disks (cmd.CreateOld name guid devs) answer = IsDone answer
-Commits disks cmd.ImportRewind answer = IsDone answer
-Commits disks (cmd.ImportTxg txg) answer = IsDone answer × IsBehind disks txg
-Commits disks cmd.Sync answer = IsDone answer
-Commits disks cmd.Export answer = IsDone answer
-Commits disks (cmd.Add dev) answer = IsDone answer
-Commits disks (cmd.Remove dev) answer = IsDone answer
-Commits disks cmd.Cancel answer = IsDone answer
-Commits disks cmd.Checkpoint answer = IsDone answer
-Commits disks cmd.Discard answer = IsDone answer
-Commits disks cmd.Upgrade answer = IsDone answer
-Commits disks cmd.StepEvac (reply.Gone d) = Unit {0}
-Commits disks cmd.StepEvac (reply.Cancelled d) = Unit {0}
-Commits disks command answer = ⊥
+abbrev pub IsCommitting : List (List ℕ) → Command → Reply → Type 0
+IsCommitting disks (cmd.Create name guid devs) answer = IsDone answer
+IsCommitting disks (cmd.CreateOld name guid devs) answer = IsDone answer
+IsCommitting disks cmd.ImportRewind answer = IsDone answer
+IsCommitting disks (cmd.ImportTxg txg) answer = IsDone answer × IsBehind disks txg
+IsCommitting disks cmd.Sync answer = IsDone answer
+IsCommitting disks cmd.Export answer = IsDone answer
+IsCommitting disks (cmd.Add dev) answer = IsDone answer
+IsCommitting disks (cmd.Remove dev) answer = IsDone answer
+IsCommitting disks cmd.Cancel answer = IsDone answer
+IsCommitting disks cmd.Checkpoint answer = IsDone answer
+IsCommitting disks cmd.Discard answer = IsDone answer
+IsCommitting disks cmd.Upgrade answer = IsDone answer
+IsCommitting disks cmd.StepEvac (reply.Gone d) = Unit {0}
+IsCommitting disks cmd.StepEvac (reply.Cancelled d) = Unit {0}
+IsCommitting disks command answer = ⊥
 
 -- how things stood after k commands
 abbrev pub point_after : Point → List Turn → ℕ → Point
@@ -62,7 +62,7 @@ part_after p turns k = (point_after p turns k).state.shelf
 abbrev pub CommittedAt : Point → List Turn → ℕ → Type 0
 CommittedAt p turns zero = ⊥
 CommittedAt p [] (suc k) = ⊥
-CommittedAt p (t ∷ turns) (suc zero) = Commits p.shelf.disks t.command t.answer
+CommittedAt p (t ∷ turns) (suc zero) = IsCommitting p.shelf.disks t.command t.answer
 CommittedAt p (t ∷ turns) (suc (suc k)) = CommittedAt t.point turns (suc k)
 
 -- of the first r commands the last that has committed, 0 where none has
