@@ -1,7 +1,6 @@
 -- What an outcome of checks says of each of them.
-use Rattle.std.proofs.Common.{◌≡◌, ◌⊎◌, inl, inr, Result, Ok, Err, refl}
-use Rattle.zr_base.specs.declared.refusal.Refusal.{Refusal}
-use Rattle.zr_image.specs.Checks.{Check, ◌>>=◌, Demands, Under}
+use Rattle.std.proofs.Common.{inl, inr, Ok}
+use Rattle.zr_image.specs.Checks.{Check, ◌>>=◌}
 
 module _ {A B : Type 0} (first : Check A) (next : A → Check B) where
   -- both passed

@@ -1,7 +1,6 @@
 -- What it says that a current root was found.
 use Rattle.std.proofs.Common.{◌≡◌, ℕ, List, Ok, sym, subst}
 use Rattle.zr_base.specs.declared.refusal.Refusal.TheVariants.{NoPoolOnDevices}
-use Rattle.zr_base.specs.declared.refusal.Refusal.{Refusal}
 use Rattle.zr_label.specs.declared.root.Uber.{Uber}
 use Rattle.zr_label.specs.declared.root.Seen.{Seen}
 use Rattle.zr_image.specs.Checks.{Check, ◌>>=◌, Gives, Finds}

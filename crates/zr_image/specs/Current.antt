@@ -2,7 +2,6 @@
 use Rattle.std.specs.Prelude.{◌≡◌, ◌≢◌, ◌⊎◌, ℕ, ◌+◌, ◌≤◌, ◌<◌, ◌==◌, Bool, false, not, ◌&&◌, List, [], length, map, find, position, slice_index_or, Contains, if◌then◌else◌, Option, Some, None, is_some}
 use Rattle.std.specs.List.{AllZip, range_with_len}
 use Rattle.zr_base.specs.declared.space.DevRow.{DevRow}
-use Rattle.zr_base.specs.declared.refusal.Refusal.{Refusal}
 use Rattle.zr_base.specs.declared.refusal.Refusal.TheVariants.{MissingDevice, NoPoolOnDevices, TwoPools, UnknownVersion}
 use Rattle.zr_rules.specs.Places.{is_gone}
 use Rattle.zr_label.specs.Blocks.{no_row}

@@ -7,8 +7,6 @@ use Rattle.zr_base.specs.declared.space.Dva.{Dva}
 use Rattle.zr_base.specs.declared.refusal.Refusal.{Refusal}
 use Rattle.zr_base.specs.declared.refusal.Refusal.TheVariants.{Damaged}
 use Rattle.zr_bptr.specs.declared.Bptr.{Bptr}
-use Rattle.zr_bptr.specs.declared.Ptr.{Ptr}
-use Rattle.zr_bptr.specs.declared.Ptr.TheVariants.{Hole, At}
 use Rattle.zr_label.specs.Geometry.{unit_at}
 use Rattle.zr_label.specs.declared.root.Uber.{Uber}
 use Rattle.zr_rules.specs.Places.{Place}

@@ -1,8 +1,7 @@
 -- What a root means by itself and with the root that it saved, or why it cannot be opened.
-use Rattle.std.specs.Prelude.{◌≡◌, ◌↔◌, ℕ, ◌+◌, ◌^◌, ◌<◌, ◌≤◌, ◌==◌, Bool, true, false, nat_le, nat_lt, List, [], ◌∷◌, ◌++◌, length, take, map, sum_by, if◌then◌else◌, Option, Some, None, IfSome}
+use Rattle.std.specs.Prelude.{◌≡◌, ◌↔◌, ℕ, ◌^◌, ◌<◌, ◌≤◌, ◌==◌, Bool, true, false, nat_le, nat_lt, List, [], ◌++◌, length, take, map, sum_by, if◌then◌else◌, Option, Some, None, IfSome}
 use Rattle.std.specs.List.{AllByRecursion, filter, list_any}
 use Rattle.std.specs.Int.{div_ceil}
-use Rattle.zr_base.specs.declared.space.Dva.{Dva}
 use Rattle.zr_base.specs.declared.space.DevRow.{DevRow}
 use Rattle.zr_base.specs.declared.space.DevPart.{DevPart}
 use Rattle.zr_base.specs.declared.space.SpaceParts.{SpaceParts}

@@ -20,7 +20,7 @@ use Rattle.zr_store.specs.Store.{Stored}
 use Rattle.zr_tree.specs.Trees.{tree_at, tree_blocks, tree_reach}
 use Rattle.zr_objset.specs.Records.{record_of, bytes_of}
 use Rattle.zr_txg.specs.Changes.{Changes, object_in, change_in, block_count}
-use Rattle.zr_model.specs.Objects.{Object, Objects, bytes_at}
+use Rattle.zr_model.specs.Objects.{Object, bytes_at}
 use Rattle.zr_model.specs.State.{PoolState}
 use Rattle.zr_model.specs.Runs.{Shelf}
 use Rattle.zr_image.specs.Current.{ShowsAll, slots_of}

@@ -1,6 +1,6 @@
 -- What commands do to the objects of an open group.
-use Rattle.std.specs.Prelude.{◌≡◌, ◌≢◌, ◌⊎◌, ℕ, ◌+◌, ◌-◌, ◌*◌, ◌/◌, ◌^◌, ◌<◌, Bool, not, nat_lt, List, [], ◌∷◌, ◌++◌, length, map, filter, filter_map, sum_by, count_by, Contains, if◌then◌else◌, Option, Some, None, is_some, MatchBool}
-use Rattle.std.specs.List.{AllZip, AllByRecursion, flat_map, list_any, range_with_len}
+use Rattle.std.specs.Prelude.{◌≡◌, ◌≢◌, ◌⊎◌, ℕ, ◌+◌, ◌-◌, ◌*◌, ◌/◌, ◌^◌, ◌<◌, Bool, not, nat_lt, List, [], ◌++◌, length, map, filter, filter_map, sum_by, count_by, Contains, if◌then◌else◌, Option, Some, None, is_some, MatchBool}
+use Rattle.std.specs.List.{AllZip, AllByRecursion, list_any, range_with_len}
 use Rattle.std.specs.Int.{div_ceil}
 use Rattle.zr_base.specs.declared.space.Dva.{Dva}
 use Rattle.zr_base.specs.declared.space.Policy.{Policy}

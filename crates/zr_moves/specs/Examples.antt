@@ -1,5 +1,5 @@
 -- Short runs and small trees on which the definitions are tried.
-use Rattle.std.specs.Prelude.{ℕ, List, [], ◌∷◌, Option, None}
+use Rattle.std.specs.Prelude.{ℕ, [], ◌∷◌, None}
 use Rattle.zr_bptr.specs.declared.Bptr.{Bptr}
 use Rattle.zr_script.specs.declared.command.Command.{Command}
 use Rattle.zr_script.specs.declared.reply.Reply.{Reply}

@@ -13,12 +13,12 @@ use Rattle.zr_bptr.specs.declared.Ptr.TheVariants.{Hole}
 use Rattle.zr_label.specs.declared.root.Uber.{Uber}
 use Rattle.zr_label.specs.declared.root.Seen.{Seen}
 use Rattle.zr_label.specs.Geometry.{units_of_size}
-use Rattle.zr_model.specs.State.{PoolState, ShelfPart, Empty, Refused, Is}
+use Rattle.zr_model.specs.State.{PoolState, ShelfPart, Is}
 use Rattle.zr_model.specs.Runs.{Shelf}
-use Rattle.zr_image.specs.Current.{ShowsAll, IsGroup, IsInWindow}
+use Rattle.zr_image.specs.Current.{IsGroup, IsInWindow}
 use Rattle.zr_image.specs.Roots.{Root}
 use Rattle.zr_moves.specs.Account.{Account, HasRoots}
-use Rattle.zr_moves.specs.Commits.{IsLast, Commits, IsOpened, KeepsRoots}
+use Rattle.zr_moves.specs.Commits.{Commits, IsOpened, KeepsRoots}
 use Rattle.zr_moves.specs.Moves.{Course, Moves, size_of}
 
 -- a device that nothing was allocated on yet

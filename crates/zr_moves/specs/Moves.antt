@@ -1,16 +1,12 @@
 -- What each command does to the account of an open pool, to the answer, and to the disks: one line for each.
-use Rattle.std.specs.Prelude.{◌≡◌, ◌≢◌, ◌⊎◌, ℕ, ◌+◌, ◌*◌, ◌≤◌, ◌<◌, ◌==◌, Bool, true, false, ◌&&◌, ◌||◌, nat_le, nat_lt, List, [], ◌∷◌, ◌++◌, length, map, replicate, position, slice_index_or, Contains, if◌then◌else◌, Option, Some, None, MatchBool, unwrap_or}
+use Rattle.std.specs.Prelude.{◌≡◌, ◌≢◌, ◌⊎◌, ℕ, ◌+◌, ◌*◌, ◌==◌, Bool, true, false, ◌&&◌, ◌||◌, nat_le, nat_lt, List, length, replicate, position, Contains, if◌then◌else◌, Option, Some, None, MatchBool, unwrap_or}
 use Rattle.std.specs.Str.{bytes_eq}
 use Rattle.std.specs.FinMap as map
 use Rattle.sha2.specs.Sha256.{sha256}
-use Rattle.zr_base.specs.declared.space.DevPart.{DevPart}
-use Rattle.zr_base.specs.declared.space.DevState.TheVariants as row
-use Rattle.zr_base.specs.declared.space.CkptPart.{CkptPart}
 use Rattle.zr_base.specs.declared.space.CkptPart.TheVariants as ckpt
 use Rattle.zr_base.specs.declared.space.Policy.{Policy}
 use Rattle.zr_base.specs.declared.space.Condensed.{Condensed}
 use Rattle.zr_base.specs.declared.space.Condensed.TheVariants as condensed
-use Rattle.zr_base.specs.declared.refusal.Refusal.{Refusal}
 use Rattle.zr_base.specs.declared.refusal.Refusal.TheVariants as refusal
 use Rattle.zr_base.specs.Extents.{first_part_from}
 use Rattle.zr_script.specs.declared.command.Command.{Command}
@@ -18,8 +14,7 @@ use Rattle.zr_script.specs.declared.command.Command.TheVariants as cmd
 use Rattle.zr_script.specs.declared.reply.Reply.{Reply}
 use Rattle.zr_script.specs.declared.reply.Reply.TheVariants as reply
 use Rattle.zr_bptr.specs.declared.Bptr.{Bptr}
-use Rattle.zr_bptr.specs.declared.Ptr.TheVariants.{Hole, At}
-use Rattle.zr_label.specs.declared.root.Uber.{Uber}
+use Rattle.zr_bptr.specs.declared.Ptr.TheVariants.{At}
 use Rattle.zr_label.specs.declared.root.Seen.{Seen}
 use Rattle.zr_label.specs.Geometry.{units_of_size}
 use Rattle.zr_rules.specs.Places.{part_of}
@@ -32,12 +27,11 @@ use Rattle.zr_shelf.specs.Disks.{disk}
 use Rattle.zr_model.specs.Objects.{Object, with_bytes}
 use Rattle.zr_model.specs.State.{PoolState}
 use Rattle.zr_model.specs.Runs.{Shelf}
-use Rattle.zr_image.specs.Current.{ShowsAll, FindsCurrent, IsGroup, IsInWindow}
 use Rattle.zr_image.specs.Walks.{addresses}
 use Rattle.zr_image.specs.Roots.{Root}
 use Rattle.zr_moves.specs.Account.{Account, changed_blocks, changed_objects, leaf_now, AreLive, HasRoots, store_now}
 use Rattle.zr_moves.specs.Changes.{block_len, touched_blocks, objects_with, blocks_with, slop_of, ChangesRange, MakesObject, DropsObject}
-use Rattle.zr_moves.specs.Commits.{Last, IsLast, Commits, IsAllAnew, IsOpened, KeepsRoots}
+use Rattle.zr_moves.specs.Commits.{Commits, IsAllAnew, KeepsRoots}
 use Rattle.zr_moves.specs.Prefix.{has_path}
 use Rattle.zr_moves.specs.Tables.{leaving_of, list_lines, status_lines, map_lines, audit_lines, estimate}
 

@@ -12,7 +12,7 @@ use Rattle.zr_label.specs.declared.root.Uber.{Uber}
 use Rattle.zr_label.specs.declared.root.Seen.{Seen}
 use Rattle.zr_model.specs.State.{Device, InService, Leaving, Removed, PoolState, ShelfPart, Empty, Refused, Is, State}
 use Rattle.zr_model.specs.Step.{Step}
-use Rattle.zr_model.specs.Runs.{Shelf, Point, Turn, texts}
+use Rattle.zr_model.specs.Runs.{Point, Turn, texts}
 use Rattle.zr_image.specs.Current.{ShowsAll, IsCurrent, FindsCurrent, IsInWindow}
 use Rattle.zr_image.specs.Honest.{Leaves}
 use Rattle.zr_image.specs.StateOf.{StateOf, StateAt}

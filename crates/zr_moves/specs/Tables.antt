@@ -1,5 +1,5 @@
 -- What the tables of an open pool say.
-use Rattle.std.specs.Prelude.{◌≡◌, ℕ, ◌*◌, not, List, ◌++◌, length, map, filter, sum_by, slice_index_or, if◌then◌else◌, Option, Some, None, option_map}
+use Rattle.std.specs.Prelude.{ℕ, ◌*◌, not, List, ◌++◌, length, map, filter, sum_by, slice_index_or, if◌then◌else◌, Option, Some, None, option_map}
 use Rattle.std.specs.List.{find, range_with_len, zip}
 use Rattle.std.specs.Int.{div_ceil}
 use Rattle.zr_base.specs.declared.space.Dva.{Dva}

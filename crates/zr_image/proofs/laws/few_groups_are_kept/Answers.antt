@@ -1,4 +1,4 @@
-use Rattle.std.proofs.Common.{◌≡◌, ◌∙◌, sym, arith}
+use Rattle.std.proofs.Common.{◌∙◌, sym, arith}
 use Rattle.zr_image.proofs.laws.few_groups_are_kept.Goals as goal
 
 pub returns-clause-differ : goal.returns-clause-differ

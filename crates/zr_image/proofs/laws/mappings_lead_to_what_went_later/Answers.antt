@@ -1,15 +1,14 @@
-use Rattle.std.proofs.Common.{◌≡◌, ◌<◌, ◌≤◌, ℕ, zero, suc, ◌+◌, ◌^◌, inl, inr, [], ◌∷◌, true, false, refl, arith, Ok, Err}
-use Rattle.std.specs.List.{All, AllByRecursion}
+use Rattle.std.proofs.Common.{◌≡◌, ◌<◌, ◌≤◌, ℕ, zero, suc, ◌+◌, ◌^◌, inl, inr, [], ◌∷◌, true, refl, arith}
+use Rattle.std.specs.List.{AllByRecursion}
 use Rattle.std.proofs.lemmas.List.Elements.{All-nil, All-cons, All-head}
 use Rattle.zr_base.specs.declared.space.Entry.{Entry}
 use Rattle.zr_rules.specs.Devices.{devices_of}
 use Rattle.zr_rules.specs.Places.{is_leaving, state_of_dev}
 use Rattle.zr_rules.specs.Mappings.{IsEntry}
 use Rattle.zr_rules.specs.Resolve.{IsDestination, IsRanked}
-use Rattle.zr_image.specs.Examples.{chain, parts_of, gone_at, on_with}
+use Rattle.zr_image.specs.Examples.{chain, parts_of}
 use Rattle.zr_image.specs.Numbers.{Destinations, broken}
 use Rattle.zr_image.specs.Rules.{HasLawfulEntries, HasLawfulRemoval}
-use Rattle.zr_image.proofs.Checking.{passed}
 use Rattle.zr_image.proofs.laws.mappings_lead_to_what_went_later.Goals as goal
 
 abbrev first : Entry
@@ -28,13 +27,16 @@ lawful e some short source to = record { not_empty = some; short = short; source
 mappings : (n : ℕ) → AllByRecursion HasLawfulEntries (chain n)
 mappings n = (
   record { rising = (omega arith, lawful first (omega arith) (omega arith) (omega arith) (omega arith), tt); within = (omega arith, tt); counts = (omega arith, tt); fresh = λ u h. absurd (cc) },
-  (record {
-    rising = (omega arith, lawful second (omega arith) (omega arith) (omega arith) (omega arith), (omega arith, lawful third (omega arith) (omega arith) (omega arith) (omega arith), tt));
-    within = (omega arith, (omega arith, tt));
-    counts = (omega arith, (omega arith, tt));
-    fresh = λ u h. absurd (cc);
-  },
-  (record { rising = tt; within = tt; counts = tt; fresh = λ u h. absurd (cc) }, tt)))
+  (
+    record {
+      rising = (omega arith, lawful second (omega arith) (omega arith) (omega arith) (omega arith), (omega arith, lawful third (omega arith) (omega arith) (omega arith) (omega arith), tt));
+      within = (omega arith, (omega arith, tt));
+      counts = (omega arith, (omega arith, tt));
+      fresh = λ u h. absurd (cc);
+    },
+    (record { rising = tt; within = tt; counts = tt; fresh = λ u h. absurd (cc) }, tt),
+  ),
+)
 
 none_leaves : (n d : ℕ) → is_leaving (state_of_dev (chain n) d) ≡ true → ⊥
 none_leaves n zero h = absurd (cc)

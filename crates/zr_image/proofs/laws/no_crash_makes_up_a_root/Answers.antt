@@ -1,4 +1,4 @@
-use Rattle.std.proofs.Common.{◌≡◌, ◌<◌, ℕ, List, [], inl, inr}
+use Rattle.std.proofs.Common.{◌≡◌, ℕ, List, [], inl, inr}
 use Rattle.zr_shelf.specs.Disks.{Stand, disk, part, PendingWrite}
 use Rattle.zr_shelf.specs.Publish.{WasAsked, IsHonestBlock}
 use Rattle.zr_image.specs.Honest.{Mark, of_device, of_group, IsMark}

@@ -1,4 +1,4 @@
-use Rattle.std.proofs.Common.{◌≡◌, ◌<◌, ℕ, inl, inr, arith, ◌∙◌, refl, Result, Ok, Err}
+use Rattle.std.proofs.Common.{◌≡◌, ◌<◌, inl, inr, arith, ◌∙◌, refl, Result, Err}
 use Rattle.zr_base.specs.declared.refusal.Refusal.{Refusal}
 use Rattle.zr_image.proofs.laws.the_first_check_that_fails.Goals as goal
 

@@ -1,9 +1,8 @@
-use Rattle.std.proofs.Common.{◌≡◌, ◌≢◌, ◌<◌, ◌≤◌, ℕ, zero, suc, inl, inr, List, [], ◌∷◌, refl, sym, ◌∙◌, ap, arith, Ok, Err, length}
+use Rattle.std.proofs.Common.{◌≡◌, ◌≤◌, ℕ, zero, suc, inl, inr, [], ◌∷◌, refl, sym, ◌∙◌, ap, arith}
 use Rattle.std.specs.Prelude.{Contains}
 use Rattle.zr_base.specs.declared.refusal.Refusal.TheVariants.{TwoPools}
 use Rattle.zr_label.specs.declared.root.Uber.{Uber}
-use Rattle.zr_label.specs.declared.root.Seen.{Seen}
-use Rattle.zr_image.specs.Current.{IsShownAt, IsCurrent, FindsCurrent, IsOnePool, AreTwoPools, AreTwoRoots, IsPair, IsLowestPair, IsBelow}
+use Rattle.zr_image.specs.Current.{IsShownAt, AreTwoPools, AreTwoRoots, IsPair, IsLowestPair}
 use Rattle.zr_image.specs.Examples.{split, root_of, two_rows}
 use Rattle.zr_image.proofs.Finding.{finds_one_pool, one_root, one_root_twice}
 use Rattle.zr_image.proofs.laws.two_roots_of_one_group_are_refused.Goals as goal

@@ -1,4 +1,4 @@
-use Rattle.std.proofs.Common.{ℕ, List, [], ◌∷◌, refl, arith}
+use Rattle.std.proofs.Common.{[], ◌∷◌, refl, arith}
 use Rattle.zr_moves.proofs.laws.a_reply_counts_when_it_is_whole.Goals as goal
 
 pub returns-clause-part : goal.returns-clause-part
