@@ -1,3 +1,5 @@
 pub mod Checking
 pub mod Finding
 pub mod Walking
+pub mod Reaching
+pub mod Standing

@@ -46,7 +46,7 @@ module _ (s : Setting) (disks : List (List ℕ)) where
 
   -- ---- one block
 
-  marked_within : (b : Bptr) (before marks : List Bptr) → Marks s b before (Ok marks) → marks ≡ before ++ b ∷ []
+  pub marked_within : (b : Bptr) (before marks : List Bptr) → Marks s b before (Ok marks) → marks ≡ before ++ b ∷ []
   marked_within b before marks (inl (done, may, is)) = given (before ++ b ∷ []) marks is
   marked_within b before marks (inr (r, told, is)) = absurd (cc)
 
