@@ -6,12 +6,12 @@ use Rattle.std.proofs.lemmas.List.Elements.{All-get_or, All-from_get_or}
 use Rattle.sha2.specs.Sha256.{sha256}
 use Rattle.zr_bptr.specs.declared.Bptr.{Bptr}
 use Rattle.zr_bptr.specs.declared.Ptr.{Ptr}
-use Rattle.zr_bptr.specs.declared.Ptr.TheVariants.{Hole, At}
+use Rattle.zr_bptr.specs.declared.Ptr.TheVariants.{At}
 use Rattle.zr_bptr.specs.declared.Tree.{Tree}
 use Rattle.zr_bptr.specs.Spelling.{SpellsTreeBlock}
 use Rattle.zr_meta.specs.declared.Stream.{Stream}
 use Rattle.zr_store.specs.Store.{Stored, hits, one_at}
-use Rattle.zr_tree.specs.Trees.{tree_at, tree_blocks, tree_reach, slot, own, IsAmong, IsWhole, KeepsTree}
+use Rattle.zr_tree.specs.Trees.{tree_blocks, tree_reach, slot, own, IsAmong, IsWhole, KeepsTree}
 use Rattle.zr_tree.proofs.Frames.{first_of, one_itself}
 use Rattle.zr_tree.proofs.Others.{keeps}
 use Rattle.zr_objset.proofs.Within.{blocks_within, leaf_within}

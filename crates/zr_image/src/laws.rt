@@ -1,5 +1,5 @@
 //! The definitions, tried on examples and against wrong readings.
-ghost use Rattle.std.specs.Prelude.{◌≡◌, ◌≢◌, ℕ, ◌+◌, ◌<◌, ◌≤◌, List, [], ◌∷◌, ◌++◌, length, true, None, Some, Ok, Err};
+ghost use Rattle.std.specs.Prelude.{◌≡◌, ◌≢◌, ℕ, ◌+◌, ◌<◌, ◌≤◌, List, [], ◌∷◌, ◌++◌, length, true, Option, None, Some, Ok, Err};
 ghost use Rattle.zr_base.specs.declared.refusal.Refusal.{Refusal};
 ghost use Rattle.zr_base.specs.declared.refusal.Refusal.TheVariants.{BadRoot, NoPoolOnDevices, TwoPools, UnknownVersion};
 ghost use Rattle.zr_shelf.specs.Disks.{Stand, disk, part};
@@ -17,7 +17,9 @@ ghost use Rattle.zr_image.specs.Honest.{IsLeft};
 ghost use Rattle.zr_image.specs.Reading.{address_bytes};
 ghost use Rattle.zr_image.specs.Walks.{Setting, MayMark};
 ghost use Rattle.zr_image.specs.Rules.{AreLawfulParts, IsBalanced};
+ghost use Rattle.zr_image.specs.Roots.{Root};
 ghost use Rattle.zr_image.specs.StateOf.{IsPart};
+ghost use Rattle.zr_image.specs.Frame.{KeepsRoot};
 ghost use Rattle.zr_image.specs.Examples.{two_checks, root_of, two_rows, gone_row, on_row, turned, strangers, split, chain, parts_of, on_with, chain_view, unit_five, five, pointer_five, walk_at};
 
 /// The first check that fails is answered, and none behind it.
@@ -106,4 +108,10 @@ pub fn what_a_refusal_makes_of_the_shelf()
     ensures empty { (paths disks : List (List ℕ)) (seen : List Seen) (p : ShelfPart) → IsPart paths disks seen (Err NoPoolOnDevices) p → p ≡ Empty }
     ensures refused { (paths disks : List (List ℕ)) (seen : List Seen) → IsPart paths disks seen (Err (UnknownVersion 3)) (Refused (UnknownVersion 3)) }
     ensures never { (paths disks : List (List ℕ)) (seen : List Seen) (p : PoolState) → IsPart paths disks seen (Err (BadRoot 1)) (Is p) → ⊥ }
+{}
+
+/// A root opens as before, with the root that it saved, from other disks on which its units and its metadata have their
+/// bytes; so does the one that it saved.
+pub fn a_root_stays_while_its_units_do()
+    ensures { (slots : List (Option ℕ)) (u : Uber) (r : Root) (saved : Option Root) → KeepsRoot slots u r saved }
 {}
