@@ -3,6 +3,8 @@ pub mod Finding
 pub mod Walking
 pub mod Reaching
 pub mod Standing
+pub mod Leaves
 pub mod Opening
+pub mod Meaning
 pub mod Ranges
 pub mod Framing

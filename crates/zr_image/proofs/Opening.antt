@@ -1,8 +1,8 @@
 -- A root that is read reads as before from other disks on which its blocks have their bytes.
-use Rattle.std.proofs.Common.{◌≡◌, ◌<◌, ℕ, Bool, true, false, inl, inr, List, [], ◌∷◌, ◌++◌, Option, Some, None, refl, sym, ap, subst, arith, Ok, cond}
-use Rattle.std.specs.List.{Contains, filter}
+use Rattle.std.proofs.Common.{◌≡◌, ◌<◌, ℕ, Bool, inl, inr, List, [], ◌∷◌, ◌++◌, Option, Some, None, refl, sym, ap, subst, arith, Ok}
+use Rattle.std.specs.List.{Contains}
 use Rattle.std.proofs.lemmas.Bool.Decides.{nat_tests}
-use Rattle.std.proofs.lemmas.List.Elements.{Contains-append_left, Contains-append_right, Contains-append_cases}
+use Rattle.std.proofs.lemmas.List.Elements.{Contains-append_right}
 use Rattle.std.proofs.lemmas.List.Sums.{sum_by-cons}
 use Rattle.sha2.specs.Sha256.{sha256}
 use Rattle.zr_base.specs.declared.space.Dva.{Dva}
@@ -15,12 +15,14 @@ use Rattle.zr_meta.specs.declared.Head.{Head}
 use Rattle.zr_meta.specs.declared.Stream.{Stream}
 use Rattle.zr_store.specs.Store.{hits, one_at}
 use Rattle.zr_store.proofs.Keeping.{one_cases}
-use Rattle.zr_tree.specs.Trees.{tree_reach}
+use Rattle.zr_tree.specs.Trees.{tree_reach, tree_leaves}
 use Rattle.zr_image.specs.Checks.{Each}
 use Rattle.zr_image.specs.Reading.{View, content, store_of, ReadsBlock, bare_devices}
-use Rattle.zr_image.specs.Roots.{Root, IsHeadOf, ReadsHead, ReadsStream, ReadsRecords, WalksObject, WalksAll, ReadsRoot, meta_setting, block_setting, head_tree, leaves_of, view_of}
+use Rattle.zr_image.specs.Walks.{Walks}
+use Rattle.zr_image.specs.Roots.{Root, IsHeadOf, ReadsHead, ReadsStream, ReadsRecords, WalksObject, WalksAll, ReadsRoot, meta_setting, block_setting, head_tree, view_of}
 use Rattle.zr_image.proofs.Reaching.{contained_hits, reach_hits}
 use Rattle.zr_image.proofs.Standing.{bytes_same, words_same}
+use Rattle.zr_image.proofs.Leaves.{leaf_hits, leaf_list_same}
 use Rattle.zr_image.proofs.Walking.{Within, given, each_grows, each_moves, walk_grows, walk_same}
 
 -- ---- addresses that are met
@@ -51,14 +53,6 @@ SameAt v w bs = (b : Bptr) → 0 < hits bs b.at → content w b ≡ content v b
 listed : (v w : View) (xs ys : List Bptr) → Within xs ys → SameAt v w ys → (b : Bptr) → Contains xs b → content w b ≡ content v b
 listed v w xs ys within same b has = same b (contained_hits ys b (within b has))
 
-picked : (yes : Bool) (b : Bptr) (ys bs : List Bptr) → Within ys bs → Within (cond yes (b ∷ ys) ys) (b ∷ bs)
-picked true b ys bs within = λ x has. elim (Contains-append_cases (b ∷ []) ys x has) [ inl here ↦ Contains-append_left (b ∷ []) bs x here | inr later ↦ Contains-append_right (b ∷ []) bs x (within x later) ]
-picked false b ys bs within = λ x has. Contains-append_right (b ∷ []) bs x (within x has)
-
-filtered : (test : Bptr → Bool) (bs : List Bptr) → Within (filter test bs) bs
-filtered test [] = λ x has. has
-filtered test (b ∷ bs) = picked (test b) b (filter test bs) bs (filtered test bs)
-
 module _ (v : View) (disks : List (List ℕ)) where
   abbrev w : View
   w = record v { disks = disks }
@@ -67,8 +61,8 @@ module _ (v : View) (disks : List (List ℕ)) where
   block_read b same read = subst (λ (bytes : List ℕ). sha256 bytes ≡ b.sum) (sym same) read
 
   module _ (u : Uber) where
-    head_is : (h : Head) → ((b : Bptr) → 0 < hits (tree_reach (store_of v []) (head_tree u)) b.at → content w b ≡ content v b) → IsHeadOf v u h → IsHeadOf w u h
-    head_is h same is = record { bytes = is.bytes; read = bytes_same (store_of v []) (store_of w []) (head_tree u) same is.bytes is.read; length_is = is.length_is; spelled = is.spelled; form = is.form; fits = is.fits }
+    head_is : (h : Head) → ((b : Bptr) → 0 < hits (tree_reach (store_of v) (head_tree u)) b.at → content w b ≡ content v b) → IsHeadOf v u h → IsHeadOf w u h
+    head_is h same is = record { bytes = is.bytes; read = bytes_same (store_of v) (store_of w) (head_tree u) same is.bytes is.read; length_is = is.length_is; spelled = is.spelled; form = is.form; fits = is.fits }
 
     pub head_same : (h : Head) (marks : List Bptr) → SameAt v w marks → ReadsHead v u (Ok (h, marks)) → ReadsHead w u (Ok (h, marks))
     head_same h m same (inl (marks, walk, inl (head, is_head, is))) =
@@ -98,7 +92,7 @@ module _ (v : View) (disks : List (List ℕ)) where
         inl (
           marks,
           walk_same (meta_setting v u _) disks final.1 (listed v w final.1 final.1 (λ x here. here) same) t.tree.height 0 t.tree.root a.1 marks within walk,
-          inl (words, words_same (store_of v []) (store_of w []) t (λ q met. same q (hits_within marks final.1 q.at within (reach_hits (meta_setting v u _) t.tree.height 0 t.tree.root a.1 marks walk q met))) words has, is),
+          inl (words, words_same (store_of v) (store_of w) t (λ q met. same q (hits_within marks final.1 q.at within (reach_hits (meta_setting v u _) t.tree.height 0 t.tree.root a.1 marks walk q met))) words has, is),
         )
     stream_same final same t a b sub (inl (marks, walk, inr (r, told, is))) = absurd (cc)
     stream_same final same t a b sub (inr (r, told, is)) = absurd (cc)
@@ -125,7 +119,7 @@ module _ (v : View) (disks : List (List ℕ)) where
   each_records (b ∷ bs) before after same (inr (r, told, is)) = absurd (cc)
 
   module _ (may_be : ℕ → ℕ → Bool) (txg : ℕ) where
-    object_grows : (x : Option ObjRec) (a b : List Bptr) → WalksObject v may_be txg x a (Ok b) → Within a b
+    pub object_grows : (x : Option ObjRec) (a b : List Bptr) → WalksObject v may_be txg x a (Ok b) → Within a b
     object_grows None a b is = λ x has. subst (λ (bs : List Bptr). Contains bs x) (sym (given a b is)) has
     object_grows (Some r) a b walk = walk_grows (block_setting v may_be txg r.units _) disks r.tree.height 0 r.tree.root a b walk
 
@@ -134,15 +128,21 @@ module _ (v : View) (disks : List (List ℕ)) where
     object_same final same (Some r) a b within walk =
         walk_same (block_setting v may_be txg r.units _) disks final (listed v w final final (λ x here. here) same) r.tree.height 0 r.tree.root a b within walk
 
+    dir_agrees : (dir : Tree) (marks live : List Bptr) → SameAt v w live → Within marks live → Walks (block_setting v may_be txg 1 4096) dir [] (Ok marks)
+        → (b : Bptr) → 0 < hits (tree_reach (store_of v) dir) b.at → content w b ≡ content v b
+    dir_agrees dir marks live same within walk b met = same b (hits_within marks live b.at within (reach_hits (block_setting v may_be txg 1 4096) dir.height 0 dir.root [] marks walk b met))
+
     pub all_same : (dir : Tree) (live : List Bptr) → SameAt v w live → WalksAll v may_be txg dir (Ok live) → WalksAll w may_be txg dir (Ok live)
     all_same dir live same (inl (marks, walk, inl (records, each, rest))) =
         let within = each_grows (WalksObject v may_be txg) (WalksObject v may_be txg) Within (λ s x has. has) (λ r s t f g x has. g x (f x has)) object_grows records marks live rest in
+        let agree = dir_agrees dir marks live same within walk in
         inl (
           marks,
           walk_same (block_setting v may_be txg 1 4096) disks live (listed v w live live (λ x here. here) same) dir.height 0 dir.root [] marks within walk,
           inl (
             records,
-            each_records (leaves_of marks) [] records (λ b has. listed v w marks live within same b (filtered _ marks b has)) each,
+            subst (λ (bs : List Bptr). Each (ReadsRecords w) bs [] (Ok records)) (sym (leaf_list_same (store_of v) (store_of w) dir agree))
+                (each_records (tree_leaves (store_of v) dir) [] records (λ b has. agree b (leaf_hits (store_of v) dir b has)) each),
             each_moves (WalksObject v may_be txg) (WalksObject w may_be txg) Within (λ s x has. has) (λ r s t f g x has. g x (f x has)) object_grows live (object_same live same) records marks live (λ x has. has) rest,
           ),
         )

@@ -23,7 +23,7 @@ contained_hits (x ∷ xs) b (suc k, lt, is) = let rest = contained_hits xs b (k,
 
 module _ (s : Setting) where
   abbrev store : Stored
-  store = store_of s.view []
+  store = store_of s.view
 
   module _ (h index : ℕ) (ih : (index : ℕ) (p : Ptr) (before after : List Bptr) → WalksBelow s h index p before (Ok after) → after ≡ before ++ reach store h p) where
     each_reach : (k : ℕ) (ps : List Ptr) (marks after : List Bptr)

@@ -12,7 +12,7 @@ use Rattle.zr_label.specs.Geometry.{unit_at}
 use Rattle.zr_label.specs.declared.root.Uber.{Uber}
 use Rattle.zr_label.specs.declared.root.Seen.{Seen}
 use Rattle.zr_model.specs.State.{PoolState, Is}
-use Rattle.zr_image.specs.Current.{FindsCurrent, IsGroup, IsInWindow, ShowsAll, slots_of}
+use Rattle.zr_image.specs.Current.{FindsCurrent, IsGroup, IsInWindow, slots_of}
 use Rattle.zr_image.specs.Reading.{unit_bytes}
 use Rattle.zr_image.specs.Walks.{addresses}
 use Rattle.zr_image.specs.Roots.{Root, OpensRoot, has_live}
@@ -67,10 +67,11 @@ abbrev pub KeepsMeaning : List (List ℕ) → List (Option ℕ) → Root → Opt
 KeepsMeaning paths slots r saved p =
     (a b : List (List ℕ)) → OpensRoot a slots r.uber (Ok (r, saved)) → IsSameIn (IsRangeOf HasOwnUnit slots r saved) a b → Means paths a slots r saved p → Means paths b slots r saved p
 
--- The frame law of a shelf: two images whose slots show the same, and that have the same bytes where the one has the units of its roots, show the same pool.
-pub record FrameLaw (paths : List (List ℕ)) (seen : List Seen) (a b : List (List ℕ)) (p : PoolState) : Type 0 where
-  pub law : ShowsAll a seen → ShowsAll b seen → (r : Root) (saved : Option Root) → OpensShelf a seen (Ok (r, saved))
-      → IsSameIn (IsRangeOf HasOwnUnit (slots_of r.uber seen) r saved) a b → IsShelf paths a seen (Is p) → IsShelf paths b seen (Is p)
+-- The frame law of a shelf: it shows the same pool by other disks whose slots show the same, and on which the units of its roots have their bytes.
+abbrev pub KeepsShelf : List (List ℕ) → List Seen → Root → Option Root → PoolState → Type 0
+KeepsShelf paths seen r saved p =
+    (a b : List (List ℕ)) → OpensShelf a seen (Ok (r, saved)) → IsSameIn (IsRangeOf HasOwnUnit (slots_of r.uber seen) r saved) a b
+    → Means paths a (slots_of r.uber seen) r saved p → IsShelf paths b seen (Is p)
 
 -- the k-th unit of the entry is not marked obsolete
 abbrev pub IsUnmarked : DevPart → ℕ → ℕ → Type 0

@@ -40,9 +40,9 @@ address_bytes v a = flat_map (place_bytes v) (resolved_units v.devices a)
 abbrev pub content : View → Bptr → List ℕ
 content v b = address_bytes v b.at
 
--- the image as a store of blocks, of which these pointers are known
-abbrev pub store_of : View → List Bptr → Stored
-store_of v pointers = record { pointers = pointers; bytes = content v }
+-- the image as a store of blocks, of which only matters what each pointer reads
+abbrev pub store_of : View → Stored
+store_of v = record { pointers = []; bytes = content v }
 
 -- the block has the sum of its pointer
 abbrev pub HasSum : View → Bptr → Type 0

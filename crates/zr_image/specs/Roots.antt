@@ -21,6 +21,7 @@ use Rattle.zr_meta.specs.declared.Head.{Head}
 use Rattle.zr_meta.specs.Heads.{SpellsHead}
 use Rattle.zr_meta.specs.Parts.{SpellsParts, HasMappings}
 use Rattle.zr_root.specs.Streams.{HasBytes, HasWords}
+use Rattle.zr_tree.specs.Trees.{tree_leaves}
 use Rattle.zr_rules.specs.Places.{is_on, is_gone, is_held, address_hits, late_hits}
 use Rattle.zr_rules.specs.Devices.{devices_of, state_at}
 use Rattle.zr_rules.specs.Resolve.{leads_to}
@@ -69,7 +70,7 @@ concrete_units rows = sum_by (λ (r : DevRow). if is_gone r.state then 0 else r.
 -- the bytes in the tree of the head are a head, of the first form exactly where the root tells no reset, and no stream has more leaves than there are units
 pub record IsHeadOf (v : View) (u : Uber) (h : Head) : Type 0 where
   pub bytes : List ℕ
-  pub read : HasBytes (store_of v []) (head_tree u) bytes
+  pub read : HasBytes (store_of v) (head_tree u) bytes
   pub length_is : length bytes ≡ u.len
   pub spelled : SpellsHead (rows_of u) bytes h
   pub form : (h.form ≡ 1) ↔ (u.reset ≡ 0)
@@ -86,7 +87,7 @@ ReadsHead v u = do
 abbrev pub ReadsStream : View → Uber → Stream → List ℕ × List Bptr → Check (List ℕ × List Bptr)
 ReadsStream v u t before = do
   marks ← Walks (meta_setting v u (div_ceil t.words 512)) t.tree before.1
-  words ← Finds (HasWords (store_of v []) t) (broken Form)
+  words ← Finds (HasWords (store_of v) t) (broken Form)
   Gives (before.0 ++ words, marks)
 
 -- the late sets count as empty
@@ -132,15 +133,11 @@ abbrev pub WalksObject : View → (ℕ → ℕ → Bool) → ℕ → Option ObjR
 WalksObject v may_be txg None marks = Gives marks
 WalksObject v may_be txg (Some r) marks = Walks (block_setting v may_be txg r.units (2 ^ 25)) r.tree marks
 
--- the leaves among the pointers of a tree
-abbrev pub leaves_of : List Bptr → List Bptr
-leaves_of bs = filter (λ (b : Bptr). b.level == 0) bs
-
 -- The pointers of the directory, which has at most 4,096 leaves, and then those of its objects by rising ID.
 abbrev pub WalksAll : View → (ℕ → ℕ → Bool) → ℕ → Tree → Check (List Bptr)
 WalksAll v may_be txg dir = do
   marks ← Walks (block_setting v may_be txg 1 4096) dir []
-  records ← Each (ReadsRecords v) (leaves_of marks) []
+  records ← Each (ReadsRecords v) (tree_leaves (store_of v) dir) []
   Each (WalksObject v may_be txg) records marks
 
 -- A root by itself: its head, its streams, its parts, and all that it points to.

@@ -55,7 +55,7 @@ IsLostBlock s dir id i = (r : ObjRec) × (record_of s dir id ≡ Some r) × IsLo
 
 -- the disks as a root sees them, as a store of its blocks
 abbrev pub store_at : List (List ℕ) → List (Option ℕ) → Root → Stored
-store_at disks slots r = store_of (view_of disks slots r) r.live
+store_at disks slots r = store_of (view_of disks slots r)
 
 -- a device, with the path of its slot
 abbrev pub device_at : List (List ℕ) → DevState → Option ℕ → Device

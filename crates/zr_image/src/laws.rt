@@ -19,7 +19,7 @@ ghost use Rattle.zr_image.specs.Walks.{Setting, MayMark};
 ghost use Rattle.zr_image.specs.Rules.{AreLawfulParts, IsBalanced};
 ghost use Rattle.zr_image.specs.Roots.{Root};
 ghost use Rattle.zr_image.specs.StateOf.{IsPart};
-ghost use Rattle.zr_image.specs.Frame.{KeepsRoot};
+ghost use Rattle.zr_image.specs.Frame.{KeepsRoot, KeepsMeaning, KeepsShelf};
 ghost use Rattle.zr_image.specs.Examples.{two_checks, root_of, two_rows, gone_row, on_row, turned, strangers, split, chain, parts_of, on_with, chain_view, unit_five, five, pointer_five, walk_at};
 
 /// The first check that fails is answered, and none behind it.
@@ -111,7 +111,9 @@ pub fn what_a_refusal_makes_of_the_shelf()
 {}
 
 /// A root opens as before, with the root that it saved, from other disks on which its units and its metadata have their
-/// bytes; so does the one that it saved.
+/// bytes, and means the same pool; and so does a shelf whose slots show the same.
 pub fn a_root_stays_while_its_units_do()
-    ensures { (slots : List (Option ℕ)) (u : Uber) (r : Root) (saved : Option Root) → KeepsRoot slots u r saved }
+    ensures root { (slots : List (Option ℕ)) (u : Uber) (r : Root) (saved : Option Root) → KeepsRoot slots u r saved }
+    ensures meaning { (paths : List (List ℕ)) (slots : List (Option ℕ)) (r : Root) (saved : Option Root) (p : PoolState) → KeepsMeaning paths slots r saved p }
+    ensures shelf { (paths : List (List ℕ)) (seen : List Seen) (r : Root) (saved : Option Root) (p : PoolState) → KeepsShelf paths seen r saved p }
 {}

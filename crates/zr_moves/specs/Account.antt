@@ -89,8 +89,8 @@ pub record HasRoots (shelf : Shelf) (seen : List Seen) (r : Root) (saved : Optio
 abbrev pub view_now : Shelf → List Seen → Root → Account → View
 view_now shelf seen r a = record { disks = shelf.disks; slots = slots_of r.uber seen; devices = devices_in a.space }
 
-abbrev pub store_now : Shelf → List Seen → Root → Account → List Bptr → Stored
-store_now shelf seen r a live = store_of (view_now shelf seen r a) live
+abbrev pub store_now : Shelf → List Seen → Root → Account → Stored
+store_now shelf seen r a = store_of (view_now shelf seen r a)
 
 -- The account goes on from the root that the shelf has: the same devices, metadata and directory, and the next group.
 pub record GoesOn (a : Account) (r : Root) (saved : Option Root) : Type 0 where
@@ -110,8 +110,8 @@ pub record StandsFor (shelf : Shelf) (a : Account) (p : PoolState) : Type 0 wher
   pub roots : HasRoots shelf seen root saved
   pub goes_on : GoesOn a root saved
   pub live : List Bptr
-  pub are_live : AreLive (store_now shelf seen root a live) a live
-  pub objects : (id : ℕ) → IsObjectAt (store_now shelf seen root a live) a id (record_now (store_now shelf seen root a live) a id) (map.get p.objects id)
+  pub are_live : AreLive (store_now shelf seen root a) a live
+  pub objects : (id : ℕ) → IsObjectAt (store_now shelf seen root a) a id (record_now (store_now shelf seen root a) a id) (map.get p.objects id)
   pub guid : p.guid ≡ root.uber.guid
   pub name : p.name ≡ name_of root.uber.name
   pub devs : p.devs ≡ devices_at shelf.paths (slots_of root.uber seen) root.uber

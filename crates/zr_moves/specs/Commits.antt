@@ -149,7 +149,7 @@ pub record Commits (policy : Policy) (is_reset : Bool) (before after : Shelf) (o
   pub reset : root.uber.reset ≡ (if is_reset then last.txg + 1 else last.reset)
   pub kept_root : root.parts.ckpt ≡ last.ckpt → root.head.saved ≡ last.saved
   pub store : Stored
-  pub store_is : store ≡ store_now after seen root new root.live
+  pub store_is : store ≡ store_now after seen root new
   pub objects : Space
   pub trees : Space
   pub full : Space

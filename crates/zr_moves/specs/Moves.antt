@@ -52,7 +52,7 @@ pub record Reads (shelf : Shelf) (a : Account) (s : Stored) : Type 0 where
   pub saved : Option Root
   pub roots : HasRoots shelf seen root saved
   pub live : List Bptr
-  pub store_is : s ≡ store_now shelf seen root a live
+  pub store_is : s ≡ store_now shelf seen root a
   pub are_live : AreLive s a live
 
 -- the open group has at most 64 changed blocks and 64 changed objects
