@@ -1,0 +1,10 @@
+pub mod Checking
+pub mod Finding
+pub mod Walking
+pub mod Reaching
+pub mod Standing
+pub mod Leaves
+pub mod Opening
+pub mod Meaning
+pub mod Ranges
+pub mod Framing

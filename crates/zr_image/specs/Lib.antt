@@ -1,0 +1,11 @@
+pub mod Checks
+pub mod Numbers
+pub mod Current
+pub mod Honest
+pub mod Reading
+pub mod Walks
+pub mod Rules
+pub mod Roots
+pub mod StateOf
+pub mod Frame
+pub mod Examples
