@@ -2,11 +2,15 @@
 //! FULL is 1, with 95 of 100 units used, and hands out all that is free, unit by unit. It prints how many units it handed
 //! out and the nanoseconds that this took, without those of making the devices.
 //!
+//! `zr_bench EXTENTS` times the work that goes on a few extents at a time: it discards so many kept extents, and copies so
+//! many that are left. It prints how many each gave, and the nanoseconds of the one and the other.
+//!
 //! With no words it goes once through each of the smallest clients: it prints the sum that the one keeps, and what the
 //! other copied, freed and gave back.
 #![tactic(auto)]
 
 mod removal;
+mod steps;
 mod store;
 
 ghost use Rattle.std.specs.Prelude.{◌≡◌, ℕ, ◌+◌, ◌*◌, ◌<◌, ◌≤◌, ◌^◌, true, false, IfOk};
@@ -19,6 +23,7 @@ use removal::Removal;
 use std::alloc::Global;
 use std::env;
 use std::time::{Duration, Instant};
+use steps::{time_copying, time_discarding};
 use store::Store;
 use zr_base::{Extent, NoMemory, Policy};
 use zr_choose::{Chooser, pick_first};
@@ -113,6 +118,61 @@ fn give_up(alloc: Global) -> Result<GivenUp, NoMemory> {
     })
 }
 
+/// Times the allocator on a device that is empty or, where `full` is 1, nearly full.
+fn time_allocator(
+    rt: &HostRuntime,
+    units: u64,
+    full: u64,
+    count: u64,
+    chooser: &Chooser,
+) -> anyhow::Result<()> {
+    if units >= 1 << 40 || count >= 1 << 20 {
+        println!(rt; "too much")?;
+        return Ok(());
+    }
+    let alloc = rt.alloc();
+    let used = if full == 1 {
+        scattered(alloc, units).ok().context("out of memory")?
+    } else {
+        RangeSet::new(alloc)
+    };
+    let (made, spent) = rounds(rt, units, &used, count, chooser)?;
+    println!(rt; "{made} {}", spent.as_nanos())?;
+    Ok(())
+}
+
+/// Times the discarding and the copying of so many extents.
+fn time_steps(rt: &HostRuntime, extents: u64) -> anyhow::Result<()> {
+    if extents >= 1 << 32 {
+        println!(rt; "too much")?;
+        return Ok(());
+    }
+    let discarded = time_discarding(rt, extents)?;
+    let copied = time_copying(rt, extents)?;
+    println!(rt; "{} {}", discarded.given, copied.given)?;
+    println!(rt;
+        "{} {}",
+        discarded.spent.as_nanos(),
+        copied.spent.as_nanos()
+    )?;
+    Ok(())
+}
+
+/// Goes once through each of the smallest clients.
+fn go_through_clients(rt: &HostRuntime, chooser: &Chooser) -> anyhow::Result<()> {
+    let alloc = rt.alloc();
+    let mut store = Store::new(alloc, 600, 100).ok().context("out of memory")?;
+    store.round(20, chooser).ok().context("no run of 20")?;
+    println!(rt; "{} units are free", store.free())?;
+    let GivenUp {
+        copied,
+        freed,
+        given_back,
+    } = give_up(alloc).ok().context("out of memory")?;
+    println!(rt; "{copied} units were copied, {freed} freed and {given_back} given back")?;
+    Ok(())
+}
+
 fn main(rt: HostRuntime) -> anyhow::Result<()> {
     let alloc = rt.alloc();
     let first = Chooser::new(
@@ -130,28 +190,9 @@ fn main(rt: HostRuntime) -> anyhow::Result<()> {
     for word in env::args(&rt)?.skip(1) {
         numbers.push(word.parse::<u64>()?)?;
     }
-    let [units, full, count] = numbers.as_slice() else {
-        let mut store = Store::new(alloc, 600, 100).ok().context("out of memory")?;
-        store.round(20, &first).ok().context("no run of 20")?;
-        println!(rt; "{} units are free", store.free())?;
-        let GivenUp {
-            copied,
-            freed,
-            given_back,
-        } = give_up(alloc).ok().context("out of memory")?;
-        println!(rt; "{copied} units were copied, {freed} freed and {given_back} given back")?;
-        return Ok(());
-    };
-    if *units >= 1 << 40 || *count >= 1 << 20 {
-        println!(rt; "too much")?;
-        return Ok(());
+    match numbers.as_slice() {
+        [units, full, count] => time_allocator(&rt, *units, *full, *count, &first),
+        [extents] => time_steps(&rt, *extents),
+        _ => go_through_clients(&rt, &first),
     }
-    let used = if *full == 1 {
-        scattered(alloc, *units).ok().context("out of memory")?
-    } else {
-        RangeSet::new(alloc)
-    };
-    let (made, spent) = rounds(&rt, *units, &used, *count, &first)?;
-    println!(rt; "{made} {}", spent.as_nanos())?;
-    Ok(())
 }

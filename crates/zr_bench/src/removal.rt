@@ -5,7 +5,7 @@
 //! left to copy. So a cancel gives back a copy of each such unit and no other, and at the end each held unit is copied.
 ghost use Rattle.std.specs.Prelude.{◌≡◌, ℕ, ◌+◌, ◌<◌, ◌≤◌, ◌^◌, ◌++◌, ◌∷◌, [], false, length, IfOk, OnErr, OnOk, IsTrue, IfSome};
 ghost use Rattle.zr_base.specs.Extents.{HasAll, has_unit, unit_count};
-ghost use Rattle.zr_rules.specs.Mappings.{mapped_units};
+ghost use Rattle.zr_rules.specs.Mappings.{end_of_last, mapped_units};
 ghost use Rattle.zr_evac.specs.Evacuations.{AreLawful, hits_at, next_of};
 ghost use Rattle.zr_bench.specs.Removal.{CopiesPiece, DropsUnits, has_copy, held_copies_at};
 
@@ -34,10 +34,12 @@ impl Model for Removal {
 }
 
 impl Removal {
-    /// A device of which nothing is copied.
+    /// A device of which nothing is copied: both frontiers are at the end of the mapping, which has no entry.
     pub fn begin(alloc: Global, dev: u32, held: RangeSet) -> Result<Removal, NoMemory>
         ensures held { IfOk result (λ s. s.held ≡ held.extents) }
         ensures entries { IfOk result (λ s. s.entries ≡ []) }
+        ensures synced { IfOk result (λ s. s.synced ≡ end_of_last s.entries) }
+        ensures opened { IfOk result (λ s. s.opened ≡ end_of_last s.entries) }
         ensures left { IfOk result (λ s. (u : ℕ) → has_unit s.left u ≡ has_unit held.extents u) }
     {
         let map = Imap::new(alloc);

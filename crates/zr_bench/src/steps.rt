@@ -1,0 +1,115 @@
+//! The work that goes on a few extents at a time: the discarding of a checkpoint and the copying of a removal.
+//!
+//! Each takes the lowest extents first and moves none of those that stay, so what an extent costs is not to grow with how
+//! many there are.
+ghost use Rattle.std.specs.Prelude.{◌≡◌, ℕ, ◌+◌, ◌*◌, ◌<◌, ◌≤◌, ◌^◌, false, IfOk};
+ghost use Rattle.zr_base.specs.Extents.{has_unit};
+
+use anyhow::Context;
+use std::alloc::Global;
+use std::time::{Duration, Instant};
+use zr_base::{Extent, NoMemory};
+use zr_ckpt::Ckpt;
+use zr_evac::Evac;
+use zr_imap::Imap;
+use zr_ranges::RangeSet;
+
+/// How many extents were given, and the time that this took.
+#[derive(Drop)]
+pub struct Timed {
+    pub given: u64,
+    pub spent: Duration,
+}
+
+/// Discards so many kept extents, 64 at a step.
+pub fn time_discarding(rt: &HostRuntime, extents: u64) -> anyhow::Result<Timed>
+    requires { extents < 2 ^ 32 }
+{
+    let mut ckpt = keep_each_second(rt.alloc(), extents)
+        .ok()
+        .context("out of memory")?;
+    let start = Instant::now(rt)?;
+    let given = discard_all(&mut ckpt, extents)
+        .ok()
+        .context("out of memory")?;
+    let spent = start.elapsed(rt)?;
+    Ok(Timed { given, spent })
+}
+
+/// Copies so many extents that are left.
+pub fn time_copying(rt: &HostRuntime, extents: u64) -> anyhow::Result<Timed>
+    requires { extents < 2 ^ 32 }
+{
+    let mut evac = leave_each_second(rt.alloc(), extents)
+        .ok()
+        .context("out of memory")?;
+    let start = Instant::now(rt)?;
+    let given = copy_all(&mut evac, extents);
+    let spent = start.elapsed(rt)?;
+    Ok(Timed { given, spent })
+}
+
+/// A checkpoint that is being discarded, for which each second unit is kept, so many.
+fn keep_each_second(alloc: Global, extents: u64) -> Result<Ckpt, NoMemory>
+    requires { extents < 2 ^ 32 }
+{
+    let mut ckpt = Ckpt::new(alloc);
+    ckpt.hold(1);
+    for k in 0..extents {
+        ckpt.keep(
+            0,
+            Extent {
+                start: 2 * k,
+                len: 1,
+            },
+        )?;
+    }
+    ckpt.discard();
+    Ok(ckpt)
+}
+
+/// Takes steps until nothing is kept. It answers how many extents they gave.
+fn discard_all(ckpt: &mut Ckpt, most: u64) -> Result<u64, NoMemory> {
+    let mut given: u64 = 0;
+    for _ in 0..most {
+        let taken = ckpt.step(64)?;
+        if taken.is_empty() {
+            break;
+        }
+        given = given.saturating_add(taken.len() as u64);
+    }
+    Ok(given)
+}
+
+/// An evacuation of each second unit, so many, with room for all copies.
+fn leave_each_second(alloc: Global, extents: u64) -> Result<Evac, NoMemory>
+    requires { extents < 2 ^ 32 }
+    ensures { IfOk result (λ evac. extents ≤ evac.spare) }
+{
+    let mut held = RangeSet::new(alloc);
+    for k in 0..extents {
+        held.add(Extent {
+            start: 2 * k,
+            len: 1,
+        })?;
+    }
+    let map = Imap::new(alloc);
+    let marks = RangeSet::new(alloc);
+    let mut evac = Evac::begin(alloc, 0, &held, map, marks)?;
+    evac.reserve(extents as usize)?;
+    Ok(evac)
+}
+
+/// Copies each piece to where it stands on another device. It answers how many there were.
+fn copy_all(evac: &mut Evac, most: u64) -> u64
+    requires { most ≤ evac.old.spare }
+    ensures { result ≤ most }
+{
+    for made in 0..most {
+        let Some(piece) = evac.next() else {
+            return made;
+        };
+        evac.copied(piece, 1, piece.start);
+    }
+    most
+}
