@@ -20,7 +20,8 @@ use Rattle.zr_objset.proofs.Spelled.{spelled}
 use Rattle.zr_objset.proofs.Within.{blocks_within, leaf_within}
 use Rattle.zr_model.specs.Objects.{Object, Objects}
 use Rattle.zr_image.specs.Checks.{Each}
-use Rattle.zr_image.specs.Reading.{View, content, store_of}
+use Rattle.zr_view.specs.Views.{View}
+use Rattle.zr_image.specs.Reading.{content, store_of}
 use Rattle.zr_image.specs.Roots.{ReadsRecords, WalksObject, WalksAll, block_setting}
 use Rattle.zr_image.specs.StateOf.{IsLost, IsObject, IsObjectOf, AreObjects}
 use Rattle.zr_image.proofs.Leaves.{leaf_among}

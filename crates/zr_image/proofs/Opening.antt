@@ -17,7 +17,8 @@ use Rattle.zr_store.specs.Store.{hits, one_at}
 use Rattle.zr_store.proofs.Keeping.{one_cases}
 use Rattle.zr_tree.specs.Trees.{tree_reach, tree_leaves}
 use Rattle.zr_image.specs.Checks.{Each}
-use Rattle.zr_image.specs.Reading.{View, content, store_of, ReadsBlock, bare_devices}
+use Rattle.zr_view.specs.Views.{View}
+use Rattle.zr_image.specs.Reading.{content, store_of, ReadsBlock, bare_devices}
 use Rattle.zr_image.specs.Walks.{Walks}
 use Rattle.zr_image.specs.Roots.{Root, IsHeadOf, ReadsHead, ReadsStream, ReadsRecords, WalksObject, WalksAll, ReadsRoot, meta_setting, block_setting, head_tree, view_of}
 use Rattle.zr_image.proofs.Reaching.{contained_hits, reach_hits}

@@ -15,7 +15,8 @@ use Rattle.zr_rules.specs.Resolve.{resolve, resolved, resolved_units, is_at, is_
 use Rattle.zr_shelf.specs.Disks.{disk, part}
 use Rattle.zr_shelf.specs.Protected.{IsSameIn}
 use Rattle.zr_store.specs.Store.{hits}
-use Rattle.zr_image.specs.Reading.{View, unit_bytes, place_bytes, bare_devices}
+use Rattle.zr_view.specs.Views.{View, unit_bytes, place_bytes}
+use Rattle.zr_image.specs.Reading.{bare_devices}
 use Rattle.zr_image.specs.Walks.{addresses}
 use Rattle.zr_image.specs.Roots.{Root, has_live}
 use Rattle.zr_image.specs.Frame.{HasOwnUnit, IsUnitOf}

@@ -17,7 +17,7 @@ use Rattle.zr_label.specs.declared.root.Seen.{Seen}
 use Rattle.zr_rules.specs.Devices.{devices_of}
 use Rattle.zr_image.specs.Checks.{Check, ◌>>=◌, Demands}
 use Rattle.zr_image.specs.Numbers.{Mappings, Room, broken}
-use Rattle.zr_image.specs.Reading.{View}
+use Rattle.zr_view.specs.Views.{View}
 use Rattle.zr_image.specs.Walks.{Setting}
 
 abbrev pub no_name : Name

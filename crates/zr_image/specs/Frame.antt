@@ -13,7 +13,7 @@ use Rattle.zr_label.specs.declared.root.Uber.{Uber}
 use Rattle.zr_label.specs.declared.root.Seen.{Seen}
 use Rattle.zr_model.specs.State.{PoolState, Is}
 use Rattle.zr_image.specs.Current.{FindsCurrent, IsGroup, IsInWindow, slots_of}
-use Rattle.zr_image.specs.Reading.{unit_bytes}
+use Rattle.zr_view.specs.Views.{unit_bytes}
 use Rattle.zr_image.specs.Walks.{addresses}
 use Rattle.zr_image.specs.Roots.{Root, OpensRoot, has_live}
 use Rattle.zr_image.specs.StateOf.{OpensShelf, IsShelf, Means}

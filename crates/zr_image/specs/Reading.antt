@@ -13,28 +13,9 @@ use Rattle.zr_rules.specs.Places.{Place}
 use Rattle.zr_rules.specs.Devices.{Devices}
 use Rattle.zr_rules.specs.Resolve.{resolved_units}
 use Rattle.zr_store.specs.Store.{Stored}
+use Rattle.zr_view.specs.Views.{View, address_bytes}
 use Rattle.zr_image.specs.Checks.{Check, Demands}
 use Rattle.zr_image.specs.Current.{row_at}
-
--- an image, the slot of each device, and the devices with their mappings
-pub record View : Type 0 where
-  pub disks : List (List ℕ)
-  pub slots : List (Option ℕ)
-  pub devices : Devices
-
--- the bytes of a unit of the disk in a slot
-abbrev pub unit_bytes : List (List ℕ) → Option ℕ → ℕ → List ℕ
-unit_bytes disks None u = []
-unit_bytes disks (Some slot) u = part (disk disks slot) (unit_at u) 4096
-
--- the bytes of a place, none where an address leads nowhere
-abbrev pub place_bytes : View → Option Place → List ℕ
-place_bytes v None = []
-place_bytes v (Some p) = unit_bytes v.disks (slice_index_or v.slots p.0 None) p.1
-
--- the bytes of an address: those of the places to which its units lead, in order
-abbrev pub address_bytes : View → Dva → List ℕ
-address_bytes v a = flat_map (place_bytes v) (resolved_units v.devices a)
 
 -- what stands at a pointer
 abbrev pub content : View → Bptr → List ℕ

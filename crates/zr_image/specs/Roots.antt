@@ -30,7 +30,8 @@ use Rattle.zr_rules.specs.Equation.{SavedRoot, root_space, is_live}
 use Rattle.zr_image.specs.Checks.{Check, ◌>>=◌, Gives, Demands, Finds, Each, Under}
 use Rattle.zr_image.specs.Current.{row_at, reset_of}
 use Rattle.zr_image.specs.Numbers.{Form, Sets, Units, SavedRoots, Room, broken}
-use Rattle.zr_image.specs.Reading.{View, content, store_of, ReadsBlock, bare_devices}
+use Rattle.zr_view.specs.Views.{View}
+use Rattle.zr_image.specs.Reading.{content, store_of, ReadsBlock, bare_devices}
 use Rattle.zr_image.specs.Rules.{HoldsNoMeta, AreLawfulParts, IsBalanced, HasRoom}
 use Rattle.zr_image.specs.Walks.{Setting, Walks, addresses}
 

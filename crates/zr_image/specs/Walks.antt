@@ -11,7 +11,8 @@ use Rattle.zr_rules.specs.Resolve.{is_resolved, leads_to}
 use Rattle.zr_rules.specs.Equation.{live_hits}
 use Rattle.zr_tree.specs.Trees.{slot}
 use Rattle.zr_image.specs.Checks.{Check, ◌>>=◌, Gives, Demands, Finds, Each}
-use Rattle.zr_image.specs.Reading.{View, content, ReadsBlock}
+use Rattle.zr_view.specs.Views.{View}
+use Rattle.zr_image.specs.Reading.{content, ReadsBlock}
 use Rattle.zr_image.specs.Numbers.{Form, Units, broken}
 
 -- What a walk goes by: the disks, the group of the root, the places where units may be, the units of a leaf, whether leaves are read, and at which index of

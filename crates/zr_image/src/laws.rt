@@ -14,7 +14,7 @@ ghost use Rattle.zr_rules.specs.Equation.{root_space};
 ghost use Rattle.zr_image.specs.Numbers.{Form, Sets, Mappings, Destinations, Condensing, Removal, Units, SavedRoots, Room, rule_number};
 ghost use Rattle.zr_image.specs.Current.{IsCurrent, IsShownAt, IsShown, FindsCurrent, IsOnePool, IsInWindow, IsOldest, slots_of, missing_device, reset_of};
 ghost use Rattle.zr_image.specs.Honest.{IsLeft};
-ghost use Rattle.zr_image.specs.Reading.{address_bytes};
+ghost use Rattle.zr_view.specs.Views.{address_bytes};
 ghost use Rattle.zr_image.specs.Walks.{Setting, MayMark};
 ghost use Rattle.zr_image.specs.Rules.{AreLawfulParts, IsBalanced};
 ghost use Rattle.zr_image.specs.Roots.{Root};

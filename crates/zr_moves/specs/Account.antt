@@ -24,7 +24,8 @@ use Rattle.zr_model.specs.Objects.{Object, bytes_at}
 use Rattle.zr_model.specs.State.{PoolState}
 use Rattle.zr_model.specs.Runs.{Shelf}
 use Rattle.zr_image.specs.Current.{ShowsAll, slots_of}
-use Rattle.zr_image.specs.Reading.{View, store_of}
+use Rattle.zr_view.specs.Views.{View}
+use Rattle.zr_image.specs.Reading.{store_of}
 use Rattle.zr_image.specs.Walks.{addresses}
 use Rattle.zr_image.specs.Rules.{IsBalanced}
 use Rattle.zr_image.specs.Roots.{Root, rows_of, saved_root, meta_of}

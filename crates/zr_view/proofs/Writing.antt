@@ -6,8 +6,8 @@ use Rattle.zr_shelf.specs.Moments.{World, Writes}
 use Rattle.zr_shelf.specs.declared.desk.DeskErr.{DeskErr}
 use Rattle.zr_imap.specs.declared.image.Piece.{Piece}
 use Rattle.zr_label.specs.Geometry.{unit_at}
-use Rattle.zr_view.specs.Views.{slot_of, bytes_from}
-use Rattle.zr_view.specs.Runs.{run_bytes}
+use Rattle.zr_view.specs.Views.{slot_of}
+use Rattle.zr_view.specs.Runs.{bytes_from, run_bytes}
 
 pub reads_back : (slots : List (Option ℕ)) (p : Piece) (slot at : ℕ) (bytes : List ℕ) (r : Result (Unit {0}) DeskErr) (old new : World) → slot_of slots p.dev ≡ Some slot → length bytes ≡ 4096 * p.at.len → at ≡ unit_at p.at.start
     → Writes (record { slot = slot; at = at; bytes = bytes }) r old new → OnOk r (run_bytes new.now.seen slots p ≡ bytes)

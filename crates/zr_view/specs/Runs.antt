@@ -1,9 +1,14 @@
 -- Runs of units on disks, as an address is read or written.
-use Rattle.std.specs.Prelude.{◌≡◌, ℕ, ◌+◌, ◌*◌, ◌≤◌, ◌<◌, List, length, slice_index, Option, Some}
-use Rattle.std.specs.List.{flat_map, AllByRecursion}
+use Rattle.std.specs.Prelude.{◌≡◌, ℕ, ◌+◌, ◌*◌, ◌≤◌, ◌<◌, List, [], length, slice_index, Option, Some, None}
+use Rattle.zr_shelf.specs.Disks.{disk, part}
 use Rattle.zr_imap.specs.declared.image.Piece.{Piece}
 use Rattle.zr_label.specs.Geometry.{unit_at}
-use Rattle.zr_view.specs.Views.{slot_of, bytes_from}
+use Rattle.zr_view.specs.Views.{slot_of}
+
+-- so many bytes of the disk in a slot, from a unit on
+abbrev pub bytes_from : List (List ℕ) → Option ℕ → ℕ → ℕ → List ℕ
+bytes_from disks None u n = []
+bytes_from disks (Some slot) u n = part (disk disks slot) (unit_at u) n
 
 -- the bytes of a run
 abbrev pub run_bytes : List (List ℕ) → List (Option ℕ) → Piece → List ℕ
