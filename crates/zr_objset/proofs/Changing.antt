@@ -1,17 +1,17 @@
 -- Records that change, leaf by leaf.
-use Rattle.std.proofs.Common.{◌≡◌, ◌≢◌, ◌∙◌, ◌+◌, ◌/◌, ◌%◌, ◌<◌, ◌≤◌, inl, inr, ℕ, zero, suc, List, [], ◌∷◌, ◌++◌, length, take, drop, set, get_or, get_or-drop, get_or-set_same, get_or-set_other, append-nil, Bool, nat_eq, true, Option, None, refl, sym, ap, subst, arith, eq-eqb}
-use Rattle.std.specs.Prelude.{if◌then◌else◌, All, IfSome, map}
+use Rattle.std.proofs.Common.{◌≡◌, ◌≢◌, ◌∙◌, ◌+◌, ◌/◌, ◌%◌, ◌<◌, ◌≤◌, inl, inr, ℕ, List, [], ◌∷◌, ◌++◌, length, set, get_or, get_or-set_same, get_or-set_other, Bool, nat_eq, Option, None, refl, sym, ap, subst, arith, eq-eqb}
+use Rattle.std.specs.Prelude.{if◌then◌else◌, All}
 use Rattle.std.specs.List.{sum_by, flat_map, AllByRecursion}
 use Rattle.std.proofs.lemmas.Bool.{cases_eq, ne_eqb}
-use Rattle.std.proofs.lemmas.List.Sums.{sum_by-append, sum_by-cons}
+use Rattle.std.proofs.lemmas.List.Sums.{sum_by-append}
 use Rattle.std.proofs.lemmas.List.Elements.{All-head, All-tail, All-append}
 use Rattle.zr_bptr.specs.declared.Bptr.{Bptr}
 use Rattle.zr_bptr.specs.declared.Ptr.{Ptr}
 use Rattle.zr_bptr.specs.declared.Ptr.TheVariants.{Hole, At}
 use Rattle.zr_bptr.specs.declared.Tree.{Tree}
 use Rattle.zr_bptr.specs.declared.ObjRec.{ObjRec}
-use Rattle.zr_store.specs.Store.{Stored, Swaps, AreStored, hits, one_at}
-use Rattle.zr_tree.specs.Trees.{own, tree_at, tree_reach, updated, weigh, weight_at, weight_of, Rises}
+use Rattle.zr_store.specs.Store.{Stored, AreStored, hits, one_at}
+use Rattle.zr_tree.specs.Trees.{own, tree_at, tree_reach, updated, Rises}
 use Rattle.zr_tree.proofs.Frames.{first_of}
 use Rattle.zr_tree.proofs.Each.{updated_append}
 use Rattle.zr_objset.specs.Records.{records_in, record_in, record_of}

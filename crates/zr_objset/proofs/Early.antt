@@ -1,16 +1,14 @@
 -- Errors that are met after blocks were put tell of blocks as they were before.
-use Rattle.std.proofs.Common.{◌≡◌, ◌∙◌, ◌-◌, ◌<◌, inl, inr, ℕ, List, [], Result, refl, sym, ap, subst, arith}
+use Rattle.std.proofs.Common.{◌≡◌, ◌∙◌, ◌-◌, inl, inr, ℕ, List, [], Result, refl, sym, ap, subst, arith}
 use Rattle.sha2.specs.Sha256.{sha256}
 use Rattle.zr_bptr.specs.declared.Bptr.{Bptr}
 use Rattle.zr_bptr.specs.declared.Ptr.{Ptr}
 use Rattle.zr_bptr.specs.declared.Tree.{Tree}
-use Rattle.zr_bptr.specs.declared.ObjRec.{ObjRec}
 use Rattle.zr_bptr.specs.Spelling.{SpellsRecords}
-use Rattle.std.specs.Prelude.{Option}
-use Rattle.zr_store.specs.Store.{Stored, Swaps, AreStored, hits, one_at}
+use Rattle.zr_store.specs.Store.{Stored, Swaps, AreStored, one_at}
 use Rattle.zr_store.specs.declared.StoreErr.{StoreErr}
 use Rattle.zr_tree.specs.Blocks.{IsNoBlock}
-use Rattle.zr_tree.specs.Trees.{own, tree_at, tree_blocks, tree_reach, TellsOf, KeepsTree}
+use Rattle.zr_tree.specs.Trees.{own, tree_at, tree_blocks, tree_reach, TellsOf}
 use Rattle.zr_tree.proofs.Frames.{Agree}
 use Rattle.zr_tree.proofs.Wholes.{Within, among_hits}
 use Rattle.zr_objset.specs.Errors.{TellsOfLeaves, IsNoLeaf}

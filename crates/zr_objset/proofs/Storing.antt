@@ -1,5 +1,5 @@
 -- From the leaves that were put to the new directory.
-use Rattle.std.proofs.Common.{◌≡◌, ◌∙◌, ◌+◌, ◌*◌, ◌-◌, ◌/◌, ◌%◌, ◌^◌, ◌<◌, ◌≤◌, inr, ℕ, zero, suc, List, [], ◌∷◌, ◌++◌, get_or, length, map, Bool, true, false, nat_lt, refl, sym, ap, subst, arith, Option}
+use Rattle.std.proofs.Common.{◌≡◌, ◌∙◌, ◌+◌, ◌*◌, ◌/◌, ◌%◌, ◌^◌, ◌<◌, ◌≤◌, inr, ℕ, zero, suc, List, [], ◌∷◌, get_or, map, Bool, true, false, nat_lt, refl, sym, ap, subst, arith, Option}
 use Rattle.std.specs.Prelude.{if◌then◌else◌, All}
 use Rattle.std.specs.List.{sum_by, flat_map}
 use Rattle.std.proofs.Math.Nat.{div-eq_of_lt}
@@ -9,16 +9,14 @@ use Rattle.zr_bptr.specs.declared.Ptr.{Ptr}
 use Rattle.zr_bptr.specs.declared.Ptr.TheVariants.{Hole, At}
 use Rattle.zr_bptr.specs.declared.Tree.{Tree}
 use Rattle.zr_bptr.specs.declared.ObjRec.{ObjRec}
-use Rattle.zr_store.specs.Store.{Stored, Swaps, AreStored, IsOnce, hits, one_at}
+use Rattle.zr_store.specs.Store.{Stored, Swaps, AreStored, IsOnce, one_at}
 use Rattle.zr_store.specs.Causes.{Account, Costs}
 use Rattle.zr_store.proofs.Causes.{costs_then, costs_most}
 use Rattle.zr_tree.specs.Trees.{own, kids, slot, digit, leaf_at, leaves_below, blocks, reach, tree_at, tree_blocks, tree_leaves, tree_reach, updated, weigh, weight_at, weight_of, SetsTree, KeepsTree, HasRoom}
-use Rattle.zr_tree.proofs.Frames.{Agree}
-use Rattle.zr_tree.proofs.Sums.{sum_flat}
 use Rattle.zr_tree.proofs.Others.{keeps, keeps_others}
-use Rattle.zr_tree.proofs.Wholes.{Within, within_front}
-use Rattle.zr_objset.specs.Records.{record_in, record_of}
-use Rattle.zr_objset.specs.Changes.{changed, IsNeeded, PutsLeaves, StoresRecords}
+use Rattle.zr_tree.proofs.Wholes.{Within}
+use Rattle.zr_objset.specs.Records.{record_in}
+use Rattle.zr_objset.specs.Changes.{IsNeeded, PutsLeaves, StoresRecords}
 use Rattle.zr_objset.proofs.Changing.{news_of, updated_weighs, record_kept, needed_kept, own_at}
 use Rattle.zr_objset.proofs.Early.{agrees}
 use Rattle.zr_objset.proofs.Keeping.{tree_same}

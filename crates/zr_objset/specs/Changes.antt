@@ -1,5 +1,5 @@
 -- A directory with changed records.
-use Rattle.std.specs.Prelude.{◌≡◌, ◌/◌, ◌%◌, ◌<◌, nat_eq, if◌then◌else◌, ℕ, List, [], ◌∷◌, All, Option, None, slice_index_or, map}
+use Rattle.std.specs.Prelude.{◌≡◌, ◌/◌, ◌%◌, ◌<◌, nat_eq, if◌then◌else◌, ℕ, List, [], ◌∷◌, All, Option, None, slice_index_or}
 use Rattle.std.specs.List.{flat_map, AllByRecursion}
 use Rattle.zr_bptr.specs.declared.Bptr.{Bptr}
 use Rattle.zr_bptr.specs.declared.Ptr.{Ptr}

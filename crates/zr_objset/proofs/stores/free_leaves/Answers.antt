@@ -1,5 +1,4 @@
-use Rattle.std.proofs.Common.{◌≡◌, ◌<◌, ◌+◌, length, get_or, arith}
-use Rattle.zr_bptr.specs.declared.Ptr.TheVariants.{Hole}
+use Rattle.std.proofs.Common.{◌<◌, length, arith}
 use Rattle.zr_store.proofs.Causes.{costs_then}
 use Rattle.zr_objset.proofs.Freeing.{freed_stored, freed_more}
 use Rattle.zr_objset.proofs.stores.free_leaves.Goals as goal

@@ -1,4 +1,4 @@
-use Rattle.std.proofs.Common.{◌≡◌, ◌-◌, ◌/◌, ◌<◌, ◌≤◌, ℕ, length, map, take, None}
+use Rattle.std.proofs.Common.{◌≡◌, ◌-◌, ◌/◌, ◌<◌, ◌≤◌, length, map, take, None}
 use Rattle.std.specs.Prelude.{All, slice_index_or}
 use Rattle.zr_store.specs.Causes.{Costs}
 use Rattle.zr_store.specs.Store.{Stored, Now, AreStored}

@@ -1,4 +1,4 @@
-use Rattle.std.proofs.Common.{◌≡◌, ◌<◌, ◌≤◌, ◌+◌, ◌*◌, [], List, ℕ, length, sym, ap, subst, arith}
+use Rattle.std.proofs.Common.{◌<◌, ◌+◌, ◌*◌, [], List, ℕ, length, sym, ap, subst, arith}
 use Rattle.std.specs.Prelude.{All}
 use Rattle.std.specs.List.{flat_map}
 use Rattle.std.proofs.lemmas.Result.{err_from_is_err_and}
@@ -6,7 +6,7 @@ use Rattle.zr_bptr.specs.declared.Ptr.{Ptr}
 use Rattle.zr_bptr.specs.declared.Tree.{Tree}
 use Rattle.zr_store.specs.Store.{AreStored, Swaps}
 use Rattle.zr_store.proofs.Causes.{costs_then, cause_then, cause_most, cause_from}
-use Rattle.zr_tree.specs.Trees.{own, tree_reach, HasRoom, SetsTree}
+use Rattle.zr_tree.specs.Trees.{own, tree_reach, SetsTree}
 use Rattle.zr_objset.specs.Errors.{IsNoLeaf}
 use Rattle.zr_objset.specs.Changes.{leaves_of}
 use Rattle.zr_objset.proofs.Tells.{leaves_from, tells_tree}

@@ -5,7 +5,7 @@ use Rattle.std.proofs.lemmas.Bool.{eqb-false}
 use Rattle.std.proofs.lemmas.List.{get_or_default, length-take, take_all}
 use Rattle.zr_bptr.specs.declared.Ptr.{Ptr}
 use Rattle.zr_bptr.specs.declared.Ptr.TheVariants.{Hole}
-use Rattle.zr_store.specs.Store.{Stored, AreStored}
+use Rattle.zr_store.specs.Store.{AreStored}
 use Rattle.zr_tree.specs.Blocks.{FitsAt}
 use Rattle.std.proofs.lemmas.List.Elements.{All-set}
 use Rattle.zr_tree.specs.Trees.{AllAt, Sets, SetsEach, IsOpen, TellsOf, own, slot, blocks}

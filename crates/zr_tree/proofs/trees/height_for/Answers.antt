@@ -1,4 +1,4 @@
-use Rattle.std.proofs.Common.{◌≡◌, ◌+◌, ◌<◌, ◌≤◌, ℕ, inl, inr, subst, sym, arith, rules}
+use Rattle.std.proofs.Common.{ℕ, inl, inr, subst, sym, arith, rules}
 use Rattle.std.proofs.lemmas.Bool.{cases_eq}
 use Rattle.zr_tree.specs.Trees.{HasRoom}
 use Rattle.zr_tree.proofs.trees.height_for.Goals as goal

@@ -1,4 +1,4 @@
-use Rattle.std.proofs.Common.{◌≡◌, ◌∙◌, ◌+◌, ◌-◌, ◌<◌, ◌++◌, ◌∷◌, [], length, suc, Err, sym, ap, subst, arith, get_or}
+use Rattle.std.proofs.Common.{◌≡◌, ◌∙◌, ◌+◌, ◌-◌, ◌<◌, ◌++◌, ◌∷◌, [], length, suc, sym, ap, subst, arith, get_or}
 use Rattle.std.specs.Prelude.{if◌then◌else◌, Bool, All}
 use Rattle.std.proofs.lemmas.Result.{err_from_is_err_and}
 use Rattle.zr_bptr.specs.Spelling.{IsOfLevel}
@@ -6,7 +6,7 @@ use Rattle.zr_tree.specs.Blocks.{FitsAt}
 use Rattle.zr_tree.proofs.Wholes.{tells_from, tells_within, top_within, kid_within}
 use Rattle.std.proofs.lemmas.List.{get_or_default}
 use Rattle.zr_bptr.specs.declared.Ptr.TheVariants.{Hole}
-use Rattle.zr_tree.specs.Trees.{reach, blocks, MarksFront, TellsOf}
+use Rattle.zr_tree.specs.Trees.{reach, blocks}
 use Rattle.zr_tree.proofs.Walking.{walked, sound_block, none_marked, all_marked, ended_below}
 use Rattle.zr_tree.proofs.walks.+walk_marked_below.Goals as goal
 
