@@ -15,7 +15,7 @@ use Rattle.zr_tree.specs.Trees.{tree_blocks, tree_reach, slot, own, IsAmong, IsW
 use Rattle.zr_tree.proofs.Frames.{first_of, one_itself}
 use Rattle.zr_tree.proofs.Others.{keeps}
 use Rattle.zr_objset.proofs.Within.{blocks_within, leaf_within}
-use Rattle.zr_root.specs.Streams.{AreWhole, HasLeaves, HasBytes, HasWords}
+use Rattle.zr_root.specs.Streams.{AreWhole, HasLeaves, HasSum, HasBytes, HasWords}
 
 slot_at : (bs : List Bptr) (i : ℕ) (d : Bptr) → i < length bs → slot (map At bs) i ≡ At (get_or bs i d)
 slot_at [] i d lt = absurd (omega (arith, lt))
@@ -57,6 +57,7 @@ module _ (s t : Stored) (tree : Tree) (agree : (b : Bptr) → 0 < hits (tree_rea
     are_leaves = record { places = λ index. tree_same.leaves index ∙ has.are_leaves.places index; units = has.are_leaves.units; whole = all_whole has.are_leaves.whole };
     count = has.count;
     long = long_same has.leaves has.long (leaves_same has.leaves has.are_leaves);
+    sums = sums_same has.leaves has.sums (leaves_same has.leaves has.are_leaves);
     spelling = flat_same s.bytes t.bytes has.leaves (leaves_same has.leaves has.are_leaves) ∙ has.spelling;
   }
     where
@@ -64,6 +65,11 @@ module _ (s t : Stored) (tree : Tree) (agree : (b : Bptr) → 0 < hits (tree_rea
       long_same [] long same = All-from_get_or (λ (b : Bptr). length (t.bytes b) ≡ 4096) [] (record { at = record { dev = 0; start = 0; len = 0 }; level = 0; birth = 0; fill = 0; sum = [] }) (λ i lt. absurd (omega (arith, lt)))
       long_same (b ∷ bs) long same =
           All-from_get_or (λ (x : Bptr). length (t.bytes x) ≡ 4096) (b ∷ bs) b (λ i lt. ap (λ (bytes : List ℕ). length bytes) (same i b lt) ∙ All-get_or (λ (x : Bptr). length (s.bytes x) ≡ 4096) (b ∷ bs) i b lt long)
+
+      sums_same : (leaves : List Bptr) → All (HasSum s) leaves → ((i : ℕ) (d : Bptr) → i < length leaves → t.bytes (get_or leaves i d) ≡ s.bytes (get_or leaves i d)) → All (HasSum t) leaves
+      sums_same [] sums same = All-from_get_or (HasSum t) [] (record { at = record { dev = 0; start = 0; len = 0 }; level = 0; birth = 0; fill = 0; sum = [] }) (λ i lt. absurd (omega (arith, lt)))
+      sums_same (b ∷ bs) sums same =
+          All-from_get_or (HasSum t) (b ∷ bs) b (λ i lt. subst (λ (bytes : List ℕ). (get_or (b ∷ bs) i b).sum ≡ sha256 bytes) (sym (same i b lt)) (All-get_or (HasSum s) (b ∷ bs) i b lt sums))
 
 module _ (s t : Stored) (stream : Stream) (agree : (b : Bptr) → 0 < hits (tree_reach s stream.tree) b.at → t.bytes b ≡ s.bytes b) where
   pub words_same : (words : List ℕ) → HasWords s stream words → HasWords t stream words
