@@ -1,17 +1,16 @@
 -- Where no device is leaving or gone, an address leads to its own units.
-use Rattle.std.proofs.Common.{◌≡◌, ◌∙◌, ℕ, zero, suc, ◌+◌, ◌-◌, ◌≤◌, ◌<◌, true, false, nat_lt, List, [], ◌∷◌, ◌++◌, length, Some, None, refl, subst, map, ◌==◌, Option, sym, ap, arith, if◌then◌else◌}
+use Rattle.std.proofs.Common.{◌≡◌, ◌∙◌, ℕ, zero, suc, ◌+◌, ◌-◌, ◌≤◌, ◌<◌, true, false, nat_lt, List, [], ◌∷◌, ◌++◌, Some, None, refl, subst, map, ◌==◌, Option, sym, ap, arith, if◌then◌else◌}
 use Rattle.std.specs.List.{list_any, sum_by, range_with_len}
 use Rattle.std.proofs.lemmas.List.{append-nil}
 use Rattle.std.proofs.lemmas.Bool.Decides.{nat_tests}
 use Rattle.zr_base.specs.declared.space.Dva.{Dva}
-use Rattle.zr_base.specs.declared.space.Extent.{Extent}
 use Rattle.zr_rules.specs.Places.{Place, one_if, is_place, is_gone, is_leaving}
 use Rattle.zr_rules.specs.Devices.{Devices, state_at}
 use Rattle.zr_rules.specs.Resolve.{resolve, resolved, passed_units, is_there}
-use Rattle.zr_rules.specs.Steps.{pieces, touch}
+use Rattle.zr_rules.specs.Steps.{pieces}
 use Rattle.zr_chain.specs.declared.visit.Visited.{Visited}
-use Rattle.zr_chain.specs.declared.visit.Visited.TheVariants.{Hop, Piece}
-use Rattle.zr_chain.specs.Visits.{Visits, PassesUnit, as_part}
+use Rattle.zr_chain.specs.declared.visit.Visited.TheVariants.{Piece}
+use Rattle.zr_chain.specs.Visits.{Visits}
 use Rattle.zr_base.specs.declared.space.DevPart.{DevPart}
 use Rattle.zr_rules.specs.Equation.{devices_in}
 use Rattle.zr_metaslab.specs.Devices.{Devices as Slabs}

@@ -1,5 +1,5 @@
 -- What was written is read.
-use Rattle.std.proofs.Common.{◌≡◌, ◌∙◌, ◌*◌, ℕ, List, length, Option, Some, None, Result, Ok, Err, sym, ap, subst}
+use Rattle.std.proofs.Common.{◌≡◌, ◌∙◌, ◌*◌, ℕ, List, length, Option, Some, Result, Ok, Err, sym, ap}
 use Rattle.std.specs.Prelude.{OnOk}
 use Rattle.zr_shelf.specs.Disks.{disk, part}
 use Rattle.zr_shelf.specs.Moments.{World, Writes}

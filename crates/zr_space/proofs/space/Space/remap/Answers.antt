@@ -1,4 +1,4 @@
-use Rattle.std.proofs.Common.{◌≡◌, ◌+◌, ◌-◌, ◌∷◌, ◌++◌, [], ℕ, subst, arith}
+use Rattle.std.proofs.Common.{◌-◌, arith}
 use Rattle.zr_rules.specs.Equation.{devices_in}
 use Rattle.zr_space.proofs.Paths.{leads_nowhere, one_visit_as}
 use Rattle.zr_space.proofs.space.Space.remap.Goals as goal
