@@ -96,8 +96,7 @@ pub trait Blocks {
     ghost follows: { Self → Self → Type 0 };
 
     /// Stores a block, and answers its pointer. A level above 0 takes the bytes of one tree block of pointers of the
-    /// level below. Where a run is missing the store is as before; after another error its units may stay taken, and the
-    /// store serves for nothing more.
+    /// level below. After an error what is held is as before, but the units may stay taken where no run was missing.
     fn put(&mut self, alloc: Global, bytes: &[u8], level: u8) -> Result<Bptr, StoreErr>
         requires level { level ≤ 5 }
         requires size { is_size (length bytes.now) ≡ true }
@@ -110,7 +109,7 @@ pub trait Blocks {
         ensures errors { IfErr result (λ e. (e ≡ Failed) ⊎ ((e ≡ NoMemory) ⊎ ((needed longest : ℕ) × (e ≡ NoRun needed longest)))) }
         ensures pointer { IfOk result (IsPointerTo level bytes.now) }
         ensures ok { (s : Stored) → holds self.old s → IfOk result (λ b. Now (holds self.new) (Puts s b bytes.now)) }
-        ensures refused { (s : Stored) → holds self.old s → (needed longest : ℕ) → IsErrOf result (NoRun needed longest) → holds self.new s };
+        ensures err { (s : Stored) → holds self.old s → OnErr result (holds self.new s) };
 
     /// The bytes of a block. Nothing that is held changes, also where the answer is an error.
     fn get(&mut self, alloc: Global, b: &Bptr) -> Result<Vec<u8>, StoreErr>
