@@ -1,10 +1,13 @@
 -- Small pools on which the rules are tried.
-use Rattle.std.specs.Prelude.{ℕ, ◌+◌, List, [], ◌∷◌, map}
+use Rattle.std.specs.Prelude.{ℕ, ◌+◌, ◌==◌, ◌&&◌, List, [], ◌∷◌, map, if◌then◌else◌}
 use Rattle.std.specs.List.{range_with_len}
 use Rattle.zr_base.specs.declared.space.DevPart.{DevPart}
 use Rattle.zr_base.specs.declared.space.Entry.{Entry}
 use Rattle.zr_base.specs.declared.space.Extent.{Extent}
 use Rattle.zr_base.specs.declared.space.DevState.TheVariants as state
+use Rattle.zr_base.specs.declared.space.Dva.{Dva}
+use Rattle.zr_base.specs.Extents.{has_unit, unit_count}
+use Rattle.zr_rules.specs.Placement.{Free}
 
 -- a device that was removed by this group
 abbrev pub gone_at : ℕ → List Entry → DevPart
@@ -30,3 +33,39 @@ three_entries = record { src = 0; dev = 1; dst = 0; len = 4 } ∷ (record { src 
 -- a hundred entries of one unit
 abbrev pub ones : List Entry
 ones = map (λ i. record { src = i; dev = 1; dst = 1000 + i; len = 1 }) (range_with_len 0 100)
+
+-- two devices, of which the second alone is in service, with these free runs
+abbrev pub free_on_second : List Extent → Free
+free_on_second runs = record { devs = 2; serves = λ d. d == 1; count = λ d. if d == 1 then unit_count runs else 0; is_free = λ d u. (d == 1) && has_unit runs u }
+
+abbrev pub run : ℕ → ℕ → Extent
+run start len = record { start = start; len = len }
+
+abbrev pub on_second : ℕ → ℕ → Dva
+on_second start len = record { dev = 1; start = start; len = len }
+
+-- six free units far up, each by itself
+abbrev pub lone_units : List Extent
+lone_units = run 500 1 ∷ (run 502 1 ∷ (run 504 1 ∷ (run 506 1 ∷ (run 508 1 ∷ (run 510 1 ∷ [])))))
+
+-- the free runs of the second device before 32 units are copied to it, and after each of six pieces
+abbrev pub before_copies : List Extent
+before_copies = run 0 1 ∷ (run 10 2 ∷ (run 20 5 ∷ (run 30 3 ∷ (run 40 5 ∷ lone_units))))
+
+abbrev pub after_first : List Extent
+after_first = run 0 1 ∷ (run 10 2 ∷ (run 24 1 ∷ (run 30 3 ∷ (run 40 5 ∷ lone_units))))
+
+abbrev pub after_second : List Extent
+after_second = run 0 1 ∷ (run 10 2 ∷ (run 24 1 ∷ (run 40 5 ∷ lone_units)))
+
+abbrev pub after_third : List Extent
+after_third = run 0 1 ∷ (run 10 2 ∷ (run 24 1 ∷ (run 43 2 ∷ lone_units)))
+
+abbrev pub after_fourth : List Extent
+after_fourth = run 0 1 ∷ (run 24 1 ∷ (run 43 2 ∷ lone_units))
+
+abbrev pub after_fifth : List Extent
+after_fifth = run 0 1 ∷ (run 24 1 ∷ lone_units)
+
+abbrev pub after_sixth : List Extent
+after_sixth = run 24 1 ∷ lone_units

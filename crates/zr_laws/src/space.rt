@@ -11,7 +11,11 @@ ghost use Rattle.zr_rules.specs.Owed.{owed, slop};
 ghost use Rattle.zr_rules.specs.Resolve.{resolved_units, passed_units, IsRanked};
 ghost use Rattle.zr_rules.specs.Steps.{touch};
 ghost use Rattle.zr_base.specs.declared.space.Policy.TheVariants as policy;
-ghost use Rattle.zr_laws.specs.Examples.{chain, three_entries, ones};
+ghost use Rattle.zr_rules.specs.Placement.{IsPlacement};
+ghost use Rattle.zr_base.specs.Extents.{IsMaximal, longest_len};
+ghost use Rattle.zr_base.specs.declared.space.Dva.{Dva};
+ghost use Rattle.zr_base.specs.declared.space.Extent.{Extent};
+ghost use Rattle.zr_laws.specs.Examples.{chain, three_entries, ones, free_on_second, on_second, before_copies, after_first, after_second, after_third, after_fourth, after_fifth, after_sixth};
 
 /// A pointer to a device that was removed two removals ago leads to where its bytes are now, in order.
 pub fn a_chain_of_two_removals()
@@ -74,6 +78,27 @@ pub fn the_runs_of_the_policies()
     ensures dynamic { named_run (policy.Dynamic 32 4) 2 (record { start = 0; len = 5 } ∷ (record { start = 10; len = 2 } ∷ (record { start = 20; len = 40 } ∷ []))) ≡ Some 0 }
     ensures scarce { named_run (policy.Dynamic 32 4) 2 (record { start = 0; len = 5 } ∷ (record { start = 10; len = 2 } ∷ [])) ≡ Some 1 }
     ensures none { named_run policy.First 6 (record { start = 0; len = 5 } ∷ (record { start = 10; len = 2 } ∷ [])) ≡ None }
+{}
+
+/// Where the first free run takes the pieces of a copy of 32 units, as little in a row is free: each is as long as the first
+/// of what is left and its halves for which there is a place.
+pub fn the_places_of_copies()
+    ensures first { IsPlacement (free_on_second before_copies) policy.First 4 (on_second 20 4) }
+    ensures second { IsPlacement (free_on_second after_first) policy.First 3 (on_second 30 3) }
+    ensures third { IsPlacement (free_on_second after_second) policy.First 3 (on_second 40 3) }
+    ensures fourth { IsPlacement (free_on_second after_third) policy.First 2 (on_second 10 2) }
+    ensures fifth { IsPlacement (free_on_second after_fourth) policy.First 2 (on_second 43 2) }
+    ensures sixth { IsPlacement (free_on_second after_fifth) policy.First 1 (on_second 0 1) }
+    ensures seventh { IsPlacement (free_on_second after_sixth) policy.First 1 (on_second 24 1) }
+{}
+
+/// There is no place for more units than the longest free run has.
+pub fn no_place_for_more()
+    ensures none { (runs : List Extent) (want : ℕ) (at : Dva) → IsMaximal runs → longest_len runs < want → IsPlacement (free_on_second runs) policy.First want at → ⊥ }
+    ensures first { longest_len before_copies ≡ 5 }
+    ensures third { longest_len after_second ≡ 5 }
+    ensures fourth { longest_len after_third ≡ 2 }
+    ensures sixth { longest_len after_fifth ≡ 1 }
 {}
 
 /// A freed extent of a leaving device of which 10 units are synced and 10 more in flight is cut into three parts.

@@ -1,15 +1,31 @@
 //! A mapping that is searched, and one that is counted and condensed.
-ghost use Rattle.std.specs.Prelude.{◌≡◌, ◌<◌};
+ghost use Rattle.std.specs.Prelude.{◌≡◌, ◌*◌, ◌^◌, ◌<◌, ◌≤◌};
 
-use crate::every_other;
+use std::alloc::Global;
 use std::marker::Brand;
 use std::sync::ledger::{Blank, Ledger};
 use std::test::Fail;
-use zr_base::{Entry, Extent};
+use zr_base::{Entry, Extent, NoMemory};
 use zr_condense::Condense;
 use zr_imap::{Imap, Steps};
 use zr_obsolete::Obsolete;
 use zr_ranges::RangeSet;
+
+// A mapping of so many entries of one unit, at every other unit from 0 on.
+fn every_other(alloc: Global, entries: u64) -> Result<Imap, NoMemory>
+    requires { entries ≤ 2 ^ 30 }
+{
+    let mut map = Imap::new(alloc);
+    for i in 0..entries {
+        map.push(Entry {
+            src: 2 * i,
+            dev: 1,
+            dst: i,
+            len: 1,
+        })?;
+    }
+    Ok(map)
+}
 
 fn find<L: Ledger>(map: &Imap, u: u64, blank: Blank) -> Option<usize>
     requires name { blank.name ≡ L.name }
