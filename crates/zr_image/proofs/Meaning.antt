@@ -58,6 +58,7 @@ module _ (s t : Stored) (r : ObjRec) (agree : (b : Bptr) → 0 < hits (tree_reac
   pub object_same : (o : Object) → IsObject s r o → IsObject t r o
   object_same o is = record {
     units = is.units;
+    lost_are = λ i. (λ among. lost_on i ((is.lost_are i).0 among), λ lost. (is.lost_are i).1 (lost_back i lost));
     blocks = λ i there. is.blocks i (λ lost. there (lost_on i lost)) ∙ sym (same_block s t r i (record { same = agree }));
     lost = λ i lost. is.lost i (lost_back i lost);
     nonzero = is.nonzero;

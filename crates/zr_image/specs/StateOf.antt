@@ -1,7 +1,8 @@
 -- The pool that an image of the disks shows.
-use Rattle.std.specs.Prelude.{◌≡◌, ◌≢◌, ℕ, ◌*◌, Bool, true, false, List, [], map, replicate, slice_index_or, Option, Some, None, Result, Ok, Err}
+use Rattle.std.specs.Prelude.{◌≡◌, ◌≢◌, ◌↔◌, ℕ, ◌*◌, Bool, true, false, List, [], map, replicate, slice_index_or, Option, Some, None, Result, Ok, Err}
 use Rattle.std.specs.List.{enumerate_from}
 use Rattle.std.specs.FinMap as map
+use Rattle.std.specs.FinSet as set
 use Rattle.sha2.specs.Sha256.{sha256}
 use Rattle.zr_base.specs.declared.space.DevRow.{DevRow}
 use Rattle.zr_base.specs.declared.space.DevState.{DevState}
@@ -35,6 +36,7 @@ IsLost s (At b) = sha256 (s.bytes b) ≢ b.sum
 -- The object of a record: its bytes are those of its blocks, and zeros where a block is lost.
 pub record IsObject (s : Stored) (r : ObjRec) (o : Object) : Type 0 where
   pub units : o.units ≡ r.units
+  pub lost_are : (i : ℕ) → (set.contains o.lost i ≡ true) ↔ IsLost s (tree_at s r.tree i)
   pub blocks : (i : ℕ) → ¬ IsLost s (tree_at s r.tree i) → bytes_at o.bytes (4096 * r.units * i) (4096 * r.units) ≡ block_of s r i
   pub lost : (i : ℕ) → IsLost s (tree_at s r.tree i) → bytes_at o.bytes (4096 * r.units * i) (4096 * r.units) ≡ replicate (4096 * r.units) 0
   pub nonzero : (at : ℕ) → map.get o.bytes at ≢ Some 0
@@ -48,10 +50,6 @@ IsObjectOf s (Some r) (Some o) = IsObject s r o
 -- the objects of a directory
 abbrev pub AreObjects : Stored → Tree → Objects → Type 0
 AreObjects s dir objects = (id : ℕ) → IsObjectOf s (record_of s dir id) (map.get objects id)
-
--- the block of the object is lost
-abbrev pub IsLostBlock : Stored → Tree → ℕ → ℕ → Type 0
-IsLostBlock s dir id i = (r : ObjRec) × (record_of s dir id ≡ Some r) × IsLost s (tree_at s r.tree i)
 
 -- the disks as a root sees them, as a store of its blocks
 abbrev pub store_at : List (List ℕ) → List (Option ℕ) → Root → Stored

@@ -2,6 +2,7 @@
 use Rattle.std.specs.Prelude.{◌≡◌, ◌↔◌, ◌≢◌, ℕ, ◌+◌, ◌*◌, ◌≤◌, ◌<◌, true, List, [], ◌++◌, length, map, replicate, Contains, slice_index_or, Option, Some, None, unwrap_or, option_map, Ok}
 use Rattle.std.specs.List.{flat_map, range_with_len}
 use Rattle.std.specs.FinMap as map
+use Rattle.std.specs.FinSet as set
 use Rattle.zr_base.specs.declared.space.DevPart.{DevPart}
 use Rattle.zr_bptr.specs.declared.Bptr.{Bptr}
 use Rattle.zr_bptr.specs.declared.Ptr.{Ptr}
@@ -72,6 +73,7 @@ pub record AreLive (s : Stored) (a : Account) (live : List Bptr) : Type 0 where
 -- the object that is there now: its bytes are those of its leaves, and zeros where one is lost
 pub record IsObjectNow (s : Stored) (a : Account) (id : ℕ) (r : ObjRec) (o : Object) : Type 0 where
   pub units : o.units ≡ r.units
+  pub lost_are : (i : ℕ) → (set.contains o.lost i ≡ true) ↔ IsLost s (leaf_now s a id i)
   pub blocks : (i : ℕ) → ¬ IsLost s (leaf_now s a id i) → bytes_at o.bytes (4096 * r.units * i) (4096 * r.units) ≡ bytes_of s r.units (leaf_now s a id i)
   pub lost : (i : ℕ) → IsLost s (leaf_now s a id i) → bytes_at o.bytes (4096 * r.units * i) (4096 * r.units) ≡ replicate (4096 * r.units) 0
   pub nonzero : (at : ℕ) → map.get o.bytes at ≢ Some 0

@@ -20,14 +20,10 @@ use Rattle.zr_rules.specs.Columns.{free_of, free_units, on_units, sizes}
 use Rattle.zr_rules.specs.Owed.{owed, slop}
 use Rattle.zr_store.specs.Store.{Stored}
 use Rattle.zr_txg.specs.Changes.{object_in, change_in, changes_in}
-use Rattle.zr_model.specs.Objects.{Object, bytes_at}
+use Rattle.zr_model.specs.Objects.{Object, block_len, bytes_at}
 use Rattle.zr_image.specs.Walks.{addresses}
 use Rattle.zr_moves.specs.Account.{Account, changed_blocks, changed_objects, record_now, leaf_now, tree_now}
 use Rattle.zr_moves.specs.Commits.{AllocatesAll, FreesAll}
-
--- the bytes of a block of an object
-abbrev pub block_len : Object → ℕ
-block_len o = 4096 * o.units
 
 -- the blocks that a range of an object meets
 abbrev pub touched_blocks : Object → ℕ → ℕ → List ℕ

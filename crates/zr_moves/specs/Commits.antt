@@ -1,5 +1,5 @@
 -- What a commit does to the account of an open pool, and to the roots of its disks.
-use Rattle.std.specs.Prelude.{◌≡◌, ◌↔◌, ℕ, zero, suc, ◌+◌, ◌/◌, ◌==◌, Bool, true, false, not, List, [], ◌∷◌, ◌++◌, map, filter, replicate, Contains, if◌then◌else◌, Option, Some, None, Err}
+use Rattle.std.specs.Prelude.{◌≡◌, ◌↔◌, ◌⊎◌, ℕ, zero, suc, ◌+◌, ◌/◌, ◌==◌, Bool, true, false, not, List, [], ◌∷◌, ◌++◌, map, filter, replicate, Contains, if◌then◌else◌, Option, Some, None, Err}
 use Rattle.std.specs.List.{All, flat_map, range_with_len, zip}
 use Rattle.zr_base.specs.declared.space.Dva.{Dva}
 use Rattle.zr_base.specs.declared.space.DevRow.{DevRow}
@@ -21,14 +21,16 @@ use Rattle.zr_rules.specs.Space.{Space, role_at}
 use Rattle.zr_rules.specs.Frees.{Allocates, AllocatesMeta, DropsMeta, Frees, Chain}
 use Rattle.zr_rules.specs.Steps as steps
 use Rattle.zr_store.specs.Store.{Stored}
-use Rattle.zr_tree.specs.Trees.{kids, slot, digit, tree_at, tree_reach}
+use Rattle.zr_tree.specs.Trees.{kids, slot, digit, tree_at, tree_reach, IsHeightFor}
 use Rattle.zr_objset.specs.Records.{record_of}
 use Rattle.zr_txg.specs.Changes.{ObjectChange}
 use Rattle.zr_model.specs.Runs.{Shelf}
-use Rattle.zr_image.specs.Current.{ShowsAll, FindsCurrent, reset_of}
+use Rattle.zr_image.specs.Current.{ShowsAll, FindsCurrent, slots_of, reset_of}
 use Rattle.zr_image.specs.Walks.{addresses}
 use Rattle.zr_image.specs.Roots.{Root, rows_of, head_tree, meta_of, space_with}
-use Rattle.zr_moves.specs.Account.{Account, record_now, tree_now, HasRoots, store_now, GoesOn}
+use Rattle.zr_image.specs.StateOf.{store_at}
+use Rattle.zr_moves.specs.Streams.{KeepsStreams}
+use Rattle.zr_moves.specs.Account.{Account, record_now, leaf_now, tree_now, HasRoots, store_now, GoesOn}
 
 -- what a commit goes on from: the group of the current root, that of the last reset, the metadata, the checkpoint, and the block of the saved root
 pub record Last : Type 0 where
@@ -87,10 +89,17 @@ abbrev pub AreWaysAnew : Stored → ℕ → Option ObjRec → List ℕ → Type 
 AreWaysAnew s txg None indices = Unit {0}
 AreWaysAnew s txg (Some r) indices = AreAnew s txg r.tree indices
 
+-- An object that is there has the least height for its changes, from that of its tree on.
+abbrev pub HasGrown : Option ObjRec → Option ObjRec → List (ℕ × Ptr) → Type 0
+HasGrown None after changes = Unit {0}
+HasGrown (Some r) None changes = Unit {0}
+HasGrown (Some r) (Some q) changes = IsHeightFor r.tree.height changes q.tree.height
+
 -- a changed object is written, from its tree of the last commit to that of the new root
 pub record WritesObject (policy : Policy) (s : Stored) (old : Account) (dir : Tree) (change : ℕ × ObjectChange) (before after : Space) : Type 0 where
   pub tree : WritesTree policy old.changes.txg (tree_now s (record_now s old change.0)) (tree_now s (record_of s dir change.0)) before after
   pub anew : AreWaysAnew s old.changes.txg (record_of s dir change.0) (map (λ (b : ℕ × Ptr). b.0) change.1.blocks)
+  pub height : HasGrown (record_now s old change.0) (record_of s dir change.0) change.1.blocks
 
 -- the leaves of the directory that have changed objects
 abbrev pub changed_leaves : Account → List ℕ
@@ -136,6 +145,10 @@ pub record IsOpened (shelf : Shelf) (seen : List Seen) (r : Root) (saved : Optio
   pub goes_on : GoesOn a r saved
   pub none : a.changes.objects ≡ []
 
+-- each block of metadata is written anew
+abbrev pub IsAllAnew : Root → Type 0
+IsAllAnew r = All (λ (b : Bptr). b.birth ≡ r.uber.txg) r.meta
+
 -- A commit: the trees of the changed objects are written by rising ID and then the directory, the metadata is placed and the old metadata given back, and the
 -- group ends. The new current root has the next group, and the account is what the disks then have.
 pub record Commits (policy : Policy) (is_reset : Bool) (before after : Shelf) (old new : Account) : Type 0 where
@@ -158,15 +171,14 @@ pub record Commits (policy : Policy) (is_reset : Bool) (before after : Shelf) (o
   pub directory : WritesTree policy old.changes.txg (tree_reach store old.dir) (tree_reach store root.head.dir) objects trees
   pub ways : AreAnew store old.changes.txg root.head.dir (changed_leaves old)
   pub leaves : All (λ i. IsLeafAnew old.changes.txg (tree_at store root.head.dir i)) (changed_leaves old)
+  pub height : IsHeightFor old.dir.height (map (λ i. (i, tree_at store root.head.dir i)) (changed_leaves old)) root.head.dir.height
+  pub pointers : (id i : ℕ) → leaf_now store new id i ≡ leaf_now store old id i
+  pub streams : (seen_before : List Seen) (r : Root) (saved_before : Option Root) → HasRoots before seen_before r saved_before → IsAllAnew root ⊎ KeepsStreams r root (store_at before.disks (slots_of r.uber seen_before) r) store
   pub meta : AllocatesAllMeta policy (addresses (born_in root.uber.txg (stored_meta store root))) trees full
   pub gone : List Bptr
   pub each_gone : (b : Bptr) → Contains gone b ↔ (Contains last.meta b × (Contains (root.meta ++ meta_of saved) b → ⊥))
   pub drops : DropsMeta full dropped (addresses gone)
   pub ends : steps.Commits is_reset dropped new.space
-
--- each block of metadata is written anew
-abbrev pub IsAllAnew : Root → Type 0
-IsAllAnew r = All (λ (b : Bptr). b.birth ≡ r.uber.txg) r.meta
 
 -- nothing commits: the disks have the same roots as before
 pub record KeepsRoots (before after : Shelf) : Type 0 where

@@ -1,8 +1,14 @@
+pub mod Refusals
+pub mod Answers
 pub mod Prefix
 pub mod Account
 pub mod Tables
+pub mod Streams
 pub mod Commits
 pub mod Changes
 pub mod Moves
 pub mod Move
+pub mod Runs
+pub mod Premises
+pub mod Program
 pub mod Examples

@@ -24,13 +24,13 @@ use Rattle.zr_rules.specs.Owed.{owed, metadata_units}
 use Rattle.zr_rules.specs.Steps as steps
 use Rattle.zr_store.specs.Store.{Stored}
 use Rattle.zr_shelf.specs.Disks.{disk}
-use Rattle.zr_model.specs.Objects.{Object, with_bytes}
+use Rattle.zr_model.specs.Objects.{Object, block_len, with_bytes}
 use Rattle.zr_model.specs.State.{PoolState}
 use Rattle.zr_model.specs.Runs.{Shelf}
 use Rattle.zr_image.specs.Walks.{addresses}
 use Rattle.zr_image.specs.Roots.{Root}
 use Rattle.zr_moves.specs.Account.{Account, changed_blocks, changed_objects, leaf_now, AreLive, HasRoots, store_now}
-use Rattle.zr_moves.specs.Changes.{block_len, touched_blocks, objects_with, blocks_with, slop_of, ChangesRange, MakesObject, DropsObject}
+use Rattle.zr_moves.specs.Changes.{touched_blocks, objects_with, blocks_with, slop_of, ChangesRange, MakesObject, DropsObject}
 use Rattle.zr_moves.specs.Commits.{Commits, IsAllAnew, KeepsRoots}
 use Rattle.zr_moves.specs.Prefix.{has_path}
 use Rattle.zr_moves.specs.Tables.{leaving_of, list_lines, status_lines, map_lines, audit_lines, estimate}

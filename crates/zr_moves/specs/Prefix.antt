@@ -11,11 +11,11 @@ use Rattle.zr_script.specs.ReplyText.{reply_text}
 use Rattle.zr_label.specs.declared.root.Uber.{Uber}
 use Rattle.zr_label.specs.declared.root.Seen.{Seen}
 use Rattle.zr_model.specs.State.{Device, InService, Leaving, Removed, PoolState, ShelfPart, Empty, Refused, Is, State}
-use Rattle.zr_model.specs.Step.{Step}
 use Rattle.zr_model.specs.Runs.{Point, Turn, texts}
 use Rattle.zr_image.specs.Current.{ShowsAll, IsCurrent, FindsCurrent, IsInWindow}
 use Rattle.zr_image.specs.Honest.{Leaves}
 use Rattle.zr_image.specs.StateOf.{StateOf, StateAt}
+use Rattle.zr_moves.specs.Answers.{Answers}
 
 -- the answer is no refusal
 abbrev pub IsDone : Reply → Type 0
@@ -98,7 +98,7 @@ pub record HasSent (now : Now) (r : ℕ) (sent : List ℕ) : Type 0 where
 -- the part is what the shelf has after the command that is being done, done with no refusal
 abbrev pub IsNextBy : Option Command → Point → ShelfPart → Type 0
 IsNextBy None p part = ⊥
-IsNextBy (Some command) p part = (answer : Reply) × (new : State) × Step p.shelf.paths p.state command answer new × IsDone answer × (part ≡ new.shelf)
+IsNextBy (Some command) p part = (answer : Reply) × (new : State) × Answers p.shelf p.state command answer new × IsDone answer × (part ≡ new.shelf)
 
 -- the part is what the shelf has after k commands, which may be one more than are answered
 abbrev pub IsAfter : Now → ℕ → ShelfPart → Type 0
@@ -165,8 +165,14 @@ IsNoLater None b = Unit {0}
 IsNoLater (Some i) None = ⊥
 IsNoLater (Some i) (Some j) = i ≤ j
 
--- An image means the shelf after k commands, from s to one more than r, and its lower groups what came before.
-pub record MeansPrefix (now : Now) (paths : List (List ℕ)) (s r : ℕ) (image : List (List ℕ)) : Type 0 where
+-- The lower groups of an image mean what came before.
+pub record MeansLowers (now : Now) (paths image : List (List ℕ)) (part : ShelfPart) (k r : ℕ) : Type 0 where
+  pub place : ℕ → Option ℕ
+  pub lower : (txg : ℕ) → IsLower image txg → MeansLower now paths image part k r txg (place txg)
+  pub rising : (a b : ℕ) → a < b → IsLower image a → IsLower image b → IsNoLater (place a) (place b)
+
+-- An image means the shelf after k commands, from s to one more than r. Where the lower groups were lawful when the run began, they mean what came before.
+pub record MeansPrefix (Lawful : Type 0) (now : Now) (paths : List (List ℕ)) (s r : ℕ) (image : List (List ℕ)) : Type 0 where
   pub part : ShelfPart
   pub means : StateOf paths image part
   pub k : ℕ
@@ -174,25 +180,23 @@ pub record MeansPrefix (now : Now) (paths : List (List ℕ)) (s r : ℕ) (image 
   pub most : k ≤ r + 1
   pub after : IsAfter now k part
   pub alone : IsSameAlone paths image part
-  pub place : ℕ → Option ℕ
-  pub lower : (txg : ℕ) → IsLower image txg → MeansLower now paths image part k r txg (place txg)
-  pub rising : (a b : ℕ) → a < b → IsLower image a → IsLower image b → IsNoLater (place a) (place b)
+  pub lowers : Lawful → MeansLowers now paths image part k r
 
 -- At a moment: whatever an honest crash leaves holds each commit whose reply was sent whole, and at most one command more than were answered by then.
-pub record KeepsPrefix (now : Now) (stand : Stand) : Type 0 where
+pub record KeepsPrefix (Lawful : Type 0) (now : Now) (stand : Stand) : Type 0 where
   pub r : ℕ
   pub s : ℕ
   pub sent : HasSent now r stand.sent
   pub last : IsLastCommit now.start now.turns r s
-  pub leaves : Leaves (MeansPrefix now stand.paths s r) stand
+  pub leaves : Leaves (MeansPrefix Lawful now stand.paths s r) stand
 
 -- The same where no replies are sent one by one: some state from the first to one more than are answered.
-pub record KeepsSome (now : Now) (stand : Stand) : Type 0 where
-  pub leaves : Leaves (MeansPrefix now stand.paths 0 (length now.turns)) stand
+pub record KeepsSome (Lawful : Type 0) (now : Now) (stand : Stand) : Type 0 where
+  pub leaves : Leaves (MeansPrefix Lawful now stand.paths 0 (length now.turns)) stand
 
 -- And where all replies count as sent: no command is being done.
-pub record KeepsAll (now : Now) (stand : Stand) : Type 0 where
+pub record KeepsAll (Lawful : Type 0) (now : Now) (stand : Stand) : Type 0 where
   pub done : now.doing ≡ None
   pub s : ℕ
   pub last : IsLastCommit now.start now.turns (length now.turns) s
-  pub leaves : Leaves (MeansPrefix now stand.paths s (length now.turns)) stand
+  pub leaves : Leaves (MeansPrefix Lawful now stand.paths s (length now.turns)) stand

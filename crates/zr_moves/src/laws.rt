@@ -11,7 +11,7 @@ ghost use Rattle.zr_model.specs.State.{PoolState, ShelfPart, Is};
 ghost use Rattle.zr_model.specs.Runs.{Shelf, Point, Turn};
 ghost use Rattle.zr_moves.specs.Account.{Account};
 ghost use Rattle.zr_moves.specs.Prefix.{Now, IsLastCommit, CommittedAt, HasSent, MeansPrefix, KeepsPrefix, IsNoLater};
-ghost use Rattle.zr_moves.specs.Commits.{Commits, by_level};
+ghost use Rattle.zr_moves.specs.Commits.{Commits, KeepsRoots, by_level};
 ghost use Rattle.zr_moves.specs.Moves.{Course, Moves, Stays, fits, has_part, discard_reply};
 ghost use Rattle.zr_moves.specs.Move.{Move, MovesClosed};
 ghost use Rattle.zr_moves.specs.Examples.{nothing, idle, one_turn, block_at};
@@ -26,7 +26,7 @@ pub fn no_answered_commit_is_lost()
     ensures gone { CommittedAt nothing (idle cmd.StepEvac (reply.Gone 0) ∷ []) 1 }
     ensures last { (p : Point) (turns : List Turn) (r s j : ℕ) → IsLastCommit p turns r s → CommittedAt p turns j → j ≤ r → j ≤ s }
     ensures kept { (now : Now) (paths : List (List ℕ)) (r s j : ℕ) (image : List (List ℕ)) → IsLastCommit now.start now.turns r s → CommittedAt now.start now.turns j → j ≤ r
-        → (means : MeansPrefix now paths s r image) → j ≤ means.k }
+        → (means : MeansPrefix ⊥ now paths s r image) → j ≤ means.k }
 {}
 
 /// A reply counts as sent when its last byte is sent, and then it does count.
@@ -64,9 +64,10 @@ pub fn the_numbers_of_groups_and_blocks()
     ensures none { discard_reply 0 ≡ reply.Ended }
 {}
 
-/// A table commits nothing and is never refused for room, a reading leaves the account, and a refused import opens nothing.
+/// A table leaves the roots of the disks and is never refused for room, a reading leaves the account, and a refused import opens nothing.
 pub fn what_does_not_commit()
     ensures room { (c : Course) (p : PoolState) (old : Account) (new : Option Account) (needed free : ℕ) → Move c (Is p) (Some old) cmd.List (reply.No (refusal.NoRoom needed free)) new → ⊥ }
+    ensures roots { (c : Course) (p : PoolState) (old new : Account) (answer : Reply) → Moves c p old cmd.List answer new → KeepsRoots c.before c.after }
     ensures read { (c : Course) (p : PoolState) (old new : Account) (id off len : ℕ) (answer : Reply) → Moves c p old (cmd.Read id off len) answer new → new ≡ old }
     ensures opened { (c : Course) (r : Refusal) (new : Account) → MovesClosed c cmd.Import (reply.No r) (Some new) → ⊥ }
     ensures synced { (c : Course) (p : PoolState) (old new : Account) → Moves c p old cmd.Sync reply.Done new → ⊥ }

@@ -5,4 +5,7 @@
 //! the state after a prefix of the commands, with each commit in it that was answered. There is no code.
 #![tactic(auto)]
 
+pub mod answers;
 pub mod laws;
+pub mod program;
+pub mod streams;

@@ -1,5 +1,5 @@
 -- A map in memory and the finite map that its entries make.
-use Rattle.std.proofs.Common.{◌≡◌, ℕ, zero, suc, true, nat_le, length, List, [], ◌∷◌, Some, None, cond, refl, sym, ap, ◌∙◌}
+use Rattle.std.proofs.Common.{◌≡◌, ◌&&◌, ℕ, Bool, zero, suc, true, nat_le, length, List, [], ◌∷◌, Some, None, cond, refl, sym, ap, ◌∙◌}
 use Rattle.zr_script.specs.declared.command.Command.TheVariants.{Write, Read}
 use Rattle.zr_script.specs.declared.reply.Reply.TheVariants.{Done, Data}
 use Rattle.zr_model.specs.Objects.{Bytes, Object, Objects, bytes_at, put_byte, with_bytes, is_within}
@@ -11,6 +11,7 @@ use Rattle.std.specs.Ordering.{nat_cmp}
 use Rattle.std.specs.Cmp.{nat_cmp_total, eq_by_cmp_equiv}
 use Rattle.std.specs.Map.{lookup}
 use Rattle.std.specs.BTreeMap.{is_at}
+use Rattle.std.specs.FinSet as set
 use Rattle.std.specs.FinMap.{get, insert, remove, from_entries, find, get-from_entries, get-insert, get-remove, same_map, nat_cmp-IsAntisymmetric}
 
 find_is : {X : Type 0} (es : List (ℕ × X)) (q : ℕ) → find nat_cmp q es ≡ lookup (is_at (nat_cmp q)) es
@@ -54,3 +55,9 @@ pub changed_by : (m : Objects) (es fs : List (ℕ × Object)) (id off : ℕ) (by
     → ((q : ℕ) → lookup (is_at (nat_cmp q)) fs ≡ cond (is_at (nat_cmp id) q) (Some w) (lookup (is_at (nat_cmp q)) es)) → IsChanged m id off bytes (from_entries fs)
 changed_by m es fs id off bytes o w v e we h =
     changed_some m _ id off bytes o (ap (λ n. get n id) (sym v) ∙ (get_is es id ∙ sym e)) (one_given es fs id w h ∙ (ap (λ n. insert n id w) v ∙ ap (insert m id) we))
+
+-- a set with no member stays one
+pub none_lost : (keep : ℕ → Bool) → set.retain (set.empty {R = nat_cmp}) keep ≡ set.empty
+none_lost keep = set.same_set nat_cmp_total nat_cmp-IsAntisymmetric _ _ (λ q.
+    set.contains-retain set.empty keep q (λ x e. ap keep (sym (nat_cmp-IsAntisymmetric q x e)))
+    ∙ ap (λ b. b && keep q) (set.contains-empty nat_cmp q) ∙ sym (set.contains-empty nat_cmp q))

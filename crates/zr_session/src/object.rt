@@ -23,13 +23,14 @@ pub struct StoredObject {
 impl Model for StoredObject {
     ghost use Rattle.std.specs.Prelude.{◌≤◌};
     ghost use Rattle.std.specs.FinMap as map;
+    ghost use Rattle.std.specs.FinSet as set;
     ghost use Rattle.zr_model.specs.Objects.{Object, object_code};
 
     ghost Value = { Object };
 
     ghost coded = { object_code };
 
-    ghost view = { λ o. record { units = o.units; bytes = map.from_entries o.stored.entries } };
+    ghost view = { λ o. record { units = o.units; bytes = map.from_entries o.stored.entries; lost = set.empty } };
 
     ghost invariant = { λ o. o.units ≤ 32 };
 }
@@ -54,6 +55,7 @@ impl StoredObject {
         len > 0 && off <= size && len <= size - off
     }
 
+    #[tactic(auto, using(crate::proofs::Maps::none_lost))]
     /// Puts bytes at an offset. Where memory runs out, some of them may have been put.
     pub fn write(&mut self, off: u64, bytes: &[u8]) -> Result<(), NoMemory>
         requires { off + length bytes.now < 2 ^ 64 }
