@@ -53,7 +53,7 @@ pub fn trees_grow()
     ensures { (m n : ℕ) → m ≤ n → tree_units m ≤ tree_units n }
 {}
 
-/// What is owed for the streams has room for the late sets too, which name a part in 64 of the metadata before.
+/// The streams, and a 64th of the metadata before them, which the late sets name, fit into what is owed for metadata.
 #[tactic(auto, using(crate::proofs::RoomLaws::past_fits))]
 pub fn late_sets_fit()
     ensures { (streams past : ℕ) → 64 * streams + past ≤ 64 * max past (streams + div_ceil streams 63) }

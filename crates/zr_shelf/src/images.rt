@@ -2,10 +2,10 @@
 //!
 //! The calls up to a moment are made again on two copies: one reads as the disks do, and of the other each write that no
 //! flush followed comes as the choice says.
-ghost use Rattle.std.specs.Prelude.{◌≡◌, ◌+◌, ◌<◌, ◌≤◌, List, ℕ, length, OnOk, IfOk, [], ◌∷◌, ◌++◌, take, if◌then◌else◌, map, string_bytes, position, nat_lt, slice_index, ◌^◌, ◌-◌};
+ghost use Rattle.std.specs.Prelude.{◌≡◌, ◌+◌, ◌<◌, ◌≤◌, List, ℕ, length, OnOk, IfOk, [], ◌∷◌, ◌++◌, take, drop, if◌then◌else◌, map, string_bytes, position, nat_lt, slice_index, ◌^◌, ◌-◌};
 ghost use Rattle.zr_shelf.specs.Disks.{Stand, IsSameOutside, MayLeave};
 ghost use Rattle.zr_shelf.specs.Memory.{bytes_of, paths_of, after_write, as_pending, stand_after, start, run, stand_at, calls_until, FitsIn, IsLawful, IsImage};
-ghost use Rattle.zr_shelf.specs.Choices.{came, front_of, chosen, IsShown};
+ghost use Rattle.zr_shelf.specs.Choices.{came, front_of, chosen, AreOthers, IsCopy, IsShown};
 ghost use Rattle.zr_shelf.specs.declared.memory.Deed.TheVariants.{Wrote};
 
 use crate::memory::{Asked, Call, Deed, DiskFile, History, find, put};
@@ -24,8 +24,7 @@ fn come(choice: &[u8], place: usize, len: usize) -> usize
 }
 
 fn copied_file(alloc: Global, file: &DiskFile) -> Result<DiskFile, AllocError>
-    ensures path { IfOk result (λ f. string_bytes f.path ≡ string_bytes file.now.path) }
-    ensures bytes { IfOk result (λ f. f.bytes.items ≡ file.now.bytes.items) }
+    ensures { IfOk result (IsCopy file.now) }
 {
     let path = String::from_str(alloc, file.path.as_str())?;
     let bytes = file.bytes.to_vec(alloc)?;
@@ -161,7 +160,8 @@ pub(crate) fn add_others(
     image: &mut Vec<DiskFile>,
     folder: &[DiskFile],
 ) -> Result<(), AllocError>
-    ensures { take (length image.old.items) image.new.items ≡ image.old.items }
+    ensures front { take (length image.old.items) image.new.items ≡ image.old.items }
+    ensures others { OnOk result (AreOthers image.old.items folder.now (drop (length image.old.items) image.new.items)) }
 {
     let disks = image.len();
     for file in folder {

@@ -1,7 +1,7 @@
 //! A desk in memory that fails at the calls that it is told.
 ghost use Rattle.std.specs.Prelude.{◌≡◌, ◌++◌, ◌∷◌, [], OnOk, OnErr, IfOk, string_bytes, min, ◌+◌, ◌-◌, ◌^◌};
 ghost use Rattle.zr_shelf.specs.Memory.{world_of, start, stand_at, IsImage};
-ghost use Rattle.zr_shelf.specs.Choices.{IsChosen};
+ghost use Rattle.zr_shelf.specs.Choices.{IsChosen, HasOthers};
 
 use crate::desk::{Desk, DeskErr, Shelf};
 use crate::memory::{DiskFile, Memory};
@@ -75,6 +75,7 @@ impl MemDesk {
     pub fn image_at(&self, moment: u64, choice: &[u8]) -> Result<Vec<DiskFile>, NoMemory>
         ensures image { IfOk result (λ image. IsImage (stand_at self.now.memory.history moment) image.items) }
         ensures chosen { IfOk result (λ image. IsChosen choice.now (stand_at self.now.memory.history moment) image.items) }
+        ensures others { IfOk result (λ image. HasOthers (stand_at self.now.memory.history moment) self.now.memory.folder.items image.items) }
     {
         self.memory.image_at(moment, choice)
     }

@@ -7,7 +7,7 @@ ghost use Rattle.std.specs.Prelude.{◌≡◌, ◌+◌, ◌-◌, ◌<◌, ◌≤
 ghost use Rattle.zr_shelf.specs.Disks.{disk, part, IsSound, flushed, sent_more, with_disk};
 ghost use Rattle.zr_shelf.specs.Moments.{Steps, IsTaken};
 ghost use Rattle.zr_shelf.specs.Memory.{bytes_of, paths_of, sizes_of, after_write, WritesAs, start, world_of, run, IsLawful, lawful_prop, IsFileOf, NoneHasPath, HasPathAt, IsImage, stand_at};
-ghost use Rattle.zr_shelf.specs.Choices.{IsChosen};
+ghost use Rattle.zr_shelf.specs.Choices.{IsChosen, HasOthers};
 
 use crate::images::{add_others, image_after};
 use std::alloc::{AllocError, Global};
@@ -133,6 +133,7 @@ impl Memory {
     pub(crate) fn image_at(&self, moment: u64, choice: &[u8]) -> Result<Vec<DiskFile>, NoMemory>
         ensures image { IfOk result (λ image. IsImage (stand_at self.now.history moment) image.items) }
         ensures chosen { IfOk result (λ image. IsChosen choice.now (stand_at self.now.history moment) image.items) }
+        ensures others { IfOk result (λ image. HasOthers (stand_at self.now.history moment) self.now.folder.items image.items) }
     {
         let mut image = image_after(self.alloc, &self.history, moment, choice)?;
         add_others(self.alloc, &mut image, &self.folder)?;
