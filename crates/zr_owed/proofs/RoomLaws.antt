@@ -81,8 +81,15 @@ head-mono old new le =
     tree_units_mono (div_ceil (535 + 17 * new.streams) 512) (div_ceil (535 + 17 * old.streams) 512) (omega (arith, a, b))
 
 -- fewer words and streams take no more units
-streams-mono : (old new : Sizes) → new.streams ≤ old.streams → words_to_come new ≤ words_to_come old → stream_units new ≤ stream_units old
+pub streams-mono : (old new : Sizes) → new.streams ≤ old.streams → words_to_come new ≤ words_to_come old → stream_units new ≤ stream_units old
 streams-mono old new s w = omega (arith, head-mono old new s, div_ceil-mono (words_to_come new) (words_to_come old) 0 w)
+
+-- and no more metadata
+pub metadata-mono : (old new : Sizes) → new.streams ≤ old.streams → words_to_come new ≤ words_to_come old → new.past ≤ old.past → metadata_units new ≤ metadata_units old
+metadata-mono old new s w past =
+    let a = parts (stream_units new) 63 (omega arith) in
+    let b = parts (stream_units old) 63 (omega arith) in
+    omega (arith, streams-mono old new s w, a, b, past)
 
 -- what is owed after a commit is there after it
 pub commit_keeps : (old new : Sizes) (before after blocks words uncopied metadata dropped late1 late2 : ℕ) → IsCommit old new before after blocks words uncopied metadata dropped late1 late2 → HasRoom old before → HasRoom new after

@@ -13,8 +13,8 @@ ghost use Rattle.zr_rules.specs.Owed.{AreSmall, owed, metadata_units, stream_uni
 mod laws;
 
 pub use laws::{
-    commits_keep_room, devices_take_little, logs_take_little, metadata_fits, streams_take_little,
-    trees_grow,
+    commits_keep_room, devices_take_little, fewer_words_take_less, late_sets_fit, logs_take_little,
+    metadata_fits, streams_take_little, trees_are_small, trees_grow,
 };
 pub use zr_base::Sizes;
 

@@ -3,6 +3,7 @@ use super::*;
 use std::test::Fail;
 use zr_bptr::{Ptr, Tree};
 use zr_store::{MemBlocks, StoreErr};
+use zr_tree::set_all;
 
 // The SHA-256 of the words 0 to 511, eight bytes each, the lowest first.
 const FIRST_LEAF: [u8; 32] = [
@@ -64,6 +65,23 @@ fn padding_is_checked(rt: HostRuntime) -> Result<(), Fail> {
             expected: last.sum
         })
     );
+    Ok(())
+}
+
+#[test]
+fn a_hole_within_is_told(rt: HostRuntime) -> Result<(), Fail> {
+    let alloc = rt.alloc();
+    let mut store = MemBlocks::new(alloc, 8);
+    let two = write_bytes(alloc, &mut store, &[7; 8192])?;
+    let holed = set_all(alloc, &mut store, &two, &[(0, Ptr::Hole)])?;
+    let Ptr::At(root) = &holed.root else {
+        return Err(Fail::new("no block"));
+    };
+    if two.height != 1 || holed.height != 1 || root.at.len != 1 {
+        return Err(Fail::new("not one block above the leaves"));
+    }
+    let bad = read_bytes(alloc, &mut store, &holed, 8192);
+    assert!(rt; matches!(bad, Err(StoreErr::Malformed { .. })));
     Ok(())
 }
 

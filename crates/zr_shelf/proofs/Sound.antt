@@ -4,7 +4,8 @@ use Rattle.std.proofs.lemmas.List.{take_more, get_or_append_left, get_or-append_
 use Rattle.std.proofs.lemmas.Bool.{cases_lt}
 use Rattle.zr_shelf.specs.Disks.{Stand, PendingWrite, disk, part, MayLeave, IsSameOutside, IsSound, IsUntouched, taken_to}
 use Rattle.zr_shelf.specs.Moments.{World}
-use Rattle.zr_shelf.specs.Memory.{start, next, run, take_on, world_of, stand_after, as_pending, after_write, FitsIn, IsLawful, IsShown, front_to, bytes_of, paths_of, sizes_of}
+use Rattle.zr_shelf.specs.Memory.{start, next, run, take_on, world_of, stand_after, as_pending, after_write, FitsIn, IsLawful, front_to, bytes_of, paths_of, sizes_of}
+use Rattle.zr_shelf.specs.Choices.{IsShown}
 use Rattle.zr_shelf.specs.declared.memory.Call.{Call}
 use Rattle.zr_shelf.specs.declared.memory.Deed.{Deed}
 use Rattle.zr_shelf.specs.declared.memory.Deed.TheVariants.{Attached, Wrote, Flushed, Sent}
@@ -82,14 +83,14 @@ sound_of h disks seen paths lawful =
     }
 
 -- the copies at a moment of takes
-pub shown_on : (w : World) (n : ℕ) (seen image : List DiskFile) → IsShown w.now seen image → IsShown (take_on w n).now seen image
-shown_on w n seen image shown =
-    subst (λ (s : Stand). IsShown s seen image) (sym (stand_on w n))
-    (record { bytes = shown.bytes; paths = shown.paths; same_paths = shown.same_paths; leaves = shown.leaves })
+pub shown_on : (choice : List ℕ) (w : World) (n : ℕ) (seen image : List DiskFile) (place : ℕ) → IsShown choice w.now seen image place → IsShown choice (take_on w n).now seen image place
+shown_on choice w n seen image place shown =
+    subst (λ (s : Stand). IsShown choice s seen image place) (sym (stand_on w n))
+    (record { bytes = shown.bytes; paths = shown.paths; same_paths = shown.same_paths; leaves = shown.leaves; slots = shown.slots; count = shown.count; as_chosen = shown.as_chosen })
 
 -- both copies have the disks' sizes
-pub sizes_shown : (s : Stand) (seen image : List DiskFile) → IsGood s → IsShown s seen image → map length (bytes_of image) ≡ map length (bytes_of seen)
-sizes_shown s seen image good shown = shown.leaves.sizes ∙ sym good.readable.sizes ∙ sym (ap (map length) shown.bytes)
+pub sizes_shown : (choice : List ℕ) (s : Stand) (seen image : List DiskFile) (place : ℕ) → IsGood s → IsShown choice s seen image place → map length (bytes_of image) ≡ map length (bytes_of seen)
+sizes_shown choice s seen image place good shown = shown.leaves.sizes ∙ sym good.readable.sizes ∙ sym (ap (map length) shown.bytes)
 
 lawful_take : (w : World) (n : ℕ) (calls : List Call) → IsLawful w calls → IsLawful w (take n calls)
 lawful_take w zero calls lawful = tt

@@ -5,3 +5,4 @@ pub mod Doings
 pub mod Protected
 pub mod Publish
 pub mod Memory
+pub mod Choices

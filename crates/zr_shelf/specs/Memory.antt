@@ -101,13 +101,6 @@ IsFileOf folder path size bytes =
     ((k : ℕ) × (k < length folder) × HasPathAt folder path k × (slice_index_or (bytes_of folder) k [] ≡ bytes))
     ⊎ (NoneHasPath folder path (length folder) × (bytes ≡ replicate size 0))
 
--- the disks as they read, and what a crash may leave of them
-pub record IsShown (s : Stand) (seen image : List DiskFile) : Type 0 where
-  pub bytes : bytes_of seen ≡ s.seen
-  pub paths : paths_of seen ≡ s.paths
-  pub same_paths : paths_of image ≡ s.paths
-  pub leaves : MayLeave s (bytes_of image)
-
 abbrev pub front_to : Option ℕ → List Call → List Call
 front_to None calls = calls
 front_to (Some n) calls = take n calls

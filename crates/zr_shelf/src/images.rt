@@ -2,9 +2,10 @@
 //!
 //! The calls up to a moment are made again on two copies: one reads as the disks do, and of the other each write that no
 //! flush followed comes as the choice says.
-ghost use Rattle.std.specs.Prelude.{◌≡◌, ◌+◌, ◌<◌, ◌≤◌, List, ℕ, length, OnOk, IfOk, [], ◌∷◌, ◌++◌, take, if◌then◌else◌, map, string_bytes, position, nat_lt};
+ghost use Rattle.std.specs.Prelude.{◌≡◌, ◌+◌, ◌<◌, ◌≤◌, List, ℕ, length, OnOk, IfOk, [], ◌∷◌, ◌++◌, take, drop, if◌then◌else◌, map, string_bytes, position, nat_lt, slice_index, ◌^◌, ◌-◌};
 ghost use Rattle.zr_shelf.specs.Disks.{Stand, IsSameOutside, MayLeave};
-ghost use Rattle.zr_shelf.specs.Memory.{bytes_of, paths_of, after_write, as_pending, stand_after, start, run, stand_at, calls_until, FitsIn, IsLawful, IsShown, IsImage};
+ghost use Rattle.zr_shelf.specs.Memory.{bytes_of, paths_of, after_write, as_pending, stand_after, start, run, stand_at, calls_until, FitsIn, IsLawful, IsImage};
+ghost use Rattle.zr_shelf.specs.Choices.{came, front_of, chosen, AreOthers, IsCopy, IsShown};
 ghost use Rattle.zr_shelf.specs.declared.memory.Deed.TheVariants.{Wrote};
 
 use crate::memory::{Asked, Call, Deed, DiskFile, History, find, put};
@@ -12,7 +13,8 @@ use std::alloc::{AllocError, Global};
 
 /// How much of a write came: nothing (0), all (1), or its first half (2).
 fn come(choice: &[u8], place: usize, len: usize) -> usize
-    ensures { result ≤ len }
+    ensures within { result ≤ len }
+    ensures number { result ≡ came (slice_index choice.now place) len }
 {
     match choice.get(place) {
         Some(1) => len,
@@ -22,8 +24,7 @@ fn come(choice: &[u8], place: usize, len: usize) -> usize
 }
 
 fn copied_file(alloc: Global, file: &DiskFile) -> Result<DiskFile, AllocError>
-    ensures path { IfOk result (λ f. string_bytes f.path ≡ string_bytes file.now.path) }
-    ensures bytes { IfOk result (λ f. f.bytes.items ≡ file.now.bytes.items) }
+    ensures { IfOk result (IsCopy file.now) }
 {
     let path = String::from_str(alloc, file.path.as_str())?;
     let bytes = file.bytes.to_vec(alloc)?;
@@ -56,7 +57,8 @@ fn write_seen(seen: &mut Vec<DiskFile>, asked: &Asked)
 fn write_image(image: &mut Vec<DiskFile>, asked: &Asked, len: usize)
     requires fits { FitsIn (bytes_of image.old.items) (Wrote asked.now) }
     requires within { len ≤ length asked.now.bytes.items }
-    ensures bytes { IsSameOutside (as_pending asked.now ∷ []) (bytes_of image.old.items) (bytes_of image.new.items) }
+    ensures bytes { bytes_of image.new.items ≡ after_write (bytes_of image.old.items) (front_of (as_pending asked.now) len) }
+    ensures outside { IsSameOutside (as_pending asked.now ∷ []) (bytes_of image.old.items) (bytes_of image.new.items) }
     ensures paths { paths_of image.new.items ≡ paths_of image.old.items }
 {
     let at = asked.at as usize;
@@ -91,7 +93,9 @@ fn step(
 ) -> Result<(), AllocError>
     requires sizes { map length (bytes_of image.old.items) ≡ map length (bytes_of seen.old.items) }
     requires fits { FitsIn (bytes_of seen.old.items) deed.now }
-    ensures { OnOk result ((s : Stand) → IsShown s seen.old.items image.old.items → IsShown (stand_after s deed.now) seen.new.items image.new.items) }
+    requires room { place.old < 2 ^ 64 - 1 }
+    ensures place { place.new ≤ place.old + 1 }
+    ensures shown { OnOk result ((s : Stand) → IsShown choice.now s seen.old.items image.old.items place.old → IsShown choice.now (stand_after s deed.now) seen.new.items image.new.items place.new) }
 {
     match deed {
         Deed::Attached(file) => attach_both(alloc, seen, image, file),
@@ -99,7 +103,7 @@ fn step(
             let len = come(choice, *place, asked.bytes.len());
             write_image(image, asked, len);
             write_seen(seen, asked);
-            *place = place.saturating_add(1);
+            *place += 1;
             Ok(())
         }
         Deed::Flushed => {
@@ -138,6 +142,7 @@ pub(crate) fn image_after(
     requires { IsLawful (start history.now.input.items) history.now.calls.items }
     ensures paths { IfOk result (λ image. paths_of image.items ≡ (stand_at history.now moment).paths) }
     ensures leaves { IfOk result (λ image. MayLeave (stand_at history.now moment) (bytes_of image.items)) }
+    ensures chosen { IfOk result (λ image. bytes_of image.items ≡ chosen choice.now (stand_at history.now moment).writes (stand_at history.now moment).durable) }
 {
     let calls = calls_until(&history.calls, moment);
     let mut seen = Vec::new(alloc);
@@ -155,7 +160,8 @@ pub(crate) fn add_others(
     image: &mut Vec<DiskFile>,
     folder: &[DiskFile],
 ) -> Result<(), AllocError>
-    ensures { take (length image.old.items) image.new.items ≡ image.old.items }
+    ensures front { take (length image.old.items) image.new.items ≡ image.old.items }
+    ensures others { OnOk result (AreOthers image.old.items folder.now (drop (length image.old.items) image.new.items)) }
 {
     let disks = image.len();
     for file in folder {

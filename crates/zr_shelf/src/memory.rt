@@ -7,6 +7,7 @@ ghost use Rattle.std.specs.Prelude.{◌≡◌, ◌+◌, ◌-◌, ◌<◌, ◌≤
 ghost use Rattle.zr_shelf.specs.Disks.{disk, part, IsSound, flushed, sent_more, with_disk};
 ghost use Rattle.zr_shelf.specs.Moments.{Steps, IsTaken};
 ghost use Rattle.zr_shelf.specs.Memory.{bytes_of, paths_of, sizes_of, after_write, WritesAs, start, world_of, run, IsLawful, lawful_prop, IsFileOf, NoneHasPath, HasPathAt, IsImage, stand_at};
+ghost use Rattle.zr_shelf.specs.Choices.{IsChosen, HasOthers};
 
 use crate::images::{add_others, image_after};
 use std::alloc::{AllocError, Global};
@@ -113,7 +114,7 @@ impl Memory {
     pub(crate) fn put_disk(&mut self, path: &str, bytes: Vec<u8>) -> Result<(), NoMemory>
         ensures folder { OnOk result ((file : DiskFile) × (string_bytes file.path ≡ path.now) × (file.bytes ≡ bytes) × (self.new.folder.items ≡ self.old.folder.items ++ file ∷ [])) }
         ensures err { OnErr result (self.new.folder.items ≡ self.old.folder.items) }
-        ensures world { self.new.history ≡ self.old.history }
+        ensures rest { self.new ≡ record self.old { folder = self.new.folder } }
     {
         let path = String::from_str(self.alloc, path)?;
         self.folder.push(DiskFile { path, bytes })?;
@@ -130,7 +131,9 @@ impl Memory {
     /// One image of a crash at that moment: what each pending write left, in order, by the numbers of the choice. The
     /// disks that were attached by then come first, and then the files that were not.
     pub(crate) fn image_at(&self, moment: u64, choice: &[u8]) -> Result<Vec<DiskFile>, NoMemory>
-        ensures { IfOk result (λ image. IsImage (stand_at self.now.history moment) image.items) }
+        ensures image { IfOk result (λ image. IsImage (stand_at self.now.history moment) image.items) }
+        ensures chosen { IfOk result (λ image. IsChosen choice.now (stand_at self.now.history moment) image.items) }
+        ensures others { IfOk result (λ image. HasOthers (stand_at self.now.history moment) self.now.folder.items image.items) }
     {
         let mut image = image_after(self.alloc, &self.history, moment, choice)?;
         add_others(self.alloc, &mut image, &self.folder)?;

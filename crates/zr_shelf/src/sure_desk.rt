@@ -1,6 +1,7 @@
 //! A desk in memory that never fails.
 ghost use Rattle.std.specs.Prelude.{◌≡◌, ◌++◌, ◌∷◌, [], OnOk, OnErr, IfOk, string_bytes};
 ghost use Rattle.zr_shelf.specs.Memory.{world_of, start, stand_at, IsImage};
+ghost use Rattle.zr_shelf.specs.Choices.{IsChosen, HasOthers};
 
 use crate::desk::{Desk, DeskErr, Shelf};
 use crate::memory::{DiskFile, Memory};
@@ -41,7 +42,7 @@ impl SureDesk {
     pub fn put_disk(&mut self, path: &str, bytes: Vec<u8>) -> Result<(), NoMemory>
         ensures folder { OnOk result ((file : DiskFile) × (string_bytes file.path ≡ path.now) × (file.bytes ≡ bytes) × (self.new.memory.folder.items ≡ self.old.memory.folder.items ++ file ∷ [])) }
         ensures err { OnErr result (self.new.memory.folder.items ≡ self.old.memory.folder.items) }
-        ensures world { world_of self.new.memory.history ≡ world_of self.old.memory.history }
+        ensures rest { self.new ≡ record self.old { memory = record self.old.memory { folder = self.new.memory.folder } } }
     {
         self.memory.put_disk(path, bytes)
     }
@@ -57,7 +58,9 @@ impl SureDesk {
     /// old (0), new (1), or new in its first half and old in the rest (2); one that is missing or above 2 counts as 0.
     /// The disks that were attached by then come first, by slot, and then the files that were not.
     pub fn image_at(&self, moment: u64, choice: &[u8]) -> Result<Vec<DiskFile>, NoMemory>
-        ensures { IfOk result (λ image. IsImage (stand_at self.now.memory.history moment) image.items) }
+        ensures image { IfOk result (λ image. IsImage (stand_at self.now.memory.history moment) image.items) }
+        ensures chosen { IfOk result (λ image. IsChosen choice.now (stand_at self.now.memory.history moment) image.items) }
+        ensures others { IfOk result (λ image. HasOthers (stand_at self.now.memory.history moment) self.now.memory.folder.items image.items) }
     {
         self.memory.image_at(moment, choice)
     }
