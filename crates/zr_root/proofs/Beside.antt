@@ -39,14 +39,14 @@ leaf_among s (suc below) (At x) index b is weight =
     let all = within_flat (reach s below) (kids s below x) (digit below index) lt weight in
     omega (arith, rest, all, sum_by-cons weight x (flat_map (reach s below) (kids s below x)))
 
-within_top : (yes : Bool) (p : Ptr) (b : Bptr) → (if yes then p else Hole) ≡ At b → p ≡ At b
+pub within_top : (yes : Bool) (p : Ptr) (b : Bptr) → (if yes then p else Hole) ≡ At b → p ≡ At b
 within_top true p b is = is
 within_top false p b is = absurd cc
 
-tree_among : (s : Stored) (t : Tree) (index : ℕ) (b : Bptr) → tree_at s t index ≡ At b → IsAmong b (tree_reach s t)
+pub tree_among : (s : Stored) (t : Tree) (index : ℕ) (b : Bptr) → tree_at s t index ≡ At b → IsAmong b (tree_reach s t)
 tree_among s t index b is = leaf_among s t.height t.root index b (within_top (nat_lt index (32 ^ t.height)) (leaf_at s t.height t.root index) b is)
 
-slot_get : (bs : List Bptr) (i : ℕ) (d : Bptr) → i < length bs → slot (map At bs) i ≡ At (get_or bs i d)
+pub slot_get : (bs : List Bptr) (i : ℕ) (d : Bptr) → i < length bs → slot (map At bs) i ≡ At (get_or bs i d)
 slot_get [] i d lt = absurd (omega (arith, lt))
 slot_get (b ∷ bs) zero d lt = refl
 slot_get (b ∷ bs) (suc i) d lt = slot_get bs i d (omega (arith, lt))

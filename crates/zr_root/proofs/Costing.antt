@@ -1,5 +1,5 @@
 -- What it takes to put a tree.
-use Rattle.std.proofs.Common.{◌≡◌, ◌+◌, ◌-◌, ◌<◌, ◌≤◌, ℕ, Result, ap, arith}
+use Rattle.std.proofs.Common.{◌≡◌, ◌+◌, ◌*◌, ◌-◌, ◌<◌, ◌≤◌, ℕ, Result, ap, arith}
 use Rattle.std.specs.Int.{div_ceil}
 use Rattle.zr_base.specs.Trees.{tree_units}
 use Rattle.zr_store.specs.declared.StoreErr.{StoreErr}
@@ -50,3 +50,30 @@ module _ {a b : Account} (n p : ℕ) (p_is : p ≡ n) (first : Costs p 0 a b) wh
 
   pub all_cause : {c : Account} {T : Type 0} {r : Result T StoreErr} (q : ℕ) → q ≡ n → HasCause (tree_units q - q) b c r → HasCause (tree_units n) a c r
   all_cause q q_is h = cause_most (tree_units n) (all_most q q_is) (cause_then first h)
+
+-- ---- appending
+
+-- n leaves are put, and a tree is changed at n places
+module _ {a b : Account} (n : ℕ) (first : Costs 0 0 a b) where
+  pub tail_costs : Costs (6 * n + 4) (5 * n + 1) a b
+  tail_costs = costs_most (6 * n + 4) (5 * n + 1) (omega arith) (omega arith) first
+
+  module _ {c : Account} (k : ℕ) (k_is : k ≡ n) (second : Costs k 0 b c) where
+    pub puts_costs : Costs (6 * n + 4) (5 * n + 1) a c
+    puts_costs = costs_most (6 * n + 4) (5 * n + 1) (omega (arith, k_is)) (omega arith) (costs_then first second)
+
+    module _ {d : Account} (m : ℕ) (m_is : m ≡ n) (third : Costs (5 * m + 4) (5 * m) c d) where
+      pub tree_costs : Costs (6 * n + 4) (5 * n + 1) a d
+      tree_costs = costs_most (6 * n + 4) (5 * n + 1) (omega (arith, k_is, m_is)) (omega (arith, m_is)) (costs_then (costs_then first second) third)
+
+      pub end_costs : {e : Account} → Costs 0 1 d e → Costs (6 * n + 4) (5 * n + 1) a e
+      end_costs last = costs_most (6 * n + 4) (5 * n + 1) (omega (arith, k_is, m_is)) (omega (arith, m_is)) (costs_then (costs_then (costs_then first second) third) last)
+
+      pub end_cause : {e : Account} {T : Type 0} {r : Result T StoreErr} → HasCause 0 d e r → HasCause (6 * n + 4) a e r
+      end_cause h = cause_most (6 * n + 4) (omega (arith, k_is, m_is)) (cause_then (costs_then (costs_then first second) third) h)
+
+  pub puts_cause : {c : Account} {T : Type 0} {r : Result T StoreErr} (k : ℕ) → k ≡ n → HasCause k b c r → HasCause (6 * n + 4) a c r
+  puts_cause k k_is h = cause_most (6 * n + 4) (omega (arith, k_is)) (cause_then first h)
+
+  pub tree_cause : {c d : Account} {T : Type 0} {r : Result T StoreErr} (k : ℕ) → k ≡ n → Costs k 0 b c → (m : ℕ) → m ≡ n → HasCause (5 * m + 4) c d r → HasCause (6 * n + 4) a d r
+  tree_cause k k_is second m m_is h = cause_most (6 * n + 4) (omega (arith, k_is, m_is)) (cause_then (costs_then first second) h)

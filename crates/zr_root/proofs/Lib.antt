@@ -9,3 +9,6 @@ pub mod Shapes
 pub mod Reading
 pub mod Standing
 pub mod Beside
+pub mod Tails
+pub mod Appending
+pub mod Grown

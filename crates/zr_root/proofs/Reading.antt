@@ -32,7 +32,7 @@ use Rattle.zr_root.proofs.Shapes.{level_top, level_down, level_shaped, tops_with
 
 -- ---- whose errors they are
 
-damaged_within : (s : Stored) (xs ys : List Bptr) (at : Dva) (expected found : List ℕ) → Within xs ys → HasDamagedBlock s xs at expected found → HasDamagedBlock s ys at expected found
+pub damaged_within : (s : Stored) (xs ys : List Bptr) (at : Dva) (expected found : List ℕ) → Within xs ys → HasDamagedBlock s xs at expected found → HasDamagedBlock s ys at expected found
 damaged_within s xs ys at expected found within b = record { block = b.block; among = among_within b.block xs ys within b.among; address = b.address; checksum = b.checksum; found_is = b.found_is; differs = b.differs }
 
 -- the error that a `?` hands on, told of more blocks

@@ -22,7 +22,7 @@ use zr_bptr::{Bptr, Ptr, Tree};
 use zr_store::{Blocks, StoreErr};
 
 /// The bytes, and zeros up to a multiple of 4,096.
-fn padded(alloc: Global, bytes: &[u8]) -> Result<Vec<u8>, AllocError>
+pub(crate) fn padded(alloc: Global, bytes: &[u8]) -> Result<Vec<u8>, AllocError>
     requires { length bytes.now ≤ 2 ^ 37 }
     ensures items { IfOk result (λ all. all.items ≡ bytes.now ++ zeros (4096 * div_ceil (length bytes.now) 4096 - length bytes.now)) }
     ensures len { IfOk result (λ all. length all.items ≡ 4096 * div_ceil (length bytes.now) 4096) }
@@ -47,7 +47,7 @@ fn put_leaf<B: Blocks>(alloc: Global, store: &mut B, bytes: &[u8; 4096]) -> Resu
 }
 
 /// A leaf of each of these.
-fn put_leaves<B: Blocks>(
+pub(crate) fn put_leaves<B: Blocks>(
     alloc: Global,
     store: &mut B,
     pieces: &[[u8; 4096]],

@@ -5,6 +5,7 @@
 //! block twice. What reads them back refuses a hole within, and padding that is not zero.
 #![tactic(auto)]
 
+mod appends;
 mod bytes;
 mod down;
 mod heads;
@@ -13,6 +14,7 @@ mod levels;
 mod reads;
 mod streams;
 
+pub use appends::append;
 pub use bytes::{write_bytes, write_root};
 pub use heads::{read_root, units_of};
 pub use laws::{streams_have_one_value, streams_stand_alone, streams_take_what_they_must};

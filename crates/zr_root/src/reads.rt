@@ -30,14 +30,14 @@ fn are_zeros(bytes: &[u8]) -> bool
 }
 
 /// Whether zeros alone stand behind so many bytes.
-fn is_padded(bytes: &[u8], len: usize) -> bool
+pub(crate) fn is_padded(bytes: &[u8], len: usize) -> bool
     requires { len ≤ length bytes.now }
     ensures { IsTrue result ↔ (drop len bytes.now ≡ zeros (length (drop len bytes.now))) }
 {
     are_zeros(&bytes[len..])
 }
 
-fn malformed(b: &Bptr) -> StoreErr
+pub(crate) fn malformed(b: &Bptr) -> StoreErr
     ensures { result ≡ Malformed b.now.at b.now.sum }
 {
     StoreErr::Malformed {
@@ -46,7 +46,11 @@ fn malformed(b: &Bptr) -> StoreErr
     }
 }
 
-fn read_leaf<B: Blocks>(alloc: Global, store: &mut B, b: &Bptr) -> Result<Vec<u8>, StoreErr>
+pub(crate) fn read_leaf<B: Blocks>(
+    alloc: Global,
+    store: &mut B,
+    b: &Bptr,
+) -> Result<Vec<u8>, StoreErr>
     ensures follows { (start : B) → B.follows start store.old → B.follows start store.new }
     ensures costs { Costs 0 0 (B.account store.old) (B.account store.new) }
     ensures cause { HasCause 0 (B.account store.old) (B.account store.new) result }

@@ -21,7 +21,7 @@ use zr_store::{Blocks, StoreErr};
 use zr_tree::walk;
 
 /// The bytes of words.
-fn bytes_of(alloc: Global, ns: &[u64]) -> Result<Vec<u8>, AllocError>
+pub(crate) fn bytes_of(alloc: Global, ns: &[u64]) -> Result<Vec<u8>, AllocError>
     ensures bytes { IfOk result (λ bytes. bytes.items ≡ words ns.now) }
     ensures len { IfOk result (λ bytes. length bytes.items ≡ 8 * length ns.now) }
 {

@@ -152,3 +152,24 @@ fn a_head_and_no_room(rt: HostRuntime) -> Result<(), Fail> {
     );
     Ok(())
 }
+
+#[test]
+fn words_are_appended(rt: HostRuntime) -> Result<(), Fail> {
+    let alloc = rt.alloc();
+    let mut store = MemBlocks::new(alloc, 16);
+    let mut ns = Vec::new(alloc);
+    for n in 0..516 {
+        ns.push(n)?;
+    }
+    let all = ns.as_slice();
+    if all.len() != 516 {
+        return Err(Fail::new("not so many words"));
+    }
+    let three = write_stream(alloc, &mut store, &all[..3])?;
+    let five = append(alloc, &mut store, &three, &all[3..5])?;
+    let s = append(alloc, &mut store, &five, &all[5..])?;
+    assert_eq!(rt; (s.words, s.tree.height, store.kept.len()), (516, 1, 3));
+    let back = read_stream(alloc, &mut store, &s)?;
+    assert_eq!(rt; back.as_slice(), all);
+    Ok(())
+}
