@@ -7,12 +7,9 @@ use Rattle.zr_bptr.specs.declared.Bptr.{Bptr}
 use Rattle.zr_imap.specs.declared.image.Piece.{Piece}
 use Rattle.zr_cache.specs.declared.entry.Key.{Key}
 use Rattle.zr_cache.specs.declared.entry.Block.{Block}
-use Rattle.zr_cache.specs.declared.cache.Cache.{Cache}
+use Rattle.zr_cache.specs.declared.table.Cache.{Cache}
+use Rattle.zr_cache.specs.Sums.{Entry}
 use Rattle.zr_cache.specs.contracts.entry.KeyPartialEq.TheImpl as keys
-
--- a pointer with its block
-abbrev pub Entry : Type 0
-Entry = Key × Block
 
 -- what is cached, the most recent first
 abbrev pub entries : Cache → List Entry
@@ -48,6 +45,10 @@ meets p q =
 abbrev pub is_in : Piece → Entry → Bool
 is_in run e = list_any (meets run) e.1.runs.items
 
--- the fact is true of each entry: of its pointer, its bytes and its runs
+-- the fact is true of each of these entries: of its pointer, its bytes and its runs
+abbrev pub HoldsIn : (Bptr → List ℕ → List Piece → Type 0) → List Entry → Type 0
+HoldsIn Is es = (e : Entry) → Contains es e → Is e.0.pointer e.1.bytes.items e.1.runs.items
+
+-- it is true of all that is cached
 abbrev pub Holds : (Bptr → List ℕ → List Piece → Type 0) → Cache → Type 0
-Holds Is c = (e : Entry) → Contains (entries c) e → Is e.0.pointer e.1.bytes.items e.1.runs.items
+Holds Is c = HoldsIn Is (entries c)

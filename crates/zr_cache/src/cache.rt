@@ -1,23 +1,20 @@
-//! The cache and its calls.
-ghost use Rattle.std.specs.Prelude.{◌≡◌, ◌<◌, [], List, ℕ, filter, not, IfOk, OnOk, OnErr, option_map, find};
+//! The calls of a cache.
+ghost use Rattle.std.specs.Prelude.{◌≡◌, ◌<◌, [], List, ℕ, filter, not, IfOk, OnOk, OnErr, IfSome, option_map, find};
 ghost use Rattle.std.specs.List.{list_any};
 ghost use Rattle.std.specs.Map.{remove_entry};
 ghost use Rattle.lru.specs.LruCache.{promoted};
-ghost use Rattle.zr_cache.specs.Entries.{entries, capacity, Entry, AreDistinct, is_key, bytes_in, with_entry, meets, is_in};
+ghost use Rattle.zr_cache.specs.Sums.{Entry};
+ghost use Rattle.sha2.specs.Sha256.{sha256};
+ghost use Rattle.zr_cache.specs.Entries.{entries, capacity, AreDistinct, is_key, bytes_in, with_entry, meets, is_in};
 
 use crate::entry::{Block, Key};
+use crate::table::Cache;
 use lru::LruCache;
 use std::alloc::{AllocError, Global};
 use std::num::NonZeroUsize;
 use zr_base::NoMemory;
 use zr_bptr::Bptr;
 use zr_imap::Piece;
-
-/// A cache of blocks. A full one forgets the block that was asked for least recently.
-#[derive(Drop)]
-pub struct Cache {
-    blocks: LruCache<Key, Block>,
-}
 
 // Whether two runs have a unit in common. An empty run counts as its first unit would.
 fn meets(p: &Piece, q: &Piece) -> bool
@@ -55,6 +52,7 @@ impl Cache {
     /// A copy of the bytes of a pointer that is cached. Its entry becomes the most recent one.
     pub fn get(&mut self, alloc: Global, b: &Bptr) -> Result<Option<Vec<u8>>, NoMemory>
         ensures bytes { IfOk result (λ found. option_map (λ v. v.items) found ≡ bytes_in self.old b.now) }
+        ensures sum { IfOk result (λ found. IfSome found (λ v. sha256 v.items ≡ b.now.sum)) }
         ensures order { entries self.new ≡ promoted (is_key b.now) (entries self.old) }
         ensures room { capacity self.new ≡ capacity self.old }
     {
@@ -65,8 +63,9 @@ impl Cache {
         }
     }
 
-    /// Caches the bytes of a pointer, and the runs to which its address leads. Its entry becomes the most recent one.
+    /// Caches the bytes of a pointer, which have its sum, and the runs to which its address leads. Its entry becomes the most recent one.
     pub fn put(&mut self, b: &Bptr, bytes: Vec<u8>, runs: Vec<Piece>) -> Result<(), NoMemory>
+        requires { sha256 bytes.items ≡ b.now.sum }
         ensures entries { OnOk result (entries self.new ≡ with_entry self.old b.now (record { bytes = bytes; runs = runs })) }
         ensures room { capacity self.new ≡ capacity self.old }
         ensures err { OnErr result (self.new ≡ self.old) }

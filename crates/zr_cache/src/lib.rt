@@ -8,9 +8,10 @@
 
 mod cache;
 mod entry;
+mod table;
 
-pub use cache::Cache;
 pub use entry::{Block, Key};
+pub use table::Cache;
 
 #[cfg(test)]
 mod tests;

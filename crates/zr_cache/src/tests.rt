@@ -3,7 +3,7 @@ use super::*;
 use std::alloc::Global;
 use std::test::Fail;
 use zr_base::{Dva, Extent, NoMemory};
-use zr_bptr::Bptr;
+use zr_bptr::{Bptr, sum_of};
 use zr_imap::Piece;
 
 fn pointer(start: u64) -> Bptr {
@@ -28,6 +28,24 @@ fn run(dev: u32, start: u64) -> Piece {
     }
 }
 
+// Caches a block of one byte that stands in two units of device 1.
+fn keep(
+    cache: &mut Cache,
+    alloc: Global,
+    start: u64,
+    byte: u8,
+    unit: u64,
+) -> Result<Bptr, NoMemory> {
+    let bytes = Vec::from_slice(alloc, &[byte])?;
+    let b = Bptr {
+        sum: sum_of(bytes.as_slice()),
+        ..pointer(start)
+    };
+    let runs = Vec::from_slice(alloc, &[run(1, unit)])?;
+    cache.put(&b, bytes, runs)?;
+    Ok(b)
+}
+
 // Whether the pointer is cached with the one byte.
 fn has(cache: &mut Cache, alloc: Global, b: &Bptr, byte: u8) -> Result<bool, NoMemory> {
     let found = cache.get(alloc, b)?;
@@ -38,13 +56,10 @@ fn has(cache: &mut Cache, alloc: Global, b: &Bptr, byte: u8) -> Result<bool, NoM
 fn the_least_recent_block_goes(rt: HostRuntime) -> Result<(), Fail> {
     let alloc = rt.alloc();
     let mut cache = Cache::new(alloc, 2)?;
-    let (a, b, c) = (pointer(0), pointer(2), pointer(4));
-    for (p, start, byte) in [(a, 10, 1), (b, 12, 2)] {
-        let runs = Vec::from_slice(alloc, &[run(1, start)])?;
-        cache.put(&p, Vec::from_slice(alloc, &[byte])?, runs)?;
-    }
+    let a = keep(&mut cache, alloc, 0, 1, 10)?;
+    let b = keep(&mut cache, alloc, 2, 2, 12)?;
     assert!(rt; has(&mut cache, alloc, &a, 1)?);
-    cache.put(&c, Vec::from_slice(alloc, &[3])?, Vec::new(alloc))?;
+    let c = keep(&mut cache, alloc, 4, 3, 14)?;
     assert!(rt; !has(&mut cache, alloc, &b, 2)?);
     cache.forget_run(&run(0, 10));
     cache.forget_run(&run(1, 12));
@@ -54,8 +69,8 @@ fn the_least_recent_block_goes(rt: HostRuntime) -> Result<(), Fail> {
     assert!(rt; has(&mut cache, alloc, &c, 3)?);
     cache.forget(&c);
     assert!(rt; !has(&mut cache, alloc, &c, 3)?);
-    cache.put(&a, Vec::new(alloc), Vec::new(alloc))?;
+    let d = keep(&mut cache, alloc, 6, 4, 16)?;
     cache.clear();
-    assert!(rt; cache.get(alloc, &a)?.is_none());
+    assert!(rt; cache.get(alloc, &d)?.is_none());
     Ok(())
 }

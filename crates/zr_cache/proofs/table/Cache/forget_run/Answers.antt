@@ -3,7 +3,7 @@ use Rattle.zr_cache.specs.Entries.{entries, is_in}
 use Rattle.zr_cache.specs.contracts.entry.KeyPartialEq.TheImpl as keys
 use Rattle.zr_cache.proofs.Keys.{own_key, same_key}
 use Rattle.zr_cache.proofs.Removing.{filter-none, fewer, keeps_the_others, nothing-found}
-use Rattle.zr_cache.proofs.cache.Cache.forget_run.Goals as goal
+use Rattle.zr_cache.proofs.table.Cache.forget_run.Goals as goal
 
 pub loop-key-smaller : goal.loop-key-smaller
 loop-key-smaller c =

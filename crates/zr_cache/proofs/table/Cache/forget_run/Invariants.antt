@@ -1,6 +1,6 @@
 use Rattle.std.proofs.Common.{◌≡◌, filter, not, length}
 use Rattle.zr_cache.specs.Entries.{entries, capacity, is_in}
-use Rattle.zr_cache.proofs.cache.Cache.forget_run.Given as goal
+use Rattle.zr_cache.proofs.table.Cache.forget_run.Given as goal
 
 abbrev pub invariant-loop-key : goal.invariant-loop-key
 invariant-loop-key l = record {

@@ -1,6 +1,6 @@
 use Rattle.std.proofs.Common.{◌≡◌, find}
 use Rattle.zr_cache.specs.Entries.{entries, is_in}
-use Rattle.zr_cache.proofs.cache.Cache.key_in.Given as goal
+use Rattle.zr_cache.proofs.table.Cache.key_in.Given as goal
 
 -- what is found is found in what is left
 abbrev pub invariant-loop-key : goal.invariant-loop-key
