@@ -1,12 +1,13 @@
 -- Where no device is leaving or gone, an address leads to its own units.
 use Rattle.std.proofs.Common.{◌≡◌, ◌∙◌, ℕ, zero, suc, ◌+◌, ◌-◌, ◌≤◌, ◌<◌, true, false, nat_lt, List, [], ◌∷◌, ◌++◌, Some, None, refl, subst, map, ◌==◌, Option, sym, ap, arith, if◌then◌else◌}
-use Rattle.std.specs.List.{list_any, sum_by, range_with_len}
+use Rattle.std.specs.Prelude.{is_some}
+use Rattle.std.specs.List.{list_all, list_any, sum_by, range_with_len}
 use Rattle.std.proofs.lemmas.List.{append-nil}
 use Rattle.std.proofs.lemmas.Bool.Decides.{nat_tests}
 use Rattle.zr_base.specs.declared.space.Dva.{Dva}
 use Rattle.zr_rules.specs.Places.{Place, one_if, is_place, is_gone, is_leaving}
 use Rattle.zr_rules.specs.Devices.{Devices, state_at}
-use Rattle.zr_rules.specs.Resolve.{resolve, resolved, passed_units, is_there}
+use Rattle.zr_rules.specs.Resolve.{resolve, resolved, passed_units, is_there, is_resolved}
 use Rattle.zr_rules.specs.Steps.{pieces}
 use Rattle.zr_chain.specs.declared.visit.Visited.{Visited}
 use Rattle.zr_chain.specs.declared.visit.Visited.TheVariants.{Piece}
@@ -68,6 +69,21 @@ module _ (ds : Devices) (a : Dva) (on : AreInService ds) where
         false_true (sym (ap (λ (ps : List Place). list_any (λ q. is_place q d u) ps) none) ∙ passes.passes);
     touched = λ lt. let stays = on.stays a.dev in rw stays (sym (one_piece ds.count ds a.dev a.start a.len on));
   }
+
+-- each unit of an address within its device leads somewhere
+all_lead : (ds : Devices) (dev from n : ℕ) → ((u : ℕ) → from ≤ u → u < from + n → resolved ds dev u ≡ Some (dev, u))
+    → list_all (λ (p : Option Place). is_some p) (map (λ (p : Place). resolved ds p.0 p.1) (map (λ (u : ℕ). (dev, u)) (range_with_len from n))) ≡ true
+all_lead ds dev from zero leads = refl
+all_lead ds dev from (suc n) leads =
+    let first : is_some (resolved ds dev from) ≡ true = ap (λ (p : Option Place). is_some p) (leads from (omega arith) (omega arith)) in
+    rw first (all_lead ds dev (from + 1) n (λ u le lt. leads u (omega (arith, le)) (omega (arith, lt))))
+
+pub within_resolves : (ds : Devices) (a : Dva) (on : AreInService ds) (room len : ℕ) → room ≡ (if nat_lt a.dev ds.count then (ds.row a.dev).units else 0) → len ≡ a.len → 0 < a.len → a.start + a.len ≤ room → is_resolved ds a ≡ true
+within_resolves ds a on room len is same some le = all_lead ds a.dev a.start a.len (λ u from to.
+    leads_within ds.count ds a.dev u (known ds a on room is some le) (on.there a.dev) (subst (λ (w : ℕ). is_there ds a.dev w ≡ true) (omega (arith, from)) (within ds a on room is some le (u - a.start) (omega (arith, from, to)))))
+
+pub none_resolves : (ds : Devices) (a : Dva) → a.len ≡ 0 → is_resolved ds a ≡ true
+none_resolves ds a none = all_lead ds a.dev a.start a.len (λ u from to. absurd (omega (arith, none, from, to)))
 
 -- the same where the length was read as another number
 pub one_visit_as : (ds : Devices) (a : Dva) (on : AreInService ds) (room len : ℕ) → room ≡ (if nat_lt a.dev ds.count then (ds.row a.dev).units else 0) → len ≡ a.len → 0 < a.len → a.start + a.len ≤ room → (old new : List Visited)

@@ -1,9 +1,10 @@
 //! Where the units of an address are.
-ghost use Rattle.std.specs.Prelude.{◌≡◌, length, nat_lt, OnOk, OnErr, IfErr, if◌then◌else◌};
+ghost use Rattle.std.specs.Prelude.{◌≡◌, length, nat_lt, true, OnOk, OnErr, IfErr, if◌then◌else◌};
 ghost use Rattle.zr_chain.specs.Visits.{Visits};
 ghost use Rattle.zr_rules.specs.Equation.{devices_in};
 ghost use Rattle.zr_space.specs.Paths.{AreInService, LeadsNowhere};
 ghost use Rattle.zr_rules.specs.Places.{units_of_dev};
+ghost use Rattle.zr_rules.specs.Resolve.{is_resolved};
 
 use crate::space::Space;
 use zr_base::{Dva, Extent};
@@ -14,6 +15,7 @@ impl Space {
     /// none.
     pub fn remap<V: Visit>(&self, d: Dva, v: &mut V) -> Result<(), ChainErr>
         ensures visits { OnOk result (Visits (devices_in self.now) d (V.visited v.old) (V.visited v.new)) }
+        ensures resolved { OnOk result (is_resolved (devices_in self.now) d ≡ true) }
         ensures nowhere { IfErr result (LeadsNowhere (devices_in self.now) d) }
         ensures err { OnErr result (V.visited v.new ≡ V.visited v.old) }
     {

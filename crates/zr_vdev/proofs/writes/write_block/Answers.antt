@@ -1,0 +1,60 @@
+use Rattle.std.proofs.Common.{◌≡◌, ◌/◌, ◌<◌, ◌^◌, ℕ, length, refl, sym, ◌∙◌, subst, arith, rules}
+use Rattle.std.specs.Prelude.{IsTrue}
+use Rattle.zr_base.specs.Blocks.{is_block_size}
+use Rattle.zr_rules.specs.Columns.{free_of}
+use Rattle.zr_rules.specs.Placement.{HasNoPlacement}
+use Rattle.zr_store.proofs.Keeping.{some_leaves, most_leaves}
+use Rattle.zr_vdev.proofs.Taking.{units, known, begins_low, written_there}
+use Rattle.zr_vdev.proofs.writes.write_block.Goals as goal
+
+pub returns-in_err-at-clause-no_run : goal.returns-in_err-at-clause-no_run
+returns-in_err-at-clause-no_run g c = λ needed longest is.
+    let size = c.units_of-units.ensures.units in
+    let from = c.from.ensures in
+    let want : c.from.result ≡ length c.args.bytes.now / 4096 = omega (arith, size, from) in
+    let missing : (needed ≡ c.from.result) × HasNoPlacement (free_of c.args.space.now) c.from.result longest = search (rules, c.in_err-at.ensures.no_run needed longest) in
+    subst (λ (n : ℕ). (needed ≡ n) × HasNoPlacement (free_of c.args.space.now) n longest) want missing
+
+pub returns-clause-pointer : goal.returns-clause-pointer
+returns-clause-pointer g c =
+    let small = c.units_of-units.ensures.small in
+    let size = c.units_of-units.ensures.units in
+    let from = c.from.ensures in
+    let some = c.units_of-units.ensures.some in
+    let some_wanted : 0 < c.from.result = omega (arith, some, from) in
+    let kind = c.args.mount.now.kind in
+    let policy = c.args.mount.now.pick.now.policy in
+    let old = c.args.space.now in
+    let new = c.take_units.new.space in
+    let taken = c.in_ok-at.ensures.ok in
+    let within = c.in_ok-at.ensures.within in
+    let len : c.in_ok-at.at.len ≡ c.units_of-units.result = units kind policy c.from.result old new c.in_ok-at.at taken within some_wanted ∙ from in
+    let dev : c.in_ok-at.at.dev < length old.parts.devs = known kind policy c.from.result old new c.in_ok-at.at taken within some_wanted in
+    let start : c.in_ok-at.at.start < 2 ^ 40 =
+    begins_low kind policy c.from.result old new c.in_ok-at.at taken within some_wanted (g.S.Shelf.sizes c.args.shelf.now) c.args.mount.now.slots.now c.requires.mounted in
+    let few = c.requires.mounted.few in
+    record {
+      level_is = refl;
+      pointer = record {
+        address = record { some = omega (arith, some, len); short = omega (arith, small, len); dev = omega (arith, dev, few); start = omega (arith, start) };
+        size = subst (λ (n : ℕ). IsTrue (is_block_size n)) (sym len) c.units_of-units.ensures.length;
+        level = c.requires.level;
+        unit = λ h. let e = c.requires.one_unit h in omega (arith, e, size, len);
+        birth = c.requires.group;
+        fits = omega arith;
+        some = some_leaves c.args.level c.in_ok-fill.fill c.args.bytes.now c.in_ok-fill.ensures.leaf c.in_ok-fill.ensures.leaves c.requires.block;
+        most = most_leaves c.args.level c.in_ok-fill.fill c.args.bytes.now c.in_ok-fill.ensures.leaf c.in_ok-fill.ensures.leaves c.requires.block;
+        digest = c.sum_of.ensures.size;
+      };
+      size = omega (arith, size, len);
+      checksum = c.sum_of.ensures.sum;
+      leaf = c.in_ok-fill.ensures.leaf;
+      leaves = λ fill ps lt h. c.in_ok-fill.ensures.leaves fill ps lt h;
+    }
+
+pub returns-clause-there : goal.returns-clause-there
+returns-clause-there g c = λ told.
+    let from = c.from.ensures in
+    let some = c.units_of-units.ensures.some in
+    written_there c.args.mount.now.kind c.args.mount.now.pick.now.policy c.from.result c.args.space.now c.take_units.new.space c.in_ok-at.at c.in_ok-at.ensures.ok c.in_ok-at.ensures.within (omega (arith, some, from))
+    (g.S.Shelf.world c.write_at.new.shelf).now.seen c.args.mount.now.slots.now c.args.bytes.now (c.in_ok-write_at.ensures.there told)
