@@ -15,7 +15,8 @@ use Rattle.zr_store.specs.declared.StoreErr.TheVariants.{Malformed, Damaged, Unr
 use Rattle.zr_store.proofs.Causes.{again}
 use Rattle.zr_tree.specs.Blocks.{IsNoBlock}
 use Rattle.zr_tree.specs.Trees.{IsAmong, IsWhole, IsWholeAt, Brings, TellsOf, IsOpen, own, blocks, kids, slot}
-use Rattle.zr_tree.proofs.Frames.{one_itself, whole_again}
+pub use Rattle.zr_tree.proofs.Frames.{whole_again}
+use Rattle.zr_tree.proofs.Frames.{one_itself}
 use Rattle.zr_tree.proofs.Sums.{sum_flat, one_of}
 
 -- ---- the same block
