@@ -40,7 +40,7 @@ pub record PutsLeaf (records : List (Option ObjRec)) (old new : Stored) (p : Ptr
   pub needed : IsNeeded new p
   pub swaps : Swaps old new [] (own p)
 
--- the pointer p came for the leaf q with the changes, and q was sixteen records
+-- the pointer p came for the leaf q with the changes, and q was in its form
 pub record ChangesLeaf (place : ℕ) (changes : List (ℕ × Option ObjRec)) (old new : Stored) (q p : Ptr) : Type 0 where
   pub records : (id : ℕ) → id / 16 ≡ place → record_in new p (id % 16) ≡ changed changes id (record_in old q (id % 16))
   pub needed : IsNeeded new p
