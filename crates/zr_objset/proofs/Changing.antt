@@ -11,10 +11,12 @@ use Rattle.zr_bptr.specs.declared.Ptr.TheVariants.{Hole, At}
 use Rattle.zr_bptr.specs.declared.Tree.{Tree}
 use Rattle.zr_bptr.specs.declared.ObjRec.{ObjRec}
 use Rattle.zr_store.specs.Store.{Stored, AreStored, hits, one_at}
-use Rattle.zr_tree.specs.Trees.{own, tree_at, tree_reach, updated, Rises}
+use Rattle.zr_bptr.specs.Spelling.{SpellsRecords}
+use Rattle.zr_tree.specs.Trees.{own, tree_at, tree_reach, updated, Rises, IsTreeWay}
 use Rattle.zr_tree.proofs.Frames.{first_of}
 use Rattle.zr_tree.proofs.Each.{updated_append}
 use Rattle.zr_objset.specs.Records.{records_in, record_in, record_of}
+use Rattle.zr_objset.specs.Errors.{IsRecordLeaf}
 use Rattle.zr_objset.specs.Changes.{changed, AllIn, IsNeeded, ChangesLeaf, PutsLeaves}
 use Rattle.zr_objset.proofs.Within.{leaf_within}
 
@@ -82,11 +84,15 @@ pub needed_kept : (s t : Stored) (p : Ptr) → ((b : Bptr) → p ≡ At b → t.
 needed_kept s t Hole same h = tt
 needed_kept s t (At b) same h = subst (λ (bytes : List ℕ). ¬ All (λ (r : Option ObjRec). r ≡ None) (records_in bytes)) (sym (same b refl)) h
 
+formed_before : (s t : Stored) (p : Ptr) → ((b : Bptr) → p ≡ At b → t.bytes b ≡ s.bytes b) → IsRecordLeaf t p → IsRecordLeaf s p
+formed_before s t Hole same h = tt
+formed_before s t (At b) same h = (h.0, subst (λ (bytes : List ℕ). SpellsRecords bytes h.0) (same b refl) h.1)
+
 pub own_at : (b : Bptr) (p : Ptr) → p ≡ At b → 0 < hits (own p) b.at
 own_at b p is = let e = ap (λ (q : Ptr). hits (own q) b.at) is in omega (arith, e, first_of b [])
 
 module _ (dir : Tree) (place : ℕ) (done here : List (ℕ × Option ObjRec)) (s0 s1 s2 : Stored) (news : List (ℕ × Ptr)) (q : Ptr) (so_far : PutsLeaves dir done s0 s1 news) (one : ChangesLeaf place here s1 s2 (tree_at s0 dir place) q)
-    (at : AllIn place here) (before : All (λ leaf. leaf.0 < place) news) (held : AreStored (tree_reach s0 dir) s0) where
+    (at : AllIn place here) (before : All (λ leaf. leaf.0 < place) news) (held : AreStored (tree_reach s0 dir) s0) (way : IsTreeWay s0 dir place) where
   found : ℕ → Ptr
   found index = updated news index (tree_at s0 dir index)
 
@@ -123,6 +129,17 @@ module _ (dir : Tree) (place : ℕ) (done here : List (ℕ × Option ObjRec)) (s
     | inr ne ↦ subst (IsNeeded s2) (sym (other_found index ne)) (needed_kept s1 s2 (updated news index (tree_at s0 dir index)) (kept index) (old ne))
   ]
 
+  -- the old leaf had its bytes when it was read
+  old_bytes : (b : Bptr) → tree_at s0 dir place ≡ At b → s1.bytes b ≡ s0.bytes b
+  old_bytes b is =
+      let h = own_at b (tree_at s0 dir place) is in
+      let l = leaf_within s0 dir place (one_at b.at) in
+      let d = held (one_at b.at) in
+      so_far.swaps.kept b refl (omega (arith, h, l, d))
+
+  old_formed : IsRecordLeaf s0 (tree_at s0 dir place)
+  old_formed = formed_before s0 s1 (tree_at s0 dir place) old_bytes one.formed
+
   pub puts_more : PutsLeaves dir (done ++ here) s0 s2 (news ++ (place, q) ∷ [])
   puts_more = record {
     records = new_record;
@@ -137,6 +154,8 @@ module _ (dir : Tree) (place : ℕ) (done here : List (ℕ × Option ObjRec)) (s
           let e = so_far.swaps.stored (one_at b.at) in
           one.swaps.kept b refl (omega (arith, e, stored)) ∙ so_far.swaps.kept b refl stored;
     };
+    ways = All-append (λ (c : ℕ × Option ObjRec). IsTreeWay s0 dir (c.0 / 16)) done here so_far.ways (λ k d lt. subst (IsTreeWay s0 dir) (sym (at k d lt)) way);
+    formed = All-append (λ (c : ℕ × Option ObjRec). IsRecordLeaf s0 (tree_at s0 dir (c.0 / 16))) done here so_far.formed (λ k d lt. subst (λ (n : ℕ). IsRecordLeaf s0 (tree_at s0 dir n)) (sym (at k d lt)) old_formed);
   }
 
 -- ---- the places rise

@@ -8,11 +8,11 @@ use Rattle.zr_bptr.specs.Spelling.{SpellsRecords}
 use Rattle.zr_store.specs.Store.{Stored, Swaps, AreStored, one_at}
 use Rattle.zr_store.specs.declared.StoreErr.{StoreErr}
 use Rattle.zr_tree.specs.Blocks.{IsNoBlock}
-use Rattle.zr_tree.specs.Trees.{own, tree_at, tree_blocks, tree_reach, TellsOf}
-use Rattle.zr_tree.proofs.Frames.{Agree}
+use Rattle.zr_tree.specs.Trees.{own, tree_at, tree_blocks, tree_reach, IsTreeWay, TellsOf}
+use Rattle.zr_tree.proofs.Frames.{Agree, frame}
 use Rattle.zr_tree.proofs.Wholes.{Within, among_hits}
 use Rattle.zr_objset.specs.Errors.{TellsOfLeaves, IsNoLeaf}
-use Rattle.zr_objset.proofs.Within.{within_same, leaf_within}
+use Rattle.zr_objset.proofs.Within.{within_same, leaf_within, blocks_within}
 use Rattle.zr_objset.proofs.Keeping.{tree_same}
 use Rattle.zr_objset.proofs.Tells.{tells_more, of_tree}
 
@@ -72,3 +72,10 @@ early_leaf s n into leaves dir place p r swaps held is among tells =
 -- the leaf at an index is as it was
 pub same_leaf : (s n : Stored) (into : List Bptr) (dir : Tree) (place : ℕ) → Swaps s n [] into → AreStored (tree_reach s dir) s → tree_at n dir place ≡ tree_at s dir place
 same_leaf s n into dir place swaps held = (tree_same s n dir (agrees s n into (tree_reach s dir) swaps held)).leaves place
+
+-- a way that is whole was whole before the blocks came
+pub same_way : (s n : Stored) (into : List Bptr) (dir : Tree) (place : ℕ) → Swaps s n [] into → AreStored (tree_reach s dir) s → IsTreeWay n dir place → IsTreeWay s dir place
+same_way s n into dir place swaps held way lt =
+    let agree = agrees s n into (tree_reach s dir) swaps held in
+    let same : Agree s n (tree_blocks s dir) = record { same = λ b h. let w = blocks_within s dir (one_at b.at) in agree.same b (omega (arith, w, h)) } in
+    (frame s n dir.height dir.root same).ways place (way lt)

@@ -13,7 +13,7 @@ use Rattle.zr_store.specs.declared.StoreErr.{StoreErr}
 use Rattle.zr_tree.specs.Trees.{tree_blocks, tree_reach}
 use Rattle.zr_tree.proofs.Wholes.{Within}
 use Rattle.zr_objset.specs.Records.{records_in, object_reach, leaf_reach, all_reach}
-use Rattle.zr_objset.specs.Errors.{IsBadLeaf, IsFormed, TellsOfLeaves}
+use Rattle.zr_objset.specs.Errors.{IsBadLeaf, TellsOfLeaves}
 use Rattle.zr_objset.proofs.Within.{blocks_within, one_within, flat_within, both_within}
 use Rattle.zr_objset.proofs.Tells.{tells_more}
 
@@ -41,19 +41,18 @@ leaf_tells s t items i d r items_are lt here =
     subst (λ (xs : List Bptr). TellsOfLeaves s (xs ++ flat_map (leaf_reach s) xs) xs (IsBadLeaf s) r) items_are
     (tells_more s (x ∷ leaf_reach s x) (items ++ flat_map (leaf_reach s) items) (x ∷ []) items (IsBadLeaf s) (IsBadLeaf s) r (both_within (leaf_reach s) items i d lt) (one_within items i d lt) (λ y bad. bad) here)
 
-take_next : (items : List Bptr) (i : ℕ) (d : Bptr) → i < length items → take (i + 1) items ≡ take i items ++ get_or items i d ∷ []
-take_next items i d lt = let e : i + 1 ≡ suc i = omega arith in ap (λ (n : ℕ). take n items) e ∙ take-suc items i d lt
+take_next : {X : Type 0} (items : List X) (i : ℕ) (d : X) → i < length items → take (i + 1) items ≡ take i items ++ get_or items i d ∷ []
+take_next {X} items i d lt = let e : i + 1 ≡ suc i = omega arith in ap (λ (n : ℕ). take n items) e ∙ take-suc items i d lt
 
--- one leaf more has its form
-pub formed_more : (s : Stored) (items : List Bptr) (i : ℕ) (d : Bptr) → i < length items → All (IsFormed s) (take i items) → IsFormed s (get_or items i d) → All (IsFormed s) (take (i + 1) items)
-formed_more s items i d lt all h = subst (All (IsFormed s)) (sym (take_next items i d lt)) (All-push (IsFormed s) (take i items) (get_or items i d) all h)
+-- what holds of all before holds of one more
+pub all_more : {X : Type 0} (P : X → Type 0) (items : List X) (i : ℕ) (d : X) → i < length items → All P (take i items) → P (get_or items i d) → All P (take (i + 1) items)
+all_more {X} P items i d lt all h = subst (All P) (sym (take_next items i d lt)) (All-push P (take i items) (get_or items i d) all h)
 
--- the objects of one leaf more
-pub reach_more : (s : Stored) (items : List Bptr) (i : ℕ) (d : Bptr) (old mid new : List Bptr) → i < length items → mid ≡ old ++ flat_map (leaf_reach s) (take i items) → new ≡ mid ++ leaf_reach s (get_or items i d)
-    → new ≡ old ++ flat_map (leaf_reach s) (take (i + 1) items)
-reach_more s items i d old mid new lt mid_is new_is =
+-- the blocks of one more
+pub reach_more : {X : Type 0} (f : X → List Bptr) (items : List X) (i : ℕ) (d : X) (old mid new : List Bptr) → i < length items → mid ≡ old ++ flat_map f (take i items) → new ≡ mid ++ f (get_or items i d) → new ≡ old ++ flat_map f (take (i + 1) items)
+reach_more {X} f items i d old mid new lt mid_is new_is =
     let x = get_or items i d in
-    let before = flat_map (leaf_reach s) (take i items) in
-    let next = flat_map-append (leaf_reach s) (take i items) (x ∷ []) in
-    new_is ∙ ap (λ (m : List Bptr). m ++ leaf_reach s x) mid_is ∙ append_assoc old before (leaf_reach s x)
-    ∙ ap (λ (ys : List Bptr). old ++ ys) (ap (λ (zs : List Bptr). before ++ zs) (sym (append-nil (leaf_reach s x))) ∙ sym next ∙ ap (flat_map (leaf_reach s)) (sym (take_next items i d lt)))
+    let before = flat_map f (take i items) in
+    let next = flat_map-append f (take i items) (x ∷ []) in
+    new_is ∙ ap (λ (m : List Bptr). m ++ f x) mid_is ∙ append_assoc old before (f x)
+    ∙ ap (λ (ys : List Bptr). old ++ ys) (ap (λ (zs : List Bptr). before ++ zs) (sym (append-nil (f x))) ∙ sym next ∙ ap (flat_map f) (sym (take_next items i d lt)))

@@ -7,8 +7,9 @@ use Rattle.zr_bptr.specs.declared.Ptr.TheVariants.{Hole, At}
 use Rattle.zr_bptr.specs.declared.Tree.{Tree}
 use Rattle.zr_bptr.specs.declared.ObjRec.{ObjRec}
 use Rattle.zr_store.specs.Store.{Stored, Swaps}
-use Rattle.zr_tree.specs.Trees.{own, tree_at, tree_reach, updated, KeepsOthers}
+use Rattle.zr_tree.specs.Trees.{own, tree_at, tree_reach, updated, IsTreeWay, KeepsOthers}
 use Rattle.zr_objset.specs.Records.{records_in, record_in, record_of}
+use Rattle.zr_objset.specs.Errors.{IsRecordLeaf}
 
 -- the record of an object with the changes
 abbrev pub changed : List (ℕ × Option ObjRec) → ℕ → Option ObjRec → Option ObjRec
@@ -39,17 +40,20 @@ pub record PutsLeaf (records : List (Option ObjRec)) (old new : Stored) (p : Ptr
   pub needed : IsNeeded new p
   pub swaps : Swaps old new [] (own p)
 
--- the pointer p came for the leaf q with the changes
+-- the pointer p came for the leaf q with the changes, and q was in its form
 pub record ChangesLeaf (place : ℕ) (changes : List (ℕ × Option ObjRec)) (old new : Stored) (q p : Ptr) : Type 0 where
   pub records : (id : ℕ) → id / 16 ≡ place → record_in new p (id % 16) ≡ changed changes id (record_in old q (id % 16))
   pub needed : IsNeeded new p
   pub swaps : Swaps old new [] (own p)
+  pub formed : IsRecordLeaf old q
 
--- the leaves `news` came for those of the directory with the changes
+-- the leaves `news` came for those of the directory with the changes, and what was read for them was whole
 pub record PutsLeaves (dir : Tree) (changes : List (ℕ × Option ObjRec)) (old new : Stored) (news : List (ℕ × Ptr)) : Type 0 where
   pub records : (id : ℕ) → record_in new (updated news (id / 16) (tree_at old dir (id / 16))) (id % 16) ≡ changed changes id (record_of old dir id)
   pub needed : All (λ change. IsNeeded new (updated news (change.0 / 16) (tree_at old dir (change.0 / 16)))) changes
   pub swaps : Swaps old new [] (flat_map (λ leaf. own leaf.1) news)
+  pub ways : All (λ change. IsTreeWay old dir (change.0 / 16)) changes
+  pub formed : All (λ change. IsRecordLeaf old (tree_at old dir (change.0 / 16))) changes
 
 -- the directory u is dir with the changes, the store has u's blocks and leaves in place of dir's, and trees beside it are
 -- kept; a changed leaf without any object is a hole

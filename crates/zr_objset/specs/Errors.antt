@@ -1,5 +1,5 @@
 -- Leaves that are outside their form, and the errors that tell of them.
-use Rattle.std.specs.Prelude.{◌≡◌, ◌≢◌, ◌⊎◌, ℕ, List, Option, Result, IsErrOf}
+use Rattle.std.specs.Prelude.{◌≡◌, ◌≢◌, ◌⊎◌, ℕ, List, All, Option, Some, None, Result, IsErrOf}
 use Rattle.zr_base.specs.declared.space.Dva.{Dva}
 use Rattle.zr_bptr.specs.declared.Bptr.{Bptr}
 use Rattle.zr_bptr.specs.declared.Ptr.{Ptr}
@@ -9,7 +9,8 @@ use Rattle.zr_bptr.specs.Spelling.{SpellsRecords}
 use Rattle.zr_store.specs.declared.StoreErr.{StoreErr}
 use Rattle.zr_store.specs.declared.StoreErr.TheVariants.{Malformed, Damaged, Unresolved}
 use Rattle.zr_store.specs.Store.{Stored, AreStored}
-use Rattle.zr_tree.specs.Trees.{IsAmong, HasBadBlock, HasDamagedBlock}
+use Rattle.zr_tree.specs.Trees.{IsAmong, IsSoundAt, HasBadBlock, HasDamagedBlock}
+use Rattle.zr_objset.specs.Records.{records_in}
 
 -- the bytes are not those of sixteen records
 abbrev pub IsNoLeaf : Stored → Bptr → Type 0
@@ -31,6 +32,15 @@ IsRecordLeaf s (At b) = (records : List (Option ObjRec)) × SpellsRecords (s.byt
 -- sixteen records, where it is a leaf of the directory
 abbrev pub IsFormed : Stored → Bptr → Type 0
 IsFormed s b = b.level ≡ 0 → IsRecordLeaf s (At b)
+
+-- from the root down each tree block of an object that is there is whole
+abbrev pub IsSoundObject : Stored → Option ObjRec → Type 0
+IsSoundObject s None = Unit {0}
+IsSoundObject s (Some r) = IsSoundAt s r.tree.height r.tree.root
+
+-- so are those of each object in it, where it is a leaf of the directory
+abbrev pub HasSoundObjects : Stored → Bptr → Type 0
+HasSoundObjects s b = b.level ≡ 0 → All (IsSoundObject s) (records_in (s.bytes b))
 
 -- a hole, or a leaf of this length
 abbrev pub IsOfSize : ℕ → Ptr → Type 0

@@ -6,7 +6,7 @@ ghost use Rattle.std.specs.List.{AllByRecursion};
 ghost use Rattle.zr_store.specs.Causes.{Costs, HasCause};
 ghost use Rattle.zr_store.specs.Store.{Stored};
 ghost use Rattle.zr_bptr.specs.Spelling.{IsTree, IsObject, SpellsRecords};
-ghost use Rattle.zr_tree.specs.Trees.{own, tree_at, tree_reach};
+ghost use Rattle.zr_tree.specs.Trees.{own, tree_at, tree_reach, IsTreeWay};
 ghost use Rattle.zr_objset.specs.Records.{records_in, record_of, block_of};
 ghost use Rattle.zr_objset.specs.Errors.{IsNoLeaf, IsOtherSize, IsRecordLeaf, IsOfSize, TellsOfLeaves};
 
@@ -57,6 +57,7 @@ pub fn look<B: Blocks>(
     ensures same { (s : Stored) → B.holds store.old s → B.holds store.new s }
     ensures errors { (s : Stored) → B.holds store.old s → TellsOfLeaves s (tree_reach s dir.now) (own (tree_at s dir.now (id / 16))) (IsNoLeaf s) result }
     ensures lawful { IfOk result (λ r. IfSome r IsObject) }
+    ensures way { (s : Stored) → B.holds store.old s → IfOk result (λ r. IsTreeWay s dir.now (id / 16)) }
     ensures formed { (s : Stored) → B.holds store.old s → IfOk result (λ r. IsRecordLeaf s (tree_at s dir.now (id / 16))) }
     ensures record { (s : Stored) → B.holds store.old s → IfOk result (λ r. r ≡ record_of s dir.now id) }
 {
@@ -90,6 +91,7 @@ pub fn block<B: Blocks>(
     ensures cause { HasCause 0 (B.account store.old) (B.account store.new) result }
     ensures same { (s : Stored) → B.holds store.old s → B.holds store.new s }
     ensures errors { (s : Stored) → B.holds store.old s → TellsOfLeaves s (tree_reach s rec.now.tree) (own (tree_at s rec.now.tree index)) (IsOtherSize rec.now.units) result }
+    ensures way { (s : Stored) → B.holds store.old s → IfOk result (λ bytes. IsTreeWay s rec.now.tree index) }
     ensures size { (s : Stored) → B.holds store.old s → IfOk result (λ bytes. IsOfSize rec.now.units (tree_at s rec.now.tree index)) }
     ensures bytes { (s : Stored) → B.holds store.old s → IfOk result (λ bytes. bytes.items ≡ block_of s rec.now index) }
 {

@@ -9,9 +9,9 @@ ghost use Rattle.zr_bptr.specs.declared.ObjRec.{ObjRec};
 ghost use Rattle.zr_store.specs.Causes.{Costs, HasCause};
 ghost use Rattle.zr_store.specs.Store.{Stored, Now, AreStored, Swaps};
 ghost use Rattle.zr_tree.specs.Blocks.{FitsAt};
-ghost use Rattle.zr_tree.specs.Trees.{own, tree_at, tree_reach, AreLeaves, Rises, TellsOf};
+ghost use Rattle.zr_tree.specs.Trees.{own, tree_at, tree_reach, AreLeaves, Rises, IsTreeWay, TellsOf};
 ghost use Rattle.zr_objset.specs.Records.{record_in};
-ghost use Rattle.zr_objset.specs.Errors.{IsNoLeaf, TellsOfLeaves};
+ghost use Rattle.zr_objset.specs.Errors.{IsNoLeaf, IsRecordLeaf, TellsOfLeaves};
 ghost use Rattle.zr_objset.specs.Changes.{changed, RisesById, AllIn, leaves_of, PutsLeaf, ChangesLeaf, PutsLeaves, StoresRecords};
 
 use crate::reads::read_records;
@@ -41,6 +41,7 @@ fn open_leaf<B: Blocks>(
     ensures errors { (s : Stored) → B.holds store.old s → TellsOfLeaves s (own leaf.now) (own leaf.now) (IsNoLeaf s) result }
     ensures count { IfOk result (λ records. length records.items ≡ 16) }
     ensures lawful { IfOk result (λ records. AllByRecursion (λ r. IfSome r IsObject) records.items) }
+    ensures formed { (s : Stored) → B.holds store.old s → IfOk result (λ records. IsRecordLeaf s leaf.now) }
     ensures means { (s : Stored) → B.holds store.old s → IfOk result (λ records. (k : ℕ) → record_in s leaf.now k ≡ slice_index_or records.items k None) }
 {
     match leaf {
@@ -219,6 +220,8 @@ pub fn store<B: Blocks>(
     ensures errors { (s : Stored) → B.holds store.old s → AreStored (tree_reach s dir.now) s → TellsOfLeaves s (tree_reach s dir.now) (leaves_of s dir.now changes.now) (IsNoLeaf s) result }
     ensures dir { IfOk result IsTree }
     ensures low { IfOk result (λ u. u.height ≤ 3) }
+    ensures way { (s : Stored) → B.holds store.old s → AreStored (tree_reach s dir.now) s → IfOk result (λ u. All (λ change. IsTreeWay s dir.now (change.0 / 16)) changes.now) }
+    ensures formed { (s : Stored) → B.holds store.old s → AreStored (tree_reach s dir.now) s → IfOk result (λ u. All (λ change. IsRecordLeaf s (tree_at s dir.now (change.0 / 16))) changes.now) }
     ensures stores { (s : Stored) → B.holds store.old s → AreStored (tree_reach s dir.now) s → IfOk result (λ u. Now (B.holds store.new) (λ n. StoresRecords changes.now s n dir.now u)) }
 {
     let mut olds = Vec::new(alloc);

@@ -3,9 +3,9 @@ ghost use Rattle.std.specs.Prelude.{◌≡◌, ◌≤◌, ◌++◌, ◌∷◌, [
 ghost use Rattle.zr_store.specs.Causes.{Costs, HasCause};
 ghost use Rattle.zr_store.specs.Store.{Stored};
 ghost use Rattle.zr_bptr.specs.Spelling.{IsTree, IsObject};
-ghost use Rattle.zr_tree.specs.Trees.{tree_reach, TellsOf};
+ghost use Rattle.zr_tree.specs.Trees.{tree_reach, IsSoundAt, TellsOf};
 ghost use Rattle.zr_objset.specs.Records.{object_reach, leaf_reach, all_reach};
-ghost use Rattle.zr_objset.specs.Errors.{IsBadLeaf, IsFormed, TellsOfLeaves};
+ghost use Rattle.zr_objset.specs.Errors.{IsBadLeaf, IsFormed, IsSoundObject, HasSoundObjects, TellsOfLeaves};
 
 use crate::reads::read_records;
 use std::alloc::Global;
@@ -24,6 +24,7 @@ fn walk_object<B: Blocks>(
     ensures cause { HasCause 0 (B.account store.old) (B.account store.new) result }
     ensures same { (s : Stored) → B.holds store.old s → B.holds store.new s }
     ensures errors { (s : Stored) → B.holds store.old s → TellsOf s (object_reach s object.now) result }
+    ensures sound { (s : Stored) → B.holds store.old s → OnOk result (IsSoundObject s object.now) }
     ensures reach { (s : Stored) → B.holds store.old s → OnOk result (out.new.items ≡ out.old.items ++ object_reach s object.now) }
 {
     let Some(r) = object else {
@@ -47,6 +48,7 @@ fn walk_leaf<B: Blocks>(
     ensures same { (s : Stored) → B.holds store.old s → B.holds store.new s }
     ensures errors { (s : Stored) → B.holds store.old s → TellsOfLeaves s (b.now ∷ leaf_reach s b.now) (b.now ∷ []) (IsBadLeaf s) result }
     ensures formed { (s : Stored) → B.holds store.old s → OnOk result (IsFormed s b.now) }
+    ensures objects { (s : Stored) → B.holds store.old s → OnOk result (HasSoundObjects s b.now) }
     ensures reach { (s : Stored) → B.holds store.old s → OnOk result (out.new.items ≡ out.old.items ++ leaf_reach s b.now) }
 {
     if b.level != 0 {
@@ -69,7 +71,9 @@ pub fn walk<B: Blocks>(alloc: Global, store: &mut B, dir: &Tree) -> Result<Vec<B
     ensures cause { HasCause 0 (B.account store.old) (B.account store.new) result }
     ensures same { (s : Stored) → B.holds store.old s → B.holds store.new s }
     ensures errors { (s : Stored) → B.holds store.old s → TellsOfLeaves s (all_reach s dir.now) (tree_reach s dir.now) (IsBadLeaf s) result }
+    ensures sound { (s : Stored) → B.holds store.old s → OnOk result (IsSoundAt s dir.now.height dir.now.root) }
     ensures formed { (s : Stored) → B.holds store.old s → OnOk result (All (IsFormed s) (tree_reach s dir.now)) }
+    ensures objects { (s : Stored) → B.holds store.old s → OnOk result (All (HasSoundObjects s) (tree_reach s dir.now)) }
     ensures reach { (s : Stored) → B.holds store.old s → IfOk result (λ pointers. pointers.items ≡ all_reach s dir.now) }
 {
     let own = zr_tree::walk(alloc, store, dir)?;

@@ -4,17 +4,17 @@ use Rattle.std.proofs.Common.{◌≡◌, ◌+◌, ◌<◌, ℕ, zero, suc, List,
 use Rattle.std.specs.Prelude.{All, if◌then◌else◌}
 use Rattle.std.specs.List.{sum_by, flat_map}
 use Rattle.std.proofs.lemmas.List.Sums.{sum_by-append, sum_by-cons}
-use Rattle.std.proofs.lemmas.List.Elements.{All-head, All-tail}
+use Rattle.std.proofs.lemmas.List.Elements.{All-head, All-tail, All-nil}
 use Rattle.zr_bptr.specs.declared.Bptr.{Bptr}
 use Rattle.zr_bptr.specs.declared.Ptr.{Ptr}
 use Rattle.zr_bptr.specs.declared.Ptr.TheVariants.{Hole, At}
 use Rattle.zr_store.specs.Store.{Stored, Swaps, AreStored, IsOnce, hits, one_at}
-use Rattle.zr_tree.specs.Trees.{digit, blocks, own, updated, AllAt, IsOpen, IsWholeAt, Brings, Sets, SetsEach, leaf_at, Rises, weigh, weight_at, SwapsLeaves, slot}
+use Rattle.zr_tree.specs.Trees.{digit, blocks, own, updated, AllAt, IsOpen, IsWholeAt, Brings, Sets, SetsEach, leaf_at, Rises, weigh, weight_at, SwapsLeaves, slot, IsWay}
 use Rattle.zr_tree.proofs.Wholes.{among_hits, brings_none, brings_within, brings_block, brings_same, within_back}
-use Rattle.zr_tree.proofs.Frames.{Agree, IsSameTree, frame, each_blocks, each_leaf_list, each_leaves}
+use Rattle.zr_tree.proofs.Frames.{Agree, IsSameTree, frame, each_blocks, each_leaf_list, each_leaves, each_ways}
 
 no_change : (level place : ℕ) (s : Stored) (q : Ptr) → Sets level place [] s s q q
-no_change level place s q = record { leaves = λ index at. refl; swaps = record { stored = λ weight. refl; kept = λ b out stored. refl }; brings = brings_none s (blocks s level q); swaps_leaves = λ rises. record { stored = λ weight. refl } }
+no_change level place s q = record { leaves = λ index at. refl; swaps = record { stored = λ weight. refl; kept = λ b out stored. refl }; brings = brings_none s (blocks s level q); swaps_leaves = λ rises. record { stored = λ weight. refl }; ways = All-nil (λ (change : ℕ × Ptr). IsWay s level q change.0); were_whole = λ index here way. way }
 
 pub unchanged : (level place : ℕ) (s : Stored) (q : Ptr) (changes : List (ℕ × Ptr)) → nat_eq (length changes) 0 ≡ true → Sets level place changes s s q q
 unchanged level place s q [] none = no_change level place s q
@@ -64,6 +64,8 @@ leaf_set place n changes s q d at size = record {
   swaps = record { stored = λ weight. refl; kept = λ b out stored. refl };
   brings = brings_none s [];
   swaps_leaves = leaf_weighs place n changes q d at size;
+  ways = λ k e lt. tt;
+  were_whole = λ index here way. tt;
 }
 
 -- the blocks below are stored
@@ -84,7 +86,7 @@ own_stored below place changes s0 s1 s2 q p qs ps open_q each put held weight =
     omega (arith, o, e, u, h)
 
 module _ (below place : ℕ) (changes : List (ℕ × Ptr)) (s0 s1 s2 s3 : Stored) (q p : Ptr) (qs ps : List Ptr) (open_q : IsOpen s0 below q qs) (each : SetsEach below place changes s0 s1 qs ps) (open_p : IsOpen s2 below p ps)
-    (put : Swaps s1 s2 [] (own p)) (whole : IsWholeAt s2 p) (free : Swaps s2 s3 (own q) []) (held : AreStored (blocks s0 (suc below) q) s0) (once : IsOnce s2) where
+    (put : Swaps s1 s2 [] (own p)) (whole : IsWholeAt s2 p) (free : Swaps s2 s3 (own q) []) (held : AreStored (blocks s0 (suc below) q) s0) (once : IsOnce s2) (whole_q : IsWholeAt s0 q) where
   old_blocks : (weight : Bptr → ℕ) → sum_by weight (blocks s0 (suc below) q) ≡ sum_by weight (own q) + sum_by weight (flat_map (blocks s0 below) qs)
   old_blocks weight = ap (sum_by weight) open_q.tree_blocks ∙ sum_by-append weight (own q) (flat_map (blocks s0 below) qs)
 
@@ -162,4 +164,8 @@ module _ (below place : ℕ) (changes : List (ℕ × Ptr)) (s0 s1 s2 s3 : Stored
           let w = weight_same weight (leaf_at s0 (suc below) q) (λ index. leaf_at s0 below (slot qs (digit below index)) index) changes open_q.leaves in
           omega (arith, e, n, o, w);
     };
+    ways = λ k d lt. (open_q.way (get_or changes k d).0).1 (whole_q, each.ways k d lt);
+    were_whole = λ index at way.
+        let into = (open_p.way index).0 (same_tree.ways index way) in
+        (open_q.way index).1 (whole_q, each.were_whole index at (each_ways s1 s2 below (λ x h. frame s1 s2 below x h) ps agree12 (digit below index) index into.1));
   }

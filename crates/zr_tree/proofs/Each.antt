@@ -1,18 +1,18 @@
 -- One more pointer of a block has changed.
-use Rattle.std.proofs.Common.{◌≡◌, ◌≢◌, ◌+◌, ◌-◌, ◌/◌, ◌%◌, ◌^◌, ◌<◌, ◌≤◌, ◌⊎◌, inl, inr, ℕ, suc, List, [], ◌∷◌, ◌++◌, length, set, drop, get_or, get_or-drop, refl, sym, ◌∙◌, ap, arith, nat_eq, false, Bool, get_or-set_other, get_or-set_same}
+use Rattle.std.proofs.Common.{◌≡◌, ◌≢◌, ◌+◌, ◌-◌, ◌/◌, ◌%◌, ◌^◌, ◌<◌, ◌≤◌, ◌⊎◌, inl, inr, ℕ, suc, List, [], ◌∷◌, ◌++◌, length, set, drop, get_or, get_or-drop, refl, sym, ◌∙◌, ap, subst, arith, nat_eq, false, Bool, get_or-set_other, get_or-set_same}
 use Rattle.std.specs.Prelude.{if◌then◌else◌, All}
 use Rattle.std.specs.List.{sum_by, flat_map, AllByRecursion}
 use Rattle.std.proofs.lemmas.Bool.{cases_eq, ne_eqb}
-use Rattle.std.proofs.lemmas.List.Elements.{All-head, All-tail}
+use Rattle.std.proofs.lemmas.List.Elements.{All-head, All-tail, All-append}
 use Rattle.zr_base.specs.declared.space.Dva.{Dva}
 use Rattle.zr_bptr.specs.declared.Bptr.{Bptr}
 use Rattle.zr_bptr.specs.declared.Ptr.{Ptr}
 use Rattle.zr_bptr.specs.declared.Ptr.TheVariants.{Hole}
 use Rattle.zr_store.specs.Store.{Stored, AreStored, IsOnce, hits, one_at}
-use Rattle.zr_tree.specs.Trees.{slot, digit, leaf_at, blocks, updated, AllAt, Brings, Sets, SetsEach, leaves_below, Rises, weigh, weight_at, weight_of}
-use Rattle.zr_tree.proofs.Frames.{IsSameTree, frame}
+use Rattle.zr_tree.specs.Trees.{slot, digit, leaf_at, blocks, updated, AllAt, Brings, Sets, SetsEach, leaves_below, Rises, weigh, weight_at, weight_of, IsWay}
+use Rattle.zr_tree.proofs.Frames.{IsSameTree, frame, whole_again}
 use Rattle.zr_tree.proofs.Holes.{div-suc}
-use Rattle.zr_tree.proofs.Wholes.{like, like_less, sum_less, among_count, count_among, among_hits, among_within, within_flat, whole_again}
+use Rattle.zr_tree.proofs.Wholes.{like, like_less, sum_less, among_count, count_among, among_hits, among_within, within_flat}
 use Rattle.zr_tree.proofs.Sums.{sum_flat, sum_swap, one_of, two_of}
 
 pub updated_append : (xs ys : List (ℕ × Ptr)) (index : ℕ) (p : Ptr) → updated (xs ++ ys) index p ≡ updated ys index (updated xs index p)
@@ -213,6 +213,23 @@ module _ (below place child : ℕ) (done here : List (ℕ × Ptr)) (s0 s1 s2 : S
     ];
   }
 
+  -- a way of the run that is whole was whole at first
+  way_here : (index : ℕ) → index / 32 ^ below ≡ child → IsWay s1 below (slot ps (child % 32)) index → IsWay s0 below (slot qs (digit below index)) index
+  way_here index here_is way =
+      let up = div-suc index below in
+      let row_is : index / 32 ^ suc below ≡ place = omega (arith, up, here_is, row) in
+      let eq : digit below index ≡ child % 32 = ap (λ (n : ℕ). n % 32) here_is in
+      so_far.were_whole index row_is (subst (λ (j : ℕ). IsWay s1 below (slot ps j) index) (sym eq) way)
+
+  were_whole : (index : ℕ) → index / 32 ^ suc below ≡ place → (digit below index ≡ child % 32) ⊎ (digit below index ≢ child % 32) → IsWay s2 below (slot (set ps (child % 32) p) (digit below index)) index → IsWay s0 below (slot qs (digit below index)) index
+  were_whole index row_is (inl eq) way =
+      let up = div-suc index below in
+      let at_place : index / 32 ^ below ≡ child = omega (arith, up, row_is, row, eq) in
+      way_here index at_place (one.were_whole index at_place (subst (λ (q : Ptr). IsWay s2 below q index) (ap (slot (set ps (child % 32) p)) eq ∙ get_or-set_same ps (child % 32) p Hole within) way))
+  were_whole index row_is (inr ne) way =
+      let lt : digit below index < length ps = omega arith in
+      so_far.were_whole index row_is ((other_same (digit below index) lt ne).ways index (subst (λ (q : Ptr). IsWay s2 below q index) (get_or-set_other ps (child % 32) (digit below index) p Hole ne) way))
+
   pub one_more : SetsEach below place (done ++ here) s0 s2 qs (set ps (child % 32) p)
   one_more = record {
     leaves = λ index row_is. leaves index row_is (cases_eq (digit below index) (child % 32));
@@ -231,4 +248,6 @@ module _ (below place child : ℕ) (done here : List (ℕ × Ptr)) (s0 s1 s2 : S
           let e = weight_of_append weight done here in
           omega (arith, a, b, c, w, d, e);
     };
+    ways = All-append (λ (change : ℕ × Ptr). IsWay s0 below (slot qs (digit below change.0)) change.0) done here so_far.ways (λ k d lt. way_here (get_or here k d).0 (at k d lt) (one.ways k d lt));
+    were_whole = λ index row_is way. were_whole index row_is (cases_eq (digit below index) (child % 32)) way;
   }

@@ -4,7 +4,7 @@ use Rattle.std.proofs.lemmas.Bool.Decides.{nat_tests}
 use Rattle.std.proofs.Math.Nat.{div-div-eq-div-mul, pow-suc, lt-div-mul-add}
 use Rattle.std.proofs.lemmas.List.{get_or_default}
 use Rattle.std.proofs.lemmas.List.Elements.{All-head, All-tail}
-use Rattle.std.specs.Prelude.{All}
+use Rattle.std.specs.Prelude.{All, ◌↔◌}
 use Rattle.zr_bptr.specs.declared.Bptr.{Bptr}
 use Rattle.zr_bptr.specs.declared.Ptr.{Ptr}
 use Rattle.zr_bptr.specs.declared.Ptr.TheVariants.{Hole, At}
@@ -13,7 +13,7 @@ use Rattle.std.specs.List.{flat_map}
 use Rattle.zr_store.specs.Store.{Stored}
 use Rattle.zr_tree.specs.Blocks.{pointers_in}
 use Rattle.zr_tree.specs.Trees.{kids, slot, digit, leaf_at, leaves_below, tree_at, blocks, IsOpen, IsWhole, IsWay}
-use Rattle.zr_tree.proofs.Frames.{hole_leaf}
+use Rattle.zr_tree.proofs.Frames.{hole_leaf, way_hole}
 
 pub hole_blocks : (s : Stored) (level : ℕ) → blocks s level Hole ≡ []
 hole_blocks s zero = refl
@@ -48,6 +48,7 @@ open_hole s below ps h = record {
   leaves = λ index. sym (ap (λ (q : Ptr). leaf_at s below q index) (hole_slot ps (digit below index) h) ∙ hole_leaf s below index);
   tree_blocks = sym (holes_blocks s below ps h);
   all_leaves = sym (holes_leaves s below ps h);
+  way = λ index. (λ way. (tt, subst (λ (q : Ptr). IsWay s below q index) (sym (hole_slot ps (digit below index) h)) (way_hole s below index)), λ way. tt);
 }
 
 -- a block stands for the pointers in its bytes
@@ -58,6 +59,7 @@ opened s below b bytes ps given are =
       leaves = λ index. ap (λ (qs : List Ptr). leaf_at s below (slot qs (digit below index)) index) same;
       tree_blocks = ap (λ (qs : List Ptr). b ∷ flat_map (blocks s below) qs) same;
       all_leaves = ap (λ (qs : List Ptr). flat_map (leaves_below s below) qs) same;
+      way = λ index. subst (λ (qs : List Ptr). IsWay s (suc below) (At b) index ↔ (IsWhole s b × IsWay s below (slot qs (digit below index)) index)) same (λ way. way, λ way. way);
     }
 
 -- one block down
@@ -74,10 +76,6 @@ pub way_step : (s : Stored) (level below : ℕ) (p : Ptr) (b : Bptr) (index k : 
 way_step s level below p b index k ps next level_is is kids_are k_is lt next_is whole way =
     let slot_is = next_is ∙ sym (get_or_default ps k Hole next lt) ∙ ap (slot ps) k_is ∙ ap (λ (qs : List Ptr). slot qs (digit below index)) kids_are in
     subst (λ (l : ℕ). IsWay s l p index) (sym level_is) (subst (λ (q : Ptr). IsWay s (suc below) q index) (sym is) (whole, subst (λ (q : Ptr). IsWay s below q index) slot_is way))
-
-pub way_hole : (s : Stored) (level index : ℕ) → IsWay s level Hole index
-way_hole s zero index = tt
-way_hole s (suc below) index = tt
 
 pub div-suc : (n h : ℕ) → n / 32 ^ suc h ≡ n / 32 ^ h / 32
 div-suc n h = ap (λ (m : ℕ). n / m) (pow-suc 32 h) ∙ sym (div-div-eq-div-mul n (32 ^ h) 32)

@@ -1,19 +1,19 @@
 -- Holes past the end of a tree change nothing.
 use Rattle.std.proofs.Common.{◌≡◌, ◌≢◌, ◌/◌, ◌^◌, ◌<◌, ◌≤◌, ◌⊎◌, inl, inr, ℕ, List, [], ◌∷◌, ◌++◌, length, drop, get_or, get_or-drop, length-drop, nat_eq, Bool, refl, sym, ◌∙◌, ap, arith, eq-eqb}
-use Rattle.std.specs.Prelude.{if◌then◌else◌}
 use Rattle.std.specs.List.{AllByRecursion}
 use Rattle.std.proofs.Math.Nat.{div-eq_of_lt}
 use Rattle.std.proofs.lemmas.Bool.{cases_eq, ne_eqb}
-use Rattle.std.proofs.lemmas.List.Elements.{All-head, All-tail}
+use Rattle.std.specs.Prelude.{All, if◌then◌else◌}
+use Rattle.std.proofs.lemmas.List.Elements.{All-head, All-tail, All-nil, All-cons}
 use Rattle.zr_bptr.specs.declared.Bptr.{Bptr}
 use Rattle.zr_bptr.specs.declared.Ptr.{Ptr}
 use Rattle.zr_bptr.specs.declared.Ptr.TheVariants.{Hole}
 use Rattle.zr_bptr.specs.declared.Tree.{Tree}
 use Rattle.zr_store.specs.Store.{Stored}
-use Rattle.zr_tree.specs.Trees.{tree_at, updated, Rises, HasRoom, weigh, weight_at, weight_of, SetsTree}
+use Rattle.zr_tree.specs.Trees.{tree_at, updated, Rises, HasRoom, weigh, weight_at, weight_of, SetsTree, IsTreeWay}
 use Rattle.zr_tree.proofs.Each.{updated_append, weight_at_append, weight_of_append}
 use Rattle.zr_tree.proofs.Holes.{below_top}
-use Rattle.zr_tree.proofs.Raise.{outside}
+use Rattle.zr_tree.proofs.Raise.{outside, no_way}
 
 -- a hole at an index past a block of this level
 pub record IsPast (level : ℕ) (change : ℕ × Ptr) : Type 0 where
@@ -74,6 +74,11 @@ past_weight_of weight level (x ∷ xs) all =
     let here : weigh weight x.1 ≡ 0 = ap (weigh weight) all.0.hole in
     let rest = past_weight_of weight level xs all.1 in
     omega (arith, here, rest)
+
+-- no tree block is on the way to an index past the end
+pub past_ways : (s : Stored) (t : Tree) (level : ℕ) (xs : List (ℕ × Ptr)) → t.height ≤ level → AllByRecursion (IsPast level) xs → All (λ change. IsTreeWay s t change.0) xs
+past_ways s t level [] le all = All-nil (λ (change : ℕ × Ptr). IsTreeWay s t change.0)
+past_ways s t level (x ∷ xs) le all = All-cons (λ (change : ℕ × Ptr). IsTreeWay s t change.0) x xs (no_way s t x.0 level le all.0.past) (past_ways s t level xs le all.1)
 
 -- with the holes past the end the tree is the same
 pub with_past : (changes low high : List (ℕ × Ptr)) (old new : Stored) (t u : Tree) → low ++ high ≡ changes → t.height ≤ u.height → AllByRecursion (IsPast u.height) high → SetsTree low old new t u → SetsTree changes old new t u

@@ -1,19 +1,19 @@
 -- A tree becomes a part of a taller one.
-use Rattle.std.proofs.Common.{◌≡◌, ◌≢◌, ◌/◌, ◌%◌, ◌^◌, ◌<◌, ◌≤◌, ◌⊎◌, inl, inr, ℕ, suc, List, [], ◌∷◌, ◌++◌, length, set, append-nil, refl, sym, ◌∙◌, ap, arith, get_or-set_other, get_or-set_same, subst}
+use Rattle.std.proofs.Common.{◌≡◌, ◌≢◌, ◌/◌, ◌%◌, ◌^◌, ◌<◌, ◌≤◌, ◌⊎◌, inl, inr, ℕ, suc, List, [], ◌∷◌, ◌++◌, length, set, append-nil, refl, sym, ◌∙◌, ap, arith, get_or, get_or-set_other, get_or-set_same, subst}
 use Rattle.std.specs.Prelude.{All}
 use Rattle.std.specs.List.{sum_by, flat_map}
 use Rattle.std.proofs.lemmas.List.Sums.{sum_by-append}
 use Rattle.std.proofs.Math.Nat.{div-eq_of_lt, pow-le-pow_right}
 use Rattle.std.proofs.lemmas.Bool.{cases_eq, cases_lt}
 use Rattle.std.proofs.lemmas.Bool.Decides.{nat_tests}
-use Rattle.std.proofs.lemmas.List.Elements.{All-tail, All-head}
+use Rattle.std.proofs.lemmas.List.Elements.{All-tail, All-head, All-append}
 use Rattle.zr_bptr.specs.declared.Bptr.{Bptr}
 use Rattle.zr_bptr.specs.declared.Ptr.{Ptr}
 use Rattle.zr_bptr.specs.declared.Ptr.TheVariants.{Hole}
 use Rattle.zr_bptr.specs.declared.Tree.{Tree}
 use Rattle.zr_store.specs.Store.{Stored, Swaps, AreStored, IsOnce, one_at}
-use Rattle.zr_tree.specs.Trees.{slot, digit, leaf_at, blocks, own, updated, tree_at, tree_blocks, AllAt, IsOpen, IsWholeAt, Brings, Sets, SetsEach, Raises, SetsTree, leaves_below, Rises, weigh, weight_at, SwapsLeaves, tree_leaves}
-use Rattle.zr_tree.proofs.Frames.{Agree, frame, each_blocks, each_leaves, hole_leaf, each_leaf_list}
+use Rattle.zr_tree.specs.Trees.{slot, digit, leaf_at, blocks, own, updated, tree_at, tree_blocks, AllAt, IsOpen, IsWholeAt, Brings, Sets, SetsEach, Raises, SetsTree, leaves_below, Rises, weigh, weight_at, SwapsLeaves, tree_leaves, IsWay, IsTreeWay}
+use Rattle.zr_tree.proofs.Frames.{Agree, frame, each_blocks, each_leaves, hole_leaf, each_leaf_list, each_ways}
 use Rattle.zr_tree.proofs.Holes.{hole_slot, holes_blocks, div-suc, inside, holes_leaves}
 use Rattle.zr_tree.proofs.Wholes.{among_hits, brings_block, brings_then}
 use Rattle.zr_tree.proofs.Others.{keeps_others}
@@ -62,6 +62,9 @@ outside s t index level le ne = elim (cases_lt index (32 ^ t.height)) [
   | inl lt ↦ absurd (ne (div-eq_of_lt (omega (arith, lt, pow-le-pow_right {n = 32} (omega arith) {i = t.height} {j = level} le))))
   | inr ge ↦ grind (arith, nat_tests)
 ]
+
+pub no_way : (s : Stored) (t : Tree) (index level : ℕ) → t.height ≤ level → index / 32 ^ level ≢ 0 → IsTreeWay s t index
+no_way s t index level le ne lt = absurd (ne (div-eq_of_lt (omega (arith, lt, pow-le-pow_right {n = 32} (omega arith) {i = t.height} {j = level} le))))
 
 module _ (below : ℕ) (changes low high : List (ℕ × Ptr)) (s0 s1 s2 s3 : Stored) (t : Tree) (p1 p : Ptr) (hs ps : List Ptr) (size : 0 < length hs) (all_holes : All (λ h. h ≡ Hole) hs) (parts : low ++ high ≡ changes) (short : t.height ≤ below)
     (first : Raises below low s0 s1 t p1) (each : SetsEach below 0 high s1 s2 (set hs 0 p1) ps) (open_p : IsOpen s3 below p ps) (put : Swaps s2 s3 [] (own p)) (whole_p : IsWholeAt s3 p) (at : AllAt below 0 low)
@@ -122,6 +125,19 @@ module _ (below : ℕ) (changes low high : List (ℕ × Ptr)) (s0 s1 s2 s3 : Sto
       ap (λ (q : Ptr). leaf_at s1 below q index) (get_or-set_other hs 0 (digit below index) p1 Hole ne ∙ hole_slot hs (digit below index) all_holes)
       ∙ hole_leaf s1 below index ∙ sym (outside s0 t index below short past) ∙ sym (updated_other below 0 low index (tree_at s0 t index) at past)
 
+  -- a way below the new block that is whole was whole in the tree
+  below_way : (index : ℕ) → index / 32 ^ suc below ≡ 0 → (digit below index ≡ 0) ⊎ (digit below index ≢ 0) → IsWay s1 below (slot (set hs 0 p1) (digit below index)) index → IsTreeWay s0 t index
+  below_way index here (inl eq) way =
+      let up = div-suc index below in
+      let low_here : index / 32 ^ below ≡ 0 = omega (arith, up, here, eq) in
+      first.were_whole index low_here (subst (λ (q : Ptr). IsWay s1 below q index) (ap (slot (set hs 0 p1)) eq ∙ get_or-set_same hs 0 p1 Hole size) way)
+  below_way index here (inr ne) way = no_way s0 t index below short (λ e. ne (ap (λ (n : ℕ). n % 32) e))
+
+  ways_all : All (λ (change : ℕ × Ptr). IsTreeWay s0 t change.0) (low ++ high)
+  ways_all =
+      All-append (λ (change : ℕ × Ptr). IsTreeWay s0 t change.0) low high first.ways
+      (λ k d lt. let index = (get_or high k d).0 in below_way index (all_later (λ (c : ℕ × Ptr). c.0 / 32 ^ suc below ≡ 0) low high room k d lt) (cases_eq (digit below index) 0) (each.ways k d lt))
+
   raised_leaves : Rises (low ++ high) → SwapsLeaves (low ++ high) (tree_leaves s0 t) (leaves_below s3 (suc below) p) (tree_at s0 t)
   raised_leaves rises = record {
     stored = λ weight.
@@ -151,6 +167,10 @@ module _ (below : ℕ) (changes low high : List (ℕ × Ptr)) (s0 s1 s2 s3 : Sto
     swaps = joined s0 s1 s3 (tree_blocks s0 t) (blocks s1 below p1) (blocks s3 (suc below) p) first.swaps second once;
     brings = brought;
     swaps_leaves = subst (λ (cs : List (ℕ × Ptr)). Rises cs → SwapsLeaves cs (tree_leaves s0 t) (leaves_below s3 (suc below) p) (tree_at s0 t)) parts raised_leaves;
+    ways = subst (All (λ (change : ℕ × Ptr). IsTreeWay s0 t change.0)) parts ways_all;
+    were_whole = λ index here way.
+        let into = (open_p.way index).0 way in
+        below_way index here (cases_eq (digit below index) 0) (each.were_whole index here (each_ways s2 s3 below (λ x h. frame s2 s3 below x h) ps agree (digit below index) index into.1));
   }
 
 -- at its own height
@@ -173,6 +193,8 @@ same_height changes s0 s1 t p here sets = record {
         let a = at_height weight s0 t changes here in
         omega (arith, e, a);
   };
+  ways = λ k d lt below_top. sets.ways k d lt;
+  were_whole = λ index at way below_top. sets.were_whole index at way;
 }
 
 -- from the block at the top to the tree

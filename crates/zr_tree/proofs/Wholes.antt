@@ -15,6 +15,7 @@ use Rattle.zr_store.specs.declared.StoreErr.TheVariants.{Malformed, Damaged, Unr
 use Rattle.zr_store.proofs.Causes.{again}
 use Rattle.zr_tree.specs.Blocks.{IsNoBlock}
 use Rattle.zr_tree.specs.Trees.{IsAmong, IsWhole, IsWholeAt, Brings, TellsOf, IsOpen, own, blocks, kids, slot}
+pub use Rattle.zr_tree.proofs.Frames.{whole_again}
 use Rattle.zr_tree.proofs.Frames.{one_itself}
 use Rattle.zr_tree.proofs.Sums.{sum_flat, one_of}
 
@@ -197,12 +198,6 @@ tells_again s xs e h = record {
 -- the error that a `?` hands on
 pub tells_from : {T U : Type 0} (s : Stored) (xs : List Bptr) (r : Result U StoreErr) (e : StoreErr) → (y : StoreErr) × (r ≡ Err y) × (y ≡ e) → TellsOf {T = T} s xs (Err e) → TellsOf s xs r
 tells_from {T} {U} s xs r e given h = subst (λ (x : Result U StoreErr). TellsOf s xs x) (sym (given.1 ∙ ap (λ (y : StoreErr). Err y) given.2)) (tells_again {T = T} {U = U} s xs e h)
-
-pub whole_again : (s t : Stored) (b : Bptr) → t.bytes b ≡ s.bytes b → IsWhole s b → IsWhole t b
-whole_again s t b same w = record {
-  checksum = w.checksum ∙ sym (ap (λ (bytes : List ℕ). sha256 bytes) same);
-  block = (w.block.0, subst (λ (bytes : List ℕ). SpellsTreeBlock bytes (b.level - 1) b.fill w.block.0) (sym same) w.block.1);
-}
 
 -- what a later store tells of a block is told of one of the blocks before
 pub tells_before : {T : Type 0} (s t : Stored) (out into : List Bptr) (r : Result T StoreErr) → Brings s t out into → AreStored into t → TellsOf t into r → TellsOf s out r

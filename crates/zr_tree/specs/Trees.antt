@@ -1,5 +1,5 @@
 -- What a tree in a store means.
-use Rattle.std.specs.Prelude.{◌≡◌, ◌≢◌, ◌⊎◌, ◌/◌, ◌%◌, ◌^◌, ◌*◌, ◌-◌, ◌≤◌, nat_eq, nat_lt, if◌then◌else◌, ℕ, zero, suc, List, [], ◌∷◌, ◌++◌, slice_index_or, All, Result, IsErrOf, ◌+◌, sum_by, ◌<◌}
+use Rattle.std.specs.Prelude.{◌≡◌, ◌≢◌, ◌⊎◌, ◌/◌, ◌%◌, ◌^◌, ◌*◌, ◌-◌, ◌≤◌, nat_eq, nat_lt, if◌then◌else◌, ℕ, zero, suc, List, [], ◌∷◌, ◌++◌, ◌↔◌, slice_index_or, All, Result, IsErrOf, ◌+◌, sum_by, ◌<◌}
 use Rattle.std.specs.List.{flat_map, AllByRecursion}
 use Rattle.zr_base.specs.declared.space.Dva.{Dva}
 use Rattle.zr_bptr.specs.declared.Bptr.{Bptr}
@@ -95,16 +95,6 @@ weight_of weight (change ∷ changes) = weigh weight change.1 + weight_of weight
 pub record SwapsLeaves (changes : List (ℕ × Ptr)) (old new : List Bptr) (at : ℕ → Ptr) : Type 0 where
   pub stored : (weight : Bptr → ℕ) → sum_by weight new + weight_at weight at changes ≡ sum_by weight old + weight_of weight changes
 
--- the 32 pointers of the block, all holes for a hole
-pub record IsOpen (s : Stored) (below : ℕ) (p : Ptr) (pointers : List Ptr) : Type 0 where
-  pub leaves : (index : ℕ) → leaf_at s (suc below) p index ≡ leaf_at s below (slot pointers (digit below index)) index
-  pub tree_blocks : blocks s (suc below) p ≡ own p ++ flat_map (blocks s below) pointers
-  pub all_leaves : leaves_below s (suc below) p ≡ flat_map (leaves_below s below) pointers
-
--- the block is one of these
-abbrev pub IsAmong : Bptr → List Bptr → Type 0
-IsAmong b pointers = (weight : Bptr → ℕ) → weight b ≤ sum_by weight pointers
-
 -- the block has its sum, and is a tree block of its level
 pub record IsWhole (s : Stored) (b : Bptr) : Type 0 where
   pub checksum : b.sum ≡ sha256 (s.bytes b)
@@ -114,15 +104,30 @@ abbrev pub IsWholeAt : Stored → Ptr → Type 0
 IsWholeAt s Hole = Unit {0}
 IsWholeAt s (At b) = IsWhole s b
 
--- each block that came is one of those that left, with the bytes that it had, or is whole
-pub record Brings (old new : Stored) (out into : List Bptr) : Type 0 where
-  pub each : (b : Bptr) → IsAmong b into → (IsAmong b out × (new.bytes b ≡ old.bytes b)) ⊎ IsWhole new b
-
 -- the tree blocks on the way to an index are whole
 abbrev pub IsWay : Stored → ℕ → Ptr → ℕ → Type 0
 IsWay s zero p index = Unit {0}
 IsWay s (suc below) Hole index = Unit {0}
 IsWay s (suc below) (At b) index = IsWhole s b × IsWay s below (slot (kids s below b) (digit below index)) index
+
+-- the tree blocks on the way to an index are whole, where the tree has that index
+abbrev pub IsTreeWay : Stored → Tree → ℕ → Type 0
+IsTreeWay s t index = index < 32 ^ t.height → IsWay s t.height t.root index
+
+-- the 32 pointers of the block, all holes for a hole
+pub record IsOpen (s : Stored) (below : ℕ) (p : Ptr) (pointers : List Ptr) : Type 0 where
+  pub leaves : (index : ℕ) → leaf_at s (suc below) p index ≡ leaf_at s below (slot pointers (digit below index)) index
+  pub tree_blocks : blocks s (suc below) p ≡ own p ++ flat_map (blocks s below) pointers
+  pub all_leaves : leaves_below s (suc below) p ≡ flat_map (leaves_below s below) pointers
+  pub way : (index : ℕ) → IsWay s (suc below) p index ↔ (IsWholeAt s p × IsWay s below (slot pointers (digit below index)) index)
+
+-- the block is one of these
+abbrev pub IsAmong : Bptr → List Bptr → Type 0
+IsAmong b pointers = (weight : Bptr → ℕ) → weight b ≤ sum_by weight pointers
+
+-- each block that came is one of those that left, with the bytes that it had, or is whole
+pub record Brings (old new : Stored) (out into : List Bptr) : Type 0 where
+  pub each : (b : Bptr) → IsAmong b into → (IsAmong b out × (new.bytes b ≡ old.bytes b)) ⊎ IsWhole new b
 
 -- from here down each pointer is lawful and of its level, and each tree block is whole
 abbrev pub IsSoundAt : Stored → ℕ → Ptr → Type 0
@@ -136,12 +141,15 @@ pub record PutsBlock (below : ℕ) (pointers : List Ptr) (old new : Stored) (p :
   pub whole : IsWholeAt new p
   pub swaps : Swaps old new [] (own p)
 
--- the pointer p stands for q, with the changes made, and the store has its tree blocks in place of q's
+-- The pointer p stands for q, with the changes made, and the store has its tree blocks in place of q's. The way to each
+-- change was whole, and so was each way that is whole now.
 pub record Sets (level place : ℕ) (changes : List (ℕ × Ptr)) (old new : Stored) (q p : Ptr) : Type 0 where
   pub leaves : (index : ℕ) → index / 32 ^ level ≡ place → leaf_at new level p index ≡ updated changes index (leaf_at old level q index)
   pub swaps : Swaps old new (blocks old level q) (blocks new level p)
   pub brings : Brings old new (blocks old level q) (blocks new level p)
   pub swaps_leaves : Rises changes → SwapsLeaves changes (leaves_below old level q) (leaves_below new level p) (leaf_at old level q)
+  pub ways : All (λ change. IsWay old level q change.0) changes
+  pub were_whole : (index : ℕ) → index / 32 ^ level ≡ place → IsWay new level p index → IsWay old level q index
 
 -- the same for the 32 pointers of a block above this level
 pub record SetsEach (below place : ℕ) (changes : List (ℕ × Ptr)) (old new : Stored) (qs ps : List Ptr) : Type 0 where
@@ -149,6 +157,8 @@ pub record SetsEach (below place : ℕ) (changes : List (ℕ × Ptr)) (old new :
   pub swaps : Swaps old new (flat_map (blocks old below) qs) (flat_map (blocks new below) ps)
   pub brings : Brings old new (flat_map (blocks old below) qs) (flat_map (blocks new below) ps)
   pub swaps_leaves : Rises changes → SwapsLeaves changes (flat_map (leaves_below old below) qs) (flat_map (leaves_below new below) ps) (λ index. leaf_at old below (slot qs (digit below index)) index)
+  pub ways : All (λ change. IsWay old below (slot qs (digit below change.0)) change.0) changes
+  pub were_whole : (index : ℕ) → index / 32 ^ suc below ≡ place → IsWay new below (slot ps (digit below index)) index → IsWay old below (slot qs (digit below index)) index
 
 -- the tree blocks of a tree
 abbrev pub tree_blocks : Stored → Tree → List Bptr
@@ -168,6 +178,8 @@ pub record Raises (level : ℕ) (changes : List (ℕ × Ptr)) (old new : Stored)
   pub swaps : Swaps old new (tree_blocks old t) (blocks new level p)
   pub brings : Brings old new (tree_blocks old t) (blocks new level p)
   pub swaps_leaves : Rises changes → SwapsLeaves changes (tree_leaves old t) (leaves_below new level p) (tree_at old t)
+  pub ways : All (λ change. IsTreeWay old t change.0) changes
+  pub were_whole : (index : ℕ) → index / 32 ^ level ≡ 0 → IsWay new level p index → IsTreeWay old t index
 
 -- the tree means what it meant
 pub record KeepsTree (old new : Stored) (t : Tree) : Type 0 where

@@ -6,7 +6,7 @@ ghost use Rattle.zr_tree.specs.Blocks.{FitsAt};
 ghost use Rattle.zr_store.specs.Causes.{Costs, HasCause};
 ghost use Rattle.zr_bptr.specs.Spelling.{IsTree};
 ghost use Rattle.zr_store.specs.Store.{Stored};
-ghost use Rattle.zr_tree.specs.Trees.{kids, leaf_at, tree_at, blocks, tree_blocks, IsWhole, IsWay, TellsOf};
+ghost use Rattle.zr_tree.specs.Trees.{kids, leaf_at, tree_at, blocks, tree_blocks, IsWhole, IsWay, IsTreeWay, TellsOf};
 
 use crate::blocks::decode_pointers;
 use std::alloc::Global;
@@ -98,7 +98,7 @@ pub fn get<B: Blocks>(alloc: Global, store: &mut B, t: &Tree, index: u64) -> Res
     ensures errors { (s : Stored) → B.holds store.old s → TellsOf s (tree_blocks s t.now) result }
     ensures fits { IfOk result (FitsAt 0) }
     ensures leaf { (s : Stored) → B.holds store.old s → IfOk result (λ leaf. leaf ≡ tree_at s t.now index) }
-    ensures way { (s : Stored) → B.holds store.old s → index < 32 ^ t.now.height → IfOk result (λ leaf. IsWay s t.now.height t.now.root index) }
+    ensures way { (s : Stored) → B.holds store.old s → IfOk result (λ leaf. IsTreeWay s t.now index) }
 {
     if place_of(index, t.height) != 0 {
         return Ok(Ptr::Hole);

@@ -8,7 +8,7 @@ ghost use Rattle.zr_bptr.specs.declared.Ptr.TheVariants.{Hole};
 ghost use Rattle.zr_tree.specs.Blocks.{FitsAt};
 ghost use Rattle.zr_store.specs.Store.{Stored, Now, AreStored, Swaps};
 ghost use Rattle.zr_store.specs.Causes.{Costs, HasCause};
-ghost use Rattle.zr_tree.specs.Trees.{blocks, own, IsOpen, PutsBlock, Sets, SetsEach, AllAt, AreLeaves, TellsOf};
+ghost use Rattle.zr_tree.specs.Trees.{blocks, own, IsOpen, PutsBlock, Sets, SetsEach, AllAt, AreLeaves, IsWholeAt, TellsOf};
 ghost use Rattle.zr_bptr.specs.Spelling.{IsOfLevel};
 
 use crate::blocks::encode_pointers;
@@ -55,6 +55,7 @@ fn open_block<B: Blocks>(
     ensures count { IfOk result (λ pointers. length pointers.items ≡ 32) }
     ensures fit { IfOk result (λ pointers. All (FitsAt below) pointers.items) }
     ensures open { (s : Stored) → B.holds store.old s → IfOk result (λ pointers. IsOpen s below p.now pointers.items) }
+    ensures whole { (s : Stored) → B.holds store.old s → IsOfLevel (below + 1) p.now → IfOk result (λ pointers. IsWholeAt s p.now) }
 {
     match p {
         Ptr::Hole => Ok(holes(alloc)?),

@@ -8,14 +8,14 @@ use Rattle.zr_bptr.specs.declared.Ptr.{Ptr}
 use Rattle.zr_bptr.specs.declared.ObjRec.{ObjRec}
 use Rattle.zr_store.proofs.Causes.{costs_then, costs_most, cause_then, cause_most, cause_from}
 use Rattle.zr_tree.specs.Blocks.{FitsAt}
-use Rattle.zr_tree.specs.Trees.{own, tree_at, tree_reach, Rises}
+use Rattle.zr_tree.specs.Trees.{own, tree_at, tree_reach, Rises, IsTreeWay}
 use Rattle.zr_tree.proofs.Wholes.{Within}
 use Rattle.zr_objset.specs.Errors.{IsNoLeaf}
 use Rattle.zr_objset.specs.Changes.{AllIn, leaves_of, ChangesLeaf, PutsLeaves}
 use Rattle.zr_objset.proofs.Tells.{leaves_from}
 use Rattle.zr_objset.proofs.Within.{flat_within}
 use Rattle.zr_objset.proofs.Changing.{news_of, puts_more, rises_last}
-use Rattle.zr_objset.proofs.Early.{early_tree, early_leaf, same_leaf}
+use Rattle.zr_objset.proofs.Early.{early_tree, early_leaf, same_leaf, same_way}
 use Rattle.zr_objset.proofs.Runs.{rest_is, rest_at, rest_len, first_at, next_place}
 use Rattle.zr_objset.proofs.stores.put_leaves.Goals as goal
 
@@ -72,11 +72,12 @@ loop-from-preserved g c =
           let one_a = subst (λ (xs : List (ℕ × Option ObjRec)). ChangesLeaf place (take n xs) s1 s2 old q) (rest_is changes from lt) after.is in
           let one = subst (λ (p : Ptr). ChangesLeaf place here s1 s2 p q) old_is one_a in
           let at = subst (λ (xs : List (ℕ × Option ObjRec)). AllIn place (take n xs)) (rest_is changes from lt) c.run_len-n.ensures.here in
+          let way = same_way s s1 (news_of news) dir place now.is.swaps held (subst (IsTreeWay s1 dir) c.from.ensures (c.in_ok-old.ensures.way s1 now.held)) in
           record {
             stored = s2;
             held = after.held;
             is = subst (λ (xs : List (ℕ × Option ObjRec)). PutsLeaves dir xs s s2 c.push-in-loop-from.new.self.items) (sym (take-add from n changes))
-                (subst (PutsLeaves dir (take from changes ++ here) s s2) (sym news_is) (puts_more dir place (take from changes) here s s1 s2 news q now.is one at before held));
+                (subst (PutsLeaves dir (take from changes ++ here) s s2) (sym news_is) (puts_more dir place (take from changes) here s s1 s2 news q now.is one at before held way));
           };
     }
 

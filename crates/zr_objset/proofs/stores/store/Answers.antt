@@ -38,6 +38,12 @@ returns-clause-stores g c = λ s0 holds held.
       is = stores_records changes s0 s1 s2 dir u news olds first.is sets olds_are held s3 free (g.met.B.Blocks.once c.args.store.now s0 holds) (g.met.B.Blocks.once c.put_leaves.new.store s1 first.held) (g.met.B.Blocks.once c.set_all.new.store s2 second.held);
     }
 
+pub returns-clause-way : goal.returns-clause-way
+returns-clause-way g c = λ s holds held. (c.in_ok-news.ensures.puts s holds held).is.ways
+
+pub returns-clause-formed : goal.returns-clause-formed
+returns-clause-formed g c = λ s holds held. (c.in_ok-news.ensures.puts s holds held).is.formed
+
 pub returns-clause-low : goal.returns-clause-low
 returns-clause-low g c =
     let slice = c.as_slice.result.now in

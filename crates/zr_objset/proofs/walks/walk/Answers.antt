@@ -2,10 +2,10 @@ use Rattle.std.proofs.Common.{◌∙◌, ◌<◌, length, arith}
 use Rattle.std.proofs.lemmas.Result.{err_from_is_err_and}
 use Rattle.zr_store.proofs.Causes.{costs_then}
 use Rattle.zr_tree.specs.Trees.{tree_blocks, tree_reach}
-use Rattle.zr_objset.specs.Records.{all_reach}
-use Rattle.zr_objset.specs.Errors.{IsBadLeaf}
+use Rattle.zr_objset.specs.Records.{leaf_reach, all_reach}
+use Rattle.zr_objset.specs.Errors.{IsBadLeaf, IsFormed, HasSoundObjects}
 use Rattle.zr_objset.proofs.Tells.{leaves_from, tells_tree}
-use Rattle.zr_objset.proofs.Walking.{directory_within, leaf_tells, formed_more, reach_more}
+use Rattle.zr_objset.proofs.Walking.{directory_within, leaf_tells, all_more, reach_more}
 use Rattle.zr_objset.proofs.walks.walk.Goals as goal
 
 pub returns-in_err-own-clause-errors : goal.returns-in_err-own-clause-errors
@@ -36,6 +36,7 @@ loop-b-preserved g c =
       follows = λ start so_far. h.follows start (inv.follows start so_far);
       costs = costs_then inv.costs h.costs;
       same = λ s holds. h.same s (inv.same s holds);
-      formed = λ s holds. formed_more s items i _ lt (inv.formed s holds) (h.formed s (inv.same s holds));
-      so_far = λ s holds. reach_more s items i _ c.in_ok-out.out.items c.loop-b.out.items c.walk_leaf.new.out.items lt (inv.so_far s holds) (h.reach s (inv.same s holds));
+      formed = λ s holds. all_more (IsFormed s) items i _ lt (inv.formed s holds) (h.formed s (inv.same s holds));
+      objects = λ s holds. all_more (HasSoundObjects s) items i _ lt (inv.objects s holds) (h.objects s (inv.same s holds));
+      so_far = λ s holds. reach_more (leaf_reach s) items i _ c.in_ok-out.out.items c.loop-b.out.items c.walk_leaf.new.out.items lt (inv.so_far s holds) (h.reach s (inv.same s holds));
     }

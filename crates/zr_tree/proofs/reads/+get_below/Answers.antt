@@ -3,7 +3,8 @@ use Rattle.std.proofs.lemmas.Result.{IfOk-weaker, err_from_is_err_and}
 use Rattle.zr_bptr.specs.Spelling.{IsOfLevel}
 use Rattle.zr_tree.specs.Trees.{blocks, digit, IsWay}
 use Rattle.zr_bptr.specs.declared.Ptr.{Ptr}
-use Rattle.zr_tree.proofs.Holes.{leaf_step, way_step, way_hole}
+use Rattle.zr_tree.proofs.Frames.{way_hole}
+use Rattle.zr_tree.proofs.Holes.{leaf_step, way_step}
 use Rattle.zr_tree.proofs.Wholes.{tells_from, tells_within, top_within, kid_within}
 use Rattle.zr_tree.proofs.reads.+get_below.Goals as goal
 

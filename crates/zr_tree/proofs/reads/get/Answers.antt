@@ -13,4 +13,4 @@ pub returns-then-place_of-ne0-clause-way : goal.returns-then-place_of-ne0-clause
 returns-then-place_of-ne0-clause-way g c = λ s holds lt. absurd (c.if-place_of-ne0.true (c.place_of.ensures ∙ div-eq_of_lt lt))
 
 pub returns-clause-way : goal.returns-clause-way
-returns-clause-way g c = λ s holds lt. c.get_below.ensures.way s holds
+returns-clause-way g c = λ s holds. IfOk-weaker c.get_below.result _ _ (λ leaf way lt. way) (c.get_below.ensures.way s holds)

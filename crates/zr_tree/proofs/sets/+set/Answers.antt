@@ -57,10 +57,12 @@ set_below-returns-clause-sets g t c = λ s0 holds held.
     let third = c.in_ok-free_block.ensures.swaps s2 second.held (own_stored below place changes s0 s1 s2 q p qs ps open_q first.is put held_suc) in
     let s3 = third.stored in
     let once = g.met.B.Blocks.once c.put_block.new.store s2 second.held in
+    let of_level = subst (λ (n : ℕ). IsOfLevel n q) (let up : c.args.level ≡ c.args.level - 1 + 1 = omega arith in up) c.requires.fits.0 in
+    let whole_q = c.in_ok-pointers.ensures.whole s0 holds of_level in
     record {
       stored = s3;
       held = third.held;
-      is = subst (λ (n : ℕ). Sets n place changes s0 s3 q p) (sym level_is) (copied below place changes s0 s1 s2 s3 q p qs ps open_q first.is open_p put second.is.whole third.is held_suc once);
+      is = subst (λ (n : ℕ). Sets n place changes s0 s3 q p) (sym level_is) (copied below place changes s0 s1 s2 s3 q p qs ps open_q first.is open_p put second.is.whole third.is held_suc once whole_q);
     }
 
 pub set_each-loop-from-preserved : goal.set_each-loop-from-preserved

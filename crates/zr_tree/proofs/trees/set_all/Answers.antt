@@ -1,16 +1,17 @@
 use Rattle.std.proofs.Common.{◌≡◌, ◌+◌, ◌*◌, ◌-◌, ◌≤◌, ◌++◌, ℕ, List, length, take, drop, subst, sym, arith}
 use Rattle.std.proofs.lemmas.Result.{err_from_is_err_and}
 use Rattle.std.proofs.lemmas.List.{length-take, take-append-drop}
-use Rattle.std.proofs.lemmas.List.Elements.{All-drop}
+use Rattle.std.proofs.lemmas.List.Elements.{All-drop, All-append}
 use Rattle.zr_bptr.specs.declared.Ptr.{Ptr}
 use Rattle.zr_bptr.specs.declared.Tree.{Tree}
 use Rattle.zr_store.specs.Causes.{Costs, HasCause}
 use Rattle.zr_store.proofs.Causes.{costs_most, cause_most, cause_from}
-use Rattle.zr_tree.specs.Trees.{most_puts, most_frees, Rises}
+use Rattle.std.specs.Prelude.{All}
+use Rattle.zr_tree.specs.Trees.{most_puts, most_frees, Rises, IsTreeWay}
 use Rattle.zr_tree.proofs.Costing.{one_height, puts_within, frees_within, puts_fewer, frees_fewer}
 use Rattle.zr_tree.proofs.Raise.{whole}
 use Rattle.zr_tree.proofs.Each.{rises_front, rises_back}
-use Rattle.zr_tree.proofs.Past.{InRoom, later_past, first_past, with_past}
+use Rattle.zr_tree.proofs.Past.{InRoom, later_past, first_past, with_past, past_ways}
 use Rattle.zr_tree.proofs.trees.set_all.Goals as goal
 
 pub returns-clause-sets : goal.returns-clause-sets
@@ -32,6 +33,21 @@ returns-clause-sets g c = λ s holds held.
       is = with_past changes low high s root.stored t u parts c.height_for-height.ensures.height.grows (later_past height high (rises_back low high rises) room (first_past height n changes c.run_len-n.ensures.past))
           (whole low s root.stored t u c.height_for-height.ensures.height.grows c.run_len-n.ensures.here (rises_front low high rises) (g.met.B.Blocks.once c.args.store.now s holds) root.is);
     }
+
+pub returns-clause-way : goal.returns-clause-way
+returns-clause-way g c = λ s holds held.
+    let changes = c.args.changes.now in
+    let height = c.height_for-height.result in
+    let n = c.run_len-n.result in
+    let low = take n changes in
+    let high = drop n changes in
+    let parts : low ++ high ≡ changes = take-append-drop n changes in
+    let rises = subst Rises (sym parts) c.requires.rises in
+    let room = All-drop (InRoom height) n changes c.height_for-height.ensures.height.room in
+    let past = later_past height high (rises_back low high rises) room (first_past height n changes c.run_len-n.ensures.past) in
+    let t = c.args.t.now in
+    let root = c.in_ok-root.ensures.raises s holds held in
+    subst (All (λ (change : ℕ × Ptr). IsTreeWay s t change.0)) parts (All-append (λ (change : ℕ × Ptr). IsTreeWay s t change.0) low high root.is.ways (past_ways s t height high c.height_for-height.ensures.height.grows past))
 
 -- the changes that are made are not more than all
 fewer : (changes : List (ℕ × Ptr)) (n : ℕ) → length (take n changes) ≤ length changes
