@@ -1,17 +1,11 @@
 -- What a pointer reads from an image of the disks.
-use Rattle.std.specs.Prelude.{◌≡◌, ℕ, List, [], slice_index_or, Option, Some, None}
-use Rattle.std.specs.List.{flat_map}
+use Rattle.std.specs.Prelude.{◌≡◌, ℕ, List, []}
 use Rattle.sha2.specs.Sha256.{sha256}
-use Rattle.zr_shelf.specs.Disks.{disk, part}
-use Rattle.zr_base.specs.declared.space.Dva.{Dva}
 use Rattle.zr_base.specs.declared.refusal.Refusal.{Refusal}
 use Rattle.zr_base.specs.declared.refusal.Refusal.TheVariants.{Damaged}
 use Rattle.zr_bptr.specs.declared.Bptr.{Bptr}
-use Rattle.zr_label.specs.Geometry.{unit_at}
 use Rattle.zr_label.specs.declared.root.Uber.{Uber}
-use Rattle.zr_rules.specs.Places.{Place}
 use Rattle.zr_rules.specs.Devices.{Devices}
-use Rattle.zr_rules.specs.Resolve.{resolved_units}
 use Rattle.zr_store.specs.Store.{Stored}
 use Rattle.zr_view.specs.Views.{View, address_bytes}
 use Rattle.zr_image.specs.Checks.{Check, Demands}

@@ -1,11 +1,10 @@
 -- What holds at the end of some moments, and of an agenda with no act.
-use Rattle.std.proofs.Common.{◌≡◌, ◌≢◌, ◌⊎◌, ◌∙◌, ℕ, List, [], ◌∷◌, ◌++◌, refl, sym, ap, subst, inl, inr}
+use Rattle.std.proofs.Common.{◌≡◌, ℕ, List, [], ◌∷◌, ◌++◌, refl, sym, subst}
 use Rattle.std.specs.List.{AllByRecursion}
 use Rattle.zr_shelf.specs.Disks.{Stand}
 use Rattle.zr_shelf.specs.Moments.{World, Throughout}
-use Rattle.zr_script.specs.Lines.{lines_of}
 use Rattle.zr_model.specs.Runs.{Asks}
-use Rattle.zr_moves.specs.Runs.{Standing, Act, Item, Given, Inserted, Plays, agenda}
+use Rattle.zr_moves.specs.Runs.{Standing, Item, Given, Inserted, Plays, agenda}
 
 module _ (P : Stand → Type 0) where
   in_list : (more : List Stand) (a b : Stand) (xs ys : List Stand) → AllByRecursion P more → a ∷ xs ≡ more ++ b ∷ ys → P b → P a

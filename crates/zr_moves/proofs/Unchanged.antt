@@ -1,9 +1,9 @@
 -- The difference of a set to itself has no words.
-use Rattle.std.proofs.Common.{◌≡◌, ◌+◌, ◌≤◌, ◌<◌, ◌&&◌, ◌||◌, ◌∙◌, ℕ, Bool, true, false, not, nat_le, nat_lt, List, [], ◌∷◌, length, refl, sym, ap, subst, arith}
+use Rattle.std.proofs.Common.{◌≡◌, ◌&&◌, ◌∙◌, ℕ, Bool, true, false, not, List, [], ◌∷◌, refl, sym, arith}
 use Rattle.std.proofs.lemmas.Bool.Decides.{nat_tests}
 use Rattle.zr_base.specs.declared.space.Extent.{Extent}
 use Rattle.zr_base.specs.declared.space.Change.{Change}
-use Rattle.zr_base.specs.Extents.{in_extent, has_unit, IsMaximal}
+use Rattle.zr_base.specs.Extents.{has_unit, IsMaximal}
 use Rattle.zr_rules.specs.Logs.{AreCut, longest_run}
 use Rattle.zr_store.specs.Store.{Stored}
 use Rattle.zr_meta.specs.declared.Stream.{Stream}

@@ -1,12 +1,12 @@
 -- What the program does with its words and its input, and what it leaves at each moment.
-use Rattle.std.specs.Prelude.{◌≡◌, ◌≢◌, ◌⊎◌, ◌↔◌, ℕ, ◌+◌, ◌^◌, ◌≤◌, ◌<◌, ◌==◌, Bool, true, false, not, List, [], ◌∷◌, ◌++◌, length, map, take, count_by, Contains, Option, Some, None, unwrap_or, MatchOption, slice_get, if◌then◌else◌, Ok}
+use Rattle.std.specs.Prelude.{◌≡◌, ◌≢◌, ◌⊎◌, ℕ, ◌+◌, ◌^◌, ◌≤◌, ◌<◌, ◌==◌, Bool, true, false, not, List, [], ◌∷◌, ◌++◌, length, map, take, count_by, Contains, Option, Some, None, unwrap_or, MatchOption, slice_get, if◌then◌else◌}
 use Rattle.std.specs.List.{flat_map}
 use Rattle.std.specs.Str.{bytes_eq}
 use Rattle.sha2.specs.Sha256.{sha256}
 use Rattle.zr_base.specs.declared.space.Policy.{Policy}
 use Rattle.zr_base.specs.declared.refusal.Refusal.{Refusal}
 use Rattle.zr_base.specs.declared.refusal.Refusal.TheVariants as refusal
-use Rattle.zr_shelf.specs.Disks.{Stand, IsAtRest}
+use Rattle.zr_shelf.specs.Disks.{IsAtRest}
 use Rattle.zr_shelf.specs.Moments.{World, Throughout}
 use Rattle.zr_script.specs.declared.command.Command.{Command}
 use Rattle.zr_script.specs.declared.command.Command.TheVariants as cmd
@@ -18,7 +18,7 @@ use Rattle.zr_script.specs.Grammar.{IsLine}
 use Rattle.zr_script.specs.Lines.{lines_of}
 use Rattle.zr_script.specs.ReplyText.{End, Answered, BadWords, NoInput, NoOutput, DiskFault, BadLine, Damage, NoDevice, InputLimit, NoMemory, status_of, last_line, reply_text, generated_line}
 use Rattle.zr_model.specs.Answers.{bytes_to}
-use Rattle.zr_model.specs.Runs.{Shelf, Turn, Asks, texts}
+use Rattle.zr_model.specs.Runs.{Turn, Asks, texts}
 use Rattle.zr_moves.specs.Prefix.{Now, KeepsPrefix, KeepsSome, KeepsAll}
 use Rattle.zr_moves.specs.Runs.{Standing, Act, Item, Given, Inserted, behind, turns_of, shelf_of, agenda, has_work, IsStart, Run, Happen, Plays, IsDue}
 use Rattle.zr_moves.specs.Premises.{IsTrusted, HasLawfulGroups}
@@ -112,7 +112,7 @@ now_at before start acts end j doing =
 abbrev pub LeavesPrefixes : Standing → List Act → End → Option Command → World → World → Type 0
 LeavesPrefixes start acts end stopped opening closing =
     Throughout (λ stand. (j : ℕ) × (doing : Option Command) × (j ≤ length acts) × IsDoing acts j stopped doing
-        × KeepsPrefix (HasLawfulGroups start.point.shelf) (now_at opening.now.sent start acts end j doing) stand) opening closing
+    × KeepsPrefix (HasLawfulGroups start.point.shelf) (now_at opening.now.sent start acts end j doing) stand) opening closing
 
 -- the devices are being attached: nothing is taken, sent or written
 abbrev pub IsAttaching : World → World → Type 0
@@ -202,8 +202,8 @@ pub record Generates (policy : Policy) (rounds number count : ℕ) (devs : List 
 abbrev pub LeavesStates : Standing → List Act → End → Option Command → World → World → Type 0
 LeavesStates start acts end stopped opening closing =
     Throughout (λ stand. (j : ℕ) × (doing : Option Command) × (j ≤ length acts) × IsDoing acts j stopped doing
-        × KeepsSome (HasLawfulGroups start.point.shelf) (now_at opening.now.sent start acts end j doing) stand
-        × (end ≡ Answered → stand.sent ≡ closing.now.sent → KeepsAll (HasLawfulGroups start.point.shelf) (now_at opening.now.sent start acts end (length acts) None) stand)) opening closing
+    × KeepsSome (HasLawfulGroups start.point.shelf) (now_at opening.now.sent start acts end j doing) stand
+    × (end ≡ Answered → stand.sent ≡ closing.now.sent → KeepsAll (HasLawfulGroups start.point.shelf) (now_at opening.now.sent start acts end (length acts) None) stand)) opening closing
 
 -- the same of a generated run, which takes no input and sends one line
 pub record RunsGenerated (line : CommandLine) (policy : Policy) (number count : ℕ) (old new : World) (end : End) : Type 0 where

@@ -1,10 +1,9 @@
 -- What each command is refused for at once, by the state and the slots alone: the checks of a command in their order.
-use Rattle.std.specs.Prelude.{◌≡◌, ◌≢◌, ◌⊎◌, ℕ, ◌+◌, ◌*◌, ◌/◌, ◌-◌, ◌≤◌, ◌<◌, true, false, not, List, [], ◌∷◌, length, find, position, Contains, slice_index_or, Option, Some, None, unwrap_or, Bool, Result, Ok, Err}
+use Rattle.std.specs.Prelude.{◌≡◌, ◌≢◌, ◌⊎◌, ℕ, ◌+◌, ◌≤◌, ◌<◌, true, false, not, List, [], ◌∷◌, length, find, position, Contains, slice_index_or, Option, Some, None, unwrap_or, Bool, Ok, Err}
 use Rattle.std.specs.List.{All}
 use Rattle.std.specs.Str.{bytes_eq}
 use Rattle.std.specs.FinMap as map
 use Rattle.zr_base.specs.Blocks.{is_block_size}
-use Rattle.zr_base.specs.declared.refusal.Refusal.{Refusal}
 use Rattle.zr_base.specs.declared.refusal.Refusal.TheVariants as refusal
 use Rattle.zr_script.specs.declared.command.Command.{Command}
 use Rattle.zr_script.specs.declared.command.Command.TheVariants as cmd
@@ -13,7 +12,7 @@ use Rattle.zr_label.specs.declared.root.Uber.{Uber}
 use Rattle.zr_label.specs.declared.root.Seen.{Seen}
 use Rattle.zr_label.specs.Geometry.{is_disk_size}
 use Rattle.zr_model.specs.Objects.{Object, is_within}
-use Rattle.zr_model.specs.State.{InService, Leaving, Saved, PoolState, ShelfPart, Empty, Refused, Is, State}
+use Rattle.zr_model.specs.State.{InService, Leaving, PoolState, ShelfPart, Empty, Refused, Is, State}
 use Rattle.zr_image.specs.Checks.{Check, ◌>>=◌, Demands, Finds, Excludes}
 use Rattle.zr_image.specs.Current.{seen_at, IsInUse, IsLowest, IsCurrent, IsInWindow, IsOldest}
 use Rattle.zr_moves.specs.Changes.{touched_blocks}

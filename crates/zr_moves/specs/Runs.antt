@@ -7,13 +7,12 @@ use Rattle.zr_script.specs.declared.command.Command.TheVariants as cmd
 use Rattle.zr_shelf.specs.Disks.{Stand}
 use Rattle.zr_shelf.specs.Moments.{World, Throughout}
 use Rattle.zr_rules.specs.Steps.{has_condensing}
-use Rattle.zr_model.specs.State.{PoolState, ShelfPart, Is, State}
+use Rattle.zr_model.specs.State.{PoolState, ShelfPart, Is}
 use Rattle.zr_model.specs.Runs.{Shelf, Point, Turn}
 use Rattle.zr_image.specs.StateOf.{StateOf}
 use Rattle.zr_moves.specs.Account.{Account, StandsFor}
 use Rattle.zr_moves.specs.Answers.{Answers}
 use Rattle.zr_moves.specs.Tables.{leaving_of}
-use Rattle.zr_moves.specs.Moves.{Course}
 use Rattle.zr_moves.specs.Move.{Move}
 
 -- how things stand between two commands: the shelf and what it has, and the account of an open pool

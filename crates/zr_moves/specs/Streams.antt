@@ -1,13 +1,13 @@
 -- What a commit does to the streams of the metadata: which keep their record, which are appended to, and which are written anew.
 use Rattle.std.specs.Prelude.{◌≡◌, ◌⊎◌, ℕ, ◌+◌, ◌*◌, ◌/◌, ◌<◌, ◌==◌, Bool, true, false, not, ◌&&◌, nat_lt, List, [], ◌∷◌, ◌++◌, length, map, filter, Contains, if◌then◌else◌, Option, Some, None, MatchBool}
-use Rattle.std.specs.List.{All, AllByRecursion, enumerate_from, flat_map, list_any, zip}
+use Rattle.std.specs.List.{All, AllByRecursion, enumerate_from, flat_map, zip}
 use Rattle.zr_base.specs.declared.space.Extent.{Extent}
 use Rattle.zr_base.specs.declared.space.Change.{Change}
 use Rattle.zr_base.specs.declared.space.DevRow.{DevRow}
 use Rattle.zr_base.specs.declared.space.DevPart.{DevPart}
 use Rattle.zr_base.specs.declared.space.DevState.{DevState}
 use Rattle.zr_base.specs.declared.space.DevState.TheVariants as row
-use Rattle.zr_base.specs.Extents.{in_extent, has_unit, IsMaximal}
+use Rattle.zr_base.specs.Extents.{has_unit, IsMaximal}
 use Rattle.zr_bptr.specs.declared.Bptr.{Bptr}
 use Rattle.zr_meta.specs.declared.Stream.{Stream}
 use Rattle.zr_meta.specs.declared.CondAt.{CondAt}

@@ -1,4 +1,4 @@
-use Rattle.std.proofs.Common.{◌≡◌, ◌+◌, ◌*◌, ◌&&◌, nat_le, nat_lt, not, true, false, refl, arith}
+use Rattle.std.proofs.Common.{refl}
 use Rattle.zr_moves.proofs.answers.a_lost_block_is_not_read.Goals as goal
 
 pub returns-clause-part : goal.returns-clause-part

@@ -1,4 +1,4 @@
-use Rattle.std.proofs.Common.{false, ◌≡◌, ◌∙◌, List, None, Some, Ok, Err, Result, refl, sym, ap}
+use Rattle.std.proofs.Common.{false, ◌≡◌, List, None, Some, Ok, Err, Result, refl, ap}
 use Rattle.zr_base.specs.declared.refusal.Refusal.{Refusal}
 use Rattle.zr_script.specs.declared.command.Command.TheVariants as cmd
 use Rattle.zr_script.specs.declared.reply.Reply.TheVariants as reply

@@ -1,6 +1,4 @@
-use Rattle.std.proofs.Common.{◌≡◌, [], refl}
-use Rattle.zr_shelf.specs.Disks.{Stand}
-use Rattle.zr_shelf.specs.Moments.{World}
+use Rattle.std.proofs.Common.{◌≡◌, refl}
 use Rattle.zr_shelf.proofs.Runs.{weaker}
 use Rattle.zr_moves.proofs.Behind.{at_end}
 use Rattle.zr_moves.proofs.program.attaching_answers_nothing.Goals as goal

@@ -1,4 +1,4 @@
-use Rattle.std.proofs.Common.{◌≡◌, ◌⊎◌, ◌∙◌, ◌++◌, ◌∷◌, [], List, ℕ, inl, inr, refl, ap}
+use Rattle.std.proofs.Common.{◌∙◌, ◌++◌, ◌∷◌, List, ℕ, inl, inr, ap}
 use Rattle.zr_moves.proofs.Behind.{no_acts}
 use Rattle.zr_moves.proofs.program.no_line_is_dropped.Goals as goal
 
