@@ -118,6 +118,9 @@ fn free_leaf<B: Blocks>(alloc: Global, store: &mut B, p: &Ptr) -> Result<(), Sto
 /// Stores words behind those of a stream, also where there are none yet. Each full leaf stays where it is. A last leaf
 /// that is not full and the tree blocks on the way are put anew and given back: for w words at most w / 512 + 2 leaves,
 /// five tree blocks for each of them and four more, whatever the length of the stream.
+///
+/// Malformed tells of a stream in which no words stand: padding that is not zeros among it. After an error the old tree
+/// is not to be read on, since some of its blocks may have been given back.
 pub fn append<B: Blocks>(
     alloc: Global,
     store: &mut B,
