@@ -1,6 +1,6 @@
 //! Heads that come back, a head that another program wrote with the words of its streams, heads that are none, and words
 //! that record nothing.
-ghost use Rattle.std.specs.Prelude.{◌≤◌, ◌^◌, IfOk};
+ghost use Rattle.std.specs.Prelude.{◌≡◌, ◌≤◌, ◌+◌, ◌^◌, IfOk, sum_by};
 
 use super::*;
 use crate::part::{DevWords, part_of};
@@ -270,48 +270,73 @@ fn what_the_streams_record(rt: HostRuntime) -> Result<(), Fail> {
     Ok(())
 }
 
-fn leaving(
-    alloc: Global,
-    held: &[u64],
-    kept: &[u64],
-    counts: &[u64],
-    late1: &[u64],
-) -> Result<DevWords, NoMemory>
+/// What a unit of offset adds to a word of a log. A run of one unit adds nothing, and each further one adds 1.
+const AT: u64 = 1 << 16;
+
+/// What a word of a log has where it gives back, and a word of a late set where it is of metadata.
+const FREE: u64 = 1 << 15;
+
+/// The first word of a run of 40,000 units of device 0 in version 2.
+const LONG: u64 = (3 << 62) + (39_999 << 24);
+
+/// The second word of an entry: three units of device 1.
+const THREE: u64 = (1 << 32) + 24;
+
+/// The words of the streams of device 0, which leaves and has 40,128 units. Its late 2 has none.
+#[derive(Clone, Copy)]
+struct Case<'a> {
+    version: u64,
+    ckpt: CkptPart,
+    held: &'a [u64],
+    kept: &'a [u64],
+    entries: &'a [u64],
+    counts: &'a [u64],
+    fresh: &'a [u64],
+    late1: &'a [u64],
+}
+
+/// Words that break no rule: one entry, of which two units are obsolete.
+const LAWFUL: Case<'static> = Case {
+    version: 1,
+    ckpt: CkptPart::Clear,
+    held: &[],
+    kept: &[],
+    entries: &[80, THREE, 56],
+    counts: &[2],
+    fresh: &[],
+    late1: &[],
+};
+
+fn items(alloc: Global, words: &[u64]) -> Result<Items<u64>, NoMemory> {
+    let copy = Vec::from_slice(alloc, words)?;
+    Ok(Items::from_vec(copy))
+}
+
+fn leaving(alloc: Global, case: &Case) -> Result<DevWords, NoMemory>
     ensures { IfOk result (λ w. w.row.units ≤ 2 ^ 36) }
 {
-    let held = Vec::from_slice(alloc, held)?;
-    let kept = Vec::from_slice(alloc, kept)?;
-    let entries = Vec::from_slice(alloc, &[80, 4_294_967_320, 56])?;
-    let counts = Vec::from_slice(alloc, counts)?;
-    let late1 = Vec::from_slice(alloc, late1)?;
     Ok(DevWords {
         row: DevRow {
             state: DevState::Leaving,
             added: 1,
-            units: 896,
+            units: 40_128,
             gone: 0,
         },
-        held: Items::from_vec(held),
-        kept: Items::from_vec(kept),
-        entries: Items::from_vec(entries),
-        counts: Items::from_vec(counts),
-        fresh: Items::new(alloc),
-        late1: Items::from_vec(late1),
+        held: items(alloc, case.held)?,
+        kept: items(alloc, case.kept)?,
+        entries: items(alloc, case.entries)?,
+        counts: items(alloc, case.counts)?,
+        fresh: items(alloc, case.fresh)?,
+        late1: items(alloc, case.late1)?,
         late2: Items::new(alloc),
     })
 }
 
 /// The rule that the words break, 0 where they break none.
-fn broken(
-    alloc: Global,
-    ckpt: CkptPart,
-    held: &[u64],
-    kept: &[u64],
-    counts: &[u64],
-    late1: &[u64],
-) -> Result<u8, NoMemory> {
-    let words = leaving(alloc, held, kept, counts, late1)?;
-    match part_of(alloc, &words, ckpt, 1, 0) {
+fn broken(alloc: Global, case: &Case) -> Result<u8, NoMemory> {
+    let words = leaving(alloc, case)?;
+    let version = if case.version == 1 { 1 } else { 2 };
+    match part_of(alloc, &words, case.ckpt, version, 0) {
         Ok(_) => Ok(0),
         Err(PartsErr::Rule(rule)) => Ok(rule),
         Err(PartsErr::NoMemory) => Err(NoMemory),
@@ -319,44 +344,213 @@ fn broken(
 }
 
 #[test]
-fn words_that_record_nothing(rt: HostRuntime) -> Result<(), Fail> {
+fn mappings_out_of_form(rt: HostRuntime) -> Result<(), Fail> {
+    let alloc = rt.alloc();
+    assert_eq!(rt; broken(alloc, &LAWFUL)?, 0);
+    // A source, a length and a destination come in units, no bit stands beside them, and no length is 0.
+    let wrong = [
+        [84, THREE, 56],
+        [(1 << 63) + 80, THREE, 56],
+        [80, 1 << 32, 56],
+        [80, THREE + 1, 56],
+        [80, THREE + (1 << 24), 56],
+        [80, THREE + (1 << 56), 56],
+        [80, THREE, 57],
+        [80, THREE, (1 << 63) + 56],
+    ];
+    for entry in &wrong {
+        let case = Case {
+            entries: entry,
+            ..LAWFUL
+        };
+        assert_eq!(rt; broken(alloc, &case)?, 1);
+    }
+    let cases = [
+        Case {
+            entries: &[80, THREE],
+            ..LAWFUL
+        },
+        Case {
+            counts: &[],
+            ..LAWFUL
+        },
+        Case {
+            counts: &[2, 0],
+            ..LAWFUL
+        },
+        Case {
+            counts: &[1 << 32],
+            ..LAWFUL
+        },
+        // The mapping is told before a log.
+        Case {
+            counts: &[1 << 32],
+            held: &[AT, AT],
+            ..LAWFUL
+        },
+    ];
+    for case in &cases {
+        assert_eq!(rt; broken(alloc, case)?, 1);
+    }
+    Ok(())
+}
+
+#[test]
+fn logs_that_are_none(rt: HostRuntime) -> Result<(), Fail> {
     let alloc = rt.alloc();
     let held = CkptPart::Held(4);
-    let clear = CkptPart::Clear;
-    assert_eq!(rt;
-        broken(alloc, held, &[65_537], &[65_536], &[2], &[294_913])?,
-        0
-    );
-    assert_eq!(rt;
-        broken(alloc, held, &[65_537], &[65_536], &[1 << 32], &[294_913])?,
-        1
-    );
-    assert_eq!(rt;
-        broken(alloc, held, &[65_537, 65_536], &[], &[1 << 32], &[])?,
-        1
-    );
-    assert_eq!(rt;
-        broken(alloc, held, &[65_537], &[65_536], &[], &[294_913])?,
-        1
-    );
-    assert_eq!(rt;
-        broken(alloc, clear, &[65_537], &[65_536], &[2], &[294_913])?,
-        2
-    );
-    assert_eq!(rt;
-        broken(alloc, held, &[65_537], &[655_360], &[2], &[294_913])?,
-        2
-    );
-    assert_eq!(rt; broken(alloc, held, &[65_537, 65_536], &[], &[2], &[])?, 2);
-    assert_eq!(rt;
-        broken(alloc, held, &[895 * 65_536 + 1], &[], &[2], &[])?,
-        2
-    );
-    assert_eq!(rt; broken(alloc, held, &[1 << 63], &[], &[2], &[])?, 2);
-    assert_eq!(rt;
-        broken(alloc, held, &[], &[], &[2], &[294_913, 524_288])?,
-        2
-    );
-    assert_eq!(rt; broken(alloc, held, &[], &[], &[2], &[65_536, 131_072])?, 2);
+    let rows = [
+        (0, held, [AT + 1].as_slice(), [AT].as_slice()),
+        (2, CkptPart::Clear, &[AT + 1], &[AT]),
+        (2, held, &[AT + 1], &[10 * AT]),
+        (2, held, &[AT + 1, AT], &[]),
+        (2, held, &[AT + FREE], &[]),
+        (2, held, &[1 << 63], &[]),
+        (0, held, &[40_127 * AT], &[]),
+        (2, held, &[40_127 * AT + 1], &[]),
+    ];
+    for (rule, ckpt, held, kept) in rows {
+        let case = Case {
+            ckpt,
+            held,
+            kept,
+            ..LAWFUL
+        };
+        assert_eq!(rt; broken(alloc, &case)?, rule);
+    }
+    // The fresh obsolete units: a run is of the version, and of the device.
+    let rows = [
+        (0, 1, [AT + 1, AT + FREE].as_slice()),
+        (2, 1, &[AT, AT]),
+        (2, 1, &[AT + FREE]),
+        (2, 1, &[LONG, 100]),
+        (0, 2, &[LONG, 100]),
+        (2, 2, &[LONG, 200]),
+        (2, 2, &[LONG]),
+        (2, 2, &[LONG + 1, 100]),
+        (2, 2, &[LONG + (1 << 60), 100]),
+        (2, 2, &[(3 << 62) + (32_767 << 24), 100]),
+    ];
+    for (rule, version, fresh) in rows {
+        let case = Case {
+            version,
+            fresh,
+            ..LAWFUL
+        };
+        assert_eq!(rt; broken(alloc, &case)?, rule);
+    }
+    Ok(())
+}
+
+#[test]
+fn logs_past_their_bound(rt: HostRuntime) -> Result<(), Fail> {
+    let alloc = rt.alloc();
+    // A set of no unit has no word anew, and one of one unit has one: 512 words and 514 are the most.
+    let mut words = Vec::new(alloc);
+    for _ in 0..256 {
+        words.push(AT)?;
+        words.push(AT + FREE)?;
+    }
+    let rules = [0, 0, 2, 2];
+    for rule in rules {
+        let case = Case {
+            fresh: words.as_slice(),
+            ..LAWFUL
+        };
+        assert_eq!(rt; broken(alloc, &case)?, rule, "{} words", words.len());
+        words.push(if words.len() % 2 == 0 { AT } else { AT + FREE })?;
+    }
+    Ok(())
+}
+
+#[test]
+fn late_sets_that_are_none(rt: HostRuntime) -> Result<(), Fail> {
+    let alloc = rt.alloc();
+    // The extents of blocks and then those of metadata, each kind maximal, in order and cut as the version cuts.
+    let rows = [
+        (0, 1, [AT, 2 * AT + FREE].as_slice()),
+        (2, 1, &[2 * AT + FREE, AT]),
+        (2, 1, &[4 * AT, AT]),
+        (2, 1, &[AT, 2 * AT]),
+        (2, 1, &[AT + FREE, 2 * AT + FREE]),
+        (2, 1, &[AT + 1, 2 * AT]),
+        (2, 1, &[40_127 * AT + 1]),
+        (2, 1, &[1 << 63]),
+        (0, 1, &[100 * AT + 32_767, 32_868 * AT + 7_231]),
+        (2, 1, &[100 * AT + 7_231, 7_332 * AT + 32_767]),
+        (2, 2, &[100 * AT + 32_767, 32_868 * AT + 7_231]),
+        (0, 2, &[LONG, 100]),
+    ];
+    for (rule, version, late1) in rows {
+        let case = Case {
+            version,
+            late1,
+            ..LAWFUL
+        };
+        assert_eq!(rt; broken(alloc, &case)?, rule);
+    }
+    Ok(())
+}
+
+fn stream_of(words: u64) -> Stream
+    ensures { result.words ≡ words }
+{
+    let root = if words == 0 { Ptr::Hole } else { leaf() };
+    Stream {
+        words,
+        tree: Tree { root, height: 0 },
+    }
+}
+
+/// A head on one device in service while a mapping is condensed, whose two streams have so many words.
+fn condensing(alloc: Global, entries: u8, counts: u8) -> Result<Head, NoMemory>
+    ensures { IfOk result (λ h. sum_by (λ s. s.words) h.streams ≡ entries + counts) }
+{
+    let none = stream_of(0);
+    let entries = stream_of(u64::from(entries));
+    let counts = stream_of(u64::from(counts));
+    let streams = vec![in alloc; none, none, none, none, entries, counts]?;
+    Ok(Head {
+        form: 2,
+        dir: Tree {
+            root: Ptr::Hole,
+            height: 0,
+        },
+        saved: None,
+        ckpt: CkptPart::Clear,
+        cond: Some(CondAt { dev: 0, at: 64 }),
+        streams: Items::from_vec(streams),
+    })
+}
+
+#[test]
+fn what_is_condensed(rt: HostRuntime) -> Result<(), Fail> {
+    let alloc = rt.alloc();
+    let table = [DevRow {
+        state: DevState::On,
+        added: 1,
+        units: 896,
+        gone: 0,
+    }];
+    let rows = [
+        (0, 3, 1, [80, THREE, 56, 2].as_slice()),
+        (1, 3, 1, &[84, THREE, 56, 2]),
+        (1, 3, 1, &[80, THREE, 56, 1 << 32]),
+        (1, 2, 1, &[80, THREE, 2]),
+        (1, 3, 0, &[80, THREE, 56]),
+        (1, 0, 1, &[2]),
+    ];
+    for (rule, entries, counts, words) in rows {
+        let h = condensing(alloc, entries, counts)?;
+        if !is_head(&h, &table) || words.len() != usize::from(entries) + usize::from(counts) {
+            panic!(rt; "no head");
+        }
+        let found = match parts_of(alloc, &h, &table, words, 2) {
+            Ok(parts) => { if parts.cond.is_some() { 0 } else { 9 } }
+            Err(PartsErr::Rule(broken)) => broken,
+            Err(PartsErr::NoMemory) => 8,
+        };
+        assert_eq!(rt; found, rule);
+    }
     Ok(())
 }

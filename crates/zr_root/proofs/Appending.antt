@@ -46,7 +46,7 @@ updated_before (b ∷ bs) first index p lt =
     let other = not_equal first index (λ e. omega (arith, lt, e)) in
     ap (λ (t : Bool). updated (changes_from (first + 1) bs) index (if t then At b else p)) other ∙ updated_before bs (first + 1) index p (omega (arith, lt))
 
-pub updated_in : (bs : List Bptr) (first k index : ℕ) (p : Ptr) → k < length bs → index ≡ first + k → updated (changes_from first bs) index p ≡ slot (map At bs) k
+updated_in : (bs : List Bptr) (first k index : ℕ) (p : Ptr) → k < length bs → index ≡ first + k → updated (changes_from first bs) index p ≡ slot (map At bs) k
 updated_in [] first k index p lt is = absurd (omega (arith, lt))
 updated_in (b ∷ bs) first zero index p lt is =
     let here = equal first index (omega (arith, is)) in

@@ -1,6 +1,6 @@
 -- A stream with more leaves is a stream.
-use Rattle.std.proofs.Common.{◌≡◌, ◌+◌, ◌*◌, ◌/◌, ◌%◌, ◌^◌, ◌<◌, ◌≤◌, ◌⊎◌, inl, inr, ℕ, zero, suc, List, [], ◌∷◌, ◌++◌, length, map, refl, sym, ◌∙◌, ap, subst, arith, Bool, true, false, nat_lt}
-use Rattle.std.specs.Prelude.{All, if◌then◌else◌}
+use Rattle.std.proofs.Common.{◌≡◌, ◌+◌, ◌*◌, ◌/◌, ◌%◌, ◌^◌, ◌<◌, ◌≤◌, ◌⊎◌, inl, inr, ℕ, List, [], ◌∷◌, ◌++◌, length, ◌∙◌, ap, arith}
+use Rattle.std.specs.Prelude.{All}
 use Rattle.std.specs.Int.{div_ceil}
 use Rattle.std.proofs.lemmas.List.{length-append}
 use Rattle.std.proofs.lemmas.List.Elements.{All-head, All-tail, All-cons}
@@ -11,14 +11,11 @@ use Rattle.zr_bptr.specs.declared.Ptr.{Ptr}
 use Rattle.zr_bptr.specs.declared.Ptr.TheVariants.{Hole, At}
 use Rattle.zr_bptr.specs.declared.Tree.{Tree}
 use Rattle.zr_bptr.specs.Spelling.{IsTree}
-use Rattle.zr_store.specs.Store.{Stored}
 use Rattle.zr_meta.specs.declared.Stream.{Stream}
 use Rattle.zr_meta.specs.Heads.{IsStream, IsTreeOf}
-use Rattle.zr_tree.specs.Trees.{slot, leaf_at, tree_at, updated, HasRoom, IsHeightFor}
-use Rattle.zr_tree.proofs.Frames.{hole_leaf}
+use Rattle.zr_tree.specs.Trees.{IsOneUnit, AreUnits, HasRoom, IsHeightFor}
 use Rattle.zr_root.specs.Streams.{IsUnitAt}
 use Rattle.zr_root.specs.Appends.{changes_from, leaves_anew}
-use Rattle.zr_root.proofs.Appending.{updated_in}
 use Rattle.zr_root.proofs.Joining.{ceil_of}
 use Rattle.zr_root.proofs.Shapes.{pow-pos}
 
@@ -90,50 +87,20 @@ grown_height words added height h root new is some count for =
           for.least k old (room_for k (words / 512) new (omega (arith, grown, enough)));
     }
 
-pub tree_of_stream : (words height : ℕ) (root : Ptr) → words ≤ 2 ^ 34 → IsTreeOf words height root → IsTree (record { root = root; height = height })
-tree_of_stream words height Hole most is = record { lawful = tt; level = tt; low = let low = is.1 in omega (arith, low) }
-tree_of_stream words height (At b) most is = record { lawful = is.4; level = is.2; low = let level_is = is.2 in let low = is.4.level in omega (arith, level_is, low) }
-
 -- ---- the root
 
-root_there : (s : Stored) (h index : ℕ) (b : Bptr) → (if nat_lt index (32 ^ h) then leaf_at s h Hole index else Hole) ≡ At b → ⊥
-root_there s h index b is = same (nat_lt index (32 ^ h)) is
-  where
-    same : (yes : Bool) → (if yes then leaf_at s h Hole index else Hole) ≡ At b → ⊥
-    same true e = let f : Hole ≡ At b = sym (hole_leaf s h index) ∙ e in cc
-    same false e = cc
+pub leaves_are_units : (first : ℕ) (bs : List Bptr) → All (IsUnitAt 0) bs → AreUnits (changes_from first bs)
+leaves_are_units first [] units = λ i d lt. absurd (omega (arith, lt))
+leaves_are_units first (b ∷ bs) units =
+    All-cons (λ (change : ℕ × Ptr). IsOneUnit change.1) (first, At b) (changes_from (first + 1) bs) (All-head (IsUnitAt 0) b bs units).1 (leaves_are_units (first + 1) bs (All-tail (IsUnitAt 0) b bs units))
 
-first_one : (new : List Bptr) (k : ℕ) → 0 < length new → All (IsUnitAt 0) new → k ≡ 0 → (b : Bptr) × (slot (map At new) k ≡ At b) × (b.at.len ≡ 1)
-first_one [] k some units none = absurd (omega (arith, some))
-first_one (b ∷ bs) k some units none = (b, ap (λ (j : ℕ). slot (map At (b ∷ bs)) j) none, (All-head (IsUnitAt 0) b bs units).1)
+grown_root : (words height : ℕ) (root : Ptr) → 0 < words → IsTree (record { root = root; height = height }) → IsHeight (div_ceil words 512) height → IsOneUnit root → IsTreeOf words height root
+grown_root words height Hole some is tall unit = absurd unit
+grown_root words height (At b) some is tall unit = (some, tall, is.level, unit, is.lawful)
 
-one_unit : (s : Stored) (h index : ℕ) (root b : Bptr) → index < 32 ^ h → tree_at s (record { root = At root; height = h }) index ≡ At b → b.at.len ≡ 1 → (0 < h → root.at.len ≡ 1) → root.at.len ≡ 1
-one_unit s zero index root b lt is one tall =
-    let e : At root ≡ At b = inside (nat_lt index 1) is in
-    let same : root ≡ b = cc in
-    ap (λ (x : Bptr). x.at.len) same ∙ one
-  where
-    inside : (yes : Bool) → (if yes then At root else Hole) ≡ At b → At root ≡ At b
-    inside true e = e
-    inside false e = absurd cc
-one_unit s (suc h) index root b lt is one tall = tall (omega arith)
-
-grown_root : (s : Stored) (words added h : ℕ) (root : Ptr) (b : Bptr) (index : ℕ) → index < 32 ^ h → 0 < added → IsTree (record { root = root; height = h }) → IsHeight (div_ceil (words + added) 512) h → tree_at s (record { root = root; height = h }) index ≡ At b → b.at.len ≡ 1 → IsTreeOf (words + added) h root
-grown_root s words added h Hole b index lt some is tall leaf one = absurd (root_there s h index b leaf)
-grown_root s words added h (At root) b index lt some is tall leaf one =
-    let level_is : root.level ≡ h = is.level in
-    let unit = is.lawful.unit in
-    (omega (arith, some), tall, is.level, one_unit s h index root b lt leaf one (λ up. unit (omega (arith, level_is, up))), is.lawful)
-
-pub grown_stream : (s0 s1 : Stored) (stream : Stream) (t u : Tree) (added : ℕ) (new : List Bptr) → t ≡ stream.tree → IsStream stream → 0 < added → length new ≡ div_ceil (stream.words % 512 + added) 512 → All (IsUnitAt 0) new → IsTree u → IsHeightFor t.height (changes_from (stream.words / 512) new) u.height
-    → ((index : ℕ) → tree_at s1 u index ≡ updated (changes_from (stream.words / 512) new) index (tree_at s0 t index)) → IsStream (record { words = stream.words + added; tree = u })
-grown_stream s0 s1 stream t u added new t_is is some count units tree for leaves =
-    let full : ℕ = stream.words / 512 in
-    let more = some_new stream.words added (length new) some count in
-    let first = first_one new 0 more units refl in
-    let tall = grown_height stream.words added stream.tree.height u.height stream.tree.root new is some count (subst (λ (x : Tree). IsHeightFor x.height (changes_from full new) u.height) t_is for) in
-    let room = room_has u.height full new more for.room in
-    grown_root s1 stream.words added u.height u.root first.0 full (omega (arith, room, more)) some tree tall (leaves full ∙ updated_in new full 0 full (tree_at s0 t full) more (omega arith) ∙ first.1) first.2
+pub grown_stream : (stream : Stream) (u : Tree) (added : ℕ) (new : List Bptr) → IsStream stream → 0 < added → length new ≡ div_ceil (stream.words % 512 + added) 512 → IsTree u → IsOneUnit u.root → IsHeightFor stream.tree.height (changes_from (stream.words / 512) new) u.height → IsStream (record { words = stream.words + added; tree = u })
+grown_stream stream u added new is some count tree unit for =
+    grown_root (stream.words + added) u.height u.root (omega (arith, some)) tree (grown_height stream.words added stream.tree.height u.height stream.tree.root new is some count for) unit
 
 -- ---- the leaves that are put, under the names of the calls
 

@@ -130,7 +130,7 @@ pub fn append<B: Blocks>(
     ensures costs { Costs (6 * leaves_anew stream.now.words (length ns.now) + 4) (5 * leaves_anew stream.now.words (length ns.now) + 1) (B.account store.old) (B.account store.new) }
     ensures cause { HasCause (6 * leaves_anew stream.now.words (length ns.now) + 4) (B.account store.old) (B.account store.new) result }
     ensures errors { (s : Stored) → B.holds store.old s → AreStored (tree_reach s stream.now.tree) s → TellsOfStream s stream.now result }
-    ensures stream { (s : Stored) → B.holds store.old s → AreStored (tree_reach s stream.now.tree) s → IfOk result IsStream }
+    ensures stream { IfOk result IsStream }
     ensures last { (s : Stored) → B.holds store.old s → 0 < length ns.now → IfOk result (λ now. IsLastLeaf s (8 * (stream.now.words % 512)) (tree_at s stream.now.tree (stream.now.words / 512))) }
     ensures count { IfOk result (λ now. now.words ≡ stream.now.words + length ns.now) }
     ensures appends { (s : Stored) → B.holds store.old s → (old : List ℕ) → AreStored (tree_reach s stream.now.tree) s → HasWords s stream.now old → IfOk result (λ now. Now (B.holds store.new) (λ n. Appends s n stream.now now old ns.now)) }

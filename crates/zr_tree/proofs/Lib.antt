@@ -10,3 +10,4 @@ pub mod Walking
 pub mod Others
 pub mod Costing
 pub mod Wholes
+pub mod Units

@@ -72,6 +72,15 @@ AllAt level place = All (λ change. change.0 / 32 ^ level ≡ place)
 abbrev pub AreLeaves : List (ℕ × Ptr) → Type 0
 AreLeaves = All (λ change. FitsAt 0 change.1)
 
+-- a block of one unit
+abbrev pub IsOneUnit : Ptr → Type 0
+IsOneUnit Hole = ⊥
+IsOneUnit (At b) = b.at.len ≡ 1
+
+-- each change sets such a block
+abbrev pub AreUnits : List (ℕ × Ptr) → Type 0
+AreUnits = All (λ change. IsOneUnit change.1)
+
 -- the indices rise
 abbrev pub Rises : List (ℕ × Ptr) → Type 0
 Rises [] = Unit {0}

@@ -4,7 +4,7 @@
 //! a change puts a new block for each block on the way from the changed leaves to the root, and gives the old ones back.
 //! What a tree means is a total function of its root and of the bytes that the store has, so that contracts need no
 //! premise that the tree is sound; a block that is no tree block is met as `Malformed`. Each error that tells of a block
-//! tells of one of the tree's, as it was before the call.
+//! tells of one of the tree's, as it was before the call, and each Ok says that the blocks on its way were whole then.
 #![tactic(auto)]
 
 mod blocks;

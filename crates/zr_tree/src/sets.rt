@@ -8,7 +8,7 @@ ghost use Rattle.zr_bptr.specs.declared.Ptr.TheVariants.{Hole};
 ghost use Rattle.zr_tree.specs.Blocks.{FitsAt};
 ghost use Rattle.zr_store.specs.Store.{Stored, Now, AreStored, Swaps};
 ghost use Rattle.zr_store.specs.Causes.{Costs, HasCause};
-ghost use Rattle.zr_tree.specs.Trees.{blocks, own, IsOpen, PutsBlock, Sets, SetsEach, AllAt, AreLeaves, IsWholeAt, TellsOf};
+ghost use Rattle.zr_tree.specs.Trees.{blocks, own, IsOpen, PutsBlock, Sets, SetsEach, AllAt, AreLeaves, AreUnits, IsOneUnit, IsWholeAt, TellsOf};
 ghost use Rattle.zr_bptr.specs.Spelling.{IsOfLevel};
 
 use crate::blocks::encode_pointers;
@@ -78,6 +78,7 @@ pub(crate) fn put_block<B: Blocks>(
     ensures cause { HasCause 1 (B.account store.old) (B.account store.new) result }
     ensures errors { (s : Stored) → TellsOf s [] result }
     ensures fits { IfOk result (FitsAt (below + 1)) }
+    ensures hole { IfOk result (λ p. p ≡ Hole → All (λ q. q ≡ Hole) pointers.now) }
     ensures puts { (s : Stored) → B.holds store.old s → IfOk result (λ p. Now (B.holds store.new) (λ n. PutsBlock below pointers.now s n p)) }
 {
     if are_holes(pointers) {
@@ -137,6 +138,7 @@ pub(crate) fn set_below<B: Blocks>(
     ensures cause { HasCause (level * length changes.now) (B.account store.old) (B.account store.new) result }
     ensures errors { (s : Stored) → B.holds store.old s → AreStored (blocks s level p.now) s → TellsOf s (blocks s level p.now) result }
     ensures fits { IfOk result (FitsAt level) }
+    ensures unit { AreUnits changes.now → 0 < length changes.now → IfOk result IsOneUnit }
     ensures sets { (s : Stored) → B.holds store.old s → AreStored (blocks s level p.now) s → IfOk result (λ root. Now (B.holds store.new) (λ n. Sets level place changes.now s n p.now root)) }
 {
     if changes.is_empty() {
@@ -174,6 +176,8 @@ pub(crate) fn set_each<B: Blocks>(
     ensures errors { (s : Stored) → B.holds store.old s → AreStored (flat_map (blocks s (level - 1)) pointers.old.items) s → TellsOf s (flat_map (blocks s (level - 1)) pointers.old.items) result }
     ensures count { length pointers.new.items ≡ 32 }
     ensures fit { All (FitsAt (level - 1)) pointers.new.items }
+    ensures some { AreUnits changes.now → 0 < length changes.now → OnOk result (¬ All (λ p. p ≡ Hole) pointers.new.items) }
+    ensures none { length changes.now ≡ 0 → OnOk result (pointers.new.items ≡ pointers.old.items) }
     ensures sets { (s : Stored) → B.holds store.old s → AreStored (flat_map (blocks s (level - 1)) pointers.old.items) s → OnOk result (Now (B.holds store.new) (λ n. SetsEach (level - 1) place changes.now s n pointers.old.items pointers.new.items)) }
 {
     let below = level - 1;

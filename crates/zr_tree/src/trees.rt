@@ -8,7 +8,7 @@ ghost use Rattle.zr_bptr.specs.declared.Tree.{Tree};
 ghost use Rattle.zr_store.specs.Store.{Stored, Now, AreStored, hits};
 ghost use Rattle.zr_store.specs.Causes.{Costs, HasCause};
 ghost use Rattle.zr_bptr.specs.Spelling.{IsTree};
-ghost use Rattle.zr_tree.specs.Trees.{tree_blocks, AllAt, AreLeaves, Rises, HasRoom, Raises, SetsTree, IsHeightFor, KeepsTree, IsTreeWay, most_puts, most_frees, TellsOf};
+ghost use Rattle.zr_tree.specs.Trees.{tree_blocks, AllAt, AreLeaves, AreUnits, IsOneUnit, Rises, HasRoom, Raises, SetsTree, IsHeightFor, KeepsTree, IsTreeWay, most_puts, most_frees, TellsOf};
 
 use crate::reads::place_of;
 use crate::sets::{holes, is_hole, put_block, run_len, set_below, set_each};
@@ -54,6 +54,7 @@ fn raise<B: Blocks>(
     ensures cause { HasCause (most_puts t.now.height level (length changes.now)) (B.account store.old) (B.account store.new) result }
     ensures errors { (s : Stored) → B.holds store.old s → AreStored (tree_blocks s t.now) s → TellsOf s (tree_blocks s t.now) result }
     ensures fits { IfOk result (FitsAt level) }
+    ensures unit { AreUnits changes.now → 0 < length changes.now → IfOk result IsOneUnit }
     ensures raises { (s : Stored) → B.holds store.old s → AreStored (tree_blocks s t.now) s → IfOk result (λ p. Now (B.holds store.new) (λ n. Raises level changes.now s n t.now p)) }
 {
     if level == t.height {
@@ -90,6 +91,7 @@ pub fn set_all<B: Blocks>(
     ensures most_cause { HasCause (5 * length changes.now + 4) (B.account store.old) (B.account store.new) result }
     ensures errors { (s : Stored) → B.holds store.old s → AreStored (tree_blocks s t.now) s → TellsOf s (tree_blocks s t.now) result }
     ensures tree { IfOk result IsTree }
+    ensures unit { AreUnits changes.now → 0 < length changes.now → IfOk result (λ u. IsOneUnit u.root) }
     ensures height { IfOk result (λ u. IsHeightFor t.now.height changes.now u.height) }
     ensures way { (s : Stored) → B.holds store.old s → AreStored (tree_blocks s t.now) s → IfOk result (λ u. All (λ change. IsTreeWay s t.now change.0) changes.now) }
     ensures sets { (s : Stored) → B.holds store.old s → AreStored (tree_blocks s t.now) s → IfOk result (λ u. Now (B.holds store.new) (λ n. SetsTree changes.now s n t.now u)) }

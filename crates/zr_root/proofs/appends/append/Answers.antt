@@ -1,4 +1,4 @@
-use Rattle.std.proofs.Common.{◌≡◌, ◌/◌, ◌<◌, ◌^◌, ◌++◌, ◌∙◌, List, ℕ, Vec, Global, length, sym, refl, ap, subst, Err, rules}
+use Rattle.std.proofs.Common.{◌≡◌, ◌/◌, ◌<◌, ◌^◌, ◌++◌, ◌∙◌, List, ℕ, Vec, Global, length, sym, ap, subst, arith, Err, rules}
 use Rattle.std.specs.Prelude.{All}
 use Rattle.std.specs.Int.{div_ceil}
 use Rattle.std.proofs.lemmas.Result.{err_from_is_err_and}
@@ -8,12 +8,12 @@ use Rattle.zr_bptr.specs.declared.Ptr.{Ptr}
 use Rattle.zr_bptr.specs.declared.Tree.{Tree}
 use Rattle.zr_store.specs.Store.{Now}
 use Rattle.zr_store.proofs.Causes.{cause_from}
-use Rattle.zr_tree.specs.Trees.{SetsTree, IsHeightFor, Rises, AreLeaves}
+use Rattle.zr_tree.specs.Trees.{SetsTree, AreUnits, IsHeightFor, Rises, AreLeaves}
 use Rattle.zr_root.specs.declared.appends.Tail.{Tail}
 use Rattle.zr_root.specs.Appends.{PutsBytes, leaves_anew}
 use Rattle.zr_root.proofs.Appending.{appended_now, changes_below, changes_leaves, changes_rise, length-changes}
 use Rattle.zr_root.proofs.Costing.{puts_cause, tree_costs, tree_cause, end_costs, end_cause}
-use Rattle.zr_root.proofs.Grown.{grown_stream, leaves_put, leaves_few, changes_put, some_new}
+use Rattle.zr_root.proofs.Grown.{leaves_are_units, grown_stream, leaves_put, leaves_few, changes_put, some_new}
 use Rattle.zr_root.proofs.Tails.{told_from, told_none, told_later, blocks_stay}
 use Rattle.zr_root.proofs.appends.append.Goals as goal
 
@@ -138,7 +138,7 @@ returns-clause-costs g c =
     end_costs n c.tail_of.ensures.costs (div_ceil (length c.as_slice-2.result.now) 4096) put c.put_bytes.ensures.costs (length c.as_slice-4.result.now) many c.set_all.ensures.most c.free_leaf.ensures.costs
 
 pub returns-clause-stream : goal.returns-clause-stream
-returns-clause-stream g c = λ s held stored.
+returns-clause-stream g c =
     let stream = c.args.stream.now in
     let words_now = c.args.stream.now.words in
     let n = leaves_anew words_now (length c.args.ns.now) in
@@ -147,11 +147,11 @@ returns-clause-stream g c = λ s held stored.
     let leaves = c.in_ok-leaves.leaves.items in
     let changed = changes_put (words_now / 512) leaves c.as_slice-3.result.now c.in_ok-changes.changes.items c.as_slice-4.result.now c.as_slice-3.ensures.value c.in_ok-changes.ensures c.as_slice-4.ensures.value in
     let some : 0 < length c.args.ns.now = search rules in
-    let first = c.in_ok-leaves.ensures.puts s (c.tail_of.ensures.same s held) in
-    let second = c.in_ok-tree.ensures.sets first.stored first.held (blocks_stay s first.stored stream.tree leaves stored first.is.came) in
-    let sets = subst (λ (cs : List (ℕ × Ptr)). SetsTree cs first.stored second.stored stream.tree c.in_ok-tree.tree) changed second.is in
+    let more = some_new words_now (length c.args.ns.now) (length leaves) some (c.in_ok-leaves.ensures.count ∙ put) in
+    let long = ap (λ (cs : List (ℕ × Ptr)). length cs) changed ∙ length-changes (words_now / 512) leaves in
+    let unit = c.in_ok-tree.ensures.unit (subst AreUnits (sym changed) (leaves_are_units (words_now / 512) leaves c.in_ok-leaves.ensures.units)) (omega (arith, long, more)) in
     let tall = subst (λ (cs : List (ℕ × Ptr)). IsHeightFor stream.tree.height cs c.in_ok-tree.tree.height) changed c.in_ok-tree.ensures.height in
-    grown_stream first.stored second.stored stream stream.tree c.in_ok-tree.tree (length c.args.ns.now) leaves refl c.requires.stream some (c.in_ok-leaves.ensures.count ∙ put) c.in_ok-leaves.ensures.units c.in_ok-tree.ensures.tree tall sets.leaves
+    grown_stream stream c.in_ok-tree.tree (length c.args.ns.now) leaves c.requires.stream some (c.in_ok-leaves.ensures.count ∙ put) c.in_ok-tree.ensures.tree unit tall
 
 pub returns-clause-appends : goal.returns-clause-appends
 returns-clause-appends g c = λ s held old stored has.

@@ -15,6 +15,7 @@ use Rattle.zr_store.proofs.Causes.{cause_from, cause_most, cause_then, costs_mos
 use Rattle.zr_bptr.specs.Spelling.{IsOfLevel}
 use Rattle.zr_tree.proofs.Wholes.{tells_from, tells_within, tells_empty, tells_before, own_within, open_within, within_flat}
 use Rattle.std.proofs.lemmas.Result.{err_from_is_err_and}
+use Rattle.zr_tree.proofs.Units.{set_unit, put_unit, units_front, units_back, some_front}
 use Rattle.zr_tree.proofs.Each.{one_more, child_stored, kids_stored, row_of}
 use Rattle.zr_tree.proofs.sets.+set.Goals as goal
 
@@ -65,11 +66,25 @@ set_below-returns-clause-sets g t c = λ s0 holds held.
       is = subst (λ (n : ℕ). Sets n place changes s0 s3 q p) (sym level_is) (copied below place changes s0 s1 s2 s3 q p qs ps open_q first.is open_p put second.is.whole third.is held_suc once whole_q);
     }
 
+run_some : (changes : List (ℕ × Ptr)) (from n child below : ℕ) → from < length changes → (0 < length (take (length changes - from) (drop from changes)) → (get_or (take (length changes - from) (drop from changes)) 0 (0, Hole)).0 / 32 ^ below ≡ child → 0 < n) → child ≡ (get_or (take (length changes - from) (drop from changes)) 0 (0, Hole)).0 / 32 ^ below → 0 < n
+run_some changes from n child below lt some child_is = some (omega (arith, lt, length-drop from changes, length-take (length changes - from) (drop from changes))) (sym child_is)
+
 pub set_each-loop-from-preserved : goal.set_each-loop-from-preserved
 set_each-loop-from-preserved g t c = record {
   within = search rules;
   low = search rules;
   count = search rules;
+  some = λ units more.
+      let changes = c.args.changes.now in
+      let from = c.loop-from.from in
+      let n = c.run_len-n.result in
+      let rest = take (length changes - from) (drop from changes) in
+      let count = c.loop-from.invariant.count in
+      let here = run_some c.args.changes.now from n c.place_of-child.result (c.args.level - 1) (omega arith) (c.run_len-n.ensures.some (0, Hole)) c.place_of-child.ensures in
+      set_unit c.loop-from.pointers.items (c.place_of-child.result % 32) c.in_ok-new.new (omega (arith, count)) (c.in_ok-new.ensures.unit (units_front n rest (units_front (length changes - from) (drop from changes) (units_back from changes units))) (some_front n rest here c.run_len-n.ensures.within));
+  none = λ zero.
+      let here = run_some c.args.changes.now c.loop-from.from c.run_len-n.result c.place_of-child.result (c.args.level - 1) (omega arith) (c.run_len-n.ensures.some (0, Hole)) c.place_of-child.ensures in
+      absurd (omega (arith, here, zero));
   follows = λ start so_far. c.set_below.ensures.follows start (c.loop-from.invariant.follows start so_far);
   fit = All-set (FitsAt (c.args.level - 1)) c.loop-from.pointers.items (c.place_of-child.result % 32) c.in_ok-new.new c.in_ok-new.ensures.fits c.loop-from.invariant.fit;
   costs =
@@ -247,3 +262,10 @@ set_each-returns-in_err-new-clause-errors g t c = λ s0 holds held.
     tells_from s0 (flat_map (blocks s0 below) qs) x.result e.field-0.0 (err_from_is_err_and x.result x.ensures.1)
     (tells_before s0 s1 (flat_map (blocks s0 below) qs) (flat_map (blocks s1 below) ps) _ so_far.brings (kids_stored below place (take from changes) s0 s1 qs ps so_far held)
     (tells_within s1 (blocks s1 below (slot ps k)) (flat_map (blocks s1 below) ps) _ (within_flat (blocks s1 below) ps k within) one))
+
+pub set_below-returns-then-level-eq0-clause-unit : goal.set_below-returns-then-level-eq0-clause-unit
+set_below-returns-then-level-eq0-clause-unit g t c = λ units some. units (length c.args.changes.now - 1) (0, Hole) (omega (arith, some))
+
+pub set_below-returns-clause-unit : goal.set_below-returns-clause-unit
+set_below-returns-clause-unit g t c = λ units some.
+    put_unit (c.args.level - 1 + 1) c.in_ok-new.new c.set_each.new.pointers.items c.as_slice.result.now (omega arith) c.in_ok-new.ensures.fits c.in_ok-new.ensures.hole c.as_slice.ensures.value (c.in_ok-set_each.ensures.some units some)

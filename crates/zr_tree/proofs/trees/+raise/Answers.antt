@@ -1,4 +1,7 @@
-use Rattle.std.proofs.Common.{◌≡◌, ◌+◌, ◌-◌, ◌<◌, ◌≤◌, ◌++◌, ℕ, Err, List, suc, length, take, drop, set, sym, subst, arith, length-drop}
+use Rattle.std.specs.Prelude.{All}
+use Rattle.std.proofs.lemmas.Bool.{cases_lt}
+use Rattle.zr_bptr.specs.declared.Ptr.TheVariants.{Hole}
+use Rattle.std.proofs.Common.{inl, inr, ◌≡◌, ◌+◌, ◌-◌, ◌<◌, ◌≤◌, ◌++◌, ℕ, Err, List, suc, length, take, drop, set, sym, subst, arith, length-drop}
 use Rattle.std.proofs.lemmas.Result.{IfOk-weaker, err_from_is_err_and}
 use Rattle.std.proofs.lemmas.List.{length-take, take_all, take-append-drop}
 use Rattle.zr_bptr.specs.declared.Ptr.{Ptr}
@@ -8,6 +11,7 @@ use Rattle.zr_store.proofs.Causes.{cause_from}
 use Rattle.zr_tree.specs.Trees.{Sets, SetsEach, IsOpen, Raises, TellsOf, blocks, tree_blocks, AllAt, most_puts, most_frees}
 use Rattle.zr_tree.proofs.Costing.{low_costs, low_cause, high_costs, high_cause, raised_costs, raised_cause}
 use Rattle.zr_tree.proofs.Raise.{raised, same_height, first_stored, first_only, low_stored}
+use Rattle.zr_tree.proofs.Units.{set_unit, put_unit, units_front, units_back, some_front}
 use Rattle.zr_tree.proofs.Wholes.{tells_from, tells_before, tells_empty}
 use Rattle.zr_bptr.specs.declared.Bptr.{Bptr}
 use Rattle.zr_tree.proofs.trees.+raise.Goals as goal
@@ -193,3 +197,23 @@ returns-in_err-root-clause-errors g r c = λ s0 holds held.
     let e = c.in_err-root in
     let x = c.from_residual-in_err-root in
     tells_from s0 (tree_blocks s0 c.args.t.now) x.result e.field-0.0 (err_from_is_err_and x.result x.ensures.1) (tells_empty s0 s0 (tree_blocks s0 c.args.t.now) _ (e.ensures.errors s0))
+
+pub returns-clause-unit : goal.returns-clause-unit
+returns-clause-unit g r c = λ units some.
+    let changes = c.args.changes.now in
+    let n = c.run_len-n.result in
+    let high = drop n changes in
+    let rest = take (length changes - n) high in
+    let hs = c.in_ok-pointers.pointers.items in
+    let ps = c.set_each.new.pointers.items in
+    let count = c.in_ok-pointers.ensures.count in
+    let rest_long = length-take (length changes - n) high in
+    let high_long = length-drop n changes in
+    let there : ¬ All (λ p. p ≡ Hole) ps = elim (cases_lt 0 (length rest)) [
+      | inl lt ↦ c.in_ok-set_each.ensures.some (units_front (length changes - n) high (units_back n changes units)) lt
+      | inr none ↦
+          let all : 0 < n = omega (arith, none, rest_long, high_long, some) in
+          let low = c.in_ok-low.ensures.unit (units_front n changes units) (some_front n changes all c.run_len-n.ensures.within) in
+          subst (λ (xs : List Ptr). ¬ All (λ p. p ≡ Hole) xs) (sym (c.in_ok-set_each.ensures.none (omega (arith, none)))) (set_unit hs 0 c.in_ok-low.low (omega (arith, count)) low)
+    ] in
+    put_unit (c.args.level - 1 + 1) c.in_ok-root.root ps c.as_slice.result.now (omega arith) c.in_ok-root.ensures.fits c.in_ok-root.ensures.hole c.as_slice.ensures.value there

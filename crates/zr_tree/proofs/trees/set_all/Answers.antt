@@ -1,4 +1,5 @@
-use Rattle.std.proofs.Common.{◌≡◌, ◌+◌, ◌*◌, ◌-◌, ◌≤◌, ◌++◌, ℕ, List, length, take, drop, subst, sym, arith}
+use Rattle.zr_bptr.specs.declared.Ptr.TheVariants.{Hole}
+use Rattle.std.proofs.Common.{inl, inr, get_or, ◌/◌, ◌^◌, ◌≡◌, ◌+◌, ◌*◌, ◌-◌, ◌≤◌, ◌++◌, ℕ, List, length, take, drop, subst, sym, arith}
 use Rattle.std.proofs.lemmas.Result.{err_from_is_err_and}
 use Rattle.std.proofs.lemmas.List.{length-take, take-append-drop}
 use Rattle.std.proofs.lemmas.List.Elements.{All-drop, All-append}
@@ -11,6 +12,7 @@ use Rattle.zr_tree.specs.Trees.{most_puts, most_frees, Rises, IsTreeWay}
 use Rattle.zr_tree.proofs.Costing.{one_height, puts_within, frees_within, puts_fewer, frees_fewer}
 use Rattle.zr_tree.proofs.Raise.{whole}
 use Rattle.zr_tree.proofs.Each.{rises_front, rises_back}
+use Rattle.zr_tree.proofs.Units.{unit_there, units_front, some_front}
 use Rattle.zr_tree.proofs.Past.{InRoom, later_past, first_past, with_past, past_ways}
 use Rattle.zr_tree.proofs.trees.set_all.Goals as goal
 
@@ -149,3 +151,13 @@ returns-in_err-root-clause-within_cause g c = λ top grows room.
     let tall = e.height.least top grows room in
     let x = c.from_residual in
     cause_from {T = Ptr} x.result c.in_err-root.field-0.0 (err_from_is_err_and x.result x.ensures.1) (cause_most (top * length changes + (top - 1)) (omega (arith, puts, puts_within h l top changes tall e.height)) c.in_err-root.ensures.cause)
+
+pub returns-clause-unit : goal.returns-clause-unit
+returns-clause-unit g c = λ units some.
+    let changes = c.args.changes.now in
+    let n = c.run_len-n.result in
+    let place : (get_or changes 0 (0, Hole)).0 / 32 ^ c.height_for-height.result ≡ 0 = elim (c.height_for-height.ensures.height.room 0 (0, Hole) some) [
+      | inl hole ↦ absurd (unit_there (get_or changes 0 (0, Hole)).1 (units 0 (0, Hole) some) hole)
+      | inr low ↦ low
+    ] in
+    c.in_ok-root.ensures.unit (units_front n changes units) (some_front n changes (c.run_len-n.ensures.some (0, Hole) some place) c.run_len-n.ensures.within)
