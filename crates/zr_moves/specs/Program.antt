@@ -234,8 +234,12 @@ EndsEarly old new end = ⊥
 abbrev pub HasNoStart : List Named → List (List ℕ) → Type 0
 HasNoStart choosers words = (line : CommandLine) (policy : Policy) → IsStarted choosers words line policy → ⊥
 
+-- no disk is attached yet, and nothing waits to be written
+abbrev pub IsUnused : World → Type 0
+IsUnused w = (w.now.paths ≡ []) × IsAtRest w.now
+
 -- What the program does: nothing where the words are no command line, and else one run, unless a device or memory was missing before it.
 pub record Does (choosers : List Named) (words : List (List ℕ)) (old new : World) (status : ℕ) : Type 0 where
   pub no_words : HasNoStart choosers words → ((status ≡ 1) ⊎ (status ≡ 9)) × (new.now ≡ old.now)
   pub bad_words : status ≡ 1 → HasNoStart choosers words
-  pub runs : (line : CommandLine) (policy : Policy) → IsStarted choosers words line policy → (end : End) × (status_of end ≡ status) × (EndsEarly old new end ⊎ RunsBy line policy old new end)
+  pub runs : (line : CommandLine) (policy : Policy) → IsUnused old → IsStarted choosers words line policy → (end : End) × (status_of end ≡ status) × (EndsEarly old new end ⊎ RunsBy line policy old new end)

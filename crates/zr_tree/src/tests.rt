@@ -1,5 +1,5 @@
 //! Trees in memory: a tree that grows to its full height, changes beside a table, and roots that lead nowhere.
-ghost use Rattle.std.specs.Prelude.{◌<◌, ◌^◌, IfOk};
+ghost use Rattle.std.specs.Prelude.{◌<◌, ◌^◌, IfOk, length};
 ghost use Rattle.zr_bptr.specs.Spelling.{IsTree};
 ghost use Rattle.zr_tree.specs.Blocks.{FitsAt};
 
@@ -20,14 +20,18 @@ const NO_TREE: Tree = Tree {
 #[derive(Drop)]
 struct Some32 {
     marked: Vec<Bptr>,
+    refused: Vec<Bptr>,
     most: usize,
 }
 
 impl Mark for Some32 {
     ghost marked = { λ m. m.marked.items };
 
+    ghost refused = { λ m. length m.refused.items };
+
     fn mark(&mut self, p: &Bptr) -> Result<bool, AllocError> {
         if self.marked.len() >= self.most {
+            self.refused.push(*p)?;
             return Ok(false);
         }
         self.marked.push(*p)?;
@@ -55,16 +59,18 @@ fn grows_to_its_full_height(rt: HostRuntime) -> Result<(), Fail> {
     assert_eq!(rt; all.len(), 11);
     let mut m = Some32 {
         marked: Vec::new(alloc),
+        refused: Vec::new(alloc),
         most: 11,
     };
     assert!(rt; walk_marked(alloc, &mut store, &u, &mut m)?);
     assert_eq!(rt; m.marked.as_slice(), all.as_slice());
     let mut few = Some32 {
         marked: Vec::new(alloc),
+        refused: Vec::new(alloc),
         most: 7,
     };
     assert!(rt; !walk_marked(alloc, &mut store, &u, &mut few)?);
-    assert_eq!(rt; few.marked.len(), 7);
+    assert_eq!(rt; (few.marked.len(), few.refused.len()), (7, 1));
     assert!(rt; all.as_slice().starts_with(few.marked.as_slice()));
     Ok(())
 }
@@ -156,6 +162,7 @@ fn tells_of_a_bad_root(rt: HostRuntime) -> Result<(), Fail> {
         assert_eq!(rt; walk(alloc, &mut store, &t).err(), Some(error));
         let mut m = Some32 {
             marked: Vec::new(alloc),
+            refused: Vec::new(alloc),
             most: 1,
         };
         assert_eq!(rt;

@@ -1,7 +1,7 @@
 //! Walks over all blocks of a tree, each block before what lies below it.
 //!
 //! A marked walk asks before it goes below a block, so that a damaged tree that leads back to itself comes to an end.
-ghost use Rattle.std.specs.Prelude.{◌≡◌, ◌+◌, ◌-◌, ◌<◌, ◌≤◌, ◌++◌, ◌∷◌, [], List, ℕ, All, OnOk, OnErr, IfOk, IsTrue, if◌then◌else◌};
+ghost use Rattle.std.specs.Prelude.{◌≡◌, ◌+◌, ◌-◌, ◌<◌, ◌≤◌, ◌++◌, ◌∷◌, [], List, ℕ, All, OnOk, OnErr, IfOk, IsTrue, false, if◌then◌else◌};
 ghost use Rattle.zr_bptr.specs.declared.Bptr.{Bptr};
 ghost use Rattle.zr_tree.specs.Blocks.{FitsAt};
 ghost use Rattle.zr_store.specs.Causes.{Costs, HasCause};
@@ -67,8 +67,13 @@ pub trait Mark {
     /// The pointers for which the answer was true, in order.
     ghost marked: { Self → List Bptr };
 
+    /// How often the answer was false.
+    ghost refused: { Self → ℕ };
+
     fn mark(&mut self, p: &Bptr) -> Result<bool, AllocError>
         ensures ok { IfOk result (λ yes. marked self.new ≡ (if yes then marked self.old ++ p.now ∷ [] else marked self.old)) }
+        ensures passed { IfOk result (λ yes. IsTrue yes → refused self.new ≡ refused self.old) }
+        ensures refused { IfOk result (λ yes. yes ≡ false → refused self.new ≡ refused self.old + 1) }
         ensures err { OnErr result (marked self.new ≡ marked self.old) };
 }
 
@@ -87,6 +92,8 @@ fn walk_marked_below<B: Blocks, M: Mark>(
     ensures errors { (s : Stored) → B.holds store.old s → FitsAt level p.now → TellsOf s (blocks s level p.now) result }
     ensures front { (s : Stored) → B.holds store.old s → MarksFront (M.marked m.old) (M.marked m.new) (reach s level p.now) }
     ensures all { (s : Stored) → B.holds store.old s → IfOk result (λ yes. IsTrue yes → M.marked m.new ≡ M.marked m.old ++ reach s level p.now) }
+    ensures passed { IfOk result (λ yes. IsTrue yes → M.refused m.new ≡ M.refused m.old) }
+    ensures refused { IfOk result (λ yes. yes ≡ false → M.refused m.new ≡ M.refused m.old + 1) }
     ensures sound { (s : Stored) → B.holds store.old s → FitsAt level p.now → IfOk result (λ yes. IsTrue yes → IsSoundAt s level p.now) }
 {
     let b = match p {
@@ -108,7 +115,8 @@ fn walk_marked_below<B: Blocks, M: Mark>(
     Ok(true)
 }
 
-/// Goes through a tree as far as each mark answers true.
+/// Goes through a tree as far as each mark answers true. False is answered at the first mark that answers so, and nowhere
+/// else.
 pub fn walk_marked<B: Blocks, M: Mark>(
     alloc: Global,
     store: &mut B,
@@ -123,6 +131,8 @@ pub fn walk_marked<B: Blocks, M: Mark>(
     ensures errors { (s : Stored) → B.holds store.old s → TellsOf s (tree_blocks s t.now) result }
     ensures front { (s : Stored) → B.holds store.old s → MarksFront (M.marked m.old) (M.marked m.new) (tree_reach s t.now) }
     ensures all { (s : Stored) → B.holds store.old s → IfOk result (λ yes. IsTrue yes → M.marked m.new ≡ M.marked m.old ++ tree_reach s t.now) }
+    ensures passed { IfOk result (λ yes. IsTrue yes → M.refused m.new ≡ M.refused m.old) }
+    ensures refused { IfOk result (λ yes. yes ≡ false → M.refused m.new ≡ M.refused m.old + 1) }
     ensures sound { (s : Stored) → B.holds store.old s → IfOk result (λ yes. IsTrue yes → IsSoundAt s t.now.height t.now.root) }
 {
     walk_marked_below(alloc, store, t.height, &t.root, m)

@@ -1,4 +1,6 @@
-use Rattle.std.proofs.Common.{◌≡◌, ◌∙◌, ◌+◌, ◌-◌, ◌<◌, ◌++◌, ◌∷◌, [], length, suc, sym, ap, subst, arith, get_or}
+use Rattle.std.proofs.Common.{rules, ◌≡◌, ◌∙◌, ◌+◌, ◌-◌, ◌<◌, ◌++◌, ◌∷◌, [], length, suc, sym, ap, subst, arith, get_or}
+use Rattle.std.proofs.lemmas.Grind.{common_steps}
+use Rattle.std.proofs.lemmas.List.Elements.{All-more}
 use Rattle.std.specs.Prelude.{if◌then◌else◌, Bool, All}
 use Rattle.std.proofs.lemmas.Result.{err_from_is_err_and}
 use Rattle.zr_bptr.specs.Spelling.{IsOfLevel}
@@ -6,7 +8,7 @@ use Rattle.zr_tree.specs.Blocks.{FitsAt}
 use Rattle.zr_tree.proofs.Wholes.{tells_from, tells_within, top_within, kid_within}
 use Rattle.std.proofs.lemmas.List.{get_or_default}
 use Rattle.zr_bptr.specs.declared.Ptr.TheVariants.{Hole}
-use Rattle.zr_tree.specs.Trees.{reach, blocks}
+use Rattle.zr_tree.specs.Trees.{reach, blocks, IsSoundAt}
 use Rattle.zr_tree.proofs.Walking.{walked, sound_block, none_marked, all_marked, ended_below}
 use Rattle.zr_tree.proofs.walks.+walk_marked_below.Goals as goal
 
@@ -83,3 +85,19 @@ returns-clause-sound g t c = λ s holds fits yes.
     let whole = c.in_ok-pointers.ensures.whole s holds (of_level ∙ up) in
     sound_block s c.args.level (c.args.level - 1) c.loop-next.next-index c.args.p.now c.in-At.b c.in_ok-pointers.pointers.items c.deref-next-items.result.now
     level_is c.in-At.is (c.in_ok-pointers.ensures.means s holds) c.deref-next-items.ensures.value c.loop-next-test.false fits whole (c.loop-next.invariant.sound s holds)
+
+pub loop-next-preserved : goal.loop-next-preserved
+loop-next-preserved g t c = record {
+  follows = search rules;
+  costs = search rules;
+  same = search rules;
+  so_far = λ s holds. grind (arith, common_steps, c.in_ok-walk_marked_below.ensures.all s (c.loop-next.invariant.same s holds) c.if-not-branch-2.false, c.loop-next.invariant.so_far s holds);
+  none_refused = c.in_ok-walk_marked_below.ensures.passed c.if-not-branch-2.false ∙ c.loop-next.invariant.none_refused;
+  sound = λ s holds.
+      let below = c.in_ok-walk_marked_below.ensures.sound s (c.loop-next.invariant.same s holds) in
+      let fit = subst (All (FitsAt (c.args.level - 1))) (sym c.deref-next-items.ensures.value) c.in_ok-pointers.ensures.fit in
+      let items = c.deref-next-items.result.now in
+      let i = c.loop-next.next-index in
+      let lt : i < length items = omega arith in
+      All-more (IsSoundAt s (c.args.level - 1)) items i Hole lt (c.loop-next.invariant.sound s holds) (below (fit i Hole lt) c.if-not-branch-2.false);
+}

@@ -15,5 +15,6 @@ invariant-loop-next g l = record {
   costs : Costs 0 0 (g.B.Blocks.account l.fn.store) (g.B.Blocks.account l.store);
   same : (s : Stored) → g.B.Blocks.holds l.fn.store s → g.B.Blocks.holds l.store s;
   so_far : (s : Stored) → g.B.Blocks.holds l.fn.store s → g.M.Mark.marked l.m ≡ g.M.Mark.marked l.initial.m ++ flat_map (reach s (l.level - 1)) (take l.next-index l.next-items);
+  none_refused : g.M.Mark.refused l.m ≡ g.M.Mark.refused l.initial.m;
   sound : (s : Stored) → g.B.Blocks.holds l.fn.store s → All (IsSoundAt s (l.level - 1)) (take l.next-index l.next-items);
 }
