@@ -4,7 +4,7 @@ use Rattle.zr_base.specs.Blocks.{is_block_size}
 use Rattle.zr_rules.specs.Columns.{free_of}
 use Rattle.zr_rules.specs.Placement.{HasNoPlacement}
 use Rattle.zr_store.proofs.Keeping.{some_leaves, most_leaves}
-use Rattle.zr_vdev.proofs.Taking.{units, known, begins_low, written_there}
+use Rattle.zr_vdev.proofs.Taking.{units, known, begins_low, own_run, written_there}
 use Rattle.zr_vdev.proofs.writes.write_block.Goals as goal
 
 pub returns-in_err-at-clause-no_run : goal.returns-in_err-at-clause-no_run
@@ -58,3 +58,9 @@ returns-clause-there g c = λ told.
     let some = c.units_of-units.ensures.some in
     written_there c.args.mount.now.kind c.args.mount.now.pick.now.policy c.from.result c.args.space.now c.take_units.new.space c.in_ok-at.at c.in_ok-at.ensures.ok c.in_ok-at.ensures.within (omega (arith, some, from))
     (g.S.Shelf.world c.write_at.new.shelf).now.seen c.args.mount.now.slots.now c.args.bytes.now (c.in_ok-write_at.ensures.there told)
+
+pub returns-clause-run : goal.returns-clause-run
+returns-clause-run g c =
+    let from = c.from.ensures in
+    let some = c.units_of-units.ensures.some in
+    own_run c.args.mount.now.kind c.args.mount.now.pick.now.policy c.from.result c.args.space.now c.take_units.new.space c.in_ok-at.at c.in_ok-at.ensures.ok c.in_ok-at.ensures.within (omega (arith, some, from))
