@@ -11,7 +11,7 @@ mod reads;
 mod runs;
 mod writes;
 
-pub use cached::get_block;
+pub use cached::{get_block, put_block};
 pub use kind::{Kind, Mount};
 pub use reads::read_block;
 pub use runs::resolve;
