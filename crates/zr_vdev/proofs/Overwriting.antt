@@ -1,5 +1,9 @@
 -- What a write in new units leaves as it was.
 use Rattle.std.proofs.Common.{◌≡◌, ℕ, ◌+◌, ◌*◌, ◌<◌, Bool, true, false, ◌||◌, List, [], ◌∷◌, ◌++◌, length, Option, Some, None, refl, sym, ◌∙◌, ap, subst, inl, inr, arith}
+use Rattle.zr_vdev.proofs.Taking.{takes_frame}
+use Rattle.zr_vdev.specs.Mounts.{AreMounted}
+use Rattle.zr_vdev.specs.declared.kind.Kind.{Kind}
+use Rattle.zr_base.specs.declared.space.Policy.{Policy}
 use Rattle.std.specs.List.{flat_map, list_any}
 use Rattle.std.proofs.Math.Path.{fun_ext}
 use Rattle.std.proofs.lemmas.Bool.Decides.{nat_tests}
@@ -24,7 +28,7 @@ use Rattle.zr_view.specs.Runs.{bytes_from, run_bytes}
 use Rattle.zr_cache.specs.declared.table.Cache.{Cache}
 use Rattle.zr_cache.specs.Entries.{meets}
 use Rattle.zr_vdev.specs.Runs.{AreRunsOf, view_of}
-use Rattle.zr_vdev.specs.Puts.{IsWriteOf}
+use Rattle.zr_vdev.specs.Puts.{IsWriteOf, MayTake}
 use Rattle.zr_vdev.specs.Caches.{IsRead, AreRead, KeepsBlock}
 use Rattle.zr_vdev.proofs.Reading.{have_the_bytes}
 
@@ -102,3 +106,12 @@ module _ (slots : List (Option ℕ)) (at : Dva) (apart : (d e slot : ℕ) → sl
         same = given ∙ sym there ∙ ap (λ (q : Bptr). address_bytes (view_of new.now.seen slots t) q.at) (sym pointer);
       }
     ]
+
+-- a call that takes units or none leaves the devices mounted
+pub stays_mounted : (kind : Kind) (policy : Policy) (want : ℕ) (old new : Space) (before after : List ℕ) (slots : List (Option ℕ)) → MayTake kind policy want old new → after ≡ before
+    → AreMounted before slots (devices_in old) → AreMounted after slots (devices_in new)
+stays_mounted kind policy want old new before after slots (inl same) sizes mounted =
+    subst (λ (n : List ℕ). AreMounted n slots (devices_in new)) (sym sizes) (subst (λ (s : Space). AreMounted before slots (devices_in s)) (sym same) mounted)
+stays_mounted kind policy want old new before after slots (inr (at, takes)) sizes mounted =
+    subst (λ (n : List ℕ). AreMounted n slots (devices_in new)) (sym sizes)
+    (subst (λ (ds : Devices). AreMounted before slots ds) (sym (same_devices old new (takes_frame kind policy want old new at takes))) mounted)

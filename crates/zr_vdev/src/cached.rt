@@ -116,6 +116,7 @@ pub fn put_block<S: Shelf>(
     requires block { 0 < level → IsBlockOf (level - 1) bytes.now }
     ensures sizes { S.sizes shelf.new ≡ S.sizes shelf.old }
     ensures none_fell { NoneFell (S.counts shelf.old) (S.counts shelf.new) }
+    ensures mounted { AreMounted (S.sizes shelf.new) mount.now.slots.now (devices_in space.new) }
     ensures told { S.tells shelf.old → S.tells shelf.new }
     ensures failed { IsErrOf result Failed → HasRisen (S.counts shelf.old).disk (S.counts shelf.new).disk }
     ensures no_run { (needed longest : ℕ) → IsErrOf result (NoRun needed longest) → (needed ≡ length bytes.now / 4096) × HasNoPlacement (free_of space.old) (length bytes.now / 4096) longest }
