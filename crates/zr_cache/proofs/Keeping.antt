@@ -17,7 +17,7 @@ use Rattle.zr_cache.specs.Entries.{entries, is_key, bytes_in, meets, is_in, Hold
 use Rattle.zr_cache.proofs.Keys.{pointer_of_key}
 
 -- an entry of what a filter leaves was there, and passes
-Contains-filtered : {X : Type 0} (p : X → Bool) (xs : List X) (x : X) → Contains (filter p xs) x → Contains xs x × (p x ≡ true)
+pub Contains-filtered : {X : Type 0} (p : X → Bool) (xs : List X) (x : X) → Contains (filter p xs) x → Contains xs x × (p x ≡ true)
 Contains-filtered p xs x h =
     (All-contains (Contains xs) (filter p xs) x (All-filter p (Contains xs) xs (All-contains_itself xs)) h, All-contains (λ y. p y ≡ true) (filter p xs) x (filter_passes p xs) h)
 

@@ -1,3 +1,4 @@
 pub mod Mounts
 pub mod Runs
 pub mod Puts
+pub mod Caches

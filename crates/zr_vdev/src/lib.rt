@@ -5,11 +5,13 @@
 //! service and is written there in one call, so no unit that is in use is ever written.
 #![tactic(auto)]
 
+mod cached;
 mod kind;
 mod reads;
 mod runs;
 mod writes;
 
+pub use cached::{get_block, put_block};
 pub use kind::{Kind, Mount};
 pub use reads::read_block;
 pub use runs::resolve;

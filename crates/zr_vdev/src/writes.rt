@@ -1,5 +1,5 @@
 //! Writing a new block.
-ghost use Rattle.std.specs.Prelude.{◌≡◌, ◌+◌, ◌-◌, ◌*◌, ◌/◌, ◌<◌, ◌≤◌, ◌^◌, ◌⊎◌, ℕ, List, true, length, IsErrOf, OnOk, OnErr, IfOk, IfErr, IsTrue};
+ghost use Rattle.std.specs.Prelude.{◌≡◌, ◌+◌, ◌-◌, ◌*◌, ◌/◌, ◌<◌, ◌≤◌, ◌^◌, ◌⊎◌, ◌∷◌, [], ℕ, List, true, length, IsErrOf, OnOk, OnErr, IfOk, IfErr, IsTrue};
 ghost use Rattle.zr_base.specs.Blocks.{is_block_size};
 ghost use Rattle.zr_base.specs.Counts.{HasRisen};
 ghost use Rattle.zr_base.specs.declared.space.Dva.{Dva};
@@ -17,7 +17,7 @@ ghost use Rattle.zr_store.specs.Store.{IsPointerTo, IsBlockOf, is_size};
 ghost use Rattle.zr_view.specs.Views.{address_bytes};
 ghost use Rattle.zr_view.specs.Runs.{run_bytes, HasDisk};
 ghost use Rattle.zr_vdev.specs.Mounts.{AreMounted};
-ghost use Rattle.zr_vdev.specs.Runs.{view_of};
+ghost use Rattle.zr_vdev.specs.Runs.{view_of, AreRunsOf};
 ghost use Rattle.zr_vdev.specs.Puts.{Takes, MayTake, MayPut, IsWriteOf};
 
 use crate::kind::{Kind, Mount};
@@ -125,6 +125,7 @@ pub fn write_block<S: Shelf>(
     requires block { 0 < level → IsBlockOf (level - 1) bytes.now }
     ensures sizes { S.sizes shelf.new ≡ S.sizes shelf.old }
     ensures none_fell { NoneFell (S.counts shelf.old) (S.counts shelf.new) }
+    ensures mounted { AreMounted (S.sizes shelf.new) mount.now.slots.now (devices_in space.new) }
     ensures told { S.tells shelf.old → S.tells shelf.new }
     ensures failed { IsErrOf result Failed → HasRisen (S.counts shelf.old).disk (S.counts shelf.new).disk }
     ensures no_run { (needed longest : ℕ) → IsErrOf result (NoRun needed longest) → (needed ≡ length bytes.now / 4096) × HasNoPlacement (free_of space.old) (length bytes.now / 4096) longest }
@@ -133,6 +134,7 @@ pub fn write_block<S: Shelf>(
     ensures pointer { IfOk result (IsPointerTo level bytes.now) }
     ensures birth { IfOk result (λ b. b.birth ≡ mount.now.txg) }
     ensures taken { IfOk result (λ b. Takes mount.now.kind mount.now.pick.now.policy (length bytes.now / 4096) space.old space.new b.at) }
+    ensures run { IfOk result (λ b. AreRunsOf (devices_in space.new) b.at (as_part b.at ∷ [])) }
     ensures written { S.tells shelf.old → IfOk result (λ b. WritesOnly (IsWriteOf mount.now.slots.now b.at) (S.world shelf.old) (S.world shelf.new)) }
     ensures there { S.tells shelf.old → IfOk result (λ b. address_bytes (view_of (S.world shelf.new).now.seen mount.now.slots.now space.new) b.at ≡ bytes.now) }
     ensures kept { OnErr result (MayTake mount.now.kind mount.now.pick.now.policy (length bytes.now / 4096) space.old space.new) }

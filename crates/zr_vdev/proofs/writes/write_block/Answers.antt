@@ -1,10 +1,11 @@
-use Rattle.std.proofs.Common.{◌≡◌, ◌/◌, ◌<◌, ◌^◌, ℕ, length, refl, sym, ◌∙◌, subst, arith, rules}
+use Rattle.std.proofs.Common.{◌≡◌, ◌/◌, ◌<◌, ◌^◌, ℕ, length, refl, sym, ◌∙◌, subst, arith, rules, inl, inr}
+use Rattle.zr_vdev.proofs.Overwriting.{stays_mounted}
 use Rattle.std.specs.Prelude.{IsTrue}
 use Rattle.zr_base.specs.Blocks.{is_block_size}
 use Rattle.zr_rules.specs.Columns.{free_of}
 use Rattle.zr_rules.specs.Placement.{HasNoPlacement}
 use Rattle.zr_store.proofs.Keeping.{some_leaves, most_leaves}
-use Rattle.zr_vdev.proofs.Taking.{units, known, begins_low, written_there}
+use Rattle.zr_vdev.proofs.Taking.{units, known, begins_low, own_run, written_there}
 use Rattle.zr_vdev.proofs.writes.write_block.Goals as goal
 
 pub returns-in_err-at-clause-no_run : goal.returns-in_err-at-clause-no_run
@@ -58,3 +59,24 @@ returns-clause-there g c = λ told.
     let some = c.units_of-units.ensures.some in
     written_there c.args.mount.now.kind c.args.mount.now.pick.now.policy c.from.result c.args.space.now c.take_units.new.space c.in_ok-at.at c.in_ok-at.ensures.ok c.in_ok-at.ensures.within (omega (arith, some, from))
     (g.S.Shelf.world c.write_at.new.shelf).now.seen c.args.mount.now.slots.now c.args.bytes.now (c.in_ok-write_at.ensures.there told)
+
+pub returns-clause-run : goal.returns-clause-run
+returns-clause-run g c =
+    let from = c.from.ensures in
+    let some = c.units_of-units.ensures.some in
+    own_run c.args.mount.now.kind c.args.mount.now.pick.now.policy c.from.result c.args.space.now c.take_units.new.space c.in_ok-at.at c.in_ok-at.ensures.ok c.in_ok-at.ensures.within (omega (arith, some, from))
+
+pub returns-in_err-at-clause-mounted : goal.returns-in_err-at-clause-mounted
+returns-in_err-at-clause-mounted g c =
+    stays_mounted c.args.mount.now.kind c.args.mount.now.pick.now.policy c.from.result c.args.space.now c.take_units.new.space (g.S.Shelf.sizes c.args.shelf.now) (g.S.Shelf.sizes c.args.shelf.now) c.args.mount.now.slots.now
+    (inl c.in_err-at.ensures.err) refl c.requires.mounted
+
+pub returns-in_err-write_at-clause-mounted : goal.returns-in_err-write_at-clause-mounted
+returns-in_err-write_at-clause-mounted g c =
+    stays_mounted c.args.mount.now.kind c.args.mount.now.pick.now.policy c.from.result c.args.space.now c.take_units.new.space (g.S.Shelf.sizes c.args.shelf.now) (g.S.Shelf.sizes c.write_at.new.shelf) c.args.mount.now.slots.now
+    (inr (c.in_ok-at.at, c.in_ok-at.ensures.ok)) c.write_at.ensures.sizes c.requires.mounted
+
+pub returns-clause-mounted : goal.returns-clause-mounted
+returns-clause-mounted g c =
+    stays_mounted c.args.mount.now.kind c.args.mount.now.pick.now.policy c.from.result c.args.space.now c.take_units.new.space (g.S.Shelf.sizes c.args.shelf.now) (g.S.Shelf.sizes c.write_at.new.shelf) c.args.mount.now.slots.now
+    (inr (c.in_ok-at.at, c.in_ok-at.ensures.ok)) c.write_at.ensures.sizes c.requires.mounted
