@@ -24,14 +24,14 @@ still_stored : (s n : Stored) (into xs : List Bptr) → Swaps s n [] into → Ar
 still_stored s n into xs swaps held weight = let d = held weight in let e = swaps.stored weight in omega (arith, d, e)
 
 no_leaf_before : (s n : Stored) (b : Bptr) → n.bytes b ≡ s.bytes b → IsNoLeaf n b → IsNoLeaf s b
-no_leaf_before s n b same bad records spells = bad records (subst (λ (bytes : List ℕ). SpellsRecords bytes records) (sym same) spells)
+no_leaf_before s n b same bad = (bad.0 ∙ ap (λ (bytes : List ℕ). sha256 bytes) same, λ records spells. bad.1 records (subst (λ (bytes : List ℕ). SpellsRecords bytes records) (sym same) spells))
 
 tells_before : {T : Type 0} (s n : Stored) (xs leaves : List Bptr) (r : Result T StoreErr) → Agree s n xs → AreStored xs n → Within leaves xs → TellsOfLeaves n xs leaves (IsNoLeaf n) r → TellsOfLeaves s xs leaves (IsNoLeaf s) r
 tells_before s n xs leaves r agree stored within h = record {
   malformed = λ at expected is. elim (h.malformed at expected is) [
     | inl b ↦
         let same = agree.same b.block (among_hits b.block xs b.among) in
-        inl (record { block = b.block; among = b.among; address = b.address; checksum = b.checksum; tall = b.tall; bad = subst (λ (bytes : List ℕ). IsNoBlock (b.block.level - 1) b.block.fill bytes) same b.bad })
+        inl (record { block = b.block; among = b.among; address = b.address; checksum = b.checksum; tall = b.tall; right = b.right ∙ ap (λ (bytes : List ℕ). sha256 bytes) same; bad = subst (λ (bytes : List ℕ). IsNoBlock (b.block.level - 1) b.block.fill bytes) same b.bad })
     | inr b ↦
         let w = within (one_at b.leaf.at) in
         let a = among_hits b.leaf leaves b.among in

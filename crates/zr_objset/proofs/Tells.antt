@@ -22,7 +22,7 @@ use Rattle.zr_objset.proofs.Within.{within_same, blocks_within, leaf_within}
 
 bad_block_within : (s : Stored) (xs ys : List Bptr) (at : Dva) (expected : List ℕ) → Within xs ys → HasBadBlock s xs at expected → HasBadBlock s ys at expected
 bad_block_within s xs ys at expected within b =
-    record { block = b.block; among = among_within b.block xs ys within b.among; address = b.address; checksum = b.checksum; tall = b.tall; bad = b.bad }
+    record { block = b.block; among = among_within b.block xs ys within b.among; address = b.address; checksum = b.checksum; tall = b.tall; right = b.right; bad = b.bad }
 
 bad_leaf_within : (Bad Worse : Bptr → Type 0) (xs ys : List Bptr) (at : Dva) (expected : List ℕ) → Within xs ys → ((x : Bptr) → Bad x → Worse x) → HasBadLeaf Bad xs at expected → HasBadLeaf Worse ys at expected
 bad_leaf_within Bad Worse xs ys at expected within worse b =

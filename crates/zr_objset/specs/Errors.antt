@@ -1,5 +1,6 @@
 -- Leaves that are outside their form, and the errors that tell of them.
 use Rattle.std.specs.Prelude.{◌≡◌, ◌≢◌, ◌⊎◌, ℕ, List, All, Option, Some, None, Result, IsErrOf}
+use Rattle.sha2.specs.Sha256.{sha256}
 use Rattle.zr_base.specs.declared.space.Dva.{Dva}
 use Rattle.zr_bptr.specs.declared.Bptr.{Bptr}
 use Rattle.zr_bptr.specs.declared.Ptr.{Ptr}
@@ -12,9 +13,9 @@ use Rattle.zr_store.specs.Store.{Stored, AreStored}
 use Rattle.zr_tree.specs.Trees.{IsAmong, IsSoundAt, HasBadBlock, HasDamagedBlock}
 use Rattle.zr_objset.specs.Records.{records_in}
 
--- the bytes are not those of sixteen records
+-- the bytes have the pointer's sum and are not those of sixteen records
 abbrev pub IsNoLeaf : Stored → Bptr → Type 0
-IsNoLeaf s b = (records : List (Option ObjRec)) → ¬ SpellsRecords (s.bytes b) records
+IsNoLeaf s b = (b.sum ≡ sha256 (s.bytes b)) × ((records : List (Option ObjRec)) → ¬ SpellsRecords (s.bytes b) records)
 
 -- the pointer is that of a leaf of the directory, and the bytes are not those of sixteen records
 abbrev pub IsBadLeaf : Stored → Bptr → Type 0

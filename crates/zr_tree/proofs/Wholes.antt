@@ -181,7 +181,7 @@ tells_empty s t xs r h = record {
 
 pub tells_within : {T : Type 0} (s : Stored) (xs ys : List Bptr) (r : Result T StoreErr) → Within xs ys → TellsOf s xs r → TellsOf s ys r
 tells_within s xs ys r within h = record {
-  malformed = λ at expected is. let b = h.malformed at expected is in record { block = b.block; among = among_within b.block xs ys within b.among; address = b.address; checksum = b.checksum; tall = b.tall; bad = b.bad };
+  malformed = λ at expected is. let b = h.malformed at expected is in record { block = b.block; among = among_within b.block xs ys within b.among; address = b.address; checksum = b.checksum; tall = b.tall; right = b.right; bad = b.bad };
   damaged = λ at expected found is.
       let b = h.damaged at expected found is in
       record { block = b.block; among = among_within b.block xs ys within b.among; address = b.address; checksum = b.checksum; found_is = b.found_is; differs = b.differs };
@@ -205,7 +205,7 @@ tells_before s t out into r brings stored h = record {
   malformed = λ at expected is.
       let b = h.malformed at expected is in
       elim (brings.each b.block b.among) [
-        | inl old ↦ record { block = b.block; among = old.0; address = b.address; checksum = b.checksum; tall = b.tall; bad = subst (λ (bytes : List ℕ). IsNoBlock (b.block.level - 1) b.block.fill bytes) old.1 b.bad }
+        | inl old ↦ record { block = b.block; among = old.0; address = b.address; checksum = b.checksum; tall = b.tall; right = b.right ∙ ap (λ (bytes : List ℕ). sha256 bytes) old.1; bad = subst (λ (bytes : List ℕ). IsNoBlock (b.block.level - 1) b.block.fill bytes) old.1 b.bad }
         | inr whole ↦ absurd (b.bad whole.block.0 whole.block.1)
       ];
   damaged = λ at expected found is.

@@ -234,13 +234,14 @@ pub record MarksFront (old new pointers : List Bptr) : Type 0 where
   pub marked : new ≡ old ++ front
   pub parts : front ++ rest ≡ pointers
 
--- one of these blocks, with this address and this sum, is no tree block of its level
+-- one of these blocks, with this address and this sum, has its sum and is no tree block of its level
 pub record HasBadBlock (s : Stored) (pointers : List Bptr) (at : Dva) (expected : List ℕ) : Type 0 where
   pub block : Bptr
   pub among : IsAmong block pointers
   pub address : block.at ≡ at
   pub checksum : block.sum ≡ expected
   pub tall : 0 < block.level
+  pub right : block.sum ≡ sha256 (s.bytes block)
   pub bad : IsNoBlock (block.level - 1) block.fill (s.bytes block)
 
 -- one of these blocks, with this address and this sum, has the bytes of another sum
