@@ -7,6 +7,7 @@ use Rattle.zr_base.specs.declared.space.Extent.{Extent}
 use Rattle.zr_base.specs.declared.space.DevState.TheVariants as state
 use Rattle.zr_base.specs.declared.space.Dva.{Dva}
 use Rattle.zr_base.specs.Extents.{has_unit, unit_count}
+use Rattle.zr_bptr.specs.declared.Bptr.{Bptr}
 use Rattle.zr_rules.specs.Placement.{Free}
 
 -- a device that was removed by this group
@@ -69,3 +70,11 @@ after_fifth = run 0 1 ∷ (run 24 1 ∷ lone_units)
 
 abbrev pub after_sixth : List Extent
 after_sixth = run 24 1 ∷ lone_units
+
+-- a pointer to a leaf of one unit
+abbrev pub leaf_of_one_unit : Bptr
+leaf_of_one_unit = record { at = record { dev = 1; start = 7; len = 1 }; level = 0; birth = 1; fill = 1; sum = [] }
+
+-- two entries of three and two units
+abbrev pub two_entries : List Entry
+two_entries = record { src = 10; dev = 1; dst = 7; len = 3 } ∷ (record { src = 13; dev = 2; dst = 0; len = 2 } ∷ [])

@@ -15,7 +15,7 @@ ghost use Rattle.zr_rules.specs.Placement.{IsPlacement};
 ghost use Rattle.zr_base.specs.Extents.{IsMaximal, longest_len};
 ghost use Rattle.zr_base.specs.declared.space.Dva.{Dva};
 ghost use Rattle.zr_base.specs.declared.space.Extent.{Extent};
-ghost use Rattle.zr_laws.specs.Examples.{chain, three_entries, ones, free_on_second, on_second, before_copies, after_first, after_second, after_third, after_fourth, after_fifth, after_sixth};
+ghost use Rattle.zr_laws.specs.Examples.{chain, two_entries, three_entries, ones, free_on_second, on_second, before_copies, after_first, after_second, after_third, after_fourth, after_fifth, after_sixth};
 
 /// A pointer to a device that was removed two removals ago leads to where its bytes are now, in order.
 pub fn a_chain_of_two_removals()
@@ -56,6 +56,11 @@ pub fn a_mapping_condensed()
     ensures folded { folded three_entries (0 ∷ (0 ∷ (0 ∷ []))) (record { start = 0; len = 7 } ∷ []) ≡ 4 ∷ (3 ∷ (0 ∷ [])) }
     ensures kept { condensed three_entries (4 ∷ (3 ∷ (0 ∷ [])))
         ≡ (record { src = 4; dev = 1; dst = 4; len = 4 }, 3) ∷ ((record { src = 8; dev = 1; dst = 8; len = 4 }, 0) ∷ []) }
+{}
+
+/// Of two entries with two obsolete units each, the one of three units stays.
+pub fn the_longer_entry_stays()
+    ensures { condensed two_entries (2 ∷ (2 ∷ [])) ≡ (record { src = 10; dev = 1; dst = 7; len = 3 }, 2) ∷ [] }
 {}
 
 /// Of 64 entries of one unit, 50 of them obsolete, 14 stay.

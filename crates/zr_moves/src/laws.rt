@@ -1,5 +1,5 @@
 //! The definitions, tried on examples and against wrong readings.
-ghost use Rattle.std.specs.Prelude.{◌≡◌, ◌≢◌, ℕ, ◌+◌, ◌<◌, ◌≤◌, List, [], ◌∷◌, ◌++◌, length, Bool, true, false, None, Some, Option, codes};
+ghost use Rattle.std.specs.Prelude.{◌≡◌, ◌≢◌, ℕ, ◌+◌, ◌<◌, ◌≤◌, List, [], ◌∷◌, ◌++◌, length, Bool, true, false, None, Some, Option, Contains, codes};
 ghost use Rattle.zr_base.specs.declared.space.Policy.{Policy};
 ghost use Rattle.zr_base.specs.declared.refusal.Refusal.{Refusal};
 ghost use Rattle.zr_base.specs.declared.refusal.Refusal.TheVariants as refusal;
@@ -11,8 +11,10 @@ ghost use Rattle.zr_model.specs.State.{PoolState, ShelfPart, Is};
 ghost use Rattle.zr_model.specs.Runs.{Shelf, Point, Turn};
 ghost use Rattle.zr_moves.specs.Account.{Account};
 ghost use Rattle.zr_moves.specs.Prefix.{Now, IsLastCommit, CommittedAt, HasSent, MeansPrefix, KeepsPrefix, IsNoLater};
-ghost use Rattle.zr_moves.specs.Commits.{Commits, KeepsRoots, by_level};
-ghost use Rattle.zr_moves.specs.Moves.{Course, Moves, Stays, fits, has_part, discard_reply};
+ghost use Rattle.zr_bptr.specs.declared.Bptr.{Bptr};
+ghost use Rattle.zr_rules.specs.Space.{Space};
+ghost use Rattle.zr_moves.specs.Commits.{Commits, KeepsRoots, WritesTree, by_level};
+ghost use Rattle.zr_moves.specs.Moves.{AddsDevice, Course, FitsFirst, HoldsCheckpoint, Moves, Stays, fits, has_part, discard_reply};
 ghost use Rattle.zr_moves.specs.Move.{Move, MovesClosed};
 ghost use Rattle.zr_moves.specs.Examples.{nothing, idle, one_turn, block_at};
 
@@ -71,4 +73,18 @@ pub fn what_does_not_commit()
     ensures read { (c : Course) (p : PoolState) (old new : Account) (id off len : ℕ) (answer : Reply) → Moves c p old (cmd.Read id off len) answer new → new ≡ old }
     ensures opened { (c : Course) (r : Refusal) (new : Account) → MovesClosed c cmd.Import (reply.No r) (Some new) → ⊥ }
     ensures synced { (c : Course) (p : PoolState) (old new : Account) → Moves c p old cmd.Sync reply.Done new → ⊥ }
+{}
+
+/// A commit within a command is one that the disks went through at a moment of it.
+pub fn a_commit_within_a_command_is_one_of_its_moments()
+    ensures full { (c : Course) (old mid : Account) (blocks objects : ℕ) (between : Shelf) → fits blocks objects ≡ false → FitsFirst c old blocks objects between mid → Contains c.moments between }
+    ensures added { (c : Course) (path : List ℕ) (old new : Account) → (a : AddsDevice c path old new) → Contains c.moments a.committed }
+    ensures held { (c : Course) (old new : Account) → (a : HoldsCheckpoint c old new) → Contains c.moments a.committed }
+{}
+
+/// A commit frees no block that the tree still has, and none that it had not.
+pub fn a_commit_frees_what_a_tree_has_no_more()
+    ensures kept { (policy : Policy) (txg : ℕ) (had has : List Bptr) (old new : Space) (b : Bptr) → (w : WritesTree policy txg had has old new) → Contains has b → Contains w.gone b → ⊥ }
+    ensures had { (policy : Policy) (txg : ℕ) (had has : List Bptr) (old new : Space) (b : Bptr) → (w : WritesTree policy txg had has old new) → Contains w.gone b → Contains had b }
+    ensures gone { (policy : Policy) (txg : ℕ) (had has : List Bptr) (old new : Space) (b : Bptr) → (w : WritesTree policy txg had has old new) → Contains had b → (Contains has b → ⊥) → Contains w.gone b }
 {}
