@@ -1,6 +1,7 @@
 -- Small pools on which the rules are tried.
-use Rattle.std.specs.Prelude.{ℕ, ◌+◌, ◌==◌, ◌&&◌, List, [], ◌∷◌, map, if◌then◌else◌}
+use Rattle.std.specs.Prelude.{true, false, ℕ, ◌+◌, ◌==◌, ◌&&◌, List, [], ◌∷◌, map, if◌then◌else◌}
 use Rattle.std.specs.List.{range_with_len}
+use Rattle.zr_base.specs.declared.space.Change.{Change}
 use Rattle.zr_base.specs.declared.space.DevPart.{DevPart}
 use Rattle.zr_base.specs.declared.space.Entry.{Entry}
 use Rattle.zr_base.specs.declared.space.Extent.{Extent}
@@ -78,3 +79,10 @@ leaf_of_one_unit = record { at = record { dev = 1; start = 7; len = 1 }; level =
 -- two entries of three and two units
 abbrev pub two_entries : List Entry
 two_entries = record { src = 10; dev = 1; dst = 7; len = 3 } ∷ (record { src = 13; dev = 2; dst = 0; len = 2 } ∷ [])
+
+-- a run of units is taken, or given back
+abbrev pub taken : ℕ → ℕ → Change
+taken start len = record { free = false; at = run start len }
+
+abbrev pub given : ℕ → ℕ → Change
+given start len = record { free = true; at = run start len }

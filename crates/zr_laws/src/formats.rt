@@ -1,10 +1,12 @@
 //! What stands on a disk.
-ghost use Rattle.std.specs.Prelude.{◌≡◌, ℕ, List, [], ◌∷◌, Some, None, take};
+ghost use Rattle.std.specs.Prelude.{◌≡◌, ℕ, List, [], ◌∷◌, Some, None, take, ◌^◌};
 ghost use Rattle.zr_base.specs.Words.{address, words};
 ghost use Rattle.zr_bptr.specs.Spelling.{properties};
 ghost use Rattle.zr_label.specs.Geometry.{label_at, slot_of, unit_at, units_of_size};
-ghost use Rattle.zr_rules.specs.Logs.{entry_bytes};
-ghost use Rattle.zr_laws.specs.Examples.{leaf_of_one_unit};
+ghost use Rattle.zr_base.specs.declared.space.Change.{Change};
+ghost use Rattle.zr_base.specs.declared.space.Extent.{Extent};
+ghost use Rattle.zr_rules.specs.Logs.{entry_bytes, IsAnew, IsReplay, SpellsChanges};
+ghost use Rattle.zr_laws.specs.Examples.{given, leaf_of_one_unit, run, taken};
 
 /// The bytes of what a leaf of one unit says of itself, of the address of three units of device 1 at unit 7, and of the
 /// place in an entry that begins at unit 10.
@@ -13,6 +15,15 @@ pub fn the_bytes_of_pointers()
     ensures address { words (address (record { dev = 1; start = 7; len = 3 }))
         ≡ 24 ∷ (0 ∷ (0 ∷ (0 ∷ (1 ∷ (0 ∷ (0 ∷ (0 ∷ (56 ∷ (0 ∷ (0 ∷ (0 ∷ (0 ∷ (0 ∷ (0 ∷ (0 ∷ []))))))))))))))) }
     ensures entry { take 8 (entry_bytes (record { src = 10; dev = 1; dst = 7; len = 3 })) ≡ 80 ∷ (0 ∷ (0 ∷ (0 ∷ (0 ∷ (0 ∷ (0 ∷ (0 ∷ []))))))) }
+{}
+
+/// What the words of a log replay to: units that were taken and not given back. No log takes a unit twice, and no word of
+/// version 1 has the highest bit.
+pub fn the_set_of_a_log()
+    ensures replayed { IsReplay (taken 5 3 ∷ (given 6 1 ∷ [])) (run 5 1 ∷ (run 7 1 ∷ [])) }
+    ensures anew { IsAnew 1 0 (run 5 1 ∷ (run 7 1 ∷ [])) (327680 ∷ (458752 ∷ [])) }
+    ensures twice { (es : List Extent) → IsReplay (taken 5 3 ∷ (taken 7 1 ∷ [])) es → ⊥ }
+    ensures high { (changes : List Change) → SpellsChanges 1 0 (2 ^ 63 ∷ []) changes → ⊥ }
 {}
 
 /// Where labels, roots and units stand on the smallest disk, and how many units disks have.

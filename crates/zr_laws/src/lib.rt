@@ -5,6 +5,7 @@
 //! each law is the contract of a function with an empty body.
 #![tactic(auto)]
 
+pub mod commands;
 pub mod formats;
 pub mod lines;
 pub mod space;
