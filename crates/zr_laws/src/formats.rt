@@ -17,11 +17,13 @@ pub fn the_bytes_of_pointers()
     ensures entry { take 8 (entry_bytes (record { src = 10; dev = 1; dst = 7; len = 3 })) ≡ 80 ∷ (0 ∷ (0 ∷ (0 ∷ (0 ∷ (0 ∷ (0 ∷ (0 ∷ []))))))) }
 {}
 
-/// What the words of a log replay to: units that were taken and not given back. No log takes a unit twice, and no word of
-/// version 1 has the highest bit.
+/// What the words of a log replay to: units that were taken and not given back. A run of more than 32,768 units is cut in
+/// version 1, and has two words in version 2. No log takes a unit twice, and no word of version 1 has the highest bit.
 pub fn the_set_of_a_log()
     ensures replayed { IsReplay (taken 5 3 ∷ (given 6 1 ∷ [])) (run 5 1 ∷ (run 7 1 ∷ [])) }
     ensures anew { IsAnew 1 0 (run 5 1 ∷ (run 7 1 ∷ [])) (327680 ∷ (458752 ∷ [])) }
+    ensures cut { IsAnew 1 3 (run 100 40000 ∷ []) (6586367 ∷ (2154044479 ∷ [])) }
+    ensures long { IsAnew 2 3 (run 100 40000 ∷ []) (13835058726354026499 ∷ (100 ∷ [])) }
     ensures twice { (es : List Extent) → IsReplay (taken 5 3 ∷ (taken 7 1 ∷ [])) es → ⊥ }
     ensures high { (changes : List Change) → SpellsChanges 1 0 (2 ^ 63 ∷ []) changes → ⊥ }
 {}

@@ -18,3 +18,23 @@ returns-clause-twice c = λ es replay. let bad : true ≡ false = (replay.turns 
 
 pub returns-clause-high : goal.returns-clause-high
 returns-clause-high c = no_high_word
+
+pub returns-clause-cut : goal.returns-clause-cut
+returns-clause-cut c = record {
+  runs = run 100 32768 ∷ (run 32868 7232 ∷ []);
+  cut = (run 100 32768 ∷ (run 32868 7232 ∷ []), [], refl, record { cut = (refl, refl, (refl, omega arith, omega arith)); count = refl }, refl);
+  spelling = record {
+    lawful = (record { some = omega arith; most = omega arith; place = omega arith }, (record { some = omega arith; most = omega arith; place = omega arith }, tt));
+    spelling = refl;
+  };
+}
+
+pub returns-clause-long : goal.returns-clause-long
+returns-clause-long c = record {
+  runs = run 100 40000 ∷ [];
+  cut = (run 100 40000 ∷ [], [], refl, record { cut = (refl, omega arith, omega arith); count = refl }, refl);
+  spelling = record {
+    lawful = (record { some = omega arith; most = omega arith; place = omega arith }, tt);
+    spelling = refl;
+  };
+}
