@@ -1,0 +1,4 @@
+pub mod Checks
+pub mod Phases
+pub mod Found
+pub mod Tables
