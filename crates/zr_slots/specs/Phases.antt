@@ -2,7 +2,7 @@
 --
 -- The phases say how the shelf stood when each flush was done, so that a fact that a flush made durable can be used for every
 -- crash behind it.
-use Rattle.std.specs.Prelude.{◌≡◌, ◌⊎◌, ℕ, ◌+◌, ◌<◌, List, Contains, IsTrue, slice_index, Result, Ok, Err}
+use Rattle.std.specs.Prelude.{◌≡◌, ◌⊎◌, ℕ, ◌+◌, ◌<◌, List, length, Contains, IsTrue, slice_index, Result, Ok, Err}
 use Rattle.zr_shelf.specs.Disks.{disk, PendingWrite, flushed}
 use Rattle.zr_shelf.specs.Moments.{World, Steps, IsStill}
 use Rattle.zr_shelf.specs.Doings.{WritesOnly}

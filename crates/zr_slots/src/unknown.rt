@@ -26,8 +26,8 @@ fn is_reached(seen: &[Seen], guid: u64, txg: u64) -> bool
     ensures yes { IsTrue result → (u : Uber) × IsShown seen.now u × (u.guid ≡ guid) × (txg ≤ u.txg) }
     ensures no { IsFalse result → (u : Uber) → IsShown seen.now u → u.guid ≡ guid → u.txg < txg }
 {
-    for s in seen {
-        if reaches(s.ubers.as_slice(), guid, txg) {
+    for slot in 0..seen.len() {
+        if reaches(seen[slot].ubers.as_slice(), guid, txg) {
             return true;
         }
     }

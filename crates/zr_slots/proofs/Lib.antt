@@ -1,0 +1,3 @@
+pub mod Passing
+pub mod Newest
+pub mod Rooting
