@@ -1,3 +1,10 @@
 pub mod Passing
 pub mod Newest
 pub mod Rooting
+pub mod Shown
+pub mod Twice
+pub mod Finding
+pub mod Places
+pub mod Sizes
+pub mod Pushing
+pub mod Lawful

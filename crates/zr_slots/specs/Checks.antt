@@ -9,7 +9,7 @@ use Rattle.zr_label.specs.declared.root.Uber.{Uber}
 use Rattle.zr_label.specs.declared.root.Seen.{Seen}
 use Rattle.zr_scan.specs.Scan.{IsSmallAndLawful}
 use Rattle.zr_image.specs.Checks.{Check, ◌>>=◌, Demands, Excludes}
-use Rattle.zr_image.specs.Current.{seen_at, IsShown, IsInUse, IsLowest}
+use Rattle.zr_image.specs.Current.{seen_at, IsCurrent, IsInUse, IsLowest}
 
 -- the slot is one of them, and shows what a disk of some size can show
 pub record IsSlotOf (seen : List Seen) (slot : ℕ) : Type 0 where
@@ -21,10 +21,10 @@ pub record IsSlotOf (seen : List Seen) (slot : ℕ) : Type 0 where
 abbrev pub AreLawful : List Seen → Type 0
 AreLawful seen = (slot : ℕ) → slot < length seen → IsSlotOf seen slot
 
--- the slot is one of them, and no root that is shown is of a later group
+-- the slot is one of them, and the highest group that is shown is this
 pub record IsSlotUpTo (seen : List Seen) (txg : ℕ) (slot : ℕ) : Type 0 where
   pub in_list : slot < length seen
-  pub highest : (u : Uber) → IsShown seen u → u.txg ≤ txg
+  pub top : (u : Uber) × IsCurrent seen u × (u.txg ≡ txg)
 
 -- the slot is one of them, and the root has so many devices as a root can have
 pub record IsSlotOfRoot (seen : List Seen) (u : Uber) (slot : ℕ) : Type 0 where

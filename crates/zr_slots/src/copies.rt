@@ -3,8 +3,8 @@ ghost use Rattle.std.specs.Prelude.{◌≡◌, ◌≢◌, ◌<◌, ◌≤◌, �
 ghost use Rattle.zr_base.specs.Readers.{Reads};
 ghost use Rattle.zr_label.specs.declared.root.Uber.{Uber};
 ghost use Rattle.zr_scan.specs.Scan.{IsRootFor};
-ghost use Rattle.zr_image.specs.Current.{AreTwoPools, AreTwoRoots, AreTwoCopies, IsCurrent, IsOnePool, IsShown, ExcludesSlot};
-ghost use Rattle.zr_slots.specs.Checks.{AreLawful, IsOther};
+ghost use Rattle.zr_image.specs.Current.{AreTwoPools, AreTwoRoots, AreTwoCopies, IsCurrent, IsOnePool, IsShown, IsShownAt, ExcludesSlot};
+ghost use Rattle.zr_slots.specs.Checks.{AreLawful, IsSlotOf, IsOther};
 
 use crate::lowest::{Between, Has, exclude_pair, lowest};
 use crate::show::{label_at, roots_at};
@@ -26,24 +26,56 @@ impl Between for Pools<'_> {
     ghost known = { λ s. IsSlotOf s.seen.now };
 
     fn is_shared(&self, a: u32, b: u32) -> bool {
-        let (Some(one), Some(other)) = (roots_at(self.seen, a).first(), roots_at(self.seen, b).first()) else {
+        let (Some(one), Some(other)) = (pool_at(self.seen, a), pool_at(self.seen, b)) else {
             return false;
         };
-        one.guid != other.guid
+        one != other
     }
 }
 
-/// A root of the same group that is not this one.
+/// The pool of the roots that a slot shows.
+fn pool_at(seen: &[Seen], slot: u32) -> Option<u64>
+    requires { IsSlotOf seen.now slot }
+    ensures some { IfSome result (λ guid. (u : Uber) × IsShownAt seen.now slot u × (u.guid ≡ guid)) }
+    ensures one { IfSome result (λ guid. (u : Uber) → IsShownAt seen.now slot u → u.guid ≡ guid) }
+    ensures none { IfNone result ((u : Uber) → ¬ IsShownAt seen.now slot u) }
+{
+    let Some(label) = label_at(seen, slot) else {
+        return None;
+    };
+    if roots_at(seen, slot).is_empty() {
+        return None;
+    }
+    Some(label.guid)
+}
+
+/// Whether a root of the same group is not this one.
+fn is_other(u: &Uber, v: &Uber) -> bool
+    ensures yes { IsTrue result → IsOther u.now v.now }
+    ensures no { IsFalse result → ¬ IsOther u.now v.now }
+{
+    v.txg == u.txg && v != u
+}
+
+/// Whether a root of the list has the group of this one and is another.
 fn other_in(us: &[Uber], u: &Uber) -> bool
     ensures yes { IsTrue result → (v : Uber) × Contains us.now v × IsOther u.now v }
     ensures no { IsFalse result → (v : Uber) → Contains us.now v → ¬ IsOther u.now v }
 {
-    for v in us {
-        if v.txg == u.txg && v != u {
+    for i in 0..us.len() {
+        if is_other(u, &us[i]) {
             return true;
         }
     }
     false
+}
+
+/// Whether a root is of the group, and a root of the list has the group too and is another.
+fn has_other(u: &Uber, vs: &[Uber], txg: u64) -> bool
+    ensures yes { IsTrue result → (u.now.txg ≡ txg) × (v : Uber) × Contains vs.now v × IsOther u.now v }
+    ensures no { IsFalse result → u.now.txg ≡ txg → (v : Uber) → Contains vs.now v → ¬ IsOther u.now v }
+{
+    u.txg == txg && other_in(vs, u)
 }
 
 /// Whether two roots of a group, one of each list, differ.
@@ -51,8 +83,8 @@ fn differ(us: &[Uber], vs: &[Uber], txg: u64) -> bool
     ensures yes { IsTrue result → (u v : Uber) × Contains us.now u × Contains vs.now v × (u.txg ≡ txg) × IsOther u v }
     ensures no { IsFalse result → (u v : Uber) → Contains us.now u → Contains vs.now v → u.txg ≡ txg → ¬ IsOther u v }
 {
-    for u in us {
-        if u.txg == txg && other_in(vs, u) {
+    for i in 0..us.len() {
+        if has_other(&us[i], vs, txg) {
             return true;
         }
     }
@@ -131,7 +163,7 @@ impl Between for Copies<'_> {
 /// Refuses the lowest slot that shows two roots of the group.
 fn exclude_twice(seen: &[Seen], txg: u64, slots: u32) -> Result<(), Refusal>
     requires slots { slots ≡ length seen.now }
-    requires highest { (u : Uber) → IsShown seen.now u → u.txg ≤ txg }
+    requires top { (u : Uber) × IsCurrent seen.now u × (u.txg ≡ txg) }
     ensures { ExcludesSlot (AreTwoRoots seen.now) result }
 {
     match lowest(&Roots { seen, txg }, slots) {

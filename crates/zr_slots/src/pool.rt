@@ -37,10 +37,13 @@ fn current(seen: &[Seen]) -> Result<Uber, Refusal>
     ensures { Finds (IsCurrent seen.now) NoPoolOnDevices result }
 {
     let mut found = None;
-    for s in seen {
-        found = higher(found, best(s.ubers.as_slice()));
+    for slot in 0..seen.len() {
+        found = higher(found, best(seen[slot].ubers.as_slice()));
     }
-    found.ok_or(Refusal::NoPoolOnDevices)
+    match found {
+        Some(u) => Ok(u),
+        None => Err(Refusal::NoPoolOnDevices),
+    }
 }
 
 /// What a root records of a device.

@@ -2,5 +2,5 @@ use Rattle.zr_slots.specs.Checks.{IsOther}
 use Rattle.zr_slots.proofs.Passing.{NoneYet}
 use Rattle.zr_slots.proofs.copies.other_in.Given as goal
 
-abbrev pub invariant-loop-v : goal.invariant-loop-v
-invariant-loop-v l = NoneYet (IsOther l.u) l.us l.v-index
+abbrev pub invariant-loop-i : goal.invariant-loop-i
+invariant-loop-i l = NoneYet (IsOther l.u) l.us l.i
