@@ -8,3 +8,4 @@ pub mod Places
 pub mod Sizes
 pub mod Pushing
 pub mod Lawful
+pub mod Gathered

@@ -2,7 +2,7 @@
 use Rattle.std.proofs.Common.{◌≡◌, ℕ, ◌<◌, ◌≤◌, ◌+◌, List, [], length, get_or, replicate, take, zero, suc, Bool, true, false, not, Option, None, Some, cond, refl, sym, ◌∙◌, ap, subst, arith}
 use Rattle.std.specs.Prelude.{is_some}
 use Rattle.std.proofs.lemmas.List.{get_or_read, ext_get_or, length-take, get_or-take}
-use Rattle.std.specs.List.{range_with_len}
+use Rattle.std.specs.List.{range_with_len, position}
 use Rattle.std.proofs.lemmas.List.FromFn.{length-map-range_with_len, get_or-map-range_with_len}
 use Rattle.zr_rules.specs.Places.{is_gone}
 use Rattle.zr_label.specs.declared.root.Uber.{Uber}
@@ -21,12 +21,12 @@ device_read u seen index slot s b lt is asked = sym (asked ∙ ap (λ (t : Seen)
 pub at_place : (u : Uber) (seen : List Seen) (index slot : ℕ) → is_gone (row_at u index).state ≡ false → slot < length seen →
     ((k : ℕ) → k < slot → is_device u index (seen_at seen k).label ≡ false) → is_device u index (seen_at seen slot).label ≡ true → Some slot ≡ slot_of_device u seen index
 at_place u seen index slot there lt before here =
-    sym (ap (λ b. cond b None _) there ∙ position_some (λ (s : Seen). is_device u index s.label) seen slot nothing lt before here)
+    sym (ap (λ b. cond b None (position (λ (s : Seen). is_device u index s.label) seen)) there ∙ position_some (λ (s : Seen). is_device u index s.label) seen slot nothing lt before here)
 
 pub no_place : (u : Uber) (seen : List Seen) (index n : ℕ) → is_gone (row_at u index).state ≡ false → length seen ≤ n →
     ((k : ℕ) → k < n → is_device u index (seen_at seen k).label ≡ false) → None ≡ slot_of_device u seen index
 no_place u seen index n there long before =
-    sym (ap (λ b. cond b None _) there ∙ position_none (λ (s : Seen). is_device u index s.label) seen nothing (λ k lt. before k (omega arith)))
+    sym (ap (λ b. cond b None (position (λ (s : Seen). is_device u index s.label) seen)) there ∙ position_none (λ (s : Seen). is_device u index s.label) seen nothing (λ k lt. before k (omega arith)))
 
 pub missing_found : (u : Uber) (seen : List Seen) (i : ℕ) → i < u.count → ((k : ℕ) → k < i → is_missing u seen k ≡ false) → is_missing u seen i ≡ true → missing_device u seen ≡ Some i
 missing_found u seen i lt before here = find_range_some (is_missing u seen) 0 u.count i (omega arith) (omega arith) (λ k lo hi. before k hi) here
@@ -43,11 +43,14 @@ all_places u seen n slots long few lo hi done =
     ext_get_or None (take u.count slots) (slots_of u seen) (have ∙ sym (length-map-range_with_len (slot_of_device u seen) 0 u.count))
     (λ i lt. get_or-take u.count slots i None (omega (arith, have, lt)) ∙ (done i (omega (arith, have, lt, lo)) ∙ sym (get_or-map-range_with_len (slot_of_device u seen) 0 u.count i i None (omega (arith, have, lt)) (omega arith))))
 
-none_each : (n k : ℕ) → get_or (replicate n (None {T = ℕ})) k None ≡ None
+abbrev no_slot : Option ℕ
+no_slot = None
+
+none_each : (n k : ℕ) → get_or (replicate n no_slot) k no_slot ≡ no_slot
 none_each zero k = refl
 none_each (suc n) zero = refl
 none_each (suc n) (suc k) = none_each n k
 
 -- 32 places with no slot
-pub all_none : (k : ℕ) → get_or (replicate 32 (None {T = ℕ})) k None ≡ None
+pub all_none : (k : ℕ) → get_or (replicate 32 no_slot) k no_slot ≡ no_slot
 all_none k = none_each 32 k

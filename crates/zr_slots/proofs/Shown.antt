@@ -1,6 +1,7 @@
 -- What a slot shows, by its place in the list.
 use Rattle.std.proofs.Common.{◌≡◌, inl, inr, ℕ, zero, suc, ◌+◌, ◌<◌, ◌≤◌, List, [], ◌∷◌, length, get_or, Bool, true, false, Option, Some, None, refl, sym, ◌∙◌, ap, subst, arith}
 use Rattle.std.specs.Prelude.{Contains, is_some, ◌==◌}
+use Rattle.std.proofs.lemmas.Bool.{eqb-true}
 use Rattle.std.proofs.lemmas.List.{get_or_read}
 use Rattle.zr_base.specs.Readers.{Reads}
 use Rattle.zr_label.specs.declared.root.Uber.{Uber}
@@ -49,7 +50,7 @@ some_root (u ∷ us) h = (u, (0, omega arith, refl))
 
 pub no_root : (us : List Uber) → true ≡ (length us == 0) → (u : Uber) → ¬ Contains us u
 no_root [] h u has = let lt = has.1 in omega arith
-no_root (v ∷ us) h u has = absurd cc
+no_root (v ∷ us) h u has = let e = eqb-true (length (v ∷ us)) 0 (sym h) in omega (arith, e)
 
 pub reads_none : (Is : Newer → Type 0) (r : Option Newer) → is_some r ≡ false → Reads Is r → (x : Newer) → ¬ Is x
 reads_none Is None none h = h

@@ -1,5 +1,5 @@
 //! What keeps the slots from being one pool: roots of two pools, two roots of one group, two copies of one device.
-ghost use Rattle.std.specs.Prelude.{◌≡◌, ◌≢◌, ◌<◌, ◌≤◌, ℕ, IsTrue, IsFalse, IfSome, IfNone, length, Contains};
+ghost use Rattle.std.specs.Prelude.{◌≡◌, ◌≢◌, ◌↔◌, ◌<◌, ◌≤◌, ℕ, IsTrue, IsFalse, IfSome, IfNone, length, Contains};
 ghost use Rattle.zr_base.specs.Readers.{Reads};
 ghost use Rattle.zr_label.specs.declared.root.Uber.{Uber};
 ghost use Rattle.zr_scan.specs.Scan.{IsRootFor};
@@ -26,7 +26,10 @@ impl Between for Pools<'_> {
     ghost known = { λ s. IsSlotOf s.seen.now };
 
     fn is_shared(&self, a: u32, b: u32) -> bool {
-        let (Some(one), Some(other)) = (pool_at(self.seen, a), pool_at(self.seen, b)) else {
+        let Some(one) = pool_at(self.seen, a) else {
+            return false;
+        };
+        let Some(other) = pool_at(self.seen, b) else {
             return false;
         };
         one != other
@@ -49,12 +52,19 @@ fn pool_at(seen: &[Seen], slot: u32) -> Option<u64>
     Some(label.guid)
 }
 
+/// Whether two roots are the same in each field.
+fn is_same(u: &Uber, v: &Uber) -> bool
+    ensures { IsTrue result ↔ (u.now ≡ v.now) }
+{
+    *u == *v
+}
+
 /// Whether a root of the same group is not this one.
 fn is_other(u: &Uber, v: &Uber) -> bool
     ensures yes { IsTrue result → IsOther u.now v.now }
     ensures no { IsFalse result → ¬ IsOther u.now v.now }
 {
-    v.txg == u.txg && v != u
+    v.txg == u.txg && !is_same(v, u)
 }
 
 /// Whether a root of the list has the group of this one and is another.
