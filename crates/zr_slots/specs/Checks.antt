@@ -37,6 +37,15 @@ IsHigher None new found = found ≡ new
 IsHigher (Some a) None found = found ≡ Some a
 IsHigher (Some a) (Some b) found = ((a.txg < b.txg) × (found ≡ Some b)) ⊎ ((b.txg ≤ a.txg) × (found ≡ Some a))
 
+-- the same numbers
+pub record HasNumbersOf (a b : Uber) : Type 0 where
+  pub version : a.version ≡ b.version
+  pub txg : a.txg ≡ b.txg
+  pub guid : a.guid ≡ b.guid
+  pub len : a.len ≡ b.len
+  pub count : a.count ≡ b.count
+  pub reset : a.reset ≡ b.reset
+
 -- a root of the group that is not this one
 pub record IsOther (u v : Uber) : Type 0 where
   pub group : v.txg ≡ u.txg

@@ -1,5 +1,5 @@
 //! What keeps the slots from being one pool: roots of two pools, two roots of one group, two copies of one device.
-ghost use Rattle.std.specs.Prelude.{◌≡◌, ◌≢◌, ◌↔◌, ◌<◌, ◌≤◌, ℕ, IsTrue, IsFalse, IfSome, IfNone, length, Contains};
+ghost use Rattle.std.specs.Prelude.{◌≡◌, ◌≢◌, ◌<◌, ◌≤◌, ℕ, IsTrue, IsFalse, IfSome, IfNone, length, Contains};
 ghost use Rattle.zr_base.specs.Readers.{Reads};
 ghost use Rattle.zr_label.specs.declared.root.Uber.{Uber};
 ghost use Rattle.zr_scan.specs.Scan.{IsRootFor};
@@ -7,6 +7,7 @@ ghost use Rattle.zr_image.specs.Current.{AreTwoPools, AreTwoRoots, AreTwoCopies,
 ghost use Rattle.zr_slots.specs.Checks.{AreLawful, IsSlotOf, IsOther};
 
 use crate::lowest::{Between, Has, exclude_pair, lowest};
+use crate::same::is_same;
 use crate::show::{label_at, roots_at};
 use zr_base::{DevState, Refusal};
 use zr_label::{Label, Seen, Uber};
@@ -50,13 +51,6 @@ fn pool_at(seen: &[Seen], slot: u32) -> Option<u64>
         return None;
     }
     Some(label.guid)
-}
-
-/// Whether two roots are the same in each field.
-fn is_same(u: &Uber, v: &Uber) -> bool
-    ensures { IsTrue result ↔ (u.now ≡ v.now) }
-{
-    *u == *v
 }
 
 /// Whether a root of the same group is not this one.

@@ -10,6 +10,7 @@ mod lowest;
 mod pool;
 mod put;
 mod refuse;
+mod same;
 mod show;
 mod tables;
 mod unknown;
