@@ -1,12 +1,10 @@
 -- The slot of a device.
-use Rattle.std.proofs.Common.{◌≡◌, ℕ, ◌<◌, ◌≤◌, ◌+◌, List, [], length, get_or, replicate, take, zero, suc, Bool, true, false, not, Option, None, Some, cond, refl, sym, ◌∙◌, ap, subst, arith}
-use Rattle.std.specs.Prelude.{is_some}
+use Rattle.std.proofs.Common.{◌≡◌, ℕ, ◌<◌, ◌≤◌, List, [], length, get_or, replicate, take, zero, suc, Bool, true, false, Option, None, Some, cond, refl, sym, ◌∙◌, ap, arith}
 use Rattle.std.proofs.lemmas.List.{get_or_read, ext_get_or, length-take, get_or-take}
-use Rattle.std.specs.List.{range_with_len, position}
+use Rattle.std.specs.List.{position}
 use Rattle.std.proofs.lemmas.List.FromFn.{length-map-range_with_len, get_or-map-range_with_len}
 use Rattle.zr_rules.specs.Places.{is_gone}
 use Rattle.zr_label.specs.declared.root.Uber.{Uber}
-use Rattle.zr_label.specs.declared.root.Label.{Label}
 use Rattle.zr_label.specs.declared.root.Seen.{Seen}
 use Rattle.zr_image.specs.Current.{seen_at, row_at, is_device, slot_of_device, is_missing, missing_device, slots_of}
 use Rattle.zr_slots.proofs.Finding.{position_some, position_none, find_range_some, find_range_none}

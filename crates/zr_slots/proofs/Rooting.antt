@@ -1,22 +1,22 @@
 -- Roots put into several slots, and what the flushes between make of it.
-use Rattle.std.proofs.Common.{◌≡◌, ◌≢◌, ◌⊎◌, inl, inr, ℕ, ◌+◌, ◌<◌, ◌≤◌, List, [], ◌∷◌, length, get_or, Result, Ok, Err, refl, sym, ◌∙◌, ap, subst, arith}
+use Rattle.std.proofs.Common.{◌≡◌, ◌≢◌, ◌⊎◌, inl, inr, ℕ, ◌+◌, ◌<◌, ◌≤◌, List, [], ◌∷◌, length, get_or, Result, Ok, Err, sym, subst, arith}
 use Rattle.std.specs.Prelude.{slice_index, Contains, IsErr}
 use Rattle.std.proofs.lemmas.Bool.{cases_lt}
 use Rattle.std.proofs.lemmas.List.{get_or_read}
 use Rattle.std.proofs.lemmas.Grind.{get_or_default_zero}
-use Rattle.zr_shelf.specs.Disks.{disk, part, Stand, PendingWrite, IsUntouched, IsSameOutside, flushed}
+use Rattle.zr_shelf.specs.Disks.{disk, Stand, PendingWrite, IsUntouched, IsSameOutside}
 use Rattle.zr_shelf.specs.Moments.{World, IsStill}
 use Rattle.zr_shelf.specs.Doings.{Adds, IsAdded, WritesOnly, latest}
 use Rattle.zr_shelf.specs.Doings.Adds.{added_none, added}
 use Rattle.zr_shelf.proofs.Doings.{writes_more, writes_still}
-use Rattle.zr_label.specs.Blocks.{SpellsUber, SpellsLabel, uber_block, label_block, padding}
+use Rattle.zr_label.specs.Blocks.{SpellsUber, uber_block}
 use Rattle.zr_label.specs.Geometry.{ring_slot_at, slot_of}
 use Rattle.zr_label.specs.declared.root.Uber.{Uber}
 use Rattle.zr_label.specs.declared.root.Label.{Label}
-use Rattle.zr_scan.specs.Puts.{puts, root_places, label_places}
-use Rattle.zr_scan.specs.Scan.{Stands, ring_block}
+use Rattle.zr_scan.specs.Puts.{puts, root_places}
+use Rattle.zr_scan.specs.Scan.{Stands}
 use Rattle.zr_scan.specs.declared.error.ScanErr.{ScanErr}
-use Rattle.zr_slots.specs.Phases.{IsFlushed, IsRootPut, IsRingPut, IsLabelPut, HaveRoot, IsPublished, IsPublishedInPart, Publishes, Prepares, IsPreparedToHalf}
+use Rattle.zr_slots.specs.Phases.{IsFlushed, IsRootPut, IsRingPut, HaveRoot, IsPublished, IsPublishedInPart, Publishes, Prepares, IsPreparedToHalf}
 
 -- writes that are allowed by less are allowed by more
 module _ (A B : PendingWrite → Type 0) (wider : (w : PendingWrite) → A w → B w) where

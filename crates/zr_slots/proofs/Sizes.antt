@@ -1,5 +1,5 @@
 -- The first disk whose size a pool cannot have.
-use Rattle.std.proofs.Common.{◌≡◌, ℕ, ◌<◌, ◌≤◌, List, length, get_or, Bool, true, false, not, cond, Option, None, Some, refl, sym, ◌∙◌, ap, subst, arith}
+use Rattle.std.proofs.Common.{◌≡◌, ℕ, ◌<◌, ◌≤◌, List, length, Bool, true, false, not, cond, Option, None, Some, refl, sym, ◌∙◌, ap, arith}
 use Rattle.std.specs.Prelude.{is_some, slice_index}
 use Rattle.zr_label.specs.Geometry.{is_disk_size, units_of_size}
 use Rattle.zr_slots.specs.Checks.{bad_size}

@@ -1,9 +1,9 @@
 -- Two roots of the highest group.
-use Rattle.std.proofs.Common.{◌≡◌, ◌≢◌, ℕ, ◌<◌, ◌≤◌, List, sym, subst, arith}
+use Rattle.std.proofs.Common.{◌≡◌, ℕ, List, sym, subst, arith}
 use Rattle.std.specs.Prelude.{Contains}
 use Rattle.zr_label.specs.declared.root.Uber.{Uber}
 use Rattle.zr_label.specs.declared.root.Seen.{Seen}
-use Rattle.zr_image.specs.Current.{seen_at, IsShownAt, IsShown, IsCurrent, AreTwoRoots, AreTwoPools}
+use Rattle.zr_image.specs.Current.{seen_at, IsShownAt, IsShown, IsCurrent, AreTwoRoots}
 use Rattle.zr_slots.specs.Checks.{IsOther}
 
 module _ (seen : List Seen) (a b txg : ℕ) (us vs : List Uber) (us_are : us ≡ (seen_at seen a).ubers) (vs_are : vs ≡ (seen_at seen b).ubers) (top : (w : Uber) × IsCurrent seen w × (w.txg ≡ txg)) where

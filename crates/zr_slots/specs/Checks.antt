@@ -1,7 +1,6 @@
 -- What the slots must show before a pool is opened, made or made larger.
-use Rattle.std.specs.Prelude.{◌≡◌, ◌≢◌, ◌⊎◌, ℕ, ◌<◌, ◌≤◌, not, List, [], ◌∷◌, length, Contains, slice_index, IsSomeAnd, Option, Some, None, Result, Ok, Err}
+use Rattle.std.specs.Prelude.{◌≡◌, ◌≢◌, ◌⊎◌, ℕ, ◌<◌, ◌≤◌, not, List, [], ◌∷◌, length, Contains, slice_index, IsSomeAnd, Option, Some, None}
 use Rattle.std.specs.List.{find}
-use Rattle.zr_base.specs.declared.refusal.Refusal.{Refusal}
 use Rattle.zr_base.specs.declared.refusal.Refusal.TheVariants.{DeviceInUse, DeviceSize, TooMany}
 use Rattle.zr_label.specs.Geometry.{is_disk_size}
 use Rattle.zr_label.specs.declared.root.Label.{Label}

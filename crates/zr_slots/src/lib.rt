@@ -15,12 +15,8 @@ mod show;
 mod tables;
 mod unknown;
 
-pub use lowest::{Between, Has};
 pub use pool::{Found, find_pool};
 pub use put::{prepare_device, publish};
 pub use refuse::{Identity, refuse_add, refuse_create};
 pub use show::scan_all;
 pub use tables::slots_in_both;
-
-
-

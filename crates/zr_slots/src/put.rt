@@ -40,7 +40,12 @@ fn put_root<S: Shelf>(shelf: &mut S, slots: &[u32], first: u32, u: &Uber) -> Res
 /// Publishes a root: a flush, the root in labels 0 and 2 of the slots `both`, a flush, the root in labels 1 and 3 of the
 /// slots `all`, a flush. All that was written before is durable before the root, and the root is durable in the first
 /// labels before the others change.
-pub fn publish<S: Shelf>(shelf: &mut S, both: &[u32], all: &[u32], root: &Uber) -> Result<(), ScanErr>
+pub fn publish<S: Shelf>(
+    shelf: &mut S,
+    both: &[u32],
+    all: &[u32],
+    root: &Uber,
+) -> Result<(), ScanErr>
     requires both { AreDisks (S.sizes shelf.old) both.now }
     requires all { AreDisks (S.sizes shelf.old) all.now }
     requires lawful { IsUber root.now }
@@ -61,7 +66,12 @@ pub fn publish<S: Shelf>(shelf: &mut S, both: &[u32], all: &[u32], root: &Uber) 
 
 /// Makes a slot a new device: zeros over its rings, a flush, its labels, a flush. It takes the memory of one ring,
 /// 131,072 bytes.
-pub fn prepare_device<S: Shelf>(alloc: Global, shelf: &mut S, slot: u32, label: &Label) -> Result<(), ScanErr>
+pub fn prepare_device<S: Shelf>(
+    alloc: Global,
+    shelf: &mut S,
+    slot: u32,
+    label: &Label,
+) -> Result<(), ScanErr>
     requires exists { slot < length (S.sizes shelf.old) }
     requires size { IsTrue (is_disk_size 2 (slice_index (S.sizes shelf.old) slot)) }
     requires lawful { IsLabel label.now }

@@ -64,7 +64,13 @@ impl Has for InTheWay<'_> {
 
 /// Why a new pool of this identity and version cannot be made on the named slots: the size of a disk, or a slot that is
 /// in use or has a label of the identity.
-pub fn refuse_create(sizes: &[u64], seen: &[Seen], named: &[u32], guid: u64, version: u64) -> Result<(), Refusal>
+pub fn refuse_create(
+    sizes: &[u64],
+    seen: &[Seen],
+    named: &[u32],
+    guid: u64,
+    version: u64,
+) -> Result<(), Refusal>
     requires least { 1 ≤ version }
     requires most { version ≤ 2 }
     requires named { AreNamed (length sizes.now) named.now }
@@ -154,7 +160,14 @@ fn is_alone(seen: &[Seen], slot: u32, it: Identity) -> Result<(), Refusal>
 
 /// Why a slot cannot become a device of an open pool: the size of its disk, its use, another slot with the label that
 /// the device would have, or that all 32 indices were given out. `mine` has the slots of the pool's devices.
-pub fn refuse_add(sizes: &[u64], seen: &[Seen], slot: u32, mine: &[Option<u32>], it: Identity, version: u64) -> Result<(), Refusal>
+pub fn refuse_add(
+    sizes: &[u64],
+    seen: &[Seen],
+    slot: u32,
+    mine: &[Option<u32>],
+    it: Identity,
+    version: u64,
+) -> Result<(), Refusal>
     requires least { 1 ≤ version }
     requires most { version ≤ 2 }
     requires exists { slot < length seen.now }

@@ -32,7 +32,12 @@ fn slot_in_both(last: &Uber, root: &Uber, slots: &[Option<u32>; 32], index: u32)
 
 /// The slots of the devices that are in service or leaving in both tables, each device once and by rising index. With
 /// the same table twice these are the slots of all its devices. `slots` has the slot of each device by its index.
-pub fn slots_in_both(alloc: Global, last: &Uber, root: &Uber, slots: &[Option<u32>; 32]) -> Result<Items<u32>, NoMemory>
+pub fn slots_in_both(
+    alloc: Global,
+    last: &Uber,
+    root: &Uber,
+    slots: &[Option<u32>; 32],
+) -> Result<Items<u32>, NoMemory>
     requires last { last.now.count ≤ 32 }
     requires root { root.now.count ≤ 32 }
     ensures each { IfOk result (λ found. (slot : ℕ) → Contains found slot → IsSlotInBoth last.now root.now slots.now slot) }

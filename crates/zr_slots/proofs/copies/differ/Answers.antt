@@ -1,4 +1,4 @@
-use Rattle.std.proofs.Common.{◌≡◌, length, refl}
+use Rattle.std.proofs.Common.{◌≡◌, refl}
 use Rattle.std.specs.Prelude.{Contains}
 use Rattle.zr_label.specs.declared.root.Uber.{Uber}
 use Rattle.zr_slots.specs.Checks.{IsOther}

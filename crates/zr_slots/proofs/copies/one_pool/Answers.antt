@@ -1,4 +1,4 @@
-use Rattle.std.proofs.Common.{◌≡◌, inl, inr, refl, rules}
+use Rattle.std.proofs.Common.{inl, inr, rules}
 use Rattle.zr_slots.proofs.copies.one_pool.Goals as goal
 
 pub returns-in_err-exclude_pair-2 : goal.returns-in_err-exclude_pair-2

@@ -1,4 +1,4 @@
-use Rattle.std.proofs.Common.{◌≡◌, length, refl}
+use Rattle.std.proofs.Common.{refl}
 use Rattle.zr_slots.specs.Checks.{IsOther}
 use Rattle.zr_slots.proofs.Passing.{none_more, none_contains}
 use Rattle.zr_slots.proofs.Shown.{contains_at}

@@ -1,4 +1,4 @@
-use Rattle.std.proofs.Common.{◌≡◌, sym, ◌∙◌, List, subst}
+use Rattle.std.proofs.Common.{sym, ◌∙◌, List, subst}
 use Rattle.std.specs.Prelude.{Contains}
 use Rattle.zr_label.specs.declared.root.Uber.{Uber}
 use Rattle.zr_slots.proofs.Shown.{some_root}

@@ -1,7 +1,6 @@
-use Rattle.std.proofs.Common.{◌≡◌, ℕ, ◌<◌, ◌≤◌, refl, arith}
-use Rattle.std.specs.Prelude.{MatchOption}
-use Rattle.zr_slots.proofs.Shown.{roots_read, shown_in}
-use Rattle.zr_slots.proofs.Newest.{IsHighestYet, highest_more, highest_found, highest_none}
+use Rattle.std.proofs.Common.{refl}
+use Rattle.zr_slots.proofs.Shown.{roots_read}
+use Rattle.zr_slots.proofs.Newest.{highest_more, highest_found, highest_none}
 use Rattle.zr_slots.proofs.pool.current.Goals as goal
 
 pub loop-slot-preserved : goal.loop-slot-preserved

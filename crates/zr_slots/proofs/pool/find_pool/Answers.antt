@@ -1,4 +1,4 @@
-use Rattle.std.proofs.Common.{◌≡◌, inl, inr, Err, Ok, refl, ap, rules}
+use Rattle.std.proofs.Common.{◌≡◌, inl, inr, Err, refl, ap, rules}
 use Rattle.zr_slots.specs.Found.{root_in}
 use Rattle.zr_slots.proofs.Lawful.{current_lawful}
 use Rattle.zr_slots.proofs.pool.find_pool.Goals as goal

@@ -1,5 +1,4 @@
-use Rattle.std.proofs.Common.{◌≡◌, ℕ, ◌<◌, ◌≤◌, true, false, refl, sym, ◌∙◌, ap, arith}
-use Rattle.zr_base.specs.declared.refusal.Refusal.{Refusal}
+use Rattle.std.proofs.Common.{sym, ◌∙◌, ap}
 use Rattle.zr_base.specs.declared.refusal.Refusal.TheVariants.{MissingDevice}
 use Rattle.zr_base.specs.declared.space.DevRow.{DevRow}
 use Rattle.zr_slots.proofs.Places.{missing_found, missing_none}

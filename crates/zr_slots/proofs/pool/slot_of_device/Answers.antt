@@ -1,6 +1,4 @@
-use Rattle.std.proofs.Common.{◌≡◌, ℕ, ◌<◌, ◌≤◌, false, refl, sym, ◌∙◌, ap, rules}
-use Rattle.zr_image.specs.Current.{seen_at, is_device}
-use Rattle.zr_slots.proofs.Passing.{below_next}
+use Rattle.std.proofs.Common.{rules}
 use Rattle.zr_slots.proofs.Places.{at_place, no_place, device_read}
 use Rattle.zr_slots.proofs.pool.slot_of_device.Goals as goal
 

@@ -1,4 +1,4 @@
-use Rattle.std.proofs.Common.{◌≡◌, ℕ, ◌<◌, ◌≤◌, None, refl, arith}
+use Rattle.std.proofs.Common.{refl, arith}
 use Rattle.zr_slots.proofs.Places.{all_places, all_none}
 use Rattle.zr_slots.proofs.pool.slots_of.Goals as goal
 

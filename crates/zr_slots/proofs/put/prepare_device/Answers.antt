@@ -1,9 +1,9 @@
-use Rattle.std.proofs.Common.{◌≡◌, ℕ, ◌<◌, inl, inr, List, sym, ◌∙◌, ap, subst}
+use Rattle.std.proofs.Common.{ℕ, inl, inr, List, ◌∙◌, ap, subst}
 use Rattle.std.specs.Prelude.{slice_index}
-use Rattle.zr_shelf.specs.Disks.{disk, part, Stand, IsSameOutside}
+use Rattle.zr_shelf.specs.Disks.{disk, Stand, IsSameOutside}
 use Rattle.zr_shelf.specs.Doings.{WritesOnly}
 use Rattle.zr_shelf.proofs.Doings.{writes_more, writes_still}
-use Rattle.zr_label.specs.Blocks.{label_block, padding}
+use Rattle.zr_label.specs.Blocks.{label_block}
 use Rattle.zr_label.specs.Geometry.{ring_slot_at}
 use Rattle.zr_scan.specs.Puts.{puts, label_places}
 use Rattle.zr_scan.specs.Scan.{ring_block}

@@ -1,4 +1,4 @@
-use Rattle.std.proofs.Common.{◌≡◌, ℕ, List, ◌∙◌, subst}
+use Rattle.std.proofs.Common.{ℕ, List, ◌∙◌, subst}
 use Rattle.zr_shelf.specs.Doings.{WritesOnly}
 use Rattle.zr_slots.specs.Phases.{IsRootPut, HaveRoot}
 use Rattle.zr_slots.proofs.Rooting.{stopped_half, stopped_almost, published, published_err}

@@ -1,4 +1,4 @@
-use Rattle.std.proofs.Common.{◌≡◌, ℕ, ◌<◌, ◌≤◌, ◌+◌, List, length, get_or, refl, sym, ◌∙◌, ap, subst, arith}
+use Rattle.std.proofs.Common.{ℕ, ◌+◌, List, get_or, ◌∙◌, subst, arith}
 use Rattle.std.specs.Prelude.{slice_index, Contains}
 use Rattle.zr_shelf.specs.Disks.{disk, IsSameOutside}
 use Rattle.zr_shelf.specs.Doings.{WritesOnly}

@@ -1,4 +1,4 @@
-use Rattle.std.proofs.Common.{◌≡◌, ℕ, ◌<◌, ◌≤◌, true, false, refl, sym, ◌∙◌, ap, arith}
+use Rattle.std.proofs.Common.{refl}
 use Rattle.zr_slots.proofs.Sizes.{size_found, size_none, unsized}
 use Rattle.zr_slots.proofs.refuse.have_sizes.Goals as goal
 

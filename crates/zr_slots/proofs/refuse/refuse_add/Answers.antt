@@ -1,4 +1,4 @@
-use Rattle.std.proofs.Common.{◌≡◌, ◌<◌, ◌≤◌, inl, inr, refl, arith, rules}
+use Rattle.std.proofs.Common.{inl, inr, refl, arith, rules}
 use Rattle.zr_slots.proofs.refuse.refuse_add.Goals as goal
 
 pub returns-in_err-is_alone : goal.returns-in_err-is_alone

@@ -1,4 +1,4 @@
-use Rattle.std.proofs.Common.{◌≡◌, ◌<◌, ◌≤◌, arith}
+use Rattle.std.proofs.Common.{arith}
 use Rattle.std.proofs.lemmas.List.{ext_get_or}
 use Rattle.zr_label.specs.Blocks.{no_row}
 use Rattle.zr_slots.proofs.same.are_same_rows.Goals as goal

@@ -1,9 +1,7 @@
-use Rattle.std.proofs.Common.{◌≡◌, ℕ, ◌<◌, ◌≤◌, ◌+◌, List, length, refl, sym, ◌∙◌, ap, subst, arith}
+use Rattle.std.proofs.Common.{ℕ, List, ◌∙◌, subst, arith}
 use Rattle.std.specs.Prelude.{slice_index}
 use Rattle.zr_shelf.specs.Disks.{disk}
-use Rattle.zr_shelf.specs.Moments.{World}
 use Rattle.zr_shelf.proofs.Runs.{still_trans}
-use Rattle.zr_label.specs.declared.root.Seen.{Seen}
 use Rattle.zr_scan.specs.Scan.{Shows, IsSmallAndLawful}
 use Rattle.zr_slots.proofs.Pushing.{length_pushed, each_pushed, all_shown}
 use Rattle.zr_slots.proofs.show.scan_all.Goals as goal

@@ -1,4 +1,4 @@
-use Rattle.std.proofs.Common.{◌≡◌, ◌∙◌, ◌<◌, ◌≤◌, arith}
+use Rattle.std.proofs.Common.{◌∙◌, arith}
 use Rattle.zr_slots.proofs.Gathered.{gathers_none, gathers_pushed, gathers_passed}
 use Rattle.zr_slots.proofs.tables.slots_in_both.Goals as goal
 use Rattle.zr_slots.proofs.tables.slots_in_both.Goals.{in-Some+in_ok-push, in_default}

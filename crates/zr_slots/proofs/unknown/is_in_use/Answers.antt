@@ -1,4 +1,4 @@
-use Rattle.std.proofs.Common.{◌≡◌, inl, inr, List, sym, ◌∙◌, subst}
+use Rattle.std.proofs.Common.{inl, inr, List, sym, ◌∙◌, subst}
 use Rattle.std.specs.Prelude.{Contains}
 use Rattle.zr_label.specs.declared.root.Uber.{Uber}
 use Rattle.zr_image.specs.Current.{IsUnknown}

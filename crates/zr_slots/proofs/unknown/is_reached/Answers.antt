@@ -1,4 +1,4 @@
-use Rattle.std.proofs.Common.{◌≡◌, ℕ, ◌<◌, ◌≤◌, List, refl, sym, subst, arith}
+use Rattle.std.proofs.Common.{◌≡◌, ◌<◌, List, refl, sym, subst, arith}
 use Rattle.std.specs.Prelude.{Contains}
 use Rattle.zr_label.specs.declared.root.Uber.{Uber}
 use Rattle.zr_image.specs.Current.{IsShownAt}

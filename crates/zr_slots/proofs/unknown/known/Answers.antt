@@ -1,4 +1,4 @@
-use Rattle.std.proofs.Common.{◌≡◌, ℕ, ◌<◌, refl, arith}
+use Rattle.std.proofs.Common.{refl, arith}
 use Rattle.zr_label.specs.declared.root.Newer.{Newer}
 use Rattle.zr_image.specs.Current.{IsUnknown}
 use Rattle.zr_slots.proofs.Passing.{below_next}

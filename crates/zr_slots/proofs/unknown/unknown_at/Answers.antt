@@ -1,4 +1,4 @@
-use Rattle.std.proofs.Common.{◌≡◌, refl, sym, ◌∙◌}
+use Rattle.std.proofs.Common.{refl, sym, ◌∙◌}
 use Rattle.zr_slots.proofs.Shown.{not_unknown}
 use Rattle.zr_slots.proofs.unknown.unknown_at.Goals as goal
 

@@ -1,5 +1,4 @@
-use Rattle.std.proofs.Common.{◌≡◌, ◌≢◌, ℕ, Bool, true, false, not, sym, ◌∙◌, refl}
-use Rattle.std.proofs.lemmas.Bool.{eqb-true}
+use Rattle.std.proofs.Common.{sym, ◌∙◌}
 use Rattle.zr_slots.proofs.Lawful.{same_pool}
 use Rattle.zr_slots.proofs.copies.PoolsBetween.is_shared.Goals as goal
 

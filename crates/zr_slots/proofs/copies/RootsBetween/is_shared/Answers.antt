@@ -1,6 +1,3 @@
-use Rattle.std.proofs.Common.{◌≡◌, ◌≤◌, List, refl, sym, ◌∙◌, ap, subst, arith}
-use Rattle.std.specs.Prelude.{Contains}
-use Rattle.zr_label.specs.declared.root.Uber.{Uber}
 use Rattle.zr_slots.proofs.Twice.{two_roots, not_two_roots}
 use Rattle.zr_slots.proofs.copies.RootsBetween.is_shared.Goals as goal
 
