@@ -3,8 +3,14 @@
 //! This is the trusted edge of the program: what a file holds is not told, and a disk is the open file with the size
 //! that it had when it was attached. A read or write goes to its offset and loops until all bytes are there, since the
 //! system may do a part of what it was asked; an end of file inside the range is a fault. A flush makes each attached
-//! file durable. Each fault raises one of four counts, which stand still at the end of `u64`.
-ghost use Rattle.std.specs.Prelude.{◌≡◌, ◌<◌, ◌≤◌, ◌+◌, ◌-◌, ◌^◌, map, length, min};
+//! file durable. Each fault raises one of four counts.
+//!
+//! No contract can say what a file holds. What one can say is how much was moved: so beside the faults the desk counts
+//! the bytes that the calls of the system answered, and the calls that take or make durable. A call of the desk that
+//! answers Ok has raised its count by all that it was asked for, and a body that asks the system for less is not
+//! proved. Nothing else reads these counts. All counts stand still at the end of `u64`.
+ghost use Rattle.std.specs.Prelude.{◌≡◌, ◌<◌, ◌≤◌, ◌+◌, ◌-◌, ◌^◌, map, length, min, OnOk};
+ghost use Rattle.zr_cli.specs.Raised.{raised};
 
 use std::alloc::Global;
 use std::fs::{self, File, OpenFile, OpenOptions};
@@ -19,11 +25,24 @@ pub struct DeviceFile {
     file: File,
 }
 
-/// Device files, standard input and standard output, with a count of the faults of each.
+/// How much was moved: bytes read of and written to devices, files made durable, bytes of the input and the calls that
+/// answered them, and bytes sent.
+#[derive(Clone, Copy)]
+struct Moved {
+    read: u64,
+    written: u64,
+    synced: u64,
+    taken: u64,
+    takes: u64,
+    given: u64,
+}
+
+/// Device files, standard input and standard output, with a count of the faults of each and of what was moved.
 #[derive(Drop)]
 pub struct FileDesk {
     rt: HostRuntime,
     devices: Vec<DeviceFile>,
+    moved: Moved,
     disk_faults: u64,
     attach_faults: u64,
     input_faults: u64,
@@ -42,6 +61,14 @@ impl FileDesk {
         FileDesk {
             rt,
             devices: Vec::new(alloc),
+            moved: Moved {
+                read: 0,
+                written: 0,
+                synced: 0,
+                taken: 0,
+                takes: 0,
+                given: 0,
+            },
             disk_faults: 0,
             attach_faults: 0,
             input_faults: 0,
@@ -50,9 +77,12 @@ impl FileDesk {
     }
 }
 
-/// Fills `out` from the offset on.
-fn read_at(file: &mut File, at: u64, out: &mut [u8]) -> io::Result<()> {
+/// Fills `out` from the offset on, and counts its bytes.
+fn read_at(file: &mut File, read: &mut u64, at: u64, out: &mut [u8]) -> io::Result<()>
+    ensures { OnOk result (read.new ≡ raised read.old (length out.old)) }
+{
     file.seek(SeekFrom::Start(at))?;
+    let before = *read;
     let mut done = 0;
     for _ in 0..u64::MAX {
         if done == out.len() {
@@ -60,7 +90,10 @@ fn read_at(file: &mut File, at: u64, out: &mut [u8]) -> io::Result<()> {
         }
         match file.read(&mut out[done..]) {
             Ok(0) => return Err(io::Error::from(ErrorKind::UnexpectedEof)),
-            Ok(count) => done += count,
+            Ok(count) => {
+                done += count;
+                *read = before.saturating_add(done as u64);
+            }
             Err(error) if error.kind() == ErrorKind::Interrupted => {}
             Err(error) => return Err(error),
         }
@@ -68,8 +101,11 @@ fn read_at(file: &mut File, at: u64, out: &mut [u8]) -> io::Result<()> {
     Err(io::Error::from(ErrorKind::Interrupted))
 }
 
-/// Sends or stores all the bytes, where the writer stands.
-fn write_whole(writer: &mut impl Write, bytes: &[u8]) -> io::Result<()> {
+/// Sends or stores all the bytes, where the writer stands, and counts them.
+fn write_whole(writer: &mut impl Write, sent: &mut u64, bytes: &[u8]) -> io::Result<()>
+    ensures { OnOk result (sent.new ≡ raised sent.old (length bytes.now)) }
+{
+    let before = *sent;
     let mut done = 0;
     for _ in 0..u64::MAX {
         if done == bytes.len() {
@@ -77,7 +113,10 @@ fn write_whole(writer: &mut impl Write, bytes: &[u8]) -> io::Result<()> {
         }
         match writer.write(&bytes[done..]) {
             Ok(0) => return Err(io::Error::from(ErrorKind::WriteZero)),
-            Ok(count) => done += count,
+            Ok(count) => {
+                done += count;
+                *sent = before.saturating_add(done as u64);
+            }
             Err(error) if error.kind() == ErrorKind::Interrupted => {}
             Err(error) => return Err(error),
         }
@@ -85,16 +124,24 @@ fn write_whole(writer: &mut impl Write, bytes: &[u8]) -> io::Result<()> {
     Err(io::Error::from(ErrorKind::Interrupted))
 }
 
-/// Writes the bytes from the offset on.
-fn write_at(file: &mut File, at: u64, bytes: &[u8]) -> io::Result<()> {
+/// Writes the bytes from the offset on, and counts them.
+fn write_at(file: &mut File, written: &mut u64, at: u64, bytes: &[u8]) -> io::Result<()>
+    ensures { OnOk result (written.new ≡ raised written.old (length bytes.now)) }
+{
     file.seek(SeekFrom::Start(at))?;
-    write_whole(file, bytes)
+    write_whole(file, written, bytes)
 }
 
-/// Makes every file durable.
-fn sync_each(devices: &[DeviceFile]) -> io::Result<()> {
+/// Makes every file durable, and counts the files.
+fn sync_each(devices: &[DeviceFile], synced: &mut u64) -> io::Result<()>
+    ensures { OnOk result (synced.new ≡ raised synced.old (length devices.now)) }
+{
+    let before = *synced;
+    let mut done = 0;
     for device in devices {
         device.file.sync_all()?;
+        done += 1;
+        *synced = before.saturating_add(done);
     }
     Ok(())
 }
@@ -145,12 +192,15 @@ fn open_or_make(rt: &HostRuntime, path: &str, make: Option<u64>) -> io::Result<D
 }
 
 impl Shelf for FileDesk {
-    ghost use Rattle.std.specs.Prelude.{[]};
-    ghost use Rattle.zr_shelf.specs.Counts.{Counts};
+    ghost use Rattle.std.specs.Prelude.{[], IsErrOf, slice_index};
+    ghost use Rattle.zr_base.specs.Counts.{HasRisen};
+    ghost use Rattle.zr_shelf.specs.Counts.{Counts, NoneFell};
+    ghost use Rattle.zr_shelf.specs.declared.desk.DeskErr.TheVariants.{Failed, NoMemory};
+    ghost use Rattle.zr_cli.specs.Desk.{sizes_of, faults_of};
 
-    ghost sizes = { λ d. map (λ f. f.size) d.devices.items };
+    ghost sizes = { sizes_of };
 
-    ghost counts = { λ d. record { disk = d.disk_faults; attach = d.attach_faults; input = d.input_faults; output = d.output_faults } };
+    ghost counts = { faults_of };
 
     ghost tells = { λ d. ⊥ };
 
@@ -168,8 +218,21 @@ impl Shelf for FileDesk {
         self.devices[slot as usize].size
     }
 
-    fn read(&mut self, slot: u32, at: u64, out: &mut [u8]) -> Result<(), DeskErr> {
-        match read_at(&mut self.devices[slot as usize].file, at, out) {
+    fn read(&mut self, slot: u32, at: u64, out: &mut [u8]) -> Result<(), DeskErr>
+        requires exists { slot < length (sizes_of self.old) }
+        requires fits { at + length out.old ≤ slice_index (sizes_of self.old) slot }
+        ensures sizes { sizes_of self.new ≡ sizes_of self.old }
+        ensures none_fell { NoneFell (faults_of self.old) (faults_of self.new) }
+        ensures failed { IsErrOf result Failed → HasRisen (faults_of self.old).disk (faults_of self.new).disk }
+        ensures memory { IsErrOf result NoMemory → ⊥ }
+        ensures moved { OnOk result (self.new.moved.read ≡ raised self.old.moved.read (length out.old)) }
+    {
+        match read_at(
+            &mut self.devices[slot as usize].file,
+            &mut self.moved.read,
+            at,
+            out,
+        ) {
             Ok(()) => Ok(()),
             Err(_) => {
                 self.disk_faults = self.disk_faults.saturating_add(1);
@@ -178,8 +241,21 @@ impl Shelf for FileDesk {
         }
     }
 
-    fn write(&mut self, slot: u32, at: u64, bytes: &[u8]) -> Result<(), DeskErr> {
-        match write_at(&mut self.devices[slot as usize].file, at, bytes) {
+    fn write(&mut self, slot: u32, at: u64, bytes: &[u8]) -> Result<(), DeskErr>
+        requires exists { slot < length (sizes_of self.old) }
+        requires fits { at + length bytes.now ≤ slice_index (sizes_of self.old) slot }
+        ensures sizes { sizes_of self.new ≡ sizes_of self.old }
+        ensures none_fell { NoneFell (faults_of self.old) (faults_of self.new) }
+        ensures failed { IsErrOf result Failed → HasRisen (faults_of self.old).disk (faults_of self.new).disk }
+        ensures memory { IsErrOf result NoMemory → ⊥ }
+        ensures moved { OnOk result (self.new.moved.written ≡ raised self.old.moved.written (length bytes.now)) }
+    {
+        match write_at(
+            &mut self.devices[slot as usize].file,
+            &mut self.moved.written,
+            at,
+            bytes,
+        ) {
             Ok(()) => Ok(()),
             Err(_) => {
                 self.disk_faults = self.disk_faults.saturating_add(1);
@@ -188,8 +264,14 @@ impl Shelf for FileDesk {
         }
     }
 
-    fn flush(&mut self) -> Result<(), DeskErr> {
-        match sync_each(&self.devices) {
+    fn flush(&mut self) -> Result<(), DeskErr>
+        ensures sizes { sizes_of self.new ≡ sizes_of self.old }
+        ensures none_fell { NoneFell (faults_of self.old) (faults_of self.new) }
+        ensures failed { IsErrOf result Failed → HasRisen (faults_of self.old).disk (faults_of self.new).disk }
+        ensures memory { IsErrOf result NoMemory → ⊥ }
+        ensures moved { OnOk result (self.new.moved.synced ≡ raised self.old.moved.synced (length (sizes_of self.old))) }
+    {
+        match sync_each(&self.devices, &mut self.moved.synced) {
             Ok(()) => Ok(()),
             Err(_) => {
                 self.disk_faults = self.disk_faults.saturating_add(1);
@@ -200,6 +282,12 @@ impl Shelf for FileDesk {
 }
 
 impl Desk for FileDesk {
+    ghost use Rattle.std.specs.Prelude.{IfOk, IsErrOf};
+    ghost use Rattle.zr_base.specs.Counts.{HasRisen};
+    ghost use Rattle.zr_shelf.specs.Counts.{NoneFell};
+    ghost use Rattle.zr_shelf.specs.declared.desk.DeskErr.TheVariants.{Failed, NoMemory};
+    ghost use Rattle.zr_cli.specs.Desk.{sizes_of, faults_of};
+
     fn attach(&mut self, path: &str, make: Option<u64>) -> Result<u32, DeskErr> {
         let slot = self.slots();
         if slot == u32::MAX {
@@ -218,9 +306,21 @@ impl Desk for FileDesk {
         }
     }
 
-    fn take(&mut self, out: &mut [u8]) -> Result<usize, DeskErr> {
+    fn take(&mut self, out: &mut [u8]) -> Result<usize, DeskErr>
+        ensures count { IfOk result (λ n. n ≤ length out.old) }
+        ensures sizes { sizes_of self.new ≡ sizes_of self.old }
+        ensures none_fell { NoneFell (faults_of self.old) (faults_of self.new) }
+        ensures failed { IsErrOf result Failed → HasRisen (faults_of self.old).input (faults_of self.new).input }
+        ensures memory { IsErrOf result NoMemory → ⊥ }
+        ensures moved { IfOk result (λ n. self.new.moved.taken ≡ raised self.old.moved.taken n) }
+        ensures asked { OnOk result (self.new.moved.takes ≡ raised self.old.moved.takes 1) }
+    {
         match self.rt.stdin().read(out) {
-            Ok(count) => Ok(count),
+            Ok(count) => {
+                self.moved.takes = self.moved.takes.saturating_add(1);
+                self.moved.taken = self.moved.taken.saturating_add(count as u64);
+                Ok(count)
+            }
             Err(_) => {
                 self.input_faults = self.input_faults.saturating_add(1);
                 Err(DeskErr::Failed)
@@ -228,8 +328,14 @@ impl Desk for FileDesk {
         }
     }
 
-    fn give(&mut self, bytes: &[u8]) -> Result<(), DeskErr> {
-        match write_whole(&mut self.rt.stdout(), bytes) {
+    fn give(&mut self, bytes: &[u8]) -> Result<(), DeskErr>
+        ensures sizes { sizes_of self.new ≡ sizes_of self.old }
+        ensures none_fell { NoneFell (faults_of self.old) (faults_of self.new) }
+        ensures failed { IsErrOf result Failed → HasRisen (faults_of self.old).output (faults_of self.new).output }
+        ensures memory { IsErrOf result NoMemory → ⊥ }
+        ensures moved { OnOk result (self.new.moved.given ≡ raised self.old.moved.given (length bytes.now)) }
+    {
+        match write_whole(&mut self.rt.stdout(), &mut self.moved.given, bytes) {
             Ok(()) => Ok(()),
             Err(_) => {
                 self.output_faults = self.output_faults.saturating_add(1);
