@@ -3,4 +3,4 @@ use Rattle.zr_cli.specs.Raised.{raised}
 use Rattle.zr_cli.proofs.file_desk.sync_each.Given as goal
 
 abbrev pub invariant-loop-device : goal.invariant-loop-device
-invariant-loop-device l = (l.done ≡ l.device-index) × (l.synced ≡ raised l.before l.done)
+invariant-loop-device l = (l.synced ≡ raised l.initial.synced l.device-index) × (l.faults ≡ l.initial.faults)
