@@ -3,12 +3,20 @@
 //! This is the trusted edge of the program: what a file holds is not told, and a disk is the open file with the size
 //! that it had when it was attached. A read or write goes to its offset and loops until all bytes are there, since the
 //! system may do a part of what it was asked; an end of file inside the range is a fault. A flush makes each attached
-//! file durable. Each fault raises one of four counts, which stand still at the end of `u64`.
-ghost use Rattle.std.specs.Prelude.{◌≡◌, ◌<◌, ◌≤◌, ◌+◌, ◌-◌, ◌^◌, map, length, min};
+//! file durable. Each fault raises one of four counts.
+//!
+//! No contract can say what a file holds. What one can say is how much was moved: so beside the faults the desk counts
+//! the bytes that the calls of the system answered, and the calls that take or make durable. A call of the desk that
+//! answers Ok has raised its count by all that it was asked for, and a body that asks the system for less is not
+//! proved. A read or write also tests that the system began where it was asked to. Nothing else reads these counts. All
+//! counts stand still at the end of `u64`.
+ghost use Rattle.std.specs.Prelude.{◌≡◌, ◌<◌, ◌≤◌, ◌+◌, ◌-◌, ◌^◌, map, length, min, OnOk, IfOk};
+ghost use Rattle.zr_shelf.specs.declared.desk.DeskErr.TheVariants.{Failed};
+ghost use Rattle.zr_cli.specs.Raised.{raised, CountsFault};
 
 use std::alloc::Global;
 use std::fs::{self, File, OpenFile, OpenOptions};
-use std::io::{self, ErrorKind, Read, Seek, SeekFrom, Write};
+use std::io::{ErrorKind, Read, Seek, SeekFrom, Write};
 use std::path::Path;
 use zr_shelf::{Desk, DeskErr, Shelf};
 
@@ -19,11 +27,24 @@ pub struct DeviceFile {
     file: File,
 }
 
-/// Device files, standard input and standard output, with a count of the faults of each.
+/// How much was moved: bytes read of and written to devices, files made durable, bytes of the input and the calls that
+/// answered them, and bytes sent.
+#[derive(Clone, Copy)]
+struct Moved {
+    read: u64,
+    written: u64,
+    synced: u64,
+    taken: u64,
+    takes: u64,
+    given: u64,
+}
+
+/// Device files, standard input and standard output, with a count of the faults of each and of what was moved.
 #[derive(Drop)]
 pub struct FileDesk {
     rt: HostRuntime,
     devices: Vec<DeviceFile>,
+    moved: Moved,
     disk_faults: u64,
     attach_faults: u64,
     input_faults: u64,
@@ -42,6 +63,14 @@ impl FileDesk {
         FileDesk {
             rt,
             devices: Vec::new(alloc),
+            moved: Moved {
+                read: 0,
+                written: 0,
+                synced: 0,
+                taken: 0,
+                takes: 0,
+                given: 0,
+            },
             disk_faults: 0,
             attach_faults: 0,
             input_faults: 0,
@@ -50,81 +79,185 @@ impl FileDesk {
     }
 }
 
-/// Fills `out` from the offset on.
-fn read_at(file: &mut File, at: u64, out: &mut [u8]) -> io::Result<()> {
-    file.seek(SeekFrom::Start(at))?;
+/// Counts a fault, and tells it.
+fn fault(faults: &mut u64) -> DeskErr
+    ensures counted { faults.new ≡ raised faults.old 1 }
+    ensures never_falls { faults.old ≤ faults.new }
+    ensures told { result ≡ Failed }
+{
+    *faults = faults.saturating_add(1);
+    DeskErr::Failed
+}
+
+/// Fills `out` from the offset on, and counts its bytes. It answers where the system says that they begin.
+fn read_at(
+    file: &mut File,
+    at: u64,
+    out: &mut [u8],
+    read: &mut u64,
+    faults: &mut u64,
+) -> Result<u64, DeskErr>
+    ensures place { IfOk result (λ place. place ≡ at) }
+    ensures moved { OnOk result (read.new ≡ raised read.old (length out.old)) }
+    ensures faults { CountsFault result faults.old faults.new }
+{
+    let place = match file.seek(SeekFrom::Start(at)) {
+        Ok(place) if place == at => place,
+        _ => return Err(fault(faults)),
+    };
+    let before = *read;
     let mut done = 0;
     for _ in 0..u64::MAX {
         if done == out.len() {
-            return Ok(());
+            return Ok(place);
         }
         match file.read(&mut out[done..]) {
-            Ok(0) => return Err(io::Error::from(ErrorKind::UnexpectedEof)),
-            Ok(count) => done += count,
+            Ok(0) => return Err(fault(faults)),
+            Ok(count) => {
+                done += count;
+                *read = before.saturating_add(done as u64);
+            }
             Err(error) if error.kind() == ErrorKind::Interrupted => {}
-            Err(error) => return Err(error),
+            Err(_) => return Err(fault(faults)),
         }
     }
-    Err(io::Error::from(ErrorKind::Interrupted))
+    Err(fault(faults))
 }
 
-/// Sends or stores all the bytes, where the writer stands.
-fn write_whole(writer: &mut impl Write, bytes: &[u8]) -> io::Result<()> {
+/// Sends or stores all the bytes, where the writer stands, and counts them.
+fn write_whole(
+    writer: &mut impl Write,
+    bytes: &[u8],
+    sent: &mut u64,
+    faults: &mut u64,
+) -> Result<(), DeskErr>
+    ensures moved { OnOk result (sent.new ≡ raised sent.old (length bytes.now)) }
+    ensures faults { CountsFault result faults.old faults.new }
+{
+    let before = *sent;
     let mut done = 0;
     for _ in 0..u64::MAX {
         if done == bytes.len() {
             return Ok(());
         }
         match writer.write(&bytes[done..]) {
-            Ok(0) => return Err(io::Error::from(ErrorKind::WriteZero)),
-            Ok(count) => done += count,
+            Ok(0) => return Err(fault(faults)),
+            Ok(count) => {
+                done += count;
+                *sent = before.saturating_add(done as u64);
+            }
             Err(error) if error.kind() == ErrorKind::Interrupted => {}
-            Err(error) => return Err(error),
+            Err(_) => return Err(fault(faults)),
         }
     }
-    Err(io::Error::from(ErrorKind::Interrupted))
+    Err(fault(faults))
 }
 
-/// Writes the bytes from the offset on.
-fn write_at(file: &mut File, at: u64, bytes: &[u8]) -> io::Result<()> {
-    file.seek(SeekFrom::Start(at))?;
-    write_whole(file, bytes)
+/// Writes the bytes from the offset on, and counts them. It answers where the system says that they begin.
+fn write_at(
+    file: &mut File,
+    at: u64,
+    bytes: &[u8],
+    written: &mut u64,
+    faults: &mut u64,
+) -> Result<u64, DeskErr>
+    ensures place { IfOk result (λ place. place ≡ at) }
+    ensures moved { OnOk result (written.new ≡ raised written.old (length bytes.now)) }
+    ensures faults { CountsFault result faults.old faults.new }
+{
+    let place = match file.seek(SeekFrom::Start(at)) {
+        Ok(place) if place == at => place,
+        _ => return Err(fault(faults)),
+    };
+    write_whole(file, bytes, written, faults)?;
+    Ok(place)
 }
 
-/// Makes every file durable.
-fn sync_each(devices: &[DeviceFile]) -> io::Result<()> {
+/// Makes a file durable, and counts it.
+fn sync_file(file: &File, synced: &mut u64, faults: &mut u64) -> Result<(), DeskErr>
+    ensures moved { OnOk result (synced.new ≡ raised synced.old 1) }
+    ensures faults { CountsFault result faults.old faults.new }
+{
+    if file.sync_all().is_err() {
+        return Err(fault(faults));
+    }
+    *synced = synced.saturating_add(1);
+    Ok(())
+}
+
+/// Makes every file durable, and counts the files.
+fn sync_each(devices: &[DeviceFile], synced: &mut u64, faults: &mut u64) -> Result<(), DeskErr>
+    ensures moved { OnOk result (synced.new ≡ raised synced.old (length devices.now)) }
+    ensures faults { CountsFault result faults.old faults.new }
+{
+    // A count that was read is known to be one of 64 bits.
+    let _before = *synced;
     for device in devices {
-        device.file.sync_all()?;
+        sync_file(&device.file, synced, faults)?;
     }
     Ok(())
 }
 
 /// Makes the entry of a path in its folder durable. A folder is opened for reading as a file is, and synced through
 /// that handle.
-fn sync_folder(rt: &HostRuntime, path: &str) -> io::Result<()> {
+fn sync_folder(
+    rt: &HostRuntime,
+    path: &str,
+    synced: &mut u64,
+    faults: &mut u64,
+) -> Result<(), DeskErr>
+    ensures moved { OnOk result (synced.new ≡ raised synced.old 1) }
+    ensures faults { CountsFault result faults.old faults.new }
+{
     let folder = match Path::new(path).parent() {
         Some(parent) if !parent.as_str().is_empty() => parent,
         _ => Path::new("."),
     };
-    let handle = OpenOptions::new().read(true).open(rt, folder)?;
-    handle.sync_all()
+    let Ok(handle) = OpenOptions::new().read(true).open(rt, folder) else {
+        return Err(fault(faults));
+    };
+    sync_file(&handle, synced, faults)
 }
 
-/// Makes a file of that many zero bytes, and makes it last.
-fn fill_new(rt: &HostRuntime, path: &str, file: &File, size: u64) -> io::Result<()> {
-    file.set_len(size)?;
-    file.sync_all()?;
-    sync_folder(rt, path)
+/// Makes a file of that many zero bytes, and makes it and its entry last.
+fn fill_new(
+    rt: &HostRuntime,
+    path: &str,
+    file: &File,
+    size: u64,
+    synced: &mut u64,
+    faults: &mut u64,
+) -> Result<(), DeskErr>
+    ensures moved { OnOk result (synced.new ≡ raised synced.old 2) }
+    ensures faults { CountsFault result faults.old faults.new }
+{
+    if file.set_len(size).is_err() {
+        return Err(fault(faults));
+    }
+    sync_file(file, synced, faults)?;
+    sync_folder(rt, path, synced, faults)
 }
 
 /// Makes a file of that many zero bytes, or leaves none.
-fn make_new(rt: &HostRuntime, path: &str, size: u64) -> io::Result<File> {
-    let file = OpenOptions::new()
+fn make_new(
+    rt: &HostRuntime,
+    path: &str,
+    size: u64,
+    synced: &mut u64,
+    faults: &mut u64,
+) -> Result<File, DeskErr>
+    ensures moved { OnOk result (synced.new ≡ raised synced.old 2) }
+    ensures faults { CountsFault result faults.old faults.new }
+{
+    let opened = OpenOptions::new()
         .read(true)
         .write(true)
         .create_new(true)
-        .open(rt, path)?;
-    if let Err(error) = fill_new(rt, path, &file, size) {
+        .open(rt, path);
+    let Ok(file) = opened else {
+        return Err(fault(faults));
+    };
+    if let Err(error) = fill_new(rt, path, &file, size, synced, faults) {
         let _ = fs::remove_file(rt, path);
         return Err(error);
     }
@@ -132,25 +265,42 @@ fn make_new(rt: &HostRuntime, path: &str, size: u64) -> io::Result<File> {
 }
 
 /// Opens a file as it is. Where there is none and a size is given, makes one of that many zero bytes.
-fn open_or_make(rt: &HostRuntime, path: &str, make: Option<u64>) -> io::Result<DeviceFile> {
+fn open_or_make(
+    rt: &HostRuntime,
+    path: &str,
+    make: Option<u64>,
+    synced: &mut u64,
+    faults: &mut u64,
+) -> Result<DeviceFile, DeskErr>
+    ensures { CountsFault result faults.old faults.new }
+{
     let opened = OpenOptions::new().read(true).write(true).open(rt, path);
     let file = match (opened, make) {
+        (Ok(file), _) => file,
         (Err(error), Some(size)) if error.kind() == ErrorKind::NotFound => {
-            make_new(rt, path, size)?
+            make_new(rt, path, size, synced, faults)?
         }
-        (opened, _) => opened?,
+        (Err(_), _) => return Err(fault(faults)),
     };
-    let size = file.metadata()?.len();
-    Ok(DeviceFile { size, file })
+    let Ok(metadata) = file.metadata() else {
+        return Err(fault(faults));
+    };
+    Ok(DeviceFile {
+        size: metadata.len(),
+        file,
+    })
 }
 
 impl Shelf for FileDesk {
-    ghost use Rattle.std.specs.Prelude.{[]};
-    ghost use Rattle.zr_shelf.specs.Counts.{Counts};
+    ghost use Rattle.std.specs.Prelude.{[], IsErrOf, slice_index};
+    ghost use Rattle.zr_base.specs.Counts.{HasRisen};
+    ghost use Rattle.zr_shelf.specs.Counts.{Counts, NoneFell};
+    ghost use Rattle.zr_shelf.specs.declared.desk.DeskErr.TheVariants.{NoMemory};
+    ghost use Rattle.zr_cli.specs.Desk.{sizes_of, faults_of};
 
-    ghost sizes = { λ d. map (λ f. f.size) d.devices.items };
+    ghost sizes = { sizes_of };
 
-    ghost counts = { λ d. record { disk = d.disk_faults; attach = d.attach_faults; input = d.input_faults; output = d.output_faults } };
+    ghost counts = { faults_of };
 
     ghost tells = { λ d. ⊥ };
 
@@ -168,74 +318,109 @@ impl Shelf for FileDesk {
         self.devices[slot as usize].size
     }
 
-    fn read(&mut self, slot: u32, at: u64, out: &mut [u8]) -> Result<(), DeskErr> {
-        match read_at(&mut self.devices[slot as usize].file, at, out) {
-            Ok(()) => Ok(()),
-            Err(_) => {
-                self.disk_faults = self.disk_faults.saturating_add(1);
-                Err(DeskErr::Failed)
-            }
-        }
+    fn read(&mut self, slot: u32, at: u64, out: &mut [u8]) -> Result<(), DeskErr>
+        requires exists { slot < length (sizes_of self.old) }
+        requires fits { at + length out.old ≤ slice_index (sizes_of self.old) slot }
+        ensures sizes { sizes_of self.new ≡ sizes_of self.old }
+        ensures none_fell { NoneFell (faults_of self.old) (faults_of self.new) }
+        ensures failed { IsErrOf result Failed → HasRisen (faults_of self.old).disk (faults_of self.new).disk }
+        ensures memory { IsErrOf result NoMemory → ⊥ }
+        ensures moved { OnOk result (self.new.moved.read ≡ raised self.old.moved.read (length out.old)) }
+    {
+        read_at(
+            &mut self.devices[slot as usize].file,
+            at,
+            out,
+            &mut self.moved.read,
+            &mut self.disk_faults,
+        )?;
+        Ok(())
     }
 
-    fn write(&mut self, slot: u32, at: u64, bytes: &[u8]) -> Result<(), DeskErr> {
-        match write_at(&mut self.devices[slot as usize].file, at, bytes) {
-            Ok(()) => Ok(()),
-            Err(_) => {
-                self.disk_faults = self.disk_faults.saturating_add(1);
-                Err(DeskErr::Failed)
-            }
-        }
+    fn write(&mut self, slot: u32, at: u64, bytes: &[u8]) -> Result<(), DeskErr>
+        requires exists { slot < length (sizes_of self.old) }
+        requires fits { at + length bytes.now ≤ slice_index (sizes_of self.old) slot }
+        ensures sizes { sizes_of self.new ≡ sizes_of self.old }
+        ensures none_fell { NoneFell (faults_of self.old) (faults_of self.new) }
+        ensures failed { IsErrOf result Failed → HasRisen (faults_of self.old).disk (faults_of self.new).disk }
+        ensures memory { IsErrOf result NoMemory → ⊥ }
+        ensures moved { OnOk result (self.new.moved.written ≡ raised self.old.moved.written (length bytes.now)) }
+    {
+        write_at(
+            &mut self.devices[slot as usize].file,
+            at,
+            bytes,
+            &mut self.moved.written,
+            &mut self.disk_faults,
+        )?;
+        Ok(())
     }
 
-    fn flush(&mut self) -> Result<(), DeskErr> {
-        match sync_each(&self.devices) {
-            Ok(()) => Ok(()),
-            Err(_) => {
-                self.disk_faults = self.disk_faults.saturating_add(1);
-                Err(DeskErr::Failed)
-            }
-        }
+    fn flush(&mut self) -> Result<(), DeskErr>
+        ensures sizes { sizes_of self.new ≡ sizes_of self.old }
+        ensures none_fell { NoneFell (faults_of self.old) (faults_of self.new) }
+        ensures failed { IsErrOf result Failed → HasRisen (faults_of self.old).disk (faults_of self.new).disk }
+        ensures memory { IsErrOf result NoMemory → ⊥ }
+        ensures moved { OnOk result (self.new.moved.synced ≡ raised self.old.moved.synced (length (sizes_of self.old))) }
+    {
+        sync_each(&self.devices, &mut self.moved.synced, &mut self.disk_faults)
     }
 }
 
 impl Desk for FileDesk {
+    ghost use Rattle.std.specs.Prelude.{IfOk, IsErrOf};
+    ghost use Rattle.zr_base.specs.Counts.{HasRisen};
+    ghost use Rattle.zr_shelf.specs.Counts.{NoneFell};
+    ghost use Rattle.zr_shelf.specs.declared.desk.DeskErr.TheVariants.{NoMemory};
+    ghost use Rattle.zr_cli.specs.Desk.{sizes_of, faults_of};
+
     fn attach(&mut self, path: &str, make: Option<u64>) -> Result<u32, DeskErr> {
         let slot = self.slots();
         if slot == u32::MAX {
             return Err(DeskErr::NoMemory);
         }
         self.devices.reserve(1)?;
-        match open_or_make(&self.rt, path, make) {
-            Ok(device) => {
-                self.devices.push_reserved(device);
-                Ok(slot)
-            }
-            Err(_) => {
-                self.attach_faults = self.attach_faults.saturating_add(1);
-                Err(DeskErr::Failed)
-            }
-        }
+        let device = open_or_make(
+            &self.rt,
+            path,
+            make,
+            &mut self.moved.synced,
+            &mut self.attach_faults,
+        )?;
+        self.devices.push_reserved(device);
+        Ok(slot)
     }
 
-    fn take(&mut self, out: &mut [u8]) -> Result<usize, DeskErr> {
-        match self.rt.stdin().read(out) {
-            Ok(count) => Ok(count),
-            Err(_) => {
-                self.input_faults = self.input_faults.saturating_add(1);
-                Err(DeskErr::Failed)
-            }
-        }
+    fn take(&mut self, out: &mut [u8]) -> Result<usize, DeskErr>
+        ensures count { IfOk result (λ n. n ≤ length out.old) }
+        ensures sizes { sizes_of self.new ≡ sizes_of self.old }
+        ensures none_fell { NoneFell (faults_of self.old) (faults_of self.new) }
+        ensures failed { IsErrOf result Failed → HasRisen (faults_of self.old).input (faults_of self.new).input }
+        ensures memory { IsErrOf result NoMemory → ⊥ }
+        ensures moved { IfOk result (λ n. self.new.moved.taken ≡ raised self.old.moved.taken n) }
+        ensures asked { OnOk result (self.new.moved.takes ≡ raised self.old.moved.takes 1) }
+    {
+        let Ok(count) = self.rt.stdin().read(out) else {
+            return Err(fault(&mut self.input_faults));
+        };
+        self.moved.takes = self.moved.takes.saturating_add(1);
+        self.moved.taken = self.moved.taken.saturating_add(count as u64);
+        Ok(count)
     }
 
-    fn give(&mut self, bytes: &[u8]) -> Result<(), DeskErr> {
-        match write_whole(&mut self.rt.stdout(), bytes) {
-            Ok(()) => Ok(()),
-            Err(_) => {
-                self.output_faults = self.output_faults.saturating_add(1);
-                Err(DeskErr::Failed)
-            }
-        }
+    fn give(&mut self, bytes: &[u8]) -> Result<(), DeskErr>
+        ensures sizes { sizes_of self.new ≡ sizes_of self.old }
+        ensures none_fell { NoneFell (faults_of self.old) (faults_of self.new) }
+        ensures failed { IsErrOf result Failed → HasRisen (faults_of self.old).output (faults_of self.new).output }
+        ensures memory { IsErrOf result NoMemory → ⊥ }
+        ensures moved { OnOk result (self.new.moved.given ≡ raised self.old.moved.given (length bytes.now)) }
+    {
+        write_whole(
+            &mut self.rt.stdout(),
+            bytes,
+            &mut self.moved.given,
+            &mut self.output_faults,
+        )
     }
 }
 

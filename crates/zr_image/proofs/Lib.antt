@@ -8,3 +8,4 @@ pub mod Opening
 pub mod Meaning
 pub mod Ranges
 pub mod Framing
+pub mod Determined

@@ -1,5 +1,5 @@
 -- A small pool on which the definitions are tried.
-use Rattle.std.specs.Prelude.{ℕ, true, false, List, [], ◌∷◌, length, replicate, Some, None}
+use Rattle.std.specs.Prelude.{ℕ, Bool, true, false, List, [], ◌∷◌, length, replicate, Some, None}
 use Rattle.zr_base.specs.declared.space.Dva.{Dva}
 use Rattle.zr_base.specs.declared.space.Entry.{Entry}
 use Rattle.zr_base.specs.declared.space.Extent.{Extent}
@@ -9,7 +9,9 @@ use Rattle.zr_base.specs.declared.space.SpaceParts.{SpaceParts}
 use Rattle.zr_base.specs.declared.space.DevState.TheVariants as state
 use Rattle.zr_base.specs.declared.space.CkptPart.TheVariants as ckpt
 use Rattle.zr_bptr.specs.declared.Bptr.{Bptr}
-use Rattle.zr_bptr.specs.declared.Ptr.TheVariants.{Hole}
+use Rattle.zr_bptr.specs.declared.Ptr.{Ptr}
+use Rattle.zr_bptr.specs.declared.Ptr.TheVariants.{Hole, At}
+use Rattle.zr_bptr.specs.declared.Tree.{Tree}
 use Rattle.zr_label.specs.declared.root.Name.{Name}
 use Rattle.zr_label.specs.declared.root.Label.{Label}
 use Rattle.zr_label.specs.declared.root.Uber.{Uber}
@@ -18,7 +20,9 @@ use Rattle.zr_rules.specs.Devices.{devices_of}
 use Rattle.zr_image.specs.Checks.{Check, ◌>>=◌, Demands}
 use Rattle.zr_image.specs.Numbers.{Mappings, Room, broken}
 use Rattle.zr_view.specs.Views.{View}
-use Rattle.zr_image.specs.Walks.{Setting}
+use Rattle.zr_image.specs.Reading.{HasSum}
+use Rattle.zr_image.specs.Walks.{Setting, MayMark, IsBlockOf}
+use Rattle.zr_image.specs.Roots.{block_setting}
 
 abbrev pub no_name : Name
 no_name = record { len = 0; bytes = replicate 63 0 }
@@ -100,3 +104,16 @@ abbrev pub two_checks : Type 0 → Type 0 → Check (Unit {0})
 two_checks A B = do
   mappings ← Demands A (broken Mappings)
   Demands B (broken Room)
+
+-- a directory of one tree block above its leaves
+abbrev pub one_block : Bptr → Tree
+one_block b = record { root = At b; height = 1 }
+
+-- In a directory of one tree block the first leaf may be marked and is damaged, and the second may not be marked.
+pub record HasDamagedFirst (v : View) (may_be : ℕ → ℕ → Bool) (txg : ℕ) (b p q : Bptr) (more : List Ptr) : Type 0 where
+  pub marked : MayMark (block_setting v may_be txg 1 4096) [] b
+  pub read : HasSum v b
+  pub block : IsBlockOf (block_setting v may_be txg 1 4096) 0 0 b (At p ∷ (At q ∷ more))
+  pub first : MayMark (block_setting v may_be txg 1 4096) (b ∷ []) p
+  pub damaged : HasSum v p → ⊥
+  pub second : MayMark (block_setting v may_be txg 1 4096) (b ∷ (p ∷ [])) q → ⊥

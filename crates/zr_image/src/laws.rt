@@ -1,9 +1,11 @@
 //! The definitions, tried on examples and against wrong readings.
-ghost use Rattle.std.specs.Prelude.{◌≡◌, ◌≢◌, ℕ, ◌+◌, ◌<◌, ◌≤◌, List, [], ◌∷◌, ◌++◌, length, true, Option, None, Some, Ok, Err};
+ghost use Rattle.std.specs.Prelude.{◌≡◌, ◌≢◌, ◌↔◌, ℕ, ◌+◌, ◌<◌, ◌≤◌, List, [], ◌∷◌, ◌++◌, length, Bool, true, Option, None, Some, Result, Ok, Err};
 ghost use Rattle.zr_base.specs.declared.refusal.Refusal.{Refusal};
 ghost use Rattle.zr_base.specs.declared.refusal.Refusal.TheVariants.{BadRoot, NoPoolOnDevices, TwoPools, UnknownVersion};
 ghost use Rattle.zr_shelf.specs.Disks.{Stand, disk, part};
 ghost use Rattle.zr_bptr.specs.declared.Bptr.{Bptr};
+ghost use Rattle.zr_bptr.specs.declared.Ptr.{Ptr};
+ghost use Rattle.zr_bptr.specs.declared.Tree.{Tree};
 ghost use Rattle.zr_label.specs.Blocks.{SpellsLabel, SpellsUber};
 ghost use Rattle.zr_label.specs.Geometry.{label_block_at, ring_slot_at, unit_at};
 ghost use Rattle.zr_label.specs.declared.root.Label.{Label};
@@ -14,13 +16,15 @@ ghost use Rattle.zr_rules.specs.Equation.{root_space};
 ghost use Rattle.zr_image.specs.Numbers.{Form, Sets, Mappings, Destinations, Condensing, Removal, Units, SavedRoots, Room, rule_number};
 ghost use Rattle.zr_image.specs.Current.{IsCurrent, IsShownAt, IsShown, FindsCurrent, IsOnePool, IsInWindow, IsOldest, slots_of, missing_device, reset_of};
 ghost use Rattle.zr_image.specs.Honest.{IsLeft};
-ghost use Rattle.zr_view.specs.Views.{address_bytes};
-ghost use Rattle.zr_image.specs.Walks.{Setting, MayMark};
+ghost use Rattle.zr_tree.specs.Trees.{tree_leaves};
+ghost use Rattle.zr_view.specs.Views.{View, address_bytes};
+ghost use Rattle.zr_image.specs.Reading.{HasSum, damage, store_of};
+ghost use Rattle.zr_image.specs.Walks.{Setting, MayMark, Walks};
 ghost use Rattle.zr_image.specs.Rules.{AreLawfulParts, IsBalanced};
-ghost use Rattle.zr_image.specs.Roots.{Root};
+ghost use Rattle.zr_image.specs.Roots.{Root, WalksAll, block_setting};
 ghost use Rattle.zr_image.specs.StateOf.{IsPart};
 ghost use Rattle.zr_image.specs.Frame.{KeepsRoot, KeepsMeaning, KeepsShelf};
-ghost use Rattle.zr_image.specs.Examples.{two_checks, root_of, two_rows, gone_row, on_row, turned, strangers, split, chain, parts_of, on_with, chain_view, unit_five, five, pointer_five, walk_at};
+ghost use Rattle.zr_image.specs.Examples.{two_checks, root_of, two_rows, gone_row, on_row, turned, strangers, split, chain, parts_of, on_with, chain_view, unit_five, five, pointer_five, walk_at, one_block, HasDamagedFirst};
 
 /// The first check that fails is answered, and none behind it.
 pub fn the_first_check_that_fails()
@@ -116,4 +120,17 @@ pub fn a_root_stays_while_its_units_do()
     ensures root { (slots : List (Option ℕ)) (u : Uber) (r : Root) (saved : Option Root) → KeepsRoot slots u r saved }
     ensures meaning { (paths : List (List ℕ)) (slots : List (Option ℕ)) (r : Root) (saved : Option Root) (p : PoolState) → KeepsMeaning paths slots r saved p }
     ensures shelf { (paths : List (List ℕ)) (seen : List Seen) (r : Root) (saved : Option Root) (p : PoolState) → KeepsShelf paths seen r saved p }
+{}
+
+/// The tree of a directory is walked whole before a leaf of it is read. So what the tree is refused for is the answer, be
+/// its leaves damaged or not: where the first leaf is damaged and a later pointer breaks the rule on units, that rule is
+/// told and never the damage. A damaged leaf is told where the tree is in order.
+pub fn a_directory_is_walked_before_its_leaves_are_read()
+    ensures one { (v : View) (may_be : ℕ → ℕ → Bool) (txg : ℕ) (dir : Tree) (x y : Result (List Bptr) Refusal) → WalksAll v may_be txg dir x → WalksAll v may_be txg dir y → x ≡ y }
+    ensures tree { (v : View) (may_be : ℕ → ℕ → Bool) (txg : ℕ) (dir : Tree) (r : Refusal) (x : Result (List Bptr) Refusal) → Walks (block_setting v may_be txg 1 4096) dir [] (Err r)
+        → WalksAll v may_be txg dir x ↔ (x ≡ Err r) }
+    ensures units { (v : View) (may_be : ℕ → ℕ → Bool) (txg : ℕ) (b p q : Bptr) (more : List Ptr) → HasDamagedFirst v may_be txg b p q more → WalksAll v may_be txg (one_block b) (Err (BadRoot 7)) }
+    ensures never { (v : View) (may_be : ℕ → ℕ → Bool) (txg : ℕ) (b p q : Bptr) (more : List Ptr) → HasDamagedFirst v may_be txg b p q more → WalksAll v may_be txg (one_block b) (Err (damage v p)) → ⊥ }
+    ensures leaf { (v : View) (may_be : ℕ → ℕ → Bool) (txg : ℕ) (dir : Tree) (marks more : List Bptr) (p : Bptr) → Walks (block_setting v may_be txg 1 4096) dir [] (Ok marks)
+        → tree_leaves (store_of v) dir ≡ p ∷ more → (HasSum v p → ⊥) → WalksAll v may_be txg dir (Err (damage v p)) }
 {}

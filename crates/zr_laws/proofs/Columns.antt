@@ -1,6 +1,7 @@
 -- Each unit that is there counts in one column.
-use Rattle.std.proofs.Common.{◌≡◌, ℕ, zero, suc, ◌+◌, ◌<◌, Bool, true, false, nat_lt, refl, arith, cond}
-use Rattle.zr_rules.specs.Places.{one_if, count_below, is_held, is_kept}
+use Rattle.std.proofs.Common.{◌≡◌, ℕ, zero, suc, ◌+◌, ◌<◌, Bool, true, false, nat_lt, refl, arith, cond, ap, ◌∙◌}
+use Rattle.zr_rules.specs.Columns.{role_count}
+use Rattle.zr_rules.specs.Places.{one_if, count_below, is_held, is_kept, units_of_dev}
 use Rattle.zr_rules.specs.Roles.{Role, is_allocated_role, is_kept_role, is_deferred_role, is_free_role}
 use Rattle.zr_rules.specs.Roles.Role.{Absent, Free, FreshLive, Live, FreshCopy, Copy, Kept, DeferredBlock, DeferredMeta, Late1Block, Late1Meta, Late2Block, Late2Meta, Meta, SavedMeta}
 use Rattle.zr_rules.specs.Space.{Space, role_at, held_role, other_role, has_place, copy_hits, is_born}
@@ -54,3 +55,14 @@ role_counts s d u there =
 pub counts_add : (n : ℕ) (a b c e : ℕ → Bool) → ((u : ℕ) → u < n → one_if (a u) + one_if (b u) + one_if (c u) + one_if (e u) ≡ 1) → count_below n a + count_below n b + count_below n c + count_below n e ≡ n
 counts_add zero a b c e each = refl
 counts_add (suc n) a b c e each = omega (arith, counts_add n a b c e (λ u lt. each u (omega arith)), each n (omega arith))
+
+-- tests that answer the same at each number below n count the same
+pub same_count : (n : ℕ) (a b : ℕ → Bool) → ((u : ℕ) → a u ≡ b u) → count_below n a ≡ count_below n b
+same_count zero a b each = refl
+same_count (suc n) a b each = ap (λ (m : ℕ). m + one_if (a n)) (same_count n a b each) ∙ ap (λ (t : Bool). count_below n b + one_if t) (each n)
+
+-- counts of roles over as many units, with the same role at each
+pub same_roles : (s t : Space) (d : ℕ) (kind : Role → Bool) → units_of_dev s.parts.devs d ≡ units_of_dev t.parts.devs d → ((u : ℕ) → role_at s d u ≡ role_at t d u) → role_count s kind d ≡ role_count t kind d
+same_roles s t d kind units each =
+    same_count (units_of_dev s.parts.devs d) (λ u. kind (role_at s d u)) (λ u. kind (role_at t d u)) (λ u. ap kind (each u))
+    ∙ ap (λ (n : ℕ). count_below n (λ u. kind (role_at t d u))) units

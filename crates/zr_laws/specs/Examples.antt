@@ -1,15 +1,18 @@
 -- Small pools on which the rules are tried.
-use Rattle.std.specs.Prelude.{true, false, ℕ, ◌+◌, ◌==◌, ◌&&◌, List, [], ◌∷◌, map, if◌then◌else◌}
+use Rattle.std.specs.Prelude.{true, false, ℕ, ◌+◌, ◌==◌, ◌&&◌, List, [], ◌∷◌, map, if◌then◌else◌, None}
 use Rattle.std.specs.List.{range_with_len}
 use Rattle.zr_base.specs.declared.space.Change.{Change}
 use Rattle.zr_base.specs.declared.space.DevPart.{DevPart}
 use Rattle.zr_base.specs.declared.space.Entry.{Entry}
 use Rattle.zr_base.specs.declared.space.Extent.{Extent}
+use Rattle.zr_base.specs.declared.space.LateRun.{LateRun}
+use Rattle.zr_base.specs.declared.space.CkptPart.TheVariants as ckpt
 use Rattle.zr_base.specs.declared.space.DevState.TheVariants as state
 use Rattle.zr_base.specs.declared.space.Dva.{Dva}
 use Rattle.zr_base.specs.Extents.{has_unit, unit_count}
 use Rattle.zr_bptr.specs.declared.Bptr.{Bptr}
 use Rattle.zr_rules.specs.Placement.{Free}
+use Rattle.zr_rules.specs.Space.{Space}
 
 -- a device that was removed by this group
 abbrev pub gone_at : ℕ → List Entry → DevPart
@@ -86,3 +89,22 @@ taken start len = record { free = false; at = run start len }
 
 abbrev pub given : ℕ → ℕ → Change
 given start len = record { free = true; at = run start len }
+
+-- a run of blocks in a late set
+abbrev pub late_run : ℕ → ℕ → LateRun
+late_run start len = record { meta = false; at = run start len }
+
+-- A pool of one device of 16 units, in the form of this version. The open group has freed these extents, and the group before it these runs.
+abbrev pub freed_on : ℕ → List Extent → List LateRun → Space
+freed_on version deferred late = record {
+  parts = record {
+    version = version;
+    devs = record { row = record { state = state.On; added = 1; units = 16; gone = 0 }; held = []; kept = []; entries = []; counts = []; fresh = []; late1 = late; late2 = [] } ∷ [];
+    cond = None;
+    ckpt = ckpt.Clear;
+  };
+  opened = record { born = []; deferred = deferred; dropped = [] } ∷ [];
+  synced = 0;
+  meta = [];
+  saved_meta = [];
+}

@@ -6,6 +6,7 @@
 #![tactic(auto)]
 
 pub mod commands;
+pub mod counts;
 pub mod formats;
 pub mod lines;
 pub mod space;
