@@ -3,7 +3,7 @@ use Rattle.std.proofs.Common.{◌≡◌, ◌≢◌, ◌+◌, ◌^◌, ◌<◌, �
 use Rattle.std.specs.Prelude.{All, IfSome, option_map, unwrap_or}
 use Rattle.std.specs.List.{AllByRecursion}
 use Rattle.std.proofs.lemmas.Bool.{eq-eqb, ne_eqb}
-use Rattle.std.proofs.lemmas.List.Elements.{All-nil}
+use Rattle.std.proofs.lemmas.List.Elements.{All-from_recursion}
 use Rattle.zr_bptr.specs.declared.Ptr.{Ptr}
 use Rattle.zr_bptr.specs.declared.ObjRec.{ObjRec}
 use Rattle.zr_bptr.specs.Spelling.{IsObject}
@@ -12,10 +12,14 @@ use Rattle.zr_txg.specs.Tables.{IsRisingFrom, value_at}
 use Rattle.zr_txg.specs.Changes.{Changes, ObjectChange, object_in, changes_in, change_in, blocks_of}
 use Rattle.zr_txg.proofs.Keyed.{by_key}
 use Rattle.zr_lookup.specs.Groups.{IsBlockChange, IsObjectChange, IsChangeOf, IsLawfulGroup}
-use Rattle.zr_lookup.specs.Lists.{IsBetween}
+use Rattle.zr_bptr.specs.declared.Bptr.{Bptr}
+use Rattle.zr_store.specs.Store.{Stored}
+use Rattle.zr_tree.specs.Trees.{tree_at}
+use Rattle.zr_lookup.specs.Objects.{block_in, pointer_now}
+use Rattle.zr_lookup.specs.Lists.{IsBetween, overlaid}
 
 -- the value of a key is one of those
-each_value : {V : Type 0} (P : ℕ × V → Type 0) (k : ℕ) (v : V) (es : List (ℕ × V)) → AllByRecursion P es → value_at es k ≡ Some v → P (k, v)
+pub each_value : {V : Type 0} (P : ℕ × V → Type 0) (k : ℕ) (v : V) (es : List (ℕ × V)) → AllByRecursion P es → value_at es k ≡ Some v → P (k, v)
 each_value P k v [] each is = cc
 each_value {V} P k v (e ∷ es) each is =
     by_key e.0 k
@@ -51,3 +55,23 @@ sorted low (e ∷ es) up each le = (up.0, sorted (suc e.0) es up.1 each.1 (let l
 
 pub changes_between : (g : Changes) (id : ℕ) (es : List (ℕ × Ptr)) → IsLawfulGroup g → es ≡ changes_in g id → IsRisingFrom 0 es → IsBetween 0 (2 ^ 25) es
 changes_between g id es lawful is up = sorted 0 es up (subst (AllByRecursion IsBlockChange) (sym is) (blocks_lawful g id lawful)) (omega arith)
+
+each_fits : (es : List (ℕ × Ptr)) → AllByRecursion IsBlockChange es → All (λ change. FitsAt 0 change.1) es
+each_fits es each = All-from_recursion (λ (change : ℕ × Ptr). FitsAt 0 change.1) es (only_fits es each)
+  where
+    only_fits : (xs : List (ℕ × Ptr)) → AllByRecursion IsBlockChange xs → AllByRecursion (λ change. FitsAt 0 change.1) xs
+    only_fits [] h = tt
+    only_fits (x ∷ xs) h = (h.0.leaf, only_fits xs h.1)
+
+pub changes_fit : (g : Changes) (id : ℕ) (es : List (ℕ × Ptr)) → IsLawfulGroup g → es ≡ changes_in g id → All (λ change. FitsAt 0 change.1) es
+changes_fit g id es lawful is = each_fits es (subst (AllByRecursion IsBlockChange) (sym is) (blocks_lawful g id lawful))
+
+-- a change counts more than the tree
+overlaid_or : (o : Option Ptr) (p : Ptr) → overlaid o (block_in p) ≡ block_in (unwrap_or o p)
+overlaid_or None p = refl
+overlaid_or (Some q) p = refl
+
+pub overlaid_pointer : (s : Stored) (g : Changes) (id : ℕ) (r : ObjRec) (index : ℕ) (changes : List (ℕ × Ptr)) (leaves : List (ℕ × Bptr)) → changes ≡ changes_in g id → value_at leaves index ≡ block_in (tree_at s r.tree index)
+    → overlaid (value_at changes index) (value_at leaves index) ≡ block_in (pointer_now s g id r index)
+overlaid_pointer s g id r index changes leaves changes_are leaf_is =
+    ap (λ (es : List (ℕ × Ptr)). overlaid (value_at es index) (value_at leaves index)) changes_are ∙ ap (λ (o : Option Bptr). overlaid (change_in g id index) o) leaf_is ∙ overlaid_or (change_in g id index) (tree_at s r.tree index)

@@ -2,3 +2,6 @@ pub mod Keys
 pub mod Groups
 pub mod Merging
 pub mod Walking
+pub mod Telling
+pub mod Touching
+pub mod Summing

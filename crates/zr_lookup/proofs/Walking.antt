@@ -1,6 +1,6 @@
 -- A walk over a tree: which indices lie below a pointer, and the leaves that came.
-use Rattle.std.proofs.Common.{◌≡◌, ◌≢◌, ℕ, zero, suc, ◌+◌, ◌-◌, ◌*◌, ◌/◌, ◌%◌, ◌^◌, ◌<◌, ◌≤◌, List, [], ◌∷◌, ◌++◌, length, get_or, take, drop, refl, sym, ◌∙◌, ap, subst, arith, Some, None, Option, add-one, take-suc, append_assoc, append-nil}
-use Rattle.std.proofs.Math.Nat.{pow-suc, mul-le-mul_right}
+use Rattle.std.proofs.Common.{◌≡◌, ◌≢◌, ℕ, zero, suc, ◌+◌, ◌-◌, ◌*◌, ◌/◌, ◌%◌, ◌^◌, ◌<◌, ◌≤◌, List, [], ◌∷◌, ◌++◌, length, get_or, take, drop, refl, sym, ◌∙◌, ⊎_elim, ap, subst, arith, Some, None, Option, add-one, take-suc, append_assoc, append-nil}
+use Rattle.std.proofs.Math.Nat.{pow-suc, mul-le-mul_right, pow-le-pow_right}
 use Rattle.std.proofs.lemmas.Nat.{div-mul-add}
 use Rattle.zr_bptr.specs.declared.Bptr.{Bptr}
 use Rattle.zr_bptr.specs.declared.Ptr.{Ptr}
@@ -11,12 +11,15 @@ use Rattle.std.proofs.lemmas.List.{take_all}
 use Rattle.std.proofs.lemmas.Grind.{flat_map-append}
 use Rattle.zr_bptr.specs.Spelling.{IsPointer, IsLawful}
 use Rattle.zr_tree.specs.Blocks.{FitsAt}
-use Rattle.zr_tree.specs.Trees.{kids, digit, leaf_at, blocks}
+use Rattle.zr_tree.specs.Trees.{kids, digit, leaf_at, blocks, tree_at}
 use Rattle.zr_tree.proofs.Frames.{hole_leaf}
 use Rattle.zr_tree.proofs.Holes.{leaf_step}
 use Rattle.zr_lookup.specs.Objects.{block_in}
 use Rattle.zr_lookup.specs.Lists.{IsBetween, Fills}
-use Rattle.zr_lookup.proofs.Keys.{filled_none, filled_then, filled_as, wider, added, added_fills}
+use Rattle.std.proofs.lemmas.Bool.{lt-ltb, le-ltb, cases_lt}
+use Rattle.zr_bptr.specs.declared.Tree.{Tree}
+use Rattle.zr_txg.specs.Tables.{value_at}
+use Rattle.zr_lookup.proofs.Keys.{past, filled_none, filled_then, filled_as, wider, added, added_fills}
 
 -- ---- numbers
 
@@ -139,3 +142,25 @@ lawful_top level p b fits is = subst IsLawful is fits.1
 
 pub lawful_leaf : (level : ℕ) (p : Ptr) (b : Bptr) → FitsAt level p → p ≡ At b → level ≡ 0 → FitsAt 0 (At b)
 lawful_leaf level p b fits is level_is = subst (FitsAt 0) is (subst (λ (l : ℕ). FitsAt l p) level_is fits)
+
+-- ---- whole trees
+
+pub low_top : (height : ℕ) → height ≤ 5 → (0 + 1) * 32 ^ height ≤ 2 ^ 25
+low_top height low =
+    let less : 32 ^ height ≤ 32 ^ 5 = pow-le-pow_right (omega arith) low in
+    omega (arith, less)
+
+pub whole_between : (height : ℕ) (es : List (ℕ × Bptr)) → height ≤ 5 → IsBetween 0 ((0 + 1) * 32 ^ height) es → IsBetween 0 (2 ^ 25) es
+whole_between height es low h = wider 0 ((0 + 1) * 32 ^ height) 0 (2 ^ 25) es h (omega arith) (low_top height low)
+
+pub whole_leaves : (s : Stored) (t : Tree) (old new : List (ℕ × Bptr)) → t.height ≤ 5 → IsBetween 0 ((0 + 1) * 32 ^ t.height) new → Fills (0 * 32 ^ t.height) ((0 + 1) * 32 ^ t.height) (λ index. block_in (leaf_at s t.height t.root index)) old new → (index : ℕ) → value_at new index ≡ block_in (tree_at s t index)
+whole_leaves s t old new low between h index =
+    ⊎_elim
+    (λ inside.
+    let up : index < (0 + 1) * 32 ^ t.height = omega (arith, inside) in
+    let is : tree_at s t index ≡ leaf_at s t.height t.root index = rw (lt-ltb index (32 ^ t.height) inside) refl in
+    h.came index (omega arith) up ∙ sym (ap block_in is))
+    (λ outside.
+    let is : tree_at s t index ≡ Hole = rw (le-ltb index (32 ^ t.height) outside) refl in
+    past 0 ((0 + 1) * 32 ^ t.height) index new between (omega (arith, outside)) ∙ sym (ap block_in is))
+    (cases_lt index (32 ^ t.height))
