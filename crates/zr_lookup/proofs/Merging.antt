@@ -71,9 +71,9 @@ done_last changes leaves out new i next high le leaves_low new_low order same do
     (λ late.
     let none : value_at changes k ≡ None = sym (same k late) ∙ ap (λ (es : Changes). value_at es k) (drop_all i changes le) in
     let here : value_at new k ≡ value_at leaves k =
-        ⊎_elim
-        (λ inside. last.came k late inside)
-        (λ outside. past 0 high k new new_low outside ∙ sym (past 0 high k leaves leaves_low outside))
-        (cases_lt k high) in
+    ⊎_elim
+    (λ inside. last.came k late inside)
+    (λ outside. past 0 high k new new_low outside ∙ sym (past 0 high k leaves leaves_low outside))
+    (cases_lt k high) in
     here ∙ sym (ap (λ (o : Option Ptr). overlaid o (value_at leaves k)) none))
     (cases_lt k next)

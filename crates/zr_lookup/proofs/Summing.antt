@@ -44,7 +44,7 @@ sum_more s before after leaves i d bytes lt is h step =
     let f : ℕ × Bptr → List ℕ = λ leaf. summed leaf.0 (s.bytes leaf.1) in
     let x = get_or leaves i d in
     let more : flat_map f (take (i + 1) leaves) ≡ flat_map f (take i leaves) ++ f x =
-        ap (flat_map f) (take_more leaves i d lt) ∙ flat_map-append f (take i leaves) (x ∷ []) ∙ ap (λ (b : List ℕ). flat_map f (take i leaves) ++ b) (append-nil (f x)) in
+    ap (flat_map f) (take_more leaves i d lt) ∙ flat_map-append f (take i leaves) (x ∷ []) ∙ ap (λ (b : List ℕ). flat_map f (take i leaves) ++ b) (append-nil (f x)) in
     subst (Holds256 after) (ap (λ (b : List ℕ). flat_map f (take i leaves) ++ summed x.0 b) is ∙ sym more) (step (flat_map f (take i leaves)) h)
 
 -- what stands in no list

@@ -16,3 +16,5 @@ pub use ranges::read_range;
 pub use reads::{block_at, block_bytes, pointer_of, record_of};
 pub use sums::sum_object;
 
+#[cfg(test)]
+mod tests;

@@ -30,5 +30,5 @@ returns-clause-leaves g c = λ s holds.
       each = λ index.
           h.each index
           ∙ overlaid_pointer s c.args.group.now c.args.id c.args.rec.now index c.changes.result.now c.as_slice.result.now c.changes.ensures.changes
-              (ap (λ (es : List (ℕ × Bptr)). value_at es index) c.as_slice.ensures.value ∙ c.in_ok-walked.ensures.leaves s holds index);
+          (ap (λ (es : List (ℕ × Bptr)). value_at es index) c.as_slice.ensures.value ∙ c.in_ok-walked.ensures.leaves s holds index);
     }
