@@ -1,10 +1,10 @@
 -- Changes over leaves, one change after another.
-use Rattle.std.proofs.Common.{◌≡◌, ◌≢◌, ℕ, zero, suc, ◌+◌, ◌^◌, ◌<◌, ◌≤◌, List, [], ◌∷◌, length, get_or, drop, refl, sym, ◌∙◌, ap, subst, arith, Some, None, Option, ⊎_elim, drop-cons, add-one}
+use Rattle.std.proofs.Common.{◌≡◌, ◌≢◌, ℕ, suc, ◌+◌, ◌<◌, ◌≤◌, List, ◌∷◌, length, get_or, drop, refl, sym, ◌∙◌, ap, subst, arith, Some, None, Option, ⊎_elim, drop-cons, add-one}
 use Rattle.std.proofs.lemmas.Bool.{eq-eqb, ne_eqb, cases_lt}
 use Rattle.std.proofs.lemmas.List.{drop_all}
 use Rattle.zr_bptr.specs.declared.Bptr.{Bptr}
 use Rattle.zr_bptr.specs.declared.Ptr.{Ptr}
-use Rattle.zr_txg.specs.Tables.{IsRisingFrom, value_at}
+use Rattle.zr_txg.specs.Tables.{value_at}
 use Rattle.zr_txg.proofs.Keyed.{value_at-low}
 use Rattle.zr_lookup.specs.Objects.{block_in}
 use Rattle.zr_lookup.specs.Lists.{IsBetween, Fills, overlaid}

@@ -1,12 +1,9 @@
-use Rattle.std.proofs.Common.{◌≡◌, ◌∙◌, ◌<◌, ◌^◌, ℕ, List, sym, ap, subst}
+use Rattle.std.proofs.Common.{◌∙◌, ◌^◌, ℕ, List, sym, ap, subst}
 use Rattle.std.specs.Prelude.{All}
-use Rattle.std.specs.List.{AllByRecursion}
 use Rattle.zr_bptr.specs.declared.Bptr.{Bptr}
-use Rattle.zr_bptr.specs.declared.Ptr.{Ptr}
 use Rattle.zr_bptr.specs.declared.Ptr.TheVariants.{At}
 use Rattle.zr_tree.specs.Blocks.{FitsAt}
 use Rattle.zr_txg.specs.Tables.{value_at}
-use Rattle.zr_lookup.specs.Lists.{overlaid}
 use Rattle.zr_lookup.proofs.Keys.{rising}
 use Rattle.zr_lookup.proofs.Groups.{changes_between, changes_fit, overlaid_pointer}
 use Rattle.zr_lookup.proofs.leaves.walk_object.Goals as goal
