@@ -93,7 +93,7 @@ module _ (v : View) (disks : List (List ℕ)) where
         inl (
           marks,
           walk_same (meta_setting v u _) disks final.1 (listed v w final.1 final.1 (λ x here. here) same) t.tree.height 0 t.tree.root a.1 marks within walk,
-          inl (words, words_same (store_of v) (store_of w) t (λ q met. same q (hits_within marks final.1 q.at within (reach_hits (meta_setting v u _) t.tree.height 0 t.tree.root a.1 marks walk q met))) words has, is),
+          inl (words, record { stand = words_same (store_of v) (store_of w) t (λ q met. same q (hits_within marks final.1 q.at within (reach_hits (meta_setting v u _) t.tree.height 0 t.tree.root a.1 marks walk q met))) words has.stand; small = has.small }, is),
         )
     stream_same final same t a b sub (inl (marks, walk, inr (r, told, is))) = absurd (cc)
     stream_same final same t a b sub (inr (r, told, is)) = absurd (cc)

@@ -1,5 +1,5 @@
 -- What a root means by itself and with the root that it saved, or why it cannot be opened.
-use Rattle.std.specs.Prelude.{◌≡◌, ◌↔◌, ℕ, ◌^◌, ◌<◌, ◌≤◌, ◌==◌, Bool, true, false, nat_le, nat_lt, List, [], ◌++◌, length, take, map, sum_by, if◌then◌else◌, Option, Some, None, IfSome}
+use Rattle.std.specs.Prelude.{◌≡◌, ◌↔◌, ℕ, ◌^◌, ◌<◌, ◌≤◌, ◌==◌, Bool, true, false, nat_le, nat_lt, List, [], ◌++◌, length, take, map, sum_by, if◌then◌else◌, All, Option, Some, None, IfSome}
 use Rattle.std.specs.List.{AllByRecursion, filter, list_any}
 use Rattle.std.specs.Int.{div_ceil}
 use Rattle.zr_base.specs.declared.space.DevRow.{DevRow}
@@ -84,11 +84,16 @@ ReadsHead v u = do
   h ← Finds (IsHeadOf v u) (broken Form)
   Gives (h, marks)
 
+-- the words stand in the stream, and each is one of 64 bits: a larger number would be spelled as a smaller one is
+pub record StandIn (v : View) (t : Stream) (words : List ℕ) : Type 0 where
+  pub stand : HasWords (store_of v) t words
+  pub small : All (λ n. n < 2 ^ 64) words
+
 -- one stream, behind the words of those before it and the pointers that are marked
 abbrev pub ReadsStream : View → Uber → Stream → List ℕ × List Bptr → Check (List ℕ × List Bptr)
 ReadsStream v u t before = do
   marks ← Walks (meta_setting v u (div_ceil t.words 512)) t.tree before.1
-  words ← Finds (HasWords (store_of v) t) (broken Form)
+  words ← Finds (StandIn v t) (broken Form)
   Gives (before.0 ++ words, marks)
 
 -- the late sets count as empty

@@ -7,6 +7,7 @@ ghost use Rattle.zr_bptr.specs.declared.Bptr.{Bptr};
 ghost use Rattle.zr_bptr.specs.declared.Ptr.{Ptr};
 ghost use Rattle.zr_bptr.specs.declared.Tree.{Tree};
 ghost use Rattle.zr_label.specs.Blocks.{SpellsLabel, SpellsUber};
+ghost use Rattle.zr_meta.specs.declared.Stream.{Stream};
 ghost use Rattle.zr_label.specs.Geometry.{label_block_at, ring_slot_at, unit_at};
 ghost use Rattle.zr_label.specs.declared.root.Label.{Label};
 ghost use Rattle.zr_label.specs.declared.root.Uber.{Uber};
@@ -21,7 +22,7 @@ ghost use Rattle.zr_view.specs.Views.{View, address_bytes};
 ghost use Rattle.zr_image.specs.Reading.{HasSum, damage, store_of};
 ghost use Rattle.zr_image.specs.Walks.{Setting, MayMark, Walks};
 ghost use Rattle.zr_image.specs.Rules.{AreLawfulParts, IsBalanced};
-ghost use Rattle.zr_image.specs.Roots.{Root, WalksAll, block_setting};
+ghost use Rattle.zr_image.specs.Roots.{Root, StandIn, WalksAll, block_setting};
 ghost use Rattle.zr_image.specs.StateOf.{IsPart};
 ghost use Rattle.zr_image.specs.Frame.{KeepsRoot, KeepsMeaning, KeepsShelf};
 ghost use Rattle.zr_image.specs.Examples.{two_checks, root_of, two_rows, gone_row, on_row, turned, strangers, split, chain, parts_of, on_with, chain_view, unit_five, five, pointer_five, walk_at, one_block, HasDamagedFirst};
@@ -134,3 +135,10 @@ pub fn a_directory_is_walked_before_its_leaves_are_read()
     ensures leaf { (v : View) (may_be : ℕ → ℕ → Bool) (txg : ℕ) (dir : Tree) (marks more : List Bptr) (p : Bptr) → Walks (block_setting v may_be txg 1 4096) dir [] (Ok marks)
         → tree_leaves (store_of v) dir ≡ p ∷ more → (HasSum v p → ⊥) → WalksAll v may_be txg dir (Err (damage v p)) }
 {}
+
+/// A stream has one value: no other numbers of 64 bits stand in it, so a root is not refused for words that it has not.
+pub fn a_stream_has_one_value()
+    ensures { (v : View) (t : Stream) (a b : List ℕ) → StandIn v t a → StandIn v t b → a ≡ b }
+{
+    zr_root::streams_have_one_value();
+}
