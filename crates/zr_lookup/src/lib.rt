@@ -3,3 +3,16 @@
 //! A changed block is written at its command, but the trees that lead to it only at the commit. So an object is looked up
 //! in the open group first, and in the directory of the current root where the group has not changed it.
 #![tactic(auto)]
+
+mod leaves;
+mod ranges;
+mod reads;
+mod sums;
+
+pub use leaves::{blocks_of, leaves_of};
+pub use ranges::read_range;
+pub use reads::{block_at, block_bytes, pointer_of, record_of};
+pub use sums::sum_object;
+
+#[cfg(test)]
+mod tests;
