@@ -1,1 +1,3 @@
+pub mod Freeing
+pub mod Grouping
 pub mod Indices

@@ -1,5 +1,7 @@
 -- What an edit of a range makes of the bytes of an object.
-use Rattle.std.specs.Prelude.{◌≡◌, ℕ, ◌+◌, ◌-◌, ◌*◌, ◌<◌, ◌&&◌, nat_le, nat_lt, IsTrue, List, length, slice_index, if◌then◌else◌}
+use Rattle.std.specs.Prelude.{◌≡◌, ℕ, suc, ◌+◌, ◌-◌, ◌*◌, ◌/◌, ◌<◌, ◌≤◌, ◌&&◌, nat_le, nat_lt, IsTrue, List, length, slice_index, if◌then◌else◌}
+use Rattle.std.specs.List.{range_with_len}
+use Rattle.zr_lookup.specs.Objects.{IsTouched}
 use Rattle.zr_change.specs.declared.ranges.Bytes.{Bytes}
 use Rattle.zr_change.specs.declared.ranges.Bytes.TheVariants.{Given, Filled}
 use Rattle.zr_change.specs.declared.ranges.Edit.{Edit}
@@ -28,3 +30,16 @@ pub record IsEdit (units : ℕ) (e : Edit) : Type 0 where
 pub record IsEdited (e : Edit) (units index : ℕ) (old new : List ℕ) : Type 0 where
   pub size : length new ≡ 4096 * units
   pub bytes : (k : ℕ) → k < 4096 * units → slice_index new k ≡ byte_after e (4096 * units * index + k) (slice_index old k)
+
+-- the blocks that the edit touches
+abbrev pub touched : ℕ → Edit → List ℕ
+touched units e = range_with_len (e.off / (4096 * units)) ((e.off + e.len - 1) / (4096 * units) + 1 - e.off / (4096 * units))
+
+-- the edit puts each byte of the block
+abbrev pub IsCovered : ℕ → Edit → ℕ → Type 0
+IsCovered units e index = (e.off ≤ 4096 * units * index) × (4096 * units * (index + 1) ≤ e.off + e.len)
+
+-- it puts some and not all of them
+pub record IsPart (units : ℕ) (e : Edit) (index : ℕ) : Type 0 where
+  pub touched_at : IsTouched units e.off e.len index
+  pub part : ¬ IsCovered units e index

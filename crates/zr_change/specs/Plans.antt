@@ -11,6 +11,12 @@ use Rattle.zr_store.specs.Causes.{Account}
 use Rattle.zr_store.specs.Store.{Stored, Swaps, IsPointerTo, hits}
 use Rattle.zr_tree.specs.Trees.{own}
 use Rattle.zr_objset.specs.Records.{bytes_of}
+use Rattle.zr_bptr.specs.declared.ObjRec.{ObjRec}
+use Rattle.zr_txg.specs.Changes.{Changes}
+use Rattle.zr_lookup.specs.Objects.{pointer_now}
+use Rattle.zr_lookup.specs.Errors.{IsSoundPointer}
+use Rattle.zr_change.specs.declared.ranges.Edit.{Edit}
+use Rattle.zr_change.specs.Edits.{IsEdited, IsPart}
 use Rattle.zr_change.specs.declared.plans.Planned.{Planned}
 
 -- what is to be stored as a block: it has its length, and not zeros alone
@@ -87,3 +93,9 @@ pub record IsLacking (units puts : ℕ) (before : Account) (needed longest : ℕ
 -- what a put may answer
 abbrev pub IsPutErr : StoreErr → Type 0
 IsPutErr e = (e ≡ Failed) ⊎ ((e ≡ NoMemory) ⊎ ((needed longest : ℕ) × (e ≡ NoRun needed longest)))
+
+-- the planned block has its old pointer, and the bytes that the edit makes of it; what stays of it was read whole
+pub record IsPlannedFor (s : Stored) (g : Changes) (id : ℕ) (r : ObjRec) (e : Edit) (p : Planned) : Type 0 where
+  pub old : p.old ≡ pointer_now s g id r p.index
+  pub bytes : IsEdited e r.units p.index (bytes_of s r.units p.old) (bytes_of_new r.units p.new)
+  pub sound : IsPart r.units e p.index → IsSoundPointer s r.units p.old

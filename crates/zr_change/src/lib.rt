@@ -7,7 +7,7 @@ mod ranges;
 mod records;
 mod stores;
 
-pub use plans::{Planned};
+pub use plans::{Planned, olds, plan, puts};
 pub use objects::{drop_object, make_object};
 pub use ranges::{Bytes, Edit, MOST_BLOCKS, blocks_touched, fits_object, new_blocks};
 pub use records::record_change;

@@ -2,7 +2,6 @@
 ghost use Rattle.std.specs.Prelude.{◌≡◌, ℕ, ◌+◌, ◌*◌, ◌<◌, ◌≤◌, IsTrue, length, [], IfErr, OnOk, OnErr, Some, None};
 ghost use Rattle.zr_base.specs.Blocks.{is_block_size};
 ghost use Rattle.zr_bptr.specs.declared.Ptr.TheVariants.{Hole};
-ghost use Rattle.zr_store.specs.declared.StoreErr.TheVariants.{NoMemory};
 ghost use Rattle.zr_store.specs.Causes.{Costs};
 ghost use Rattle.zr_store.specs.Store.{Stored, Now, AreStored, Swaps};
 ghost use Rattle.zr_txg.specs.Changes.{changes_in, block_count, IsRecorded};
@@ -41,7 +40,7 @@ pub fn make_object(group: &mut Group, id: u32, units: u32) -> Result<(), NoMemor
 fn free_blocks<B: Blocks>(alloc: Global, store: &mut B, blocks: &[Bptr]) -> Result<(), StoreErr>
     ensures follows { (start : B) → B.follows start store.old → B.follows start store.new }
     ensures costs { Costs 0 (length blocks.now) (B.account store.old) (B.account store.new) }
-    ensures memory { IfErr result (λ e. e ≡ NoMemory) }
+    ensures memory { IfErr result (λ e. e ≡ StoreErr.NoMemory) }
     ensures swaps { (s : Stored) → B.holds store.old s → AreStored blocks.now s → OnOk result (Now (B.holds store.new) (λ n. Swaps s n blocks.now [])) }
 {
     for b in blocks {
@@ -63,7 +62,7 @@ pub fn drop_object<B: Blocks>(
     requires id { id < 65536 }
     ensures follows { (start : B) → B.follows start store.old → B.follows start store.new }
     ensures costs { Costs 0 (length blocks.now) (B.account store.old) (B.account store.new) }
-    ensures memory { IfErr result (λ e. e ≡ NoMemory) }
+    ensures memory { IfErr result (λ e. e ≡ StoreErr.NoMemory) }
     ensures sets { OnOk result (SetsObject id None group.old group.new) }
     ensures block_count { OnOk result (block_count group.new.objects + length (changes_in group.old id) ≡ block_count group.old.objects) }
     ensures lawful { IsLawfulGroup group.new }

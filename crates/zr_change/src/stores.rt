@@ -1,13 +1,9 @@
 //! Putting what is planned, and giving back.
 //!
 //! The blocks are put one after another by rising index. Where one cannot be put, all that were put are given back.
-ghost use Rattle.std.specs.Prelude.{◌≡◌, ◌⊎◌, ℕ, ◌+◌, ◌*◌, ◌<◌, ◌≤◌, IsTrue, List, [], length, map, All, IfOk, IfErr, OnOk, IsErrOf, Option};
-ghost use Rattle.std.specs.List.{AllZip, flat_map};
+ghost use Rattle.std.specs.Prelude.{◌≡◌, ◌⊎◌, ℕ, ◌+◌, ◌*◌, ◌<◌, ◌≤◌, IsTrue, List, [], length, IfOk, IfErr, OnOk, IsErrOf, vec_capacity};
 ghost use Rattle.zr_base.specs.Blocks.{is_block_size};
 ghost use Rattle.zr_base.specs.Counts.{HasRisen};
-ghost use Rattle.zr_bptr.specs.declared.Bptr.{Bptr};
-ghost use Rattle.zr_bptr.specs.declared.Ptr.{Ptr};
-ghost use Rattle.zr_bptr.specs.declared.Ptr.TheVariants.{Hole, At};
 ghost use Rattle.zr_store.specs.declared.StoreErr.TheVariants.{NoMemory, NoRun, Failed};
 ghost use Rattle.zr_store.specs.Causes.{Costs, Spends};
 ghost use Rattle.zr_store.specs.Store.{Stored, Now, AreStored, Swaps};
@@ -16,7 +12,7 @@ ghost use Rattle.zr_tree.specs.Trees.{own, AreLeaves};
 ghost use Rattle.zr_change.specs.Plans.{IsNew, AreNew, IsPointerFor, PutsBlock, PutsPlan, AreChangesFor, IsLacking, IsPutErr, puts_of, olds_of, leaves_of, put_of};
 
 use crate::plans::Planned;
-use std::alloc::{AllocError, Global};
+use std::alloc::Global;
 use zr_bptr::Ptr;
 use zr_store::{Blocks, StoreErr};
 
@@ -48,14 +44,8 @@ fn put_new<B: Blocks>(
     }
 }
 
-/// A hole for each planned block.
-fn holes_for(alloc: Global, plan: &[Planned]) -> Result<Vec<(u64, Ptr)>, AllocError>
-    ensures { IfOk result (λ changes. changes.items ≡ map (λ p. (p.index, Hole)) plan.now) }
-{
-    plan.iter().map(|p| (p.index, Ptr::Hole)).collect(alloc)
-}
-
-/// Puts each planned block, and writes its pointer into its change. Where it stops, the changes behind are holes.
+/// Puts each planned block, and appends its change. There is room for the changes, so that no block is put and then not
+/// told. After an error the changes of all that were put are there.
 fn put_each<B: Blocks>(
     alloc: Global,
     store: &mut B,
@@ -65,21 +55,24 @@ fn put_each<B: Blocks>(
 ) -> Result<(), StoreErr>
     requires units { IsTrue (is_block_size units) }
     requires new { AreNew units plan.now }
-    requires holes { changes.old.items ≡ map (λ p. (p.index, Hole)) plan.now }
+    requires empty { changes.old.items ≡ [] }
+    requires room { length plan.now ≤ vec_capacity changes.old }
     ensures follows { (start : B) → B.follows start store.old → B.follows start store.new }
     ensures costs { Spends (units * puts_of plan.now) (puts_of plan.now) 0 (B.account store.old) (B.account store.new) }
     ensures failed { IsErrOf result Failed → HasRisen (B.account store.old).faults (B.account store.new).faults }
     ensures no_run { (needed longest : ℕ) → IsErrOf result (NoRun needed longest) → IsLacking units (puts_of plan.now) (B.account store.old) needed longest }
     ensures errors { IfErr result IsPutErr }
-    ensures count { length changes.new.items ≡ length plan.now }
-    ensures leaves { OnOk result (AreLeaves changes.new.items) }
+    ensures count { length changes.new.items ≤ length plan.now }
+    ensures leaves { AreLeaves changes.new.items }
     ensures changes { OnOk result (AreChangesFor plan.now changes.new.items) }
     ensures ok { (s : Stored) → B.holds store.old s → OnOk result (Now (B.holds store.new) (λ n. PutsPlan units plan.now changes.new.items s n)) }
     ensures err { (s : Stored) → B.holds store.old s → IfErr result (λ e. Now (B.holds store.new) (λ n. Swaps s n [] (leaves_of changes.new.items))) }
 {
-    for (i, p) in plan.iter().enumerate() {
+    for p in plan {
         let new = put_new(alloc, store, units, &p.new)?;
-        changes[i] = (p.index, new);
+        let Ok(()) = changes.push((p.index, new)) else {
+            unreachable!()
+        };
     }
     Ok(())
 }
@@ -136,7 +129,7 @@ pub fn put_all<B: Blocks>(
     ensures ok { (s : Stored) → B.holds store.old s → IfOk result (λ changes. Now (B.holds store.new) (λ n. PutsPlan units plan.now changes.items s n)) }
     ensures err { (s : Stored) → B.holds store.old s → IfErr result (λ e. (e ≡ NoMemory) ⊎ Now (B.holds store.new) (λ n. Swaps s n [] [])) }
 {
-    let mut changes = holes_for(alloc, plan)?;
+    let mut changes = Vec::with_capacity(alloc, plan.len())?;
     match put_each(alloc, store, units, plan, &mut changes) {
         Ok(()) => Ok(changes),
         Err(e) => {
