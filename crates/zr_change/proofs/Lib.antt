@@ -1,3 +1,4 @@
+pub mod Editing
 pub mod Freeing
 pub mod Grouping
 pub mod Indices
