@@ -1,6 +1,6 @@
 -- What a group has changed, by look-ups and entry by entry.
 use Rattle.std.proofs.Common.{◌≡◌, ◌≢◌, ◌∙◌, ◌+◌, ◌-◌, ◌^◌, ◌<◌, ◌≤◌, inl, inr, ℕ, zero, suc, List, [], ◌∷◌, ◌++◌, length, take, get_or, Bool, true, false, eqb, Option, Some, None, refl, sym, ap, subst, arith, take-suc}
-use Rattle.std.specs.Prelude.{All, IfSome, is_some, map, option_map, unwrap_or, ◌&&◌, if◌then◌else◌}
+use Rattle.std.specs.Prelude.{All, IfSome, is_some, map, option_map, unwrap_or, not, ◌&&◌, if◌then◌else◌}
 use Rattle.std.specs.List.{AllByRecursion}
 use Rattle.std.proofs.lemmas.Bool.{eq-eqb, ne_eqb}
 use Rattle.std.proofs.lemmas.List.{map-append}
@@ -35,9 +35,9 @@ each_value P k v [] each is = absurd cc
 each_value {V} P k v (e ∷ es) each is =
     by_key e.0 k
     (λ same.
-        let found : Some e.1 ≡ Some v = rw (eq-eqb e.0 k same) at is in
-        let value : e.1 ≡ v = ap (λ (o : Option V). unwrap_or o v) found in
-        subst (λ (x : ℕ). P (x, v)) same (subst (λ (y : V). P (e.0, y)) value each.0))
+    let found : Some e.1 ≡ Some v = rw (eq-eqb e.0 k same) at is in
+    let value : e.1 ≡ v = ap (λ (o : Option V). unwrap_or o v) found in
+    subst (λ (x : ℕ). P (x, v)) same (subst (λ (y : V). P (e.0, y)) value each.0))
     (λ other. each_value P k v es each.1 (rw (ne_eqb e.0 k other) at is))
 
 -- ---- lawful groups
@@ -68,15 +68,15 @@ entry_blocks : (g : Changes) (e : ℕ × ObjectChange) → value_at g.objects e.
 entry_blocks g e value rising finds =
     each_from IsBlockChange e.1.blocks
     (λ j d lt.
-        let x = get_or e.1.blocks j d in
-        finds.blocks e.0 x.0 x.1 (ap (λ (o : Option ObjectChange). value_at (blocks_of o) x.0) value ∙ value_at-at 0 j e.1.blocks d rising lt))
+    let x = get_or e.1.blocks j d in
+    finds.blocks e.0 x.0 x.1 (ap (λ (o : Option ObjectChange). value_at (blocks_of o) x.0) value ∙ value_at-at 0 j e.1.blocks d rising lt))
 
 entry_lawful : (g : Changes) (e : ℕ × ObjectChange) → value_at g.objects e.0 ≡ Some e.1 → IsRising e.1.blocks → Finds g → IsChangeOf e
 entry_lawful g e value rising finds =
     let o = finds.objects e.0 e.1.object (ap (option_map (λ (c : ObjectChange). c.object)) value) in
     record { id = o.0; change = record { object = o.1; blocks = entry_blocks g e value rising finds } }
 
-all_at : {V : Type 0} (P : V → Type 0) (xs : List V) (j : ℕ) (d : V) → AllByRecursion P xs → j < length xs → P (get_or xs j d)
+pub all_at : {V : Type 0} (P : V → Type 0) (xs : List V) (j : ℕ) (d : V) → AllByRecursion P xs → j < length xs → P (get_or xs j d)
 all_at P [] j d all lt = absurd (omega (arith, lt))
 all_at P (x ∷ xs) zero d all lt = all.0
 all_at P (x ∷ xs) (suc j) d all lt = all_at P xs j d all.1 (omega (arith, lt))
@@ -86,8 +86,8 @@ pub lawful_from : (g : Changes) → IsRising g.objects → AllByRecursion (λ e.
 lawful_from g up each finds =
     each_from IsChangeOf g.objects
     (λ j d lt.
-        let e = get_or g.objects j d in
-        entry_lawful g e (value_at-at 0 j g.objects d up lt) (all_at (λ (x : ℕ × ObjectChange). IsRising x.1.blocks) g.objects j d each lt) finds)
+    let e = get_or g.objects j d in
+    entry_lawful g e (value_at-at 0 j g.objects d up lt) (all_at (λ (x : ℕ × ObjectChange). IsRising x.1.blocks) g.objects j d each lt) finds)
 
 -- ---- the changes of an object's blocks
 
@@ -107,12 +107,12 @@ changed_is P [] k c p all there is = there is
 changed_is P (x ∷ xs) k c p all there is =
     changed_is P xs k (if eqb x.0 k then Some x.1 else c) p (All-tail P x xs all)
     (λ found.
-        by_key x.0 k
-        (λ same.
-            let first : Some x.1 ≡ Some p = rw (eq-eqb x.0 k same) at found in
-            let value : x.1 ≡ p = ap (λ (o : Option Ptr). unwrap_or o p) first in
-            subst (λ (n : ℕ). P (n, p)) same (subst (λ (q : Ptr). P (x.0, q)) value (All-head P x xs all)))
-        (λ other. there (rw (ne_eqb x.0 k other) at found)))
+    by_key x.0 k
+    (λ same.
+    let first : Some x.1 ≡ Some p = rw (eq-eqb x.0 k same) at found in
+    let value : x.1 ≡ p = ap (λ (o : Option Ptr). unwrap_or o p) first in
+    subst (λ (n : ℕ). P (n, p)) same (subst (λ (q : Ptr). P (x.0, q)) value (All-head P x xs all)))
+    (λ other. there (rw (ne_eqb x.0 k other) at found)))
     is
 
 rises_before : (xs : List (ℕ × Ptr)) (i : ℕ) (d : ℕ × Ptr) → Rises xs → i < length xs → All (λ x. x.0 < (get_or xs i d).0) (take i xs)
@@ -199,13 +199,13 @@ recorded_then id r cs g h n first more =
       blocks = λ i k.
           by_key id i
           (λ same.
-              let later : change_in n i k ≡ changed_by cs k (change_in h i k) = rw (eq-eqb id i same) at (more.blocks i k) in
-              let before : change_in h i k ≡ change_in g i k = rw (eq-eqb id i same) at (first.blocks i k) in
-              rw (eq-eqb id i same) (later ∙ ap (changed_by cs k) before))
+          let later : change_in n i k ≡ changed_by cs k (change_in h i k) = rw (eq-eqb id i same) at (more.blocks i k) in
+          let before : change_in h i k ≡ change_in g i k = rw (eq-eqb id i same) at (first.blocks i k) in
+          rw (eq-eqb id i same) (later ∙ ap (changed_by cs k) before))
           (λ other.
-              let later : change_in n i k ≡ change_in h i k = rw (ne_eqb id i other) at (more.blocks i k) in
-              let before : change_in h i k ≡ change_in g i k = rw (ne_eqb id i other) at (first.blocks i k) in
-              rw (ne_eqb id i other) (later ∙ before));
+          let later : change_in n i k ≡ change_in h i k = rw (ne_eqb id i other) at (more.blocks i k) in
+          let before : change_in h i k ≡ change_in g i k = rw (ne_eqb id i other) at (first.blocks i k) in
+          rw (ne_eqb id i other) (later ∙ before));
       block_count =
           let same = new_same h g id known (map (λ (x : ℕ × Ptr). x.0) cs) in
           let one = more.block_count in
@@ -228,19 +228,46 @@ still_lawful id r cs g n low object lawful records finds = record {
   objects = λ i x is.
       by_key id i
       (λ same.
-          let found : Some (Some r) ≡ Some x = sym (rw (eq-eqb id i same) at (records.object i)) ∙ is in
-          let value : Some r ≡ x = ap (λ (o : Option (Option ObjRec)). unwrap_or o x) found in
-          (omega (arith, low, same), subst (λ (y : Option ObjRec). IfSome y IsObject) value object))
+      let found : Some (Some r) ≡ Some x = sym (rw (eq-eqb id i same) at (records.object i)) ∙ is in
+      let value : Some r ≡ x = ap (λ (o : Option (Option ObjRec)). unwrap_or o x) found in
+      (omega (arith, low, same), subst (λ (y : Option ObjRec). IfSome y IsObject) value object))
       (λ other. finds.objects i x (sym (rw (ne_eqb id i other) at (records.object i)) ∙ is));
   blocks = λ i k p is.
       by_key id i
       (λ same.
-          let now : change_in n i k ≡ changed_by cs k (change_in g i k) = rw (eq-eqb id i same) at (records.blocks i k) in
-          changed_is IsBlockChange cs k (change_in g i k) p lawful (λ was. finds.blocks i k p was) (sym now ∙ is))
+      let now : change_in n i k ≡ changed_by cs k (change_in g i k) = rw (eq-eqb id i same) at (records.blocks i k) in
+      changed_is IsBlockChange cs k (change_in g i k) p lawful (λ was. finds.blocks i k p was) (sym now ∙ is))
       (λ other.
-          let now : change_in n i k ≡ change_in g i k = rw (ne_eqb id i other) at (records.blocks i k) in
-          finds.blocks i k p (sym now ∙ is));
+      let now : change_in n i k ≡ change_in g i k = rw (ne_eqb id i other) at (records.blocks i k) in
+      finds.blocks i k p (sym now ∙ is));
 }
 
 pub lawful_changes : (cs : List (ℕ × Ptr)) → All (λ change. change.0 < 2 ^ 25) cs → All (λ change. FitsAt 0 change.1) cs → All IsBlockChange cs
 lawful_changes cs low fits = λ j d lt. record { low = low j d lt; leaf = fits j d lt }
+
+-- ---- a record alone
+
+chosen : (b : Bool) (c : Option Ptr) (p : Ptr) → (if b then None else c) ≡ Some p → c ≡ Some p
+chosen true c p is = absurd cc
+chosen false c p is = is
+
+pub set_lawful : (id : ℕ) (r : Option ObjRec) (g n : Changes) → id < 65536 → IfSome r IsObject → ((i : ℕ) → object_in n i ≡ (if eqb id i then Some r else object_in g i)) → ((i k : ℕ) → change_in n i k ≡ (if eqb id i && not (is_some r) then None else change_in g i k))
+    → Finds g → Finds n
+set_lawful id r g n low object objects blocks finds = record {
+  objects = λ i x is.
+      by_key id i
+      (λ same.
+      let found : Some r ≡ Some x = sym (rw (eq-eqb id i same) at (objects i)) ∙ is in
+      let value : r ≡ x = ap (λ (o : Option (Option ObjRec)). unwrap_or o x) found in
+      (omega (arith, low, same), subst (λ (y : Option ObjRec). IfSome y IsObject) value object))
+      (λ other. finds.objects i x (sym (rw (ne_eqb id i other) at (objects i)) ∙ is));
+  blocks = λ i k p is. finds.blocks i k p (chosen (eqb id i && not (is_some r)) (change_in g i k) p (sym (blocks i k) ∙ is));
+}
+
+-- a list in which nothing is found is empty
+pub nothing_at : (es : List (ℕ × Ptr)) → ((k : ℕ) → value_at es k ≡ None) → es ≡ []
+nothing_at [] none = refl
+nothing_at (e ∷ es) none =
+    let there : value_at (e ∷ es) e.0 ≡ Some e.1 = rw (eq-eqb e.0 e.0 refl) refl in
+    let missing = none e.0 in
+    absurd cc

@@ -3,3 +3,4 @@ pub mod Freeing
 pub mod Grouping
 pub mod Indices
 pub mod Putting
+pub mod Rows

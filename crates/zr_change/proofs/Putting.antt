@@ -10,7 +10,7 @@ use Rattle.std.proofs.lemmas.Grind.{flat_map-append}
 use Rattle.zr_bptr.specs.declared.Bptr.{Bptr}
 use Rattle.zr_bptr.specs.declared.Ptr.{Ptr}
 use Rattle.zr_bptr.specs.declared.Ptr.TheVariants.{Hole, At}
-use Rattle.zr_store.specs.Store.{Stored, Swaps, Now, IsOnce, hits, one_at}
+use Rattle.zr_store.specs.Store.{Stored, Swaps, AreStored, IsOnce, hits, one_at}
 use Rattle.zr_store.specs.Causes.{Account, Spends}
 use Rattle.zr_store.proofs.Causes.{spends_then, spends_most, again}
 use Rattle.zr_store.proofs.Keeping.{one_itself}
@@ -46,7 +46,7 @@ module _ (units : ℕ) (plan : List Planned) (i : ℕ) (d : Planned) (lt : i < l
   spends_more =
       let more = puts_more plan i d lt in
       let product : units * puts_of (take (i + 1) plan) ≡ units * puts_of (take i plan) + units * put_of (get_or plan i d).new =
-          ap (λ (k : ℕ). units * k) more ∙ mul-add units (puts_of (take i plan)) (put_of (get_or plan i d).new) in
+      ap (λ (k : ℕ). units * k) more ∙ mul-add units (puts_of (take i plan)) (put_of (get_or plan i d).new) in
       spends_most (units * puts_of (take (i + 1) plan)) (puts_of (take (i + 1) plan)) 0 (omega (arith, product)) (omega (arith, more)) (omega arith) (spends_then so_far one)
 
   pub spends_all : Spends (units * puts_of plan) (puts_of plan) 0 a c
@@ -138,3 +138,6 @@ gone_again s n m into once came left = record {
 
 pub came_stored : (s n : Stored) (into : List Bptr) → Swaps s n [] into → (weight : Bptr → ℕ) → sum_by weight into ≤ sum_by weight n.pointers
 came_stored s n into came weight = let a = came.stored weight in omega (arith, a)
+
+pub stays_stored : (s n : Stored) (into xs : List Bptr) → Swaps s n [] into → AreStored xs s → AreStored xs n
+stays_stored s n into xs came held = λ weight. let a = came.stored weight in let h = held weight in omega (arith, a, h)

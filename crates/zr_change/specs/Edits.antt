@@ -1,5 +1,5 @@
 -- What an edit of a range makes of the bytes of an object.
-use Rattle.std.specs.Prelude.{◌≡◌, ℕ, suc, ◌+◌, ◌-◌, ◌*◌, ◌/◌, ◌<◌, ◌≤◌, ◌&&◌, nat_le, nat_lt, IsTrue, List, length, slice_index, if◌then◌else◌}
+use Rattle.std.specs.Prelude.{◌≡◌, ℕ, suc, ◌+◌, ◌-◌, ◌*◌, ◌/◌, ◌^◌, ◌<◌, ◌≤◌, ◌&&◌, nat_le, nat_lt, IsTrue, List, length, slice_index, if◌then◌else◌}
 use Rattle.std.specs.List.{range_with_len}
 use Rattle.zr_lookup.specs.Objects.{IsTouched}
 use Rattle.zr_change.specs.declared.ranges.Bytes.{Bytes}
@@ -43,3 +43,10 @@ IsCovered units e index = (e.off ≤ 4096 * units * index) × (4096 * units * (i
 pub record IsPart (units : ℕ) (e : Edit) (index : ℕ) : Type 0 where
   pub touched_at : IsTouched units e.off e.len index
   pub part : ¬ IsCovered units e index
+
+-- the blocks come one after another, below 2 ^ 25
+pub record IsInRow (indices : List ℕ) : Type 0 where
+  pub first : ℕ
+  pub count : ℕ
+  pub row : indices ≡ range_with_len first count
+  pub low : first + count ≤ 2 ^ 25

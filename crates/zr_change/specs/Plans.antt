@@ -8,15 +8,16 @@ use Rattle.zr_bptr.specs.declared.Ptr.TheVariants.{Hole, At}
 use Rattle.zr_store.specs.declared.StoreErr.{StoreErr}
 use Rattle.zr_store.specs.declared.StoreErr.TheVariants.{NoMemory, NoRun, Failed}
 use Rattle.zr_store.specs.Causes.{Account}
-use Rattle.zr_store.specs.Store.{Stored, Swaps, IsPointerTo, hits}
+use Rattle.zr_store.specs.Store.{Stored, Swaps, Now, IsPointerTo}
 use Rattle.zr_tree.specs.Trees.{own}
 use Rattle.zr_objset.specs.Records.{bytes_of}
 use Rattle.zr_bptr.specs.declared.ObjRec.{ObjRec}
 use Rattle.zr_txg.specs.Changes.{Changes}
-use Rattle.zr_lookup.specs.Objects.{pointer_now}
+use Rattle.zr_lookup.specs.Objects.{pointer_now, block_now}
 use Rattle.zr_lookup.specs.Errors.{IsSoundPointer}
 use Rattle.zr_change.specs.declared.ranges.Edit.{Edit}
 use Rattle.zr_change.specs.Edits.{IsEdited, IsPart}
+use Rattle.zr_change.specs.Changes.{Records}
 use Rattle.zr_change.specs.declared.plans.Planned.{Planned}
 
 -- what is to be stored as a block: it has its length, and not zeros alone
@@ -99,3 +100,17 @@ pub record IsPlannedFor (s : Stored) (g : Changes) (id : ℕ) (r : ObjRec) (e : 
   pub old : p.old ≡ pointer_now s g id r p.index
   pub bytes : IsEdited e r.units p.index (bytes_of s r.units p.old) (bytes_of_new r.units p.new)
   pub sound : IsPart r.units e p.index → IsSoundPointer s r.units p.old
+
+-- the group has recorded a pointer for each planned block
+pub record HasRecorded (id : ℕ) (r : ObjRec) (plan : List Planned) (old new : Changes) : Type 0 where
+  pub changes : List (ℕ × Ptr)
+  pub are_changes : AreChangesFor plan changes
+  pub records : Records id r changes old new
+
+-- The group has recorded the changes, their blocks are stored in place of the old ones, and each planned block of the
+-- object has its new bytes.
+pub record HasChanged (id : ℕ) (r : ObjRec) (plan : List Planned) (holds : Stored → Type 0) (s : Stored) (old new : Changes) : Type 0 where
+  pub changes : List (ℕ × Ptr)
+  pub are_changes : AreChangesFor plan changes
+  pub records : Records id r changes old new
+  pub now : Now holds (λ n. ChangesPlan r.units plan changes s n × All (λ p. block_now n new id r p.index ≡ bytes_of_new r.units p.new) plan)

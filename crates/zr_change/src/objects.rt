@@ -27,6 +27,7 @@ pub fn make_object(group: &mut Group, id: u32, units: u32) -> Result<(), NoMemor
     ensures lawful { IsLawfulGroup group.new }
     ensures err { OnErr result (group.new ≡ group.old) }
 {
+    prove!(group.changes(id).is_empty());
     let tree = Tree {
         root: Ptr::Hole,
         height: 0,

@@ -16,7 +16,7 @@ ghost use Rattle.zr_objset.specs.Errors.{TellsOfLeaves};
 ghost use Rattle.zr_lookup.specs.Groups.{IsLawfulGroup};
 ghost use Rattle.zr_lookup.specs.Objects.{pointer_now, IsTouched};
 ghost use Rattle.zr_lookup.specs.Errors.{IsOtherBlock, IsSoundPointer, TellsOfObject};
-ghost use Rattle.zr_change.specs.Edits.{byte_after, IsEdit, HasLength, IsEdited, IsCovered, IsPart, touched};
+ghost use Rattle.zr_change.specs.Edits.{byte_after, IsEdit, HasLength, IsEdited, IsCovered, IsPart, IsInRow, touched};
 ghost use Rattle.zr_change.specs.Plans.{IsNew, AreNew, IsPlannedFor, bytes_of_new, puts_of, olds_of};
 
 use crate::ranges::{Bytes, Edit, blocks_touched};
@@ -192,6 +192,7 @@ pub fn plan<B: Blocks>(
     ensures same { (s : Stored) → B.holds store.old s → B.holds store.new s }
     ensures errors { (s : Stored) → B.holds store.old s → TellsOfObject s (pointer_now s group.now id rec.now) rec.now (IsPart rec.now.units edit.now) result }
     ensures indices { IfOk result (λ plan. map (λ p. p.index) plan.items ≡ touched rec.now.units edit.now) }
+    ensures row { IfOk result (λ plan. IsInRow (map (λ p. p.index) plan.items)) }
     ensures olds { IfOk result (λ plan. All (λ p. FitsAt 0 p.old) plan.items) }
     ensures new { IfOk result (λ plan. AreNew rec.now.units plan.items) }
     ensures plans { (s : Stored) → B.holds store.old s → IfOk result (λ plan. All (IsPlannedFor s group.now id rec.now edit.now) plan.items) }
@@ -217,6 +218,15 @@ pub fn puts(plan: &[Planned]) -> u64
         }
     }
     puts
+}
+
+/// How many units are to be put, where a block has so many. Linear in the plan.
+pub fn new_units(units: u32, plan: &[Planned]) -> u64
+    requires units { units ≤ 32 }
+    requires short { length plan.now ≤ 2 ^ 25 }
+    ensures { result ≡ units * puts_of plan.now }
+{
+    u64::from(units) * puts(plan)
 }
 
 /// Appends the block of a pointer, nothing for a hole.
