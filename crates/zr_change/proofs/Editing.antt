@@ -3,7 +3,8 @@ use Rattle.std.proofs.Common.{◌≡◌, ◌∙◌, ◌+◌, ◌-◌, ◌*◌, �
 use Rattle.std.specs.Prelude.{IsErrOf, IfErr, All}
 use Rattle.std.specs.List.{range_with_len}
 use Rattle.std.proofs.Math.Nat.{lt-mul-div-succ, mul-div-le, mul-le-mul_left}
-use Rattle.std.proofs.lemmas.List.{map-append}
+use Rattle.std.proofs.lemmas.List.{map-append, length-map}
+use Rattle.std.proofs.lemmas.List.FromFn.{length-range_with_len}
 use Rattle.std.proofs.lemmas.List.Sums.{sum_by-cons}
 use Rattle.zr_base.specs.declared.space.Dva.{Dva}
 use Rattle.zr_bptr.specs.declared.Bptr.{Bptr}
@@ -90,3 +91,9 @@ object_from {T} {U} s at r Needed result e given h = record {
   damaged = λ a expected found is. h.damaged a expected found (err_same result e given is);
   resolved = λ a expected is. h.resolved a expected (err_same result e given is);
 }
+
+-- as many blocks as indices
+pub count_of : (plan : List Planned) (first n : ℕ) → map (λ q. q.index) plan ≡ range_with_len first n → length plan ≡ n
+count_of plan first n row =
+    let key : Planned → ℕ = λ q. q.index in
+    sym (length-map plan key) ∙ ap (λ (ks : List ℕ). length ks) row ∙ length-range_with_len first n

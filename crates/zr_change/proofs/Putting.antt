@@ -93,7 +93,7 @@ leaves_append xs x = flat_map-append (λ (change : ℕ × Ptr). own change.1) xs
 
 -- ---- what is held
 
-bytes_same : (units : ℕ) (n m : Stored) (p : Ptr) → ((b : Bptr) → 0 < hits (own p) b.at → m.bytes b ≡ n.bytes b) → bytes_of m units p ≡ bytes_of n units p
+pub bytes_same : (units : ℕ) (n m : Stored) (p : Ptr) → ((b : Bptr) → 0 < hits (own p) b.at → m.bytes b ≡ n.bytes b) → bytes_of m units p ≡ bytes_of n units p
 bytes_same units n m Hole agree = refl
 bytes_same units n m (At b) agree = agree b (omega (arith, one_itself b, sum_by-cons (one_at b.at) b []))
 

@@ -1,24 +1,28 @@
 -- The changes of a plan: their indices, and what a group finds of them.
-use Rattle.std.proofs.Common.{◌≡◌, ◌∙◌, ◌+◌, ◌<◌, ◌≤◌, ℕ, zero, suc, List, [], ◌∷◌, ◌++◌, length, map, drop, get_or, Bool, true, false, eqb, Option, Some, None, refl, sym, ap, subst, arith}
+use Rattle.std.proofs.Common.{◌≡◌, ◌≢◌, ◌∙◌, ◌+◌, ◌<◌, ◌≤◌, ℕ, zero, suc, List, [], ◌∷◌, ◌++◌, length, map, drop, get_or, Bool, true, false, eqb, Option, Some, None, refl, sym, ap, subst, arith}
 use Rattle.std.specs.Prelude.{All, unwrap_or, ◌&&◌, if◌then◌else◌}
-use Rattle.std.specs.List.{AllByRecursion, AllZip, range_with_len}
+use Rattle.std.specs.List.{sum_by, AllByRecursion, AllZip, range_with_len}
 use Rattle.std.proofs.lemmas.Bool.{eq-eqb, ne_eqb}
+use Rattle.std.proofs.lemmas.List.Elements.{All-head, All-tail}
 use Rattle.std.proofs.lemmas.List.Sums.{sum_by-append}
 use Rattle.zr_bptr.specs.declared.Bptr.{Bptr}
 use Rattle.zr_bptr.specs.declared.Ptr.{Ptr}
 use Rattle.zr_bptr.specs.declared.Ptr.TheVariants.{Hole}
 use Rattle.zr_bptr.specs.declared.ObjRec.{ObjRec}
-use Rattle.zr_store.specs.Store.{Stored, Swaps, Now, AreStored, IsOnce, hits, one_at}
-use Rattle.zr_tree.specs.Trees.{Rises, tree_at}
+use Rattle.zr_store.specs.Store.{Stored, Swaps, AreStored, IsOnce, hits, one_at}
+use Rattle.zr_tree.specs.Trees.{Rises, own, tree_at, tree_blocks}
+use Rattle.zr_tree.proofs.Others.{keeps}
 use Rattle.zr_objset.specs.Records.{bytes_of}
 use Rattle.zr_txg.specs.Changes.{Changes, change_in}
+use Rattle.zr_txg.proofs.Keyed.{by_key}
 use Rattle.zr_lookup.specs.Objects.{pointer_now, block_now}
+use Rattle.zr_change.specs.declared.ranges.Edit.{Edit}
 use Rattle.zr_change.specs.declared.plans.Planned.{Planned}
-use Rattle.zr_change.specs.Edits.{IsInRow}
-use Rattle.zr_change.specs.Changes.{changed_by, Records}
-use Rattle.zr_change.specs.Plans.{IsChangeFor, AreChangesFor, bytes_of_new, leaves_of, olds_of, PutsPlan, ChangesPlan, HasChanged}
+use Rattle.zr_change.specs.Edits.{IsEdited, IsInRow}
+use Rattle.zr_change.specs.Changes.{changed_by, new_in, Records}
+use Rattle.zr_change.specs.Plans.{IsChangeFor, AreChangesFor, bytes_of_new, leaves_of, olds_of, IsPlannedFor, HasRecorded, PutsPlan, IsChanged}
 use Rattle.zr_change.proofs.Grouping.{all_at}
-use Rattle.zr_change.proofs.Putting.{bytes_kept}
+use Rattle.zr_change.proofs.Putting.{bytes_same, bytes_kept}
 
 -- ---- indices
 
@@ -91,21 +95,21 @@ module _ (id : ℕ) (r : ObjRec) (plan : List Planned) (cs : List (ℕ × Ptr)) 
       let now : change_in h id k ≡ changed_by cs k (change_in g id k) = rw (eq-eqb id id refl) at (records.blocks id k) in
       now ∙ changed_at cs i d (change_in g id k) (rises_of plan cs are row) lt
 
-  changes_plan : ChangesPlan r.units plan cs s m
-  changes_plan = record {
-    swaps = record {
-      stored = λ weight. let a = put.swaps.stored weight in let b = free.stored weight in omega (arith, a, b);
-      kept = λ b out stored. let a = put.swaps.stored (one_at b.at) in free.kept b out (omega (arith, a, stored)) ∙ put.swaps.kept b refl stored;
-    };
-    bytes =
-        bytes_kept r.units n m plan cs
-        (λ b hit.
-        let a = put.swaps.stored (one_at b.at) in
-        let o = once b.at in
-        let w = held (one_at b.at) in
-        free.kept b (omega (arith, a, o, w, hit)) (omega (arith, a, hit)))
-        put.bytes;
+  swapped : Swaps s m (olds_of plan) (leaves_of cs)
+  swapped = record {
+    stored = λ weight. let a = put.swaps.stored weight in let b = free.stored weight in omega (arith, a, b);
+    kept = λ b out stored. let a = put.swaps.stored (one_at b.at) in free.kept b out (omega (arith, a, stored)) ∙ put.swaps.kept b refl stored;
   }
+
+  new_bytes : AllZip (λ p change. bytes_of m r.units change.1 ≡ bytes_of_new r.units p.new) plan cs
+  new_bytes =
+      bytes_kept r.units n m plan cs
+      (λ b hit.
+          let a = put.swaps.stored (one_at b.at) in
+          let o = once b.at in
+          let w = held (one_at b.at) in
+          free.kept b (omega (arith, a, o, w, hit)) (omega (arith, a, hit)))
+      put.bytes
 
   blocks : All (λ p. block_now m h id r p.index ≡ bytes_of_new r.units p.new) plan
   blocks = λ i d lt.
@@ -113,9 +117,61 @@ module _ (id : ℕ) (r : ObjRec) (plan : List Planned) (cs : List (ℕ × Ptr)) 
       let p = get_or plan i d in
       let c = get_or cs i e in
       let one = zip_at IsChangeFor plan cs i d e are lt in
-      let new = zip_at (λ (q : Planned) (x : ℕ × Ptr). bytes_of m r.units x.1 ≡ bytes_of_new r.units q.new) plan cs i d e changes_plan.bytes lt in
+      let new = zip_at (λ (q : Planned) (x : ℕ × Ptr). bytes_of m r.units x.1 ≡ bytes_of_new r.units q.new) plan cs i d e new_bytes lt in
       let at : change_in h id p.index ≡ Some c.1 = ap (change_in h id) (sym one.1.index) ∙ found i e one.0 in
       ap (λ (o : Option Ptr). bytes_of m r.units (unwrap_or o (tree_at m r.tree p.index))) at ∙ new.1
 
-  pub has_changed : (holds : Stored → Type 0) → holds m → HasChanged id r plan holds s g h
-  has_changed holds holds_m = record { changes = cs; are_changes = are; records = records; now = record { stored = m; held = holds_m; is = (changes_plan, blocks) } }
+  pub is_changed : IsChanged id r plan s g m h
+  is_changed = record { recorded = record { changes = cs; are_changes = are; records = records }; swaps = swapped; blocks = blocks }
+
+-- ---- laws of a change
+
+-- each planned block is the one before with the edit
+pub edited_blocks : (id : ℕ) (r : ObjRec) (e : Edit) (plan : List Planned) (s : Stored) (g : Changes) (n : Stored) (h : Changes) → All (IsPlannedFor s g id r e) plan → IsChanged id r plan s g n h
+    → All (λ p. IsEdited e r.units p.index (block_now s g id r p.index) (block_now n h id r p.index)) plan
+edited_blocks id r e plan s g n h planned changed = λ i d lt.
+    let p = get_or plan i d in
+    let one = planned i d lt in
+    let old : bytes_of s r.units p.old ≡ block_now s g id r p.index = ap (bytes_of s r.units) one.old in
+    let new = changed.blocks i d lt in
+    subst (λ (xs : List ℕ). IsEdited e r.units p.index xs (block_now n h id r p.index)) old (subst (IsEdited e r.units p.index (bytes_of s r.units p.old)) (sym new) one.bytes)
+
+unplanned : (plan : List Planned) (cs : List (ℕ × Ptr)) (k : ℕ) (c : Option Ptr) → AreChangesFor plan cs → All (λ p. p.index ≢ k) plan → changed_by cs k c ≡ c
+unplanned [] [] k c are other = refl
+unplanned [] (x ∷ cs) k c are other = absurd are
+unplanned (p ∷ plan) [] k c are other = absurd are
+unplanned (p ∷ plan) (x ∷ cs) k c are other =
+    let here : p.index ≢ k = All-head (λ (q : Planned). q.index ≢ k) p plan other in
+    let same : x.0 ≡ p.index = are.0.index in
+    rw (ne_eqb x.0 k (λ e. here (sym same ∙ e))) (unplanned plan cs k c are.1 (All-tail (λ (q : Planned). q.index ≢ k) p plan other))
+
+-- a block that is not planned is as before
+module _ (id : ℕ) (r : ObjRec) (plan : List Planned) (s : Stored) (g : Changes) (n : Stored) (h : Changes) (changed : IsChanged id r plan s g n h) (once : IsOnce s) (i k : ℕ) (o : ObjRec) (other : i ≡ id → All (λ p. p.index ≢ k) plan)
+    (held : AreStored (olds_of plan ++ (tree_blocks s o.tree ++ own (pointer_now s g i o k))) s) where
+  same_change : change_in h i k ≡ change_in g i k
+  same_change =
+      by_key id i
+      (λ same.
+          let now : change_in h i k ≡ changed_by changed.recorded.changes k (change_in g i k) = rw (eq-eqb id i same) at (changed.recorded.records.blocks i k) in
+          now ∙ unplanned plan changed.recorded.changes k (change_in g i k) changed.recorded.are_changes (other (sym same)))
+      (λ differs. (rw (ne_eqb id i differs) at (changed.recorded.records.blocks i k)))
+
+  parts : (weight : Bptr → ℕ) → sum_by weight (olds_of plan) + sum_by weight (tree_blocks s o.tree) + sum_by weight (own (pointer_now s g i o k)) ≤ sum_by weight s.pointers
+  parts weight =
+      let w = held weight in
+      omega (arith, w, sum_by-append weight (olds_of plan) (tree_blocks s o.tree ++ own (pointer_now s g i o k)), sum_by-append weight (tree_blocks s o.tree) (own (pointer_now s g i o k)))
+
+  same_tree : tree_at n o.tree k ≡ tree_at s o.tree k
+  same_tree = (keeps s n o.tree (λ b hit. let w = parts (one_at b.at) in let u = once b.at in changed.swaps.kept b (omega (arith, w, u, hit)) (omega (arith, w, hit)))).leaves k
+
+  same_pointer : pointer_now n h i o k ≡ pointer_now s g i o k
+  same_pointer = ap (λ (c : Option Ptr). unwrap_or c (tree_at n o.tree k)) same_change ∙ ap (unwrap_or (change_in g i k)) same_tree
+
+  pub same_block : block_now n h i o k ≡ block_now s g i o k
+  same_block =
+      ap (bytes_of n o.units) same_pointer
+      ∙ bytes_same o.units s n (pointer_now s g i o k) (λ b hit. let w = parts (one_at b.at) in let u = once b.at in changed.swaps.kept b (omega (arith, w, u, hit)) (omega (arith, w, hit)))
+
+-- how many blocks more are changed
+pub count_planned : (id : ℕ) (plan : List Planned) (cs : List (ℕ × Ptr)) (g : Changes) → AreChangesFor plan cs → new_in g id (map (λ x. x.0) cs) ≡ new_in g id (map (λ p. p.index) plan)
+count_planned id plan cs g are = ap (new_in g id) (same_indices plan cs are)

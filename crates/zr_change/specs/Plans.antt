@@ -8,7 +8,7 @@ use Rattle.zr_bptr.specs.declared.Ptr.TheVariants.{Hole, At}
 use Rattle.zr_store.specs.declared.StoreErr.{StoreErr}
 use Rattle.zr_store.specs.declared.StoreErr.TheVariants.{NoMemory, NoRun, Failed}
 use Rattle.zr_store.specs.Causes.{Account}
-use Rattle.zr_store.specs.Store.{Stored, Swaps, Now, IsPointerTo}
+use Rattle.zr_store.specs.Store.{Stored, Swaps, IsPointerTo}
 use Rattle.zr_tree.specs.Trees.{own}
 use Rattle.zr_objset.specs.Records.{bytes_of}
 use Rattle.zr_bptr.specs.declared.ObjRec.{ObjRec}
@@ -80,11 +80,6 @@ pub record PutsPlan (units : ℕ) (plan : List Planned) (changes : List (ℕ × 
   pub swaps : Swaps old new [] (leaves_of changes)
   pub bytes : AllZip (λ p change. bytes_of new units change.1 ≡ bytes_of_new units p.new) plan changes
 
--- the same, and the old blocks have left
-pub record ChangesPlan (units : ℕ) (plan : List Planned) (changes : List (ℕ × Ptr)) (old new : Stored) : Type 0 where
-  pub swaps : Swaps old new (olds_of plan) (leaves_of changes)
-  pub bytes : AllZip (λ p change. bytes_of new units change.1 ≡ bytes_of_new units p.new) plan changes
-
 -- a run of so many units was missing where so many blocks were to be put; of one unit only where there is room for fewer
 pub record IsLacking (units puts : ℕ) (before : Account) (needed longest : ℕ) : Type 0 where
   pub wanted : needed ≡ units
@@ -107,10 +102,9 @@ pub record HasRecorded (id : ℕ) (r : ObjRec) (plan : List Planned) (old new : 
   pub are_changes : AreChangesFor plan changes
   pub records : Records id r changes old new
 
--- The group has recorded the changes, their blocks are stored in place of the old ones, and each planned block of the
--- object has its new bytes.
-pub record HasChanged (id : ℕ) (r : ObjRec) (plan : List Planned) (holds : Stored → Type 0) (s : Stored) (old new : Changes) : Type 0 where
-  pub changes : List (ℕ × Ptr)
-  pub are_changes : AreChangesFor plan changes
-  pub records : Records id r changes old new
-  pub now : Now holds (λ n. ChangesPlan r.units plan changes s n × All (λ p. block_now n new id r p.index ≡ bytes_of_new r.units p.new) plan)
+-- From the store s and the group g: the group h has recorded a pointer for each planned block, these blocks are stored in
+-- place of the old ones, and each planned block of the object has its new bytes.
+pub record IsChanged (id : ℕ) (r : ObjRec) (plan : List Planned) (s : Stored) (g : Changes) (n : Stored) (h : Changes) : Type 0 where
+  pub recorded : HasRecorded id r plan g h
+  pub swaps : Swaps s n (olds_of plan) (leaves_of recorded.changes)
+  pub blocks : All (λ p. block_now n h id r p.index ≡ bytes_of_new r.units p.new) plan

@@ -1,15 +1,16 @@
 //! A whole change: the new blocks are put, then recorded, and only then the old ones are given back.
-ghost use Rattle.std.specs.Prelude.{◌≡◌, ◌⊎◌, ℕ, ◌*◌, ◌<◌, [], length, map, IfErr, OnOk, IsErrOf, Some, Option};
+ghost use Rattle.std.specs.Prelude.{◌≡◌, ◌⊎◌, ℕ, ◌+◌, ◌*◌, ◌<◌, is_some, if◌then◌else◌, [], length, map, IfErr, OnOk, IsErrOf, Some, Option};
 ghost use Rattle.zr_base.specs.Counts.{HasRisen};
 ghost use Rattle.zr_bptr.specs.Spelling.{IsObject};
 ghost use Rattle.zr_bptr.specs.declared.ObjRec.{ObjRec};
 ghost use Rattle.zr_store.specs.declared.StoreErr.TheVariants.{NoMemory, NoRun, Failed};
 ghost use Rattle.zr_store.specs.Causes.{Spends};
 ghost use Rattle.zr_store.specs.Store.{Stored, Now, AreStored, Swaps};
-ghost use Rattle.zr_txg.specs.Changes.{object_in};
+ghost use Rattle.zr_txg.specs.Changes.{object_in, block_count};
 ghost use Rattle.zr_lookup.specs.Groups.{IsLawfulGroup};
+ghost use Rattle.zr_change.specs.Changes.{new_in};
 ghost use Rattle.zr_change.specs.Edits.{IsInRow};
-ghost use Rattle.zr_change.specs.Plans.{AreNew, IsLacking, IsPutErr, HasChanged, HasRecorded, puts_of, olds_of};
+ghost use Rattle.zr_change.specs.Plans.{AreNew, IsLacking, IsPutErr, IsChanged, HasRecorded, puts_of, olds_of};
 
 use crate::plans::Planned;
 use crate::records::record_change;
@@ -42,9 +43,11 @@ pub fn change_object<B: Blocks>(
     ensures no_run { (needed longest : ℕ) → IsErrOf result (NoRun needed longest) → IsLacking rec.now.units (puts_of plan.now) (B.account store.old) needed longest }
     ensures errors { IfErr result IsPutErr }
     ensures records { OnOk result (HasRecorded id rec.now plan.now group.old group.new) }
+    ensures block_count { OnOk result (block_count group.new.objects ≡ block_count group.old.objects + new_in group.old id (map (λ p. p.index) plan.now)) }
+    ensures object_count { OnOk result (length group.new.objects ≡ length group.old.objects + (if is_some (object_in group.old id) then 0 else 1)) }
     ensures lawful { OnOk result (IsLawfulGroup group.new) }
     ensures kept { IfErr result (λ e. (e ≡ NoMemory) ⊎ (group.new ≡ group.old)) }
-    ensures ok { (s : Stored) → B.holds store.old s → AreStored (olds_of plan.now) s → OnOk result (HasChanged id rec.now plan.now (B.holds store.new) s group.old group.new) }
+    ensures ok { (s : Stored) → B.holds store.old s → AreStored (olds_of plan.now) s → OnOk result (Now (B.holds store.new) (λ n. IsChanged id rec.now plan.now s group.old n group.new)) }
     ensures err { (s : Stored) → B.holds store.old s → IfErr result (λ e. (e ≡ NoMemory) ⊎ Now (B.holds store.new) (λ n. Swaps s n [] [])) }
 {
     let changes = put_all(alloc, store, rec.units, plan)?;

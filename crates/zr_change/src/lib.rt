@@ -7,6 +7,7 @@
 #![tactic(auto)]
 
 mod changes;
+mod laws;
 mod objects;
 mod plans;
 mod ranges;
@@ -14,6 +15,7 @@ mod records;
 mod stores;
 
 pub use changes::change_object;
+pub use laws::frame;
 pub use objects::{drop_object, make_object};
 pub use plans::{Planned, new_units, olds, plan, puts};
 pub use ranges::{Bytes, Edit, MOST_BLOCKS, blocks_touched, fits_object, new_blocks};

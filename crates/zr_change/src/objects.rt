@@ -51,7 +51,7 @@ fn free_blocks<B: Blocks>(alloc: Global, store: &mut B, blocks: &[Bptr]) -> Resu
 }
 
 /// Gives back these blocks, which are to be all of the object's, and records that it is gone; its changed blocks then no
-/// longer count.
+/// longer count. After an error the group is as it was.
 pub fn drop_object<B: Blocks>(
     alloc: Global,
     store: &mut B,
@@ -67,6 +67,7 @@ pub fn drop_object<B: Blocks>(
     ensures sets { OnOk result (SetsObject id None group.old group.new) }
     ensures block_count { OnOk result (block_count group.new.objects + length (changes_in group.old id) ≡ block_count group.old.objects) }
     ensures lawful { IsLawfulGroup group.new }
+    ensures kept { IfErr result (λ e. group.new ≡ group.old) }
     ensures swaps { (s : Stored) → B.holds store.old s → AreStored blocks.now s → OnOk result (Now (B.holds store.new) (λ n. Swaps s n blocks.now [])) }
 {
     free_blocks(alloc, store, blocks)?;

@@ -193,6 +193,7 @@ pub fn plan<B: Blocks>(
     ensures errors { (s : Stored) → B.holds store.old s → TellsOfObject s (pointer_now s group.now id rec.now) rec.now (IsPart rec.now.units edit.now) result }
     ensures indices { IfOk result (λ plan. map (λ p. p.index) plan.items ≡ touched rec.now.units edit.now) }
     ensures row { IfOk result (λ plan. IsInRow (map (λ p. p.index) plan.items)) }
+    ensures short { IfOk result (λ plan. length plan.items ≤ 2 ^ 25) }
     ensures olds { IfOk result (λ plan. All (λ p. FitsAt 0 p.old) plan.items) }
     ensures new { IfOk result (λ plan. AreNew rec.now.units plan.items) }
     ensures plans { (s : Stored) → B.holds store.old s → IfOk result (λ plan. All (IsPlannedFor s group.now id rec.now edit.now) plan.items) }

@@ -5,7 +5,7 @@ use Rattle.zr_tree.specs.Trees.{Rises}
 use Rattle.zr_change.specs.Changes.{Records}
 use Rattle.zr_change.specs.Plans.{leaves_of, olds_of}
 use Rattle.zr_change.proofs.Putting.{stays_stored}
-use Rattle.zr_change.proofs.Rows.{rises_of, low_of, has_changed}
+use Rattle.zr_change.proofs.Rows.{rises_of, low_of, is_changed, count_planned}
 use Rattle.zr_change.proofs.changes.change_object.Goals as goal
 
 pub record_change-requires-clause-low : goal.record_change-requires-clause-low
@@ -30,4 +30,14 @@ returns-clause-ok g c = λ s holds held.
     let once = g.met.B.Blocks.once c.put_all.new.store n put.held in
     let free = c.in_ok-free_olds.ensures.swaps n put.held (stays_stored s n (leaves_of cs) (olds_of plan) put.is.swaps held) in
     let records = subst (λ (xs : List (ℕ × Ptr)). Records id r xs old new) c.as_slice.ensures.value c.in_ok-record_change.ensures.records in
-    has_changed id r plan cs s n free.stored old new c.in_ok-changes.ensures.changes c.requires.row records put.is held once free.is (g.B.Blocks.holds c.free_olds.new.store) free.held
+    record { stored = free.stored; held = free.held; is = is_changed id r plan cs s n free.stored old new c.in_ok-changes.ensures.changes c.requires.row records put.is held once free.is }
+
+pub returns-clause-block_count : goal.returns-clause-block_count
+returns-clause-block_count g c =
+    let id = c.args.id in
+    let plan = c.args.plan.now in
+    let cs = c.in_ok-changes.changes.items in
+    let old = c.args.group.now in
+    let records = subst (λ (xs : List (ℕ × Ptr)). Records id c.args.rec.now xs old c.record_change.new.group) c.as_slice.ensures.value c.in_ok-record_change.ensures.records in
+    let counted = records.block_count in
+    omega (arith, counted, count_planned id plan cs old c.in_ok-changes.ensures.changes)

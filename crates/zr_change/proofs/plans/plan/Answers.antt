@@ -5,7 +5,7 @@ use Rattle.zr_store.proofs.Causes.{costs_then}
 use Rattle.zr_tree.specs.Blocks.{FitsAt}
 use Rattle.zr_change.specs.declared.plans.Planned.{Planned}
 use Rattle.zr_change.specs.Plans.{IsNew, AreNew, IsPlannedFor}
-use Rattle.zr_change.proofs.Editing.{indices_more}
+use Rattle.zr_change.proofs.Editing.{indices_more, count_of}
 use Rattle.zr_change.proofs.plans.plan.Goals as goal
 
 pub loop-index-preserved : goal.loop-index-preserved
@@ -31,3 +31,9 @@ loop-index-preserved g c =
           let Is : Planned → Type 0 = IsPlannedFor s c.args.group.now c.args.id r c.args.edit.now in
           subst (All Is) (sym items) (All-push Is plan p (inv.plans s holds) (e.plans s (inv.same s holds)));
     }
+
+pub returns-clause-short : goal.returns-clause-short
+returns-clause-short g c =
+    let first = c.blocks_touched-first.result.0 in
+    let count = count_of c.loop-index.plan.items first (c.loop-index.index - first) c.loop-index.invariant.indices in
+    omega (arith, count, c.loop-index.auto.index-end, c.blocks_touched-first.ensures.low, c.blocks_touched-first.ensures.order)
