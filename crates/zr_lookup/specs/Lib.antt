@@ -1,3 +1,4 @@
 pub mod Groups
 pub mod Objects
 pub mod Errors
+pub mod Lists

@@ -45,15 +45,15 @@ pub record HasLeaves (at : ℕ → Ptr) (leaves : List (ℕ × Bptr)) : Type 0 w
   pub rising : IsRising leaves
   pub each : (index : ℕ) → value_at leaves index ≡ block_in (at index)
 
--- what a block adds to the sum of its object: its index and its bytes, and nothing where all are 0
-abbrev pub summed : Stored → ℕ × Bptr → List ℕ
-summed s leaf = if list_any (λ b. not (b == 0)) (s.bytes leaf.1) then word leaf.0 ++ s.bytes leaf.1 else []
+-- what a block with these bytes adds to the sum of its object: its index and the bytes, and nothing where all are 0
+abbrev pub summed : ℕ → List ℕ → List ℕ
+summed index bytes = if list_any (λ b. not (b == 0)) bytes then word index ++ bytes else []
 
 -- the SHA-256 of the blocks that are not all zeros, each behind its index, by rising index
 pub record IsObjectSum (s : Stored) (g : Changes) (id : ℕ) (r : ObjRec) (sum : List ℕ) : Type 0 where
   pub leaves : List (ℕ × Bptr)
   pub are_leaves : HasLeaves (pointer_now s g id r) leaves
-  pub sum_is : sum ≡ sha256 (flat_map (summed s) leaves)
+  pub sum_is : sum ≡ sha256 (flat_map (λ leaf. summed leaf.0 (s.bytes leaf.1)) leaves)
 
 -- the blocks of an object, and then the tree blocks that lead to those that the group has not changed
 pub record AreObjectBlocks (s : Stored) (g : Changes) (id : ℕ) (r : ObjRec) (blocks : List Bptr) : Type 0 where

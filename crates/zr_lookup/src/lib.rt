@@ -5,14 +5,14 @@
 #![tactic(auto)]
 
 mod leaves;
+mod overlays;
 mod ranges;
 mod reads;
 mod sums;
+mod walks;
 
 pub use leaves::{blocks_of, leaves_of};
 pub use ranges::read_range;
 pub use reads::{block_at, block_bytes, pointer_of, record_of};
 pub use sums::sum_object;
 
-#[cfg(test)]
-mod tests;

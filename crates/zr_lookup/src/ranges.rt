@@ -72,9 +72,10 @@ pub fn read_range<B: Blocks>(
     let from = off % size;
     let first = len.min(size - from);
     let mut bytes = part_of(alloc, store, group, id, rec, index, from, first)?;
-    if first < len {
-        let rest = part_of(alloc, store, group, id, rec, index + 1, 0, len - first)?;
-        bytes.extend_from_slice(rest.as_slice())?;
+    if first == len {
+        return Ok(bytes);
     }
+    let rest = part_of(alloc, store, group, id, rec, index + 1, 0, len - first)?;
+    bytes.extend_from_slice(rest.as_slice())?;
     Ok(bytes)
 }

@@ -1,7 +1,7 @@
 //! Look-ups: the record of an object, the pointer to a block, and a block's bytes.
 //!
 //! What the group has changed is found in it without a read.
-ghost use Rattle.std.specs.Prelude.{◌≡◌, ◌*◌, ◌/◌, ◌≤◌, ℕ, length, replicate, IfOk, IfSome};
+ghost use Rattle.std.specs.Prelude.{◌≡◌, ◌*◌, ◌/◌, ◌≤◌, ◌∷◌, [], ℕ, length, replicate, IfOk, IfSome};
 ghost use Rattle.zr_store.specs.Causes.{Costs, HasCause};
 ghost use Rattle.zr_store.specs.Store.{Stored};
 ghost use Rattle.zr_bptr.specs.Spelling.{IsTree, IsObject};
@@ -11,7 +11,7 @@ ghost use Rattle.zr_objset.specs.Records.{bytes_of};
 ghost use Rattle.zr_objset.specs.Errors.{IsNoLeaf, TellsOfLeaves};
 ghost use Rattle.zr_lookup.specs.Groups.{IsLawfulGroup};
 ghost use Rattle.zr_lookup.specs.Objects.{record_now, pointer_now, block_now};
-ghost use Rattle.zr_lookup.specs.Errors.{IsOtherBlock, IsSoundPointer, TellsOfObject};
+ghost use Rattle.zr_lookup.specs.Errors.{IsOtherBlock, IsSoundBlock, IsSoundPointer, TellsOfObject};
 
 use std::alloc::{AllocError, Global};
 use zr_bptr::{Bptr, ObjRec, Ptr, Tree};
@@ -83,8 +83,8 @@ fn zeros(alloc: Global, units: u32) -> Result<Vec<u8>, AllocError>
     vec![in alloc; 0; 4096 * units as usize]
 }
 
-// The bytes of a block of so many units.
-fn leaf_bytes<B: Blocks>(
+/// The bytes of a block of so many units.
+pub(crate) fn leaf_bytes<B: Blocks>(
     alloc: Global,
     store: &mut B,
     units: u32,

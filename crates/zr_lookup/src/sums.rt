@@ -1,10 +1,12 @@
 //! The sum of an object.
-ghost use Rattle.std.specs.Prelude.{◌≡◌, ℕ, length, IfOk};
+ghost use Rattle.std.specs.Prelude.{◌≡◌, ◌++◌, ◌==◌, not, ℕ, List, IfOk};
 ghost use Rattle.zr_store.specs.Causes.{Costs, HasCause};
 ghost use Rattle.zr_store.specs.Store.{Stored};
 ghost use Rattle.zr_bptr.specs.Spelling.{IsObject};
+ghost use Rattle.std.specs.List.{list_any};
+ghost use Rattle.sha2.specs.Hashers.{Holds256};
 ghost use Rattle.zr_lookup.specs.Groups.{IsLawfulGroup};
-ghost use Rattle.zr_lookup.specs.Objects.{pointer_now, IsObjectSum};
+ghost use Rattle.zr_lookup.specs.Objects.{pointer_now, summed, IsObjectSum};
 ghost use Rattle.zr_lookup.specs.Errors.{IsSoundPointer, TellsOfObject};
 
 use crate::leaves::leaves_of;
@@ -14,6 +16,23 @@ use std::alloc::Global;
 use zr_bptr::ObjRec;
 use zr_store::{Blocks, StoreErr};
 use zr_txg::Group;
+
+// Whether some byte is not 0.
+fn has_bytes(bytes: &[u8]) -> bool
+    ensures { result ≡ list_any (λ b. not (b == 0)) bytes.now }
+{
+    bytes.iter().any(|b| *b != 0)
+}
+
+// Takes a block into the sum: its index and its bytes, and nothing where all are 0.
+fn add_block(digest: &mut Sha256, index: u64, bytes: &[u8])
+    ensures { (m : List ℕ) → Holds256 digest.old m → Holds256 digest.new (m ++ summed index bytes.now) }
+{
+    if has_bytes(bytes) {
+        digest.update(&index.to_le_bytes());
+        digest.update(bytes);
+    }
+}
 
 /// The SHA-256 of the blocks of an object that are not all zeros, by rising index: of each its index as 8 bytes, the
 /// lowest first, and its bytes. It reads each tree block and each block once, and holds one block at a time.
