@@ -1,6 +1,6 @@
 -- The blocks that an edit touches, and the errors of reading them.
-use Rattle.std.proofs.Common.{◌≡◌, ◌∙◌, ◌+◌, ◌-◌, ◌*◌, ◌/◌, ◌<◌, ◌≤◌, inl, inr, ℕ, List, [], ◌∷◌, ◌++◌, length, map, Result, Err, refl, sym, ap, subst, arith}
-use Rattle.std.specs.Prelude.{IsErrOf, IfErr, All}
+use Rattle.std.proofs.Common.{◌≡◌, ◌∙◌, ◌+◌, ◌-◌, ◌*◌, ◌/◌, ◌<◌, ◌≤◌, inl, inr, ℕ, List, [], ◌∷◌, ◌++◌, length, map, Result, Err, sym, ap, subst, arith}
+use Rattle.std.specs.Prelude.{IsErrOf, IfErr}
 use Rattle.std.specs.List.{range_with_len}
 use Rattle.std.proofs.Math.Nat.{lt-mul-div-succ, mul-div-le, mul-le-mul_left}
 use Rattle.std.proofs.lemmas.List.{map-append, length-map}

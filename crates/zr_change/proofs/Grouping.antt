@@ -1,5 +1,5 @@
 -- What a group has changed, by look-ups and entry by entry.
-use Rattle.std.proofs.Common.{◌≡◌, ◌≢◌, ◌∙◌, ◌+◌, ◌-◌, ◌^◌, ◌<◌, ◌≤◌, inl, inr, ℕ, zero, suc, List, [], ◌∷◌, ◌++◌, length, take, get_or, Bool, true, false, eqb, Option, Some, None, refl, sym, ap, subst, arith, take-suc}
+use Rattle.std.proofs.Common.{◌≡◌, ◌≢◌, ◌∙◌, ◌+◌, ◌^◌, ◌<◌, ℕ, zero, suc, List, [], ◌∷◌, ◌++◌, length, take, get_or, Bool, true, false, eqb, Option, Some, None, refl, sym, ap, subst, arith, take-suc}
 use Rattle.std.specs.Prelude.{All, IfSome, is_some, map, option_map, unwrap_or, not, ◌&&◌, if◌then◌else◌}
 use Rattle.std.specs.List.{AllByRecursion}
 use Rattle.std.proofs.lemmas.Bool.{eq-eqb, ne_eqb}
@@ -12,7 +12,7 @@ use Rattle.zr_bptr.specs.Spelling.{IsObject}
 use Rattle.zr_tree.specs.Blocks.{FitsAt}
 use Rattle.zr_tree.specs.Trees.{Rises}
 use Rattle.zr_txg.specs.Tables.{IsRising, value_at}
-use Rattle.zr_txg.specs.Changes.{Changes, ObjectChange, object_in, changes_in, change_in, block_count, blocks_of}
+use Rattle.zr_txg.specs.Changes.{Changes, ObjectChange, object_in, change_in, block_count, blocks_of}
 use Rattle.zr_txg.proofs.Keyed.{by_key, value_at-at}
 use Rattle.zr_lookup.specs.Groups.{IsBlockChange, IsObjectChange, IsChangeOf, IsLawfulGroup}
 use Rattle.zr_change.specs.Changes.{changed_by, new_in, Records, RecordsBlocks}

@@ -1,8 +1,8 @@
 -- Blocks that are put one after another, and given back where one cannot be put.
-use Rattle.std.proofs.Common.{◌≡◌, ◌∙◌, ◌+◌, ◌*◌, ◌<◌, ◌≤◌, inl, inr, ℕ, zero, suc, List, [], ◌∷◌, ◌++◌, length, take, drop, get_or, refl, sym, ap, subst, arith, take-suc}
-use Rattle.std.specs.Prelude.{Result, Ok, Err, IsErrOf}
+use Rattle.std.proofs.Common.{◌≡◌, ◌∙◌, ◌+◌, ◌*◌, ◌<◌, ◌≤◌, ℕ, suc, List, [], ◌∷◌, ◌++◌, length, take, drop, get_or, refl, sym, ap, subst, arith, take-suc}
+use Rattle.std.specs.Prelude.{Result, Err, IsErrOf}
 use Rattle.zr_store.specs.declared.StoreErr.{StoreErr}
-use Rattle.std.specs.List.{sum_by, flat_map, AllZip}
+use Rattle.std.specs.List.{sum_by, AllZip}
 use Rattle.std.proofs.Math.Nat.{mul-add, mul-le-mul_left}
 use Rattle.std.proofs.lemmas.List.{take-append-drop}
 use Rattle.std.proofs.lemmas.List.Sums.{sum_by-append, sum_by-cons}
@@ -17,7 +17,7 @@ use Rattle.zr_store.proofs.Keeping.{one_itself}
 use Rattle.zr_tree.specs.Trees.{own}
 use Rattle.zr_objset.specs.Records.{bytes_of}
 use Rattle.zr_change.specs.declared.plans.Planned.{Planned}
-use Rattle.zr_change.specs.Plans.{bytes_of_new, put_of, puts_of, leaves_of, IsLacking, IsChangeFor, AreChangesFor, PutsBlock, PutsPlan}
+use Rattle.zr_change.specs.Plans.{bytes_of_new, put_of, puts_of, leaves_of, IsLacking, PutsBlock, PutsPlan}
 
 -- ---- errors
 

@@ -1,6 +1,6 @@
 -- The changes of a plan: their indices, and what a group finds of them.
-use Rattle.std.proofs.Common.{◌≡◌, ◌≢◌, ◌∙◌, ◌+◌, ◌<◌, ◌≤◌, ℕ, zero, suc, List, [], ◌∷◌, ◌++◌, length, map, drop, get_or, Bool, true, false, eqb, Option, Some, None, refl, sym, ap, subst, arith}
-use Rattle.std.specs.Prelude.{All, unwrap_or, ◌&&◌, if◌then◌else◌}
+use Rattle.std.proofs.Common.{◌≡◌, ◌≢◌, ◌∙◌, ◌+◌, ◌<◌, ◌≤◌, ℕ, zero, suc, List, [], ◌∷◌, ◌++◌, length, map, drop, get_or, eqb, Option, Some, refl, sym, ap, subst, arith}
+use Rattle.std.specs.Prelude.{All, unwrap_or, if◌then◌else◌}
 use Rattle.std.specs.List.{sum_by, AllByRecursion, AllZip, range_with_len}
 use Rattle.std.proofs.lemmas.Bool.{eq-eqb, ne_eqb}
 use Rattle.std.proofs.lemmas.List.Elements.{All-head, All-tail}
@@ -9,7 +9,7 @@ use Rattle.zr_bptr.specs.declared.Bptr.{Bptr}
 use Rattle.zr_bptr.specs.declared.Ptr.{Ptr}
 use Rattle.zr_bptr.specs.declared.Ptr.TheVariants.{Hole}
 use Rattle.zr_bptr.specs.declared.ObjRec.{ObjRec}
-use Rattle.zr_store.specs.Store.{Stored, Swaps, AreStored, IsOnce, hits, one_at}
+use Rattle.zr_store.specs.Store.{Stored, Swaps, AreStored, IsOnce, one_at}
 use Rattle.zr_tree.specs.Trees.{Rises, own, tree_at, tree_blocks}
 use Rattle.zr_tree.proofs.Others.{keeps}
 use Rattle.zr_objset.specs.Records.{bytes_of}
@@ -20,7 +20,7 @@ use Rattle.zr_change.specs.declared.ranges.Edit.{Edit}
 use Rattle.zr_change.specs.declared.plans.Planned.{Planned}
 use Rattle.zr_change.specs.Edits.{IsEdited, IsInRow}
 use Rattle.zr_change.specs.Changes.{changed_by, new_in, Records}
-use Rattle.zr_change.specs.Plans.{IsChangeFor, AreChangesFor, bytes_of_new, leaves_of, olds_of, IsPlannedFor, HasRecorded, PutsPlan, IsChanged}
+use Rattle.zr_change.specs.Plans.{IsChangeFor, AreChangesFor, bytes_of_new, leaves_of, olds_of, IsPlannedFor, PutsPlan, IsChanged}
 use Rattle.zr_change.proofs.Grouping.{all_at}
 use Rattle.zr_change.proofs.Putting.{bytes_same, bytes_kept}
 
@@ -105,10 +105,10 @@ module _ (id : ℕ) (r : ObjRec) (plan : List Planned) (cs : List (ℕ × Ptr)) 
   new_bytes =
       bytes_kept r.units n m plan cs
       (λ b hit.
-          let a = put.swaps.stored (one_at b.at) in
-          let o = once b.at in
-          let w = held (one_at b.at) in
-          free.kept b (omega (arith, a, o, w, hit)) (omega (arith, a, hit)))
+      let a = put.swaps.stored (one_at b.at) in
+      let o = once b.at in
+      let w = held (one_at b.at) in
+      free.kept b (omega (arith, a, o, w, hit)) (omega (arith, a, hit)))
       put.bytes
 
   blocks : All (λ p. block_now m h id r p.index ≡ bytes_of_new r.units p.new) plan
@@ -152,8 +152,8 @@ module _ (id : ℕ) (r : ObjRec) (plan : List Planned) (s : Stored) (g : Changes
   same_change =
       by_key id i
       (λ same.
-          let now : change_in h i k ≡ changed_by changed.recorded.changes k (change_in g i k) = rw (eq-eqb id i same) at (changed.recorded.records.blocks i k) in
-          now ∙ unplanned plan changed.recorded.changes k (change_in g i k) changed.recorded.are_changes (other (sym same)))
+      let now : change_in h i k ≡ changed_by changed.recorded.changes k (change_in g i k) = rw (eq-eqb id i same) at (changed.recorded.records.blocks i k) in
+      now ∙ unplanned plan changed.recorded.changes k (change_in g i k) changed.recorded.are_changes (other (sym same)))
       (λ differs. (rw (ne_eqb id i differs) at (changed.recorded.records.blocks i k)))
 
   parts : (weight : Bptr → ℕ) → sum_by weight (olds_of plan) + sum_by weight (tree_blocks s o.tree) + sum_by weight (own (pointer_now s g i o k)) ≤ sum_by weight s.pointers

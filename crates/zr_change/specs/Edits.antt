@@ -1,5 +1,5 @@
 -- What an edit of a range makes of the bytes of an object.
-use Rattle.std.specs.Prelude.{◌≡◌, ℕ, suc, ◌+◌, ◌-◌, ◌*◌, ◌/◌, ◌^◌, ◌<◌, ◌≤◌, ◌&&◌, nat_le, nat_lt, IsTrue, List, length, slice_index, if◌then◌else◌}
+use Rattle.std.specs.Prelude.{◌≡◌, ℕ, ◌+◌, ◌-◌, ◌*◌, ◌/◌, ◌^◌, ◌<◌, ◌≤◌, ◌&&◌, nat_le, nat_lt, IsTrue, List, length, slice_index, if◌then◌else◌}
 use Rattle.std.specs.List.{range_with_len}
 use Rattle.zr_lookup.specs.Objects.{IsTouched}
 use Rattle.zr_change.specs.declared.ranges.Bytes.{Bytes}

@@ -1,5 +1,5 @@
 -- What is planned for the blocks of an object, and what was put for it.
-use Rattle.std.specs.Prelude.{◌≡◌, ◌⊎◌, ℕ, ◌+◌, ◌*◌, ◌<◌, is_some, if◌then◌else◌, List, [], ◌∷◌, length, map, replicate, All, Option, Some, None}
+use Rattle.std.specs.Prelude.{◌≡◌, ◌⊎◌, ℕ, ◌*◌, ◌<◌, List, [], length, replicate, All, Option, Some, None}
 use Rattle.std.specs.List.{sum_by, flat_map, AllZip}
 use Rattle.std.specs.Global.{Vec}
 use Rattle.zr_bptr.specs.declared.Bptr.{Bptr}

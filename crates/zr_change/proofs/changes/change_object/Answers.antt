@@ -1,4 +1,4 @@
-use Rattle.std.proofs.Common.{◌≡◌, ◌≤◌, ◌<◌, ◌+◌, ℕ, List, sym, subst, arith}
+use Rattle.std.proofs.Common.{◌<◌, ℕ, List, sym, subst, arith}
 use Rattle.std.specs.Prelude.{All}
 use Rattle.zr_bptr.specs.declared.Ptr.{Ptr}
 use Rattle.zr_tree.specs.Trees.{Rises}

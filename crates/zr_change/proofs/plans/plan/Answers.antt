@@ -1,10 +1,10 @@
-use Rattle.std.proofs.Common.{◌≡◌, ◌-◌, ◌++◌, ◌∷◌, [], List, sym, subst, arith}
+use Rattle.std.proofs.Common.{◌≡◌, ◌-◌, ◌++◌, ◌∷◌, [], sym, subst, arith}
 use Rattle.std.specs.Prelude.{All}
 use Rattle.std.proofs.lemmas.List.Elements.{All-push}
 use Rattle.zr_store.proofs.Causes.{costs_then}
 use Rattle.zr_tree.specs.Blocks.{FitsAt}
 use Rattle.zr_change.specs.declared.plans.Planned.{Planned}
-use Rattle.zr_change.specs.Plans.{IsNew, AreNew, IsPlannedFor}
+use Rattle.zr_change.specs.Plans.{IsNew, IsPlannedFor}
 use Rattle.zr_change.proofs.Editing.{indices_more, count_of}
 use Rattle.zr_change.proofs.plans.plan.Goals as goal
 

@@ -1,5 +1,5 @@
-use Rattle.std.proofs.Common.{◌<◌, [], ℕ, length, subst, sym, arith}
-use Rattle.zr_store.specs.Store.{AreStored, Now, Swaps}
+use Rattle.std.proofs.Common.{◌<◌, [], length, subst, sym, arith}
+use Rattle.zr_store.specs.Store.{AreStored, Swaps}
 use Rattle.zr_store.proofs.Causes.{costs_then}
 use Rattle.zr_tree.specs.Trees.{own}
 use Rattle.zr_change.specs.declared.plans.Planned.{Planned}

@@ -1,4 +1,4 @@
-use Rattle.std.proofs.Common.{◌≡◌, ◌+◌, ◌*◌, ◌<◌, ◌++◌, ◌∷◌, [], ◌∙◌, ℕ, List, length, take, get_or, sym, ap, subst, arith}
+use Rattle.std.proofs.Common.{◌≡◌, ◌+◌, ◌*◌, ◌<◌, ◌++◌, ◌∷◌, [], ℕ, List, length, take, sym, ap, subst, arith}
 use Rattle.std.specs.Prelude.{All}
 use Rattle.std.proofs.lemmas.List.Elements.{All-push}
 use Rattle.std.proofs.lemmas.Result.{err_from_is_err_and}
@@ -6,7 +6,7 @@ use Rattle.zr_bptr.specs.declared.Ptr.{Ptr}
 use Rattle.zr_store.specs.Causes.{Spends}
 use Rattle.zr_tree.specs.Blocks.{FitsAt}
 use Rattle.zr_change.specs.declared.plans.Planned.{Planned}
-use Rattle.zr_change.specs.Plans.{put_of, puts_of, IsChangeFor, IsPointerFor, AreChangesFor, IsLacking, PutsPlan, PutsBlock}
+use Rattle.zr_change.specs.Plans.{put_of, IsChangeFor, IsPointerFor, AreChangesFor, IsLacking, PutsPlan, PutsBlock}
 use Rattle.zr_change.proofs.Putting.{err_same, lacking_then, spends_more, spends_all, zip_more, put_more}
 use Rattle.zr_change.proofs.stores.put_each.Goals as goal
 
