@@ -129,6 +129,10 @@ fn counts_what_is_planned(rt: HostRuntime) -> Result<(), Fail> {
     assert!(rt; !fits_object(1, 137_438_953_471, 2));
     assert!(rt; !fits_object(32, u64::MAX, u64::MAX));
     assert!(rt; !fits_object(1, 0, 0));
+    if fits_object(2, 8190, 4) {
+        assert_eq!(rt; blocks_touched(2, 8190, 4), (0, 1));
+    }
+    frame();
     let one = Vec::from_slice(alloc, &[1; 4096])?;
     let planned = [
         Planned {
