@@ -1,5 +1,5 @@
 -- Blocks that are put one after another, and given back where one cannot be put.
-use Rattle.std.proofs.Common.{◌≡◌, ◌∙◌, ◌+◌, ◌*◌, ◌<◌, ◌≤◌, ℕ, suc, List, [], ◌∷◌, ◌++◌, length, take, drop, get_or, refl, sym, ap, subst, arith, take-suc}
+use Rattle.std.proofs.Common.{◌≡◌, ◌∙◌, ◌+◌, ◌*◌, ◌<◌, ◌≤◌, ℕ, suc, List, [], ◌∷◌, ◌++◌, length, take, drop, get_or, refl, sym, ap, subst, arith, take-suc, length-append}
 use Rattle.std.specs.Prelude.{Result, Err, IsErrOf}
 use Rattle.zr_store.specs.declared.StoreErr.{StoreErr}
 use Rattle.std.specs.List.{sum_by, AllZip}
@@ -141,3 +141,9 @@ came_stored s n into came weight = let a = came.stored weight in omega (arith, a
 
 pub stays_stored : (s n : Stored) (into xs : List Bptr) → Swaps s n [] into → AreStored xs s → AreStored xs n
 stays_stored s n into xs came held = λ weight. let a = came.stored weight in let h = held weight in omega (arith, a, h)
+
+-- as many blocks as were to be put
+pub leaves_more : (plan : List Planned) (cs : List (ℕ × Ptr)) (i : ℕ) (d : Planned) (x : ℕ × Ptr) → i < length plan → length (leaves_of cs) ≡ puts_of (take i plan) → length (own x.1) ≡ put_of (get_or plan i d).new → length (leaves_of (cs ++ x ∷ [])) ≡ puts_of (take (i + 1) plan)
+leaves_more plan cs i d x lt so_far one =
+    let long = ap (λ (bs : List Bptr). length bs) (leaves_append cs x) ∙ length-append (leaves_of cs) (own x.1) in
+    omega (arith, long, so_far, one, puts_more plan i d lt)

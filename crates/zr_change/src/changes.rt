@@ -38,7 +38,8 @@ pub fn change_object<B: Blocks>(
     requires row { IsInRow (map (λ p. p.index) plan.now) }
     requires new { AreNew rec.now.units plan.now }
     ensures follows { (start : B) → B.follows start store.old → B.follows start store.new }
-    ensures costs { Spends (rec.now.units * puts_of plan.now) (puts_of plan.now) (length plan.now) (B.account store.old) (B.account store.new) }
+    ensures costs { OnOk result (Spends (rec.now.units * puts_of plan.now) (puts_of plan.now) (length (olds_of plan.now)) (B.account store.old) (B.account store.new)) }
+    ensures undoing { IfErr result (λ e. Spends (rec.now.units * puts_of plan.now) (puts_of plan.now) (puts_of plan.now + length (olds_of plan.now)) (B.account store.old) (B.account store.new)) }
     ensures failed { IsErrOf result Failed → HasRisen (B.account store.old).faults (B.account store.new).faults }
     ensures no_run { (needed longest : ℕ) → IsErrOf result (NoRun needed longest) → IsLacking rec.now.units (puts_of plan.now) (B.account store.old) needed longest }
     ensures errors { IfErr result IsPutErr }

@@ -32,6 +32,7 @@ fn put_new<B: Blocks>(
     ensures errors { IfErr result IsPutErr }
     ensures fits { IfOk result (FitsAt 0) }
     ensures pointer { IfOk result (IsPointerFor new.now) }
+    ensures count { IfOk result (λ p. length (own p) ≡ put_of new.now) }
     ensures ok { (s : Stored) → B.holds store.old s → IfOk result (λ p. Now (B.holds store.new) (λ n. PutsBlock units new.now s n p)) }
     ensures err { (s : Stored) → B.holds store.old s → IfErr result (λ e. B.holds store.new s) }
 {
@@ -62,7 +63,7 @@ fn put_each<B: Blocks>(
     ensures failed { IsErrOf result Failed → HasRisen (B.account store.old).faults (B.account store.new).faults }
     ensures no_run { (needed longest : ℕ) → IsErrOf result (NoRun needed longest) → IsLacking units (puts_of plan.now) (B.account store.old) needed longest }
     ensures errors { IfErr result IsPutErr }
-    ensures count { length changes.new.items ≤ length plan.now }
+    ensures count { length (leaves_of changes.new.items) ≤ puts_of plan.now }
     ensures leaves { AreLeaves changes.new.items }
     ensures changes { OnOk result (AreChangesFor plan.now changes.new.items) }
     ensures ok { (s : Stored) → B.holds store.old s → OnOk result (Now (B.holds store.new) (λ n. PutsPlan units plan.now changes.new.items s n)) }
@@ -80,7 +81,7 @@ fn put_each<B: Blocks>(
 /// Gives back a block.
 fn free_one<B: Blocks>(alloc: Global, store: &mut B, p: &Ptr) -> Result<(), StoreErr>
     ensures follows { (start : B) → B.follows start store.old → B.follows start store.new }
-    ensures costs { Costs 0 1 (B.account store.old) (B.account store.new) }
+    ensures costs { Costs 0 (length (own p.now)) (B.account store.old) (B.account store.new) }
     ensures memory { IfErr result (λ e. e ≡ NoMemory) }
     ensures swaps { (s : Stored) → B.holds store.old s → AreStored (own p.now) s → OnOk result (Now (B.holds store.new) (λ n. Swaps s n (own p.now) [])) }
 {
@@ -97,7 +98,7 @@ fn free_changes<B: Blocks>(
     changes: &[(u64, Ptr)],
 ) -> Result<(), StoreErr>
     ensures follows { (start : B) → B.follows start store.old → B.follows start store.new }
-    ensures costs { Costs 0 (length changes.now) (B.account store.old) (B.account store.new) }
+    ensures costs { Costs 0 (length (leaves_of changes.now)) (B.account store.old) (B.account store.new) }
     ensures memory { IfErr result (λ e. e ≡ NoMemory) }
     ensures swaps { (s : Stored) → B.holds store.old s → AreStored (leaves_of changes.now) s → OnOk result (Now (B.holds store.new) (λ n. Swaps s n (leaves_of changes.now) [])) }
 {
@@ -120,7 +121,7 @@ pub fn put_all<B: Blocks>(
     requires new { AreNew units plan.now }
     ensures follows { (start : B) → B.follows start store.old → B.follows start store.new }
     ensures costs { IfOk result (λ changes. Spends (units * puts_of plan.now) (puts_of plan.now) 0 (B.account store.old) (B.account store.new)) }
-    ensures undoing { IfErr result (λ e. Spends (units * puts_of plan.now) (puts_of plan.now) (length plan.now) (B.account store.old) (B.account store.new)) }
+    ensures undoing { IfErr result (λ e. Spends (units * puts_of plan.now) (puts_of plan.now) (puts_of plan.now) (B.account store.old) (B.account store.new)) }
     ensures failed { IsErrOf result Failed → HasRisen (B.account store.old).faults (B.account store.new).faults }
     ensures no_run { (needed longest : ℕ) → IsErrOf result (NoRun needed longest) → IsLacking units (puts_of plan.now) (B.account store.old) needed longest }
     ensures errors { IfErr result IsPutErr }
@@ -142,7 +143,7 @@ pub fn put_all<B: Blocks>(
 /// Gives back the old block of each planned one.
 pub fn free_olds<B: Blocks>(alloc: Global, store: &mut B, plan: &[Planned]) -> Result<(), StoreErr>
     ensures follows { (start : B) → B.follows start store.old → B.follows start store.new }
-    ensures costs { Costs 0 (length plan.now) (B.account store.old) (B.account store.new) }
+    ensures costs { Costs 0 (length (olds_of plan.now)) (B.account store.old) (B.account store.new) }
     ensures memory { IfErr result (λ e. e ≡ NoMemory) }
     ensures swaps { (s : Stored) → B.holds store.old s → AreStored (olds_of plan.now) s → OnOk result (Now (B.holds store.new) (λ n. Swaps s n (olds_of plan.now) [])) }
 {

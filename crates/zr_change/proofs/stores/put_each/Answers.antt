@@ -1,4 +1,4 @@
-use Rattle.std.proofs.Common.{◌≡◌, ◌+◌, ◌*◌, ◌<◌, ◌++◌, ◌∷◌, [], ℕ, List, length, take, sym, ap, subst, arith}
+use Rattle.std.proofs.Common.{◌∙◌, ◌≡◌, ◌+◌, ◌*◌, ◌<◌, ◌++◌, ◌∷◌, [], ℕ, List, length, take, sym, ap, subst, arith}
 use Rattle.std.specs.Prelude.{All}
 use Rattle.std.proofs.lemmas.List.Elements.{All-push}
 use Rattle.std.proofs.lemmas.Result.{err_from_is_err_and}
@@ -6,8 +6,8 @@ use Rattle.zr_bptr.specs.declared.Ptr.{Ptr}
 use Rattle.zr_store.specs.Causes.{Spends}
 use Rattle.zr_tree.specs.Blocks.{FitsAt}
 use Rattle.zr_change.specs.declared.plans.Planned.{Planned}
-use Rattle.zr_change.specs.Plans.{put_of, IsChangeFor, IsPointerFor, AreChangesFor, IsLacking, PutsPlan, PutsBlock}
-use Rattle.zr_change.proofs.Putting.{err_same, lacking_then, spends_more, spends_all, zip_more, put_more}
+use Rattle.zr_change.specs.Plans.{leaves_of, put_of, IsChangeFor, IsPointerFor, AreChangesFor, IsLacking, PutsPlan, PutsBlock}
+use Rattle.zr_change.proofs.Putting.{err_same, lacking_then, spends_more, spends_all, zip_more, put_more, puts_most, leaves_more}
 use Rattle.zr_change.proofs.stores.put_each.Goals as goal
 
 pub returns-in_err-new-clause-costs : goal.returns-in_err-new-clause-costs
@@ -42,6 +42,7 @@ loop-p-preserved g c =
       follows = λ start so_far. c.put_new.ensures.follows start (inv.follows start so_far);
       costs = spends_more units plan i d lt inv.costs (subst (λ (p : Planned). Spends (units * put_of p.new) (put_of p.new) 0 before after) c.p-item.is c.put_new.ensures.costs);
       count = omega (arith, c.in-Ok.ensures.len, inv.count);
+      stored = ap (λ (xs : List (ℕ × Ptr)). length (leaves_of xs)) items ∙ leaves_more plan cs i d x lt inv.stored (c.in_ok-new.ensures.count ∙ ap (λ (p : Planned). put_of p.new) c.p-item.is);
       room = omega (arith, c.in-Ok.ensures.capacity, inv.room);
       leaves = subst (All (λ (leaf : ℕ × Ptr). FitsAt 0 leaf.1)) (sym items) (All-push (λ (leaf : ℕ × Ptr). FitsAt 0 leaf.1) cs x inv.leaves c.in_ok-new.ensures.fits);
       changes =
@@ -58,3 +59,6 @@ loop-p-preserved g c =
             is = subst (λ (xs : List (ℕ × Ptr)). PutsPlan units (take (i + 1) plan) xs s then.stored) (sym items) (put_more units plan cs i d x s now.stored then.stored lt now.is one);
           };
     }
+
+pub returns-in_err-new-clause-count : goal.returns-in_err-new-clause-count
+returns-in_err-new-clause-count g c = let most = puts_most c.args.plan.now c.loop-p.p-index in omega (arith, most, c.loop-p.invariant.stored)
