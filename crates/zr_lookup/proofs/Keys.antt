@@ -1,5 +1,5 @@
 -- Lists of keys and values by rising key, cut and joined at a key.
-use Rattle.std.proofs.Common.{◌≡◌, ◌≢◌, ℕ, zero, suc, ◌+◌, ◌-◌, ◌^◌, ◌<◌, ◌≤◌, List, [], ◌∷◌, ◌++◌, length, take, drop, refl, sym, ◌∙◌, ap, subst, arith, Some, None, Option, ⊎_elim}
+use Rattle.std.proofs.Common.{◌≡◌, ◌≢◌, ℕ, suc, ◌+◌, ◌-◌, ◌^◌, ◌<◌, ◌≤◌, List, [], ◌∷◌, ◌++◌, take, refl, sym, ◌∙◌, ap, subst, arith, None, Option, ⊎_elim}
 use Rattle.std.specs.List.{slice_range}
 use Rattle.std.proofs.lemmas.Bool.{lt-ltb, le-ltb, eq-eqb, ne_eqb, cases_lt}
 use Rattle.zr_bptr.specs.declared.Bptr.{Bptr}
@@ -8,7 +8,7 @@ use Rattle.zr_bptr.specs.declared.Ptr.TheVariants.{Hole, At}
 use Rattle.zr_txg.specs.Tables.{IsRisingFrom, value_at, count_below}
 use Rattle.zr_txg.proofs.Keyed.{count_below-low, value_at-low, by_key}
 use Rattle.zr_lookup.specs.Objects.{block_in}
-use Rattle.zr_lookup.specs.Lists.{IsBetween, Fills, overlaid}
+use Rattle.zr_lookup.specs.Lists.{IsBetween, Fills}
 
 pub rising : {V : Type 0} (low high : ℕ) (es : List (ℕ × V)) → IsBetween low high es → IsRisingFrom low es
 rising low high [] between = tt

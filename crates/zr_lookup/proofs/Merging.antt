@@ -1,10 +1,10 @@
 -- Changes over leaves, one change after another.
-use Rattle.std.proofs.Common.{◌≡◌, ◌≢◌, ℕ, zero, suc, ◌+◌, ◌^◌, ◌<◌, ◌≤◌, List, [], ◌∷◌, length, get_or, drop, refl, sym, ◌∙◌, ap, subst, arith, Some, None, Option, ⊎_elim, drop-cons, add-one}
+use Rattle.std.proofs.Common.{◌≡◌, ◌≢◌, ℕ, suc, ◌+◌, ◌<◌, ◌≤◌, List, ◌∷◌, length, get_or, drop, refl, sym, ◌∙◌, ap, subst, arith, Some, None, Option, ⊎_elim, drop-cons, add-one}
 use Rattle.std.proofs.lemmas.Bool.{eq-eqb, ne_eqb, cases_lt}
 use Rattle.std.proofs.lemmas.List.{drop_all}
 use Rattle.zr_bptr.specs.declared.Bptr.{Bptr}
 use Rattle.zr_bptr.specs.declared.Ptr.{Ptr}
-use Rattle.zr_txg.specs.Tables.{IsRisingFrom, value_at}
+use Rattle.zr_txg.specs.Tables.{value_at}
 use Rattle.zr_txg.proofs.Keyed.{value_at-low}
 use Rattle.zr_lookup.specs.Objects.{block_in}
 use Rattle.zr_lookup.specs.Lists.{IsBetween, Fills, overlaid}
@@ -71,9 +71,9 @@ done_last changes leaves out new i next high le leaves_low new_low order same do
     (λ late.
     let none : value_at changes k ≡ None = sym (same k late) ∙ ap (λ (es : Changes). value_at es k) (drop_all i changes le) in
     let here : value_at new k ≡ value_at leaves k =
-        ⊎_elim
-        (λ inside. last.came k late inside)
-        (λ outside. past 0 high k new new_low outside ∙ sym (past 0 high k leaves leaves_low outside))
-        (cases_lt k high) in
+    ⊎_elim
+    (λ inside. last.came k late inside)
+    (λ outside. past 0 high k new new_low outside ∙ sym (past 0 high k leaves leaves_low outside))
+    (cases_lt k high) in
     here ∙ sym (ap (λ (o : Option Ptr). overlaid o (value_at leaves k)) none))
     (cases_lt k next)

@@ -1,7 +1,7 @@
 -- The sum of an object, block by block.
-use Rattle.std.proofs.Common.{◌≡◌, ◌∙◌, ◌<◌, ◌+◌, ◌++◌, ◌∷◌, [], ℕ, List, length, get_or, take, Option, Some, refl, sym, ap, subst, append-nil}
+use Rattle.std.proofs.Common.{◌≡◌, ◌∙◌, ◌<◌, ◌+◌, ◌++◌, ◌∷◌, [], ℕ, List, length, get_or, take, Option, Some, sym, ap, subst, append-nil}
 use Rattle.std.specs.Prelude.{All}
-use Rattle.std.specs.List.{flat_map, AllByRecursion}
+use Rattle.std.specs.List.{flat_map}
 use Rattle.std.proofs.lemmas.List.{take_more}
 use Rattle.std.proofs.lemmas.List.Elements.{recursion_from_All}
 use Rattle.std.proofs.lemmas.Grind.{flat_map-append}
@@ -44,7 +44,7 @@ sum_more s before after leaves i d bytes lt is h step =
     let f : ℕ × Bptr → List ℕ = λ leaf. summed leaf.0 (s.bytes leaf.1) in
     let x = get_or leaves i d in
     let more : flat_map f (take (i + 1) leaves) ≡ flat_map f (take i leaves) ++ f x =
-        ap (flat_map f) (take_more leaves i d lt) ∙ flat_map-append f (take i leaves) (x ∷ []) ∙ ap (λ (b : List ℕ). flat_map f (take i leaves) ++ b) (append-nil (f x)) in
+    ap (flat_map f) (take_more leaves i d lt) ∙ flat_map-append f (take i leaves) (x ∷ []) ∙ ap (λ (b : List ℕ). flat_map f (take i leaves) ++ b) (append-nil (f x)) in
     subst (Holds256 after) (ap (λ (b : List ℕ). flat_map f (take i leaves) ++ summed x.0 b) is ∙ sym more) (step (flat_map f (take i leaves)) h)
 
 -- what stands in no list

@@ -1,5 +1,5 @@
 -- The one or two blocks that a range has bytes of.
-use Rattle.std.proofs.Common.{◌≡◌, ℕ, zero, suc, ◌+◌, ◌-◌, ◌*◌, ◌/◌, ◌%◌, ◌<◌, ◌≤◌, ◌⊎◌, ◌++◌, inl, inr, List, length, get_or, take, drop, refl, sym, ◌∙◌, ⊎_elim, ap, arith}
+use Rattle.std.proofs.Common.{◌≡◌, ℕ, zero, suc, ◌+◌, ◌-◌, ◌*◌, ◌/◌, ◌%◌, ◌<◌, ◌≤◌, ◌⊎◌, ◌++◌, inl, inr, List, length, get_or, take, drop, sym, ◌∙◌, ⊎_elim, ap, arith}
 use Rattle.std.proofs.Math.Nat.{lt_of_mul-lt-mul_left, div-add-mod, mod-lt}
 use Rattle.std.proofs.lemmas.Nat.{div-mul-add, mod-mul-add}
 use Rattle.std.proofs.lemmas.Bool.{cases_lt}

@@ -1,5 +1,5 @@
 -- A walk over a tree: which indices lie below a pointer, and the leaves that came.
-use Rattle.std.proofs.Common.{◌≡◌, ◌≢◌, ℕ, zero, suc, ◌+◌, ◌-◌, ◌*◌, ◌/◌, ◌%◌, ◌^◌, ◌<◌, ◌≤◌, List, [], ◌∷◌, ◌++◌, length, get_or, take, drop, refl, sym, ◌∙◌, ⊎_elim, ap, subst, arith, Some, None, Option, add-one, take-suc, append_assoc, append-nil}
+use Rattle.std.proofs.Common.{◌≡◌, ℕ, suc, ◌+◌, ◌-◌, ◌*◌, ◌/◌, ◌%◌, ◌^◌, ◌<◌, ◌≤◌, List, [], ◌∷◌, ◌++◌, length, get_or, take, refl, sym, ◌∙◌, ⊎_elim, ap, subst, arith, Option, add-one, take-suc, append_assoc, append-nil}
 use Rattle.std.proofs.Math.Nat.{pow-suc, mul-le-mul_right, pow-le-pow_right}
 use Rattle.std.proofs.lemmas.Nat.{div-mul-add}
 use Rattle.zr_bptr.specs.declared.Bptr.{Bptr}
@@ -95,7 +95,7 @@ one_more s level below place i p b ps next a mid new level_is is kids_are count 
     let small : i < 32 = omega (arith, lt, count) in
     let less : 32 * place * w ≤ (32 * place + i) * w = mul-le-mul_right w (omega arith) in
     let here = filled_as ((32 * place + i) * w) ((32 * place + i + 1) * w) (λ index. block_in (leaf_at s below next index)) at mid new second
-        (λ k from to. ap block_in (sym (leaf_step s level below p b k i ps next level_is is kids_are (digit_is place i below k small from to) lt next_is))) in
+    (λ k from to. ap block_in (sym (leaf_step s level below p b k i ps next level_is is kids_are (digit_is place i below k small from to) lt next_is))) in
     let end : (32 * place + i + 1) * w ≡ (32 * place + (i + 1)) * w = omega arith in
     subst (λ (n : ℕ). Fills (32 * place * w) n at a new) end (filled_then (32 * place * w) ((32 * place + i) * w) ((32 * place + i + 1) * w) at a mid new less first here)
 
@@ -133,8 +133,8 @@ pub blocks_more : (s : Stored) (below i : ℕ) (items : List Ptr) (next : Ptr) (
 blocks_more s below i items next first mid new lt next_is mid_is new_is =
     let f = blocks s below in
     let more : flat_map f (take (i + 1) items) ≡ flat_map f (take i items) ++ f next =
-        ap (λ (n : ℕ). flat_map f (take n items)) (add-one i) ∙ ap (flat_map f) (take-suc items i next lt) ∙ flat_map-append f (take i items) (get_or items i next ∷ [])
-        ∙ ap (λ (q : Ptr). flat_map f (take i items) ++ flat_map f (q ∷ [])) (sym next_is) ∙ ap (λ (xs : List Bptr). flat_map f (take i items) ++ xs) (append-nil (f next)) in
+    ap (λ (n : ℕ). flat_map f (take n items)) (add-one i) ∙ ap (flat_map f) (take-suc items i next lt) ∙ flat_map-append f (take i items) (get_or items i next ∷ [])
+    ∙ ap (λ (q : Ptr). flat_map f (take i items) ++ flat_map f (q ∷ [])) (sym next_is) ∙ ap (λ (xs : List Bptr). flat_map f (take i items) ++ xs) (append-nil (f next)) in
     new_is ∙ ap (λ (xs : List Bptr). xs ++ f next) mid_is ∙ append_assoc first (flat_map f (take i items)) (f next) ∙ ap (λ (xs : List Bptr). first ++ xs) (sym more)
 
 pub lawful_top : (level : ℕ) (p : Ptr) (b : Bptr) → FitsAt level p → p ≡ At b → IsPointer b

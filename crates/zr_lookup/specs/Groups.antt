@@ -1,9 +1,7 @@
 -- The open group of a pool: its records are of objects, and its blocks may stand in their trees.
-use Rattle.std.specs.Prelude.{◌≡◌, ℕ, ◌<◌, ◌^◌, List, IfSome, Option}
+use Rattle.std.specs.Prelude.{ℕ, ◌<◌, ◌^◌, IfSome}
 use Rattle.std.specs.List.{AllByRecursion}
 use Rattle.zr_bptr.specs.declared.Ptr.{Ptr}
-use Rattle.zr_bptr.specs.declared.Ptr.TheVariants.{Hole, At}
-use Rattle.zr_bptr.specs.declared.ObjRec.{ObjRec}
 use Rattle.zr_bptr.specs.Spelling.{IsObject}
 use Rattle.zr_tree.specs.Blocks.{FitsAt}
 use Rattle.zr_txg.specs.Changes.{ObjectChange, Changes}

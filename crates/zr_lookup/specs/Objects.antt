@@ -1,5 +1,5 @@
 -- Objects as the open group has them: what it has changed, and the directory of the root for all else.
-use Rattle.std.specs.Prelude.{◌≡◌, ℕ, ◌+◌, ◌*◌, ◌/◌, ◌%◌, ◌<◌, ◌≤◌, ◌++◌, ◌==◌, not, suc, List, [], ◌∷◌, map, length, nat_lt, slice_index, if◌then◌else◌, unwrap_or, Option, Some, None}
+use Rattle.std.specs.Prelude.{◌≡◌, ℕ, ◌+◌, ◌*◌, ◌/◌, ◌%◌, ◌<◌, ◌++◌, ◌==◌, not, List, [], map, nat_lt, slice_index, if◌then◌else◌, unwrap_or, Option, Some, None}
 use Rattle.std.specs.List.{list_any, flat_map}
 use Rattle.sha2.specs.Sha256.{sha256}
 use Rattle.zr_base.specs.Words.{word}

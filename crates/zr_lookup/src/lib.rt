@@ -4,6 +4,7 @@
 //! in the open group first, and in the directory of the current root where the group has not changed it.
 #![tactic(auto)]
 
+mod laws;
 mod leaves;
 mod overlays;
 mod ranges;
@@ -11,8 +12,11 @@ mod reads;
 mod sums;
 mod walks;
 
+pub use laws::changes_over_tree;
 pub use leaves::{blocks_of, leaves_of};
 pub use ranges::read_range;
 pub use reads::{block_at, block_bytes, pointer_of, record_of};
 pub use sums::sum_object;
 
+#[cfg(test)]
+mod tests;

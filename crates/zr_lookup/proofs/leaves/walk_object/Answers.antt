@@ -1,12 +1,9 @@
-use Rattle.std.proofs.Common.{◌≡◌, ◌∙◌, ◌<◌, ◌^◌, ℕ, List, sym, ap, subst}
+use Rattle.std.proofs.Common.{◌∙◌, ◌^◌, ℕ, List, sym, ap, subst}
 use Rattle.std.specs.Prelude.{All}
-use Rattle.std.specs.List.{AllByRecursion}
 use Rattle.zr_bptr.specs.declared.Bptr.{Bptr}
-use Rattle.zr_bptr.specs.declared.Ptr.{Ptr}
 use Rattle.zr_bptr.specs.declared.Ptr.TheVariants.{At}
 use Rattle.zr_tree.specs.Blocks.{FitsAt}
 use Rattle.zr_txg.specs.Tables.{value_at}
-use Rattle.zr_lookup.specs.Lists.{overlaid}
 use Rattle.zr_lookup.proofs.Keys.{rising}
 use Rattle.zr_lookup.proofs.Groups.{changes_between, changes_fit, overlaid_pointer}
 use Rattle.zr_lookup.proofs.leaves.walk_object.Goals as goal
@@ -30,5 +27,5 @@ returns-clause-leaves g c = λ s holds.
       each = λ index.
           h.each index
           ∙ overlaid_pointer s c.args.group.now c.args.id c.args.rec.now index c.changes.result.now c.as_slice.result.now c.changes.ensures.changes
-              (ap (λ (es : List (ℕ × Bptr)). value_at es index) c.as_slice.ensures.value ∙ c.in_ok-walked.ensures.leaves s holds index);
+          (ap (λ (es : List (ℕ × Bptr)). value_at es index) c.as_slice.ensures.value ∙ c.in_ok-walked.ensures.leaves s holds index);
     }

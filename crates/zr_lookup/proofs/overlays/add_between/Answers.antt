@@ -1,6 +1,5 @@
-use Rattle.std.proofs.Common.{◌≡◌, ◌≤◌, ◌^◌, ◌++◌, ◌∷◌, ℕ, List, Result, Ok, Err, refl, sym, ap, arith, subst}
+use Rattle.std.proofs.Common.{◌≡◌, ◌^◌, ◌++◌, ℕ, List, Result, Ok, Err, sym, subst}
 use Rattle.std.specs.Prelude.{All, is_ok, OnOk, if◌then◌else◌}
-use Rattle.std.specs.List.{slice_range}
 use Rattle.std.specs.declared.alloc.AllocError.{AllocError}
 use Rattle.std.proofs.lemmas.List.Elements.{All-take, All-drop, All-append}
 use Rattle.zr_bptr.specs.declared.Bptr.{Bptr}

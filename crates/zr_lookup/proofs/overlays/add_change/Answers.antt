@@ -1,7 +1,3 @@
-use Rattle.std.proofs.Common.{◌≡◌, ◌∙◌, ℕ, ◌+◌, ◌∷◌, [], List, Option, None, Some, refl, sym, ap, subst, arith, add-one}
-use Rattle.zr_bptr.specs.declared.Bptr.{Bptr}
-use Rattle.zr_bptr.specs.declared.Ptr.{Ptr}
-use Rattle.zr_lookup.specs.Objects.{block_in}
 use Rattle.zr_lookup.proofs.Keys.{added, added_fills, none_added, none_added_fills}
 use Rattle.zr_lookup.proofs.overlays.add_change.Goals as goal
 

@@ -1,4 +1,4 @@
-use Rattle.std.proofs.Common.{◌≡◌, ◌≤◌, ◌<◌, ◌^◌, ℕ, length, arith}
+use Rattle.std.proofs.Common.{◌^◌, arith}
 use Rattle.zr_bptr.specs.declared.Ptr.TheVariants.{Hole}
 use Rattle.zr_lookup.proofs.Keys.{in_order}
 use Rattle.zr_lookup.proofs.Merging.{first_order, first_low, rest_after, same_after, done_after, done_last}

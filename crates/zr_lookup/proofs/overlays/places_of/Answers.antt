@@ -1,4 +1,4 @@
-use Rattle.std.proofs.Common.{◌≤◌, arith}
+use Rattle.std.proofs.Common.{arith}
 use Rattle.zr_lookup.proofs.Keys.{counts_rise}
 use Rattle.zr_lookup.proofs.overlays.places_of.Goals as goal
 

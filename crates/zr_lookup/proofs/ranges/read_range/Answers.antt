@@ -1,4 +1,4 @@
-use Rattle.std.proofs.Common.{◌≡◌, ◌∙◌, ◌+◌, ◌-◌, ◌*◌, ◌/◌, ◌%◌, ◌<◌, ◌≤◌, ◌++◌, inl, inr, ℕ, List, length, get_or, take, drop, refl, sym, ap, subst, arith, ⊎_elim}
+use Rattle.std.proofs.Common.{◌≡◌, ◌∙◌, ◌+◌, ◌-◌, ◌*◌, ◌/◌, ◌%◌, ◌<◌, ◌≤◌, inl, inr, ℕ, List, get_or, sym, ap, subst, arith}
 use Rattle.std.proofs.lemmas.Result.{err_from_is_err_and}
 use Rattle.zr_bptr.specs.declared.Ptr.{Ptr}
 use Rattle.zr_store.proofs.Causes.{cause_from, cause_then}
@@ -67,4 +67,4 @@ returns-clause-bytes g c = λ s holds k lt.
     let short : c.args.len - first ≤ 4096 * units = omega (arith, pos, c.requires.short) in
     ap (λ (b : List ℕ). get_or b k 0) c.in_ok-extend_from_slice.ensures.items
     ∙ both_bytes (block_now s c.args.group.now c.args.id c.args.rec.now) (4096 * units) off c.args.len (off / (4096 * w)) (off % (4096 * w)) first c.in_ok-bytes.bytes.items c.as_slice.result.now
-        (begin units w off c.from-size.ensures) whole short (c.in_ok-bytes.ensures.bytes s holds) c.in_ok-bytes.ensures.size (c.as_slice.ensures.value ∙ c.in_ok-rest.ensures.bytes s (c.in_ok-bytes.ensures.same s holds)) k lt
+    (begin units w off c.from-size.ensures) whole short (c.in_ok-bytes.ensures.bytes s holds) c.in_ok-bytes.ensures.size (c.as_slice.ensures.value ∙ c.in_ok-rest.ensures.bytes s (c.in_ok-bytes.ensures.same s holds)) k lt

@@ -1,5 +1,4 @@
-use Rattle.std.proofs.Common.{◌≡◌, ℕ, refl}
-use Rattle.std.proofs.lemmas.Result.{err_from_is_err_and}
+use Rattle.std.proofs.Common.{◌≡◌, refl}
 use Rattle.zr_lookup.specs.Objects.{pointer_now}
 use Rattle.zr_lookup.proofs.Telling.{of_block}
 use Rattle.zr_lookup.proofs.reads.block_at.Goals as goal

@@ -1,4 +1,4 @@
-use Rattle.std.proofs.Common.{◌≡◌, ◌∙◌, sym}
+use Rattle.std.proofs.Common.{sym}
 use Rattle.zr_lookup.proofs.Groups.{change_fits}
 use Rattle.zr_lookup.proofs.reads.pointer_of.Goals as goal
 

@@ -1,4 +1,4 @@
-use Rattle.std.proofs.Common.{◌≡◌, ◌∙◌, sym}
+use Rattle.std.proofs.Common.{sym}
 use Rattle.zr_lookup.proofs.Groups.{record_lawful}
 use Rattle.zr_lookup.proofs.reads.record_of.Goals as goal
 

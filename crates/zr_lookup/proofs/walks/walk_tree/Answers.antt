@@ -1,4 +1,3 @@
-use Rattle.std.proofs.Common.{◌≡◌, ◌+◌, ◌*◌, ◌^◌, ◌≤◌, ℕ}
 use Rattle.zr_lookup.proofs.Walking.{low_top, whole_between, whole_leaves}
 use Rattle.zr_lookup.proofs.walks.walk_tree.Goals as goal
 
