@@ -1,0 +1,6 @@
+pub mod Editing
+pub mod Freeing
+pub mod Grouping
+pub mod Indices
+pub mod Putting
+pub mod Rows
