@@ -1,0 +1,44 @@
+//! Writing a head.
+//!
+//! The head is spelled as a string of bytes and stored as a tree of one-unit leaves. A root has the pointer to that tree
+//! and the number of bytes, from which the height of the tree follows.
+ghost use Rattle.std.specs.Prelude.{◌≡◌, ◌*◌, ◌≤◌, List, [], ℕ, length, IfOk};
+ghost use Rattle.std.specs.Int.{div_ceil};
+ghost use Rattle.zr_base.specs.Trees.{tree_units};
+ghost use Rattle.zr_label.specs.Blocks.{IsMetaRoot};
+ghost use Rattle.zr_store.specs.Causes.{Costs, HasCause};
+ghost use Rattle.zr_store.specs.Store.{Stored, Now};
+ghost use Rattle.zr_tree.specs.Trees.{TellsOf};
+ghost use Rattle.zr_meta.specs.Heads.{IsHead, head_words};
+ghost use Rattle.zr_commit.specs.Heads.{StoresHead};
+
+use std::alloc::Global;
+use zr_base::DevRow;
+use zr_bptr::Ptr;
+use zr_meta::{Head, encode_head};
+use zr_root::write_root;
+use zr_store::{Blocks, StoreErr};
+
+/// Stores the head of a root with these devices. The answer is the root of its tree and its length in bytes, a multiple
+/// of eight of at most 35,016. Nothing is given back: the old head is the caller's.
+pub fn write_head<B: Blocks>(
+    alloc: Global,
+    store: &mut B,
+    h: &Head,
+    table: &[DevRow],
+) -> Result<(Ptr, u64), StoreErr>
+    requires head { IsHead table.now h.now }
+    requires devices { length table.now ≤ 32 }
+    ensures follows { (start : B) → B.follows start store.old → B.follows start store.new }
+    ensures costs { Costs (tree_units (div_ceil (head_words h.now) 512)) 0 (B.account store.old) (B.account store.new) }
+    ensures cause { HasCause (tree_units (div_ceil (head_words h.now) 512)) (B.account store.old) (B.account store.new) result }
+    ensures errors { (s : Stored) → TellsOf s [] result }
+    ensures root { IfOk result (λ head. IsMetaRoot head.0 head.1) }
+    ensures len { IfOk result (λ head. head.1 ≡ 8 * head_words h.now) }
+    ensures short { IfOk result (λ head. head.1 ≤ 35016) }
+    ensures stores { (s : Stored) → B.holds store.old s → IfOk result (λ head. Now (B.holds store.new) (λ n. StoresHead table.now s n h.now head.0 head.1)) }
+{
+    let bytes = encode_head(alloc, h, table)?;
+    let root = write_root(alloc, store, bytes.as_slice())?;
+    Ok((root, bytes.len() as u64))
+}

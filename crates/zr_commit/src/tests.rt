@@ -1,0 +1,1 @@
+//! Commits to a store in memory.
