@@ -1,0 +1,4 @@
+pub mod Freeing
+pub mod LateWords
+pub mod Roots
+pub mod Writing
