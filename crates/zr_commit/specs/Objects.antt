@@ -1,5 +1,5 @@
 -- The objects of a group in the trees of a commit.
-use Rattle.std.specs.Prelude.{◌≡◌, ℕ, List, [], ◌∷◌, ◌++◌, map, Option, Some, None}
+use Rattle.std.specs.Prelude.{◌≡◌, ℕ, List, [], ◌∷◌, ◌++◌, slice_index_or, Option, Some, None}
 use Rattle.std.specs.List.{flat_map, AllByRecursion}
 use Rattle.zr_bptr.specs.declared.Bptr.{Bptr}
 use Rattle.zr_bptr.specs.declared.Ptr.{Ptr}
@@ -9,6 +9,10 @@ use Rattle.zr_store.specs.Store.{Stored, Swaps}
 use Rattle.zr_tree.specs.Trees.{tree_at, tree_blocks, tree_leaves, tree_reach, updated, IsHeightFor, SwapsLeaves, KeepsOthers}
 use Rattle.zr_objset.specs.Records.{record_of}
 use Rattle.zr_txg.specs.Changes.{ObjectChange, Changes, object_in}
+
+-- the changed object that has so many changed ones below it
+abbrev pub entry : List (ℕ × ObjectChange) → ℕ → ℕ × ObjectChange
+entry es i = slice_index_or es i (0, record { object = None; blocks = [] })
 
 -- the tree blocks of an object that is there
 abbrev pub object_blocks : Stored → Option ObjRec → List Bptr

@@ -69,7 +69,7 @@ pub fn write_log<B: Blocks>(
     ensures puts { (frees : ℕ) × Costs (log_puts old.now.words (length added.now) (set_words version set.now.extents)) frees (B.account store.old) (B.account store.new) }
     ensures costs { (s : Stored) → B.holds store.old s → Costs (log_puts old.now.words (length added.now) (set_words version set.now.extents)) (log_frees old.now.words (length added.now) (set_words version set.now.extents) (length (tree_reach s old.now.tree))) (B.account store.old) (B.account store.new) }
     ensures cause { HasCause (log_puts old.now.words (length added.now) (set_words version set.now.extents)) (B.account store.old) (B.account store.new) result }
-    ensures errors { (s : Stored) → B.holds store.old s → AreStored (tree_reach s old.now.tree) s → (TellsOf s (tree_blocks s old.now.tree) result) ⊎ (TellsOfStream s old.now result) }
+    ensures errors { (s : Stored) → B.holds store.old s → AreStored (tree_reach s old.now.tree) s → TellsOfStream s old.now result }
     ensures stream { IfOk result IsStream }
     ensures stays { length added.now ≡ 0 → IfOk result (λ stream. stream ≡ old.now) }
     ensures same { (s : Stored) → B.holds store.old s → length added.now ≡ 0 → B.holds store.new s }

@@ -9,9 +9,10 @@ ghost use Rattle.zr_store.specs.Store.{Stored, Now, AreStored};
 ghost use Rattle.zr_tree.specs.Trees.{AreLeaves, Rises, TellsOf, tree_reach};
 ghost use Rattle.zr_objset.specs.Changes.{RisesById};
 ghost use Rattle.zr_objset.specs.Errors.{IsNoLeaf, TellsOfLeaves};
+ghost use Rattle.zr_txg.specs.Tables.{IsRising};
 ghost use Rattle.zr_txg.specs.Changes.{block_count};
 ghost use Rattle.zr_lookup.specs.Groups.{IsLawfulGroup};
-ghost use Rattle.zr_commit.specs.Objects.{object_blocks, blocks_of, WritesObject, WritesObjects, WritesGroup};
+ghost use Rattle.zr_commit.specs.Objects.{object_blocks, blocks_of, WritesObject, WritesObjects, WritesGroup, entry};
 
 use std::alloc::Global;
 use zr_bptr::{ObjRec, Ptr, Tree};
@@ -47,6 +48,32 @@ fn write_object<B: Blocks>(
     }))
 }
 
+// Writes the changed object that has `i` changed ones below it, and answers its ID and its record.
+fn write_at<B: Blocks>(
+    alloc: Global,
+    store: &mut B,
+    group: &Group,
+    i: u64,
+) -> Result<(u32, Option<ObjRec>), StoreErr>
+    requires group { IsLawfulGroup group.now }
+    requires rising { IsRising group.now.objects }
+    requires within { i < length group.now.objects }
+    ensures follows { (start : B) → B.follows start store.old → B.follows start store.new }
+    ensures costs { Costs (5 * length (entry group.now.objects i).1.blocks + 4) (5 * length (entry group.now.objects i).1.blocks) (B.account store.old) (B.account store.new) }
+    ensures cause { HasCause (5 * length (entry group.now.objects i).1.blocks + 4) (B.account store.old) (B.account store.new) result }
+    ensures errors { (s : Stored) → B.holds store.old s → AreStored (object_blocks s (entry group.now.objects i).1.object) s → TellsOf s (object_blocks s (entry group.now.objects i).1.object) result }
+    ensures id { IfOk result (λ r. r.0 ≡ (entry group.now.objects i).0) }
+    ensures object { IfOk result (λ r. IfSome r.1 IsObject) }
+    ensures writes { (s : Stored) → B.holds store.old s → AreStored (object_blocks s (entry group.now.objects i).1.object) s → IfOk result (λ r. Now (B.holds store.new) (λ n. WritesObject (entry group.now.objects i).1.blocks s n (entry group.now.objects i).1.object r.1)) }
+{
+    let id = group.id_at(i);
+    let Some(object) = group.object(id) else {
+        unreachable!()
+    };
+    let record = write_object(alloc, store, object, group.changes(id))?;
+    Ok((id, record))
+}
+
 // Writes the trees of the changed objects by rising ID, and answers their records.
 fn write_objects<B: Blocks>(
     alloc: Global,
@@ -64,10 +91,8 @@ fn write_objects<B: Blocks>(
 {
     let mut records = Vec::new(alloc);
     for i in 0..group.objects() {
-        let id = group.id_at(i);
-        let object = group.object(id).flatten();
-        let record = write_object(alloc, store, object, group.changes(id))?;
-        records.push((id, record))?;
+        let record = write_at(alloc, store, group, i)?;
+        records.push(record)?;
     }
     Ok(records)
 }
