@@ -5,15 +5,17 @@ use Rattle.zr_base.specs.Trees.{IsHeight}
 use Rattle.zr_base.specs.declared.space.DevRow.{DevRow}
 use Rattle.zr_bptr.specs.declared.Bptr.{Bptr}
 use Rattle.zr_bptr.specs.declared.Ptr.{Ptr}
-use Rattle.zr_bptr.specs.declared.Ptr.TheVariants.{At}
+use Rattle.zr_bptr.specs.declared.Ptr.TheVariants.{Hole, At}
+use Rattle.zr_bptr.specs.Spelling.{IsTree}
 use Rattle.zr_bptr.specs.declared.Tree.{Tree}
 use Rattle.zr_label.specs.Blocks.{IsMetaRoot}
 use Rattle.zr_store.specs.Store.{Stored, Now}
 use Rattle.zr_meta.specs.declared.Head.{Head}
 use Rattle.zr_meta.specs.Heads.{SpellsHead}
-use Rattle.zr_root.specs.Streams.{IsUnitAt, IsTreeFor, StoresBytes}
+use Rattle.zr_root.specs.Streams.{IsUnitAt, IsRootOf, IsTreeFor, StoresBytes}
 use Rattle.zr_root.proofs.Beside.{one_tree}
 use Rattle.zr_root.proofs.Joining.{ceil_of}
+use Rattle.zr_root.proofs.Words.{one_height}
 use Rattle.zr_commit.specs.Heads.{StoresHead}
 
 -- a tree of few leaves has a height
@@ -48,3 +50,18 @@ head_stored has table s h root len height bytes xs spells same long tall stores 
         stored = λ t is. subst (λ (u : Tree). StoresBytes s now.stored u bytes) (one_tree len root (record { root = root; height = height }) t (refl, tall) is) (subst (λ (ys : List ℕ). StoresBytes s now.stored (record { root = root; height = height }) ys) same now.is);
       };
     }
+
+-- the tree of a head
+pub meta_tree : (len height : ℕ) (root : Ptr) → IsMetaRoot root len → IsHeight (div_ceil len 4096) height → IsTree (record { root = root; height = height })
+meta_tree len height Hole meta tall = absurd meta
+meta_tree len height (At b) meta tall =
+    let same = one_height (div_ceil len 4096) b.level height meta.2 tall in
+    record { lawful = meta.0; level = same; low = omega (arith, same, meta.0.level) }
+
+-- .. has a root with leaves
+pub meta_top : (len : ℕ) (root : Ptr) (t : Tree) → IsMetaRoot root len → IsTreeFor len root t → IsRootOf t.height t.root
+meta_top len root t meta is = subst (λ (p : Ptr). IsRootOf t.height p) (sym is.0) (top root meta)
+  where
+    top : (p : Ptr) → IsMetaRoot p len → IsRootOf t.height p
+    top Hole m = absurd m
+    top (At b) m = ((one_height (div_ceil len 4096) b.level t.height m.2 is.1, m.0), m.1)

@@ -10,7 +10,7 @@ mod logs;
 mod objects;
 mod trees;
 
-pub use heads::write_head;
+pub use heads::{free_head, write_head};
 pub use logs::{write_anew, write_late, write_log};
 pub use objects::write_group;
 pub use trees::free_tree;
