@@ -1,12 +1,13 @@
 -- The changed objects of a group, as the calls below want them.
-use Rattle.std.proofs.Common.{◌≡◌, ◌∙◌, ◌+◌, ◌*◌, ◌<◌, ◌≤◌, ◌^◌, ℕ, zero, suc, List, [], ◌∷◌, ◌++◌, length, map, take, drop, refl, sym, ap, arith}
-use Rattle.std.specs.Prelude.{All, Option, Some, None, option_map}
+use Rattle.std.proofs.Common.{◌≡◌, ◌∙◌, ◌+◌, ◌*◌, ◌<◌, ◌≤◌, ◌^◌, ℕ, zero, suc, List, [], ◌∷◌, ◌++◌, length, map, take, drop, refl, sym, ap, subst, arith}
+use Rattle.std.specs.Prelude.{All, Option, Some, None, IfSome, option_map}
 use Rattle.std.specs.List.{AllByRecursion, sum_by}
 use Rattle.std.proofs.lemmas.List.{map-append, take-append-drop}
 use Rattle.std.proofs.lemmas.List.Elements.{All-nil, All-cons}
 use Rattle.std.proofs.lemmas.List.Sums.{sum_by-append}
 use Rattle.zr_bptr.specs.declared.Ptr.{Ptr}
 use Rattle.zr_bptr.specs.declared.ObjRec.{ObjRec}
+use Rattle.zr_bptr.specs.Spelling.{IsObject}
 use Rattle.zr_tree.specs.Blocks.{FitsAt}
 use Rattle.zr_tree.specs.Trees.{AreLeaves, Rises}
 use Rattle.zr_objset.specs.Changes.{RisesById}
@@ -125,3 +126,19 @@ ids_long [] [] same = refl
 ids_long [] (e ∷ es) same = none_some e.0 (ids_of es) same
 ids_long (q ∷ qs) [] same = none_some q.0 (ids_of qs) (sym same)
 ids_long (q ∷ qs) (e ∷ es) same = ap suc (ids_long qs es (tail_same q.0 e.0 (ids_of qs) (ids_of es) same))
+
+-- what the look-ups of an object find is its change
+pub change_of : (g : Changes) (i id : ℕ) (object : Option ObjRec) (cs : List (ℕ × Ptr)) → IsRising g.objects → i < length g.objects → (entry g.objects i).0 ≡ id → object_in g id ≡ Some object → cs ≡ changes_in g id → id < 65536 → IfSome object IsObject → AllByRecursion IsBlockChange cs → IsChangeOf (entry g.objects i)
+change_of g i id object cs rising lt is found blocks low lawful each = record {
+  id = omega (arith, is, low);
+  change = record {
+    object = subst (λ (o : Option ObjRec). IfSome o IsObject) (object_is g i id object rising lt is found) lawful;
+    blocks = subst (λ (xs : List (ℕ × Ptr)). AllByRecursion IsBlockChange xs) (blocks ∙ changes_are g i id rising lt is) each;
+  };
+}
+
+-- the changes up to one more
+pub each_more : (es : List (ℕ × ObjectChange)) (i : ℕ) → i < length es → AllByRecursion IsChangeOf (take i es) → IsChangeOf (entry es i) → AllByRecursion IsChangeOf (take (i + 1) es)
+each_more [] i lt h one = absurd (omega (arith, lt))
+each_more (e ∷ es) zero lt h one = (one, tt)
+each_more (e ∷ es) (suc i) lt h one = (h.0, each_more es i (omega (arith, lt)) h.1 one)

@@ -73,6 +73,8 @@ pub fn write_log<B: Blocks>(
     ensures stream { IfOk result IsStream }
     ensures stays { length added.now ≡ 0 → IfOk result (λ stream. stream ≡ old.now) }
     ensures same { (s : Stored) → B.holds store.old s → length added.now ≡ 0 → B.holds store.new s }
+    ensures count_anew { 0 < length added.now → 2 * set_words version set.now.extents + 512 < old.now.words + length added.now → IfOk result (λ stream. stream.words ≡ set_words version set.now.extents) }
+    ensures count_appended { 0 < length added.now → old.now.words + length added.now ≤ 2 * set_words version set.now.extents + 512 → IfOk result (λ stream. stream.words ≡ old.now.words + length added.now) }
     ensures anew { (s : Stored) → B.holds store.old s → AreStored (tree_reach s old.now.tree) s → 0 < length added.now → 2 * set_words version set.now.extents + 512 < old.now.words + length added.now → IfOk result (λ stream. Now (B.holds store.new) (λ n. RewritesSet version dev set.now.extents s n old.now stream)) }
     ensures appends { (s : Stored) → B.holds store.old s → AreStored (tree_reach s old.now.tree) s → (ns : List ℕ) → HasWords s old.now ns → 0 < length added.now → old.now.words + length added.now ≤ 2 * set_words version set.now.extents + 512 → IfOk result (λ stream. Now (B.holds store.new) (λ n. Appends s n old.now stream ns added.now)) }
 {

@@ -1,5 +1,7 @@
 //! Commits to a store in memory: a group of two objects and a drop, a log at its bound, a late set, and a head.
-ghost use Rattle.std.specs.Prelude.{IsTrue, length, ◌≡◌, ◌<◌, All};
+ghost use Rattle.std.specs.Prelude.{IsTrue, IfSome, length, ◌<◌};
+ghost use Rattle.std.specs.List.{AllByRecursion};
+ghost use Rattle.zr_bptr.specs.Spelling.{IsObject};
 ghost use Rattle.zr_txg.specs.Tables.{IsRising};
 ghost use Rattle.zr_lookup.specs.Groups.{IsBlockChange, IsChangeOf, IsLawfulGroup};
 ghost use Rattle.zr_commit.specs.Objects.{entry};
@@ -40,7 +42,7 @@ fn is_block_change(change: &(u64, Ptr)) -> bool
 }
 
 fn are_block_changes(changes: &[(u64, Ptr)]) -> bool
-    ensures { IsTrue result → All IsBlockChange changes.now }
+    ensures { IsTrue result → AllByRecursion IsBlockChange changes.now }
 {
     for change in changes {
         if !is_block_change(change) {
@@ -48,6 +50,15 @@ fn are_block_changes(changes: &[(u64, Ptr)]) -> bool
         }
     }
     true
+}
+
+fn is_record(object: &Option<ObjRec>) -> bool
+    ensures { IsTrue result → IfSome object.now IsObject }
+{
+    match object {
+        None => true,
+        Some(r) => is_object(r),
+    }
 }
 
 fn is_change(group: &Group, i: u64) -> bool
@@ -62,10 +73,8 @@ fn is_change(group: &Group, i: u64) -> bool
     if id >= 65_536 {
         return false;
     }
-    if let Some(r) = &object {
-        if !is_object(r) {
-            return false;
-        }
+    if !is_record(&object) {
+        return false;
     }
     are_block_changes(group.changes(id))
 }
@@ -153,6 +162,9 @@ fn a_log_is_appended_to_up_to_its_bound(rt: HostRuntime) -> Result<(), Fail> {
         return Err(Fail::new("a long set"));
     }
     let log = write_log(alloc, &mut store, &NO_WORDS, &[327_682], &set, 1, 0)?;
+    if log.words > 1 {
+        return Err(Fail::new("a long log"));
+    }
     assert_eq!(rt;
         read_stream(alloc, &mut store, &log)?.as_slice(),
         [327_682].as_slice()
@@ -165,6 +177,9 @@ fn a_log_is_appended_to_up_to_its_bound(rt: HostRuntime) -> Result<(), Fail> {
     let grown = write_log(alloc, &mut store, &full, &[7, 8], &set, 1, 0)?;
     assert_eq!(rt; (grown.words, store.kept.len()), (514, 3));
     let anew = write_log(alloc, &mut store, &grown, &[7], &set, 1, 0)?;
+    if anew.words > 1 {
+        return Err(Fail::new("a long log"));
+    }
     assert_eq!(rt; store.kept.len(), 1);
     assert_eq!(rt;
         read_stream(alloc, &mut store, &anew)?.as_slice(),
