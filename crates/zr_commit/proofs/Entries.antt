@@ -1,5 +1,5 @@
 -- The changed objects of a group, as the calls below want them.
-use Rattle.std.proofs.Common.{◌≡◌, ◌∙◌, ◌+◌, ◌*◌, ◌<◌, ◌≤◌, ◌^◌, ℕ, zero, suc, List, [], ◌∷◌, ◌++◌, length, map, take, drop, refl, sym, ap, subst, arith}
+use Rattle.std.proofs.Common.{◌≡◌, ◌∙◌, ◌+◌, ◌*◌, ◌<◌, ◌≤◌, ◌^◌, ℕ, zero, suc, List, [], ◌∷◌, ◌++◌, length, map, take, drop, get_or, refl, sym, ap, subst, arith}
 use Rattle.std.specs.Prelude.{All, Option, Some, None, IfSome, option_map}
 use Rattle.std.specs.List.{AllByRecursion, sum_by}
 use Rattle.std.proofs.lemmas.List.{map-append, take-append-drop}
@@ -137,8 +137,13 @@ change_of g i id object cs rising lt is found blocks low lawful each = record {
   };
 }
 
+each_last : {X : Type 0} (P : X → Type 0) (xs : List X) (x : X) → AllByRecursion P xs → P x → AllByRecursion P (xs ++ x ∷ [])
+each_last P [] x h one = (one, tt)
+each_last P (y ∷ xs) x h one = (h.0, each_last P xs x h.1 one)
+
 -- the changes up to one more
 pub each_more : (es : List (ℕ × ObjectChange)) (i : ℕ) → i < length es → AllByRecursion IsChangeOf (take i es) → IsChangeOf (entry es i) → AllByRecursion IsChangeOf (take (i + 1) es)
-each_more [] i lt h one = absurd (omega (arith, lt))
-each_more (e ∷ es) zero lt h one = (one, tt)
-each_more (e ∷ es) (suc i) lt h one = (h.0, each_more es i (omega (arith, lt)) h.1 one)
+each_more es i lt h one = subst (λ (xs : List (ℕ × ObjectChange)). AllByRecursion IsChangeOf xs) (sym (front es i lt)) (each_last IsChangeOf (take i es) (entry es i) h one)
+
+pub block_more : (cs : List (ℕ × Ptr)) (i : ℕ) (d : ℕ × Ptr) → i < length cs → AllByRecursion IsBlockChange (take i cs) → IsBlockChange (get_or cs i d) → AllByRecursion IsBlockChange (take (i + 1) cs)
+block_more cs i d lt h one = subst (λ (xs : List (ℕ × Ptr)). AllByRecursion IsBlockChange xs) (sym (taken d cs i lt)) (each_last IsBlockChange (take i cs) (get_or cs i d) h one)
