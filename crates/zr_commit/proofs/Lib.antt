@@ -7,3 +7,4 @@ pub mod Swapping
 pub mod Writing
 pub mod Storing
 pub mod Costing
+pub mod Giving

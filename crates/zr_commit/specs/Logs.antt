@@ -1,8 +1,10 @@
 -- Streams that are written in place of others.
 use Rattle.std.specs.Prelude.{◌≡◌, ℕ, ◌+◌, ◌*◌, Bool, nat_lt, if◌then◌else◌, List, []}
+use Rattle.std.specs.List.{flat_map}
 use Rattle.std.specs.Int.{div_ceil}
 use Rattle.zr_base.specs.Trees.{tree_units}
 use Rattle.zr_base.specs.declared.space.Extent.{Extent}
+use Rattle.zr_bptr.specs.declared.Bptr.{Bptr}
 use Rattle.zr_rules.specs.Logs.{IsAnew, IsLate}
 use Rattle.zr_store.specs.Store.{Stored, Swaps}
 use Rattle.zr_tree.specs.Trees.{tree_reach}
@@ -10,6 +12,10 @@ use Rattle.zr_meta.specs.declared.Stream.{Stream}
 use Rattle.zr_meta.specs.Streams.{late_list}
 use Rattle.zr_root.specs.Streams.{HasWords, StoresWords}
 use Rattle.zr_root.specs.Appends.{leaves_anew}
+
+-- the blocks of streams, one stream after another
+abbrev pub streams_reach : Stored → List Stream → List Bptr
+streams_reach s streams = flat_map (λ t. tree_reach s t.tree) streams
 
 -- the words stand in the stream, whose blocks came in place of those of the stream before
 pub record Rewrites (old new : Stored) (was now : Stream) (ns : List ℕ) : Type 0 where

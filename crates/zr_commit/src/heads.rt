@@ -48,7 +48,7 @@ pub fn write_head<B: Blocks>(
 }
 
 /// Gives back the blocks of a head of so many bytes, as its root names it. Each tree block is read, and no leaf. After an
-/// error some of the blocks may have been given back, if memory ran out, and none otherwise.
+/// error some of the blocks may have been given back.
 pub fn free_head<B: Blocks>(
     alloc: Global,
     store: &mut B,

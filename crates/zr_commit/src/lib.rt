@@ -11,7 +11,7 @@ mod objects;
 mod trees;
 
 pub use heads::{free_head, write_head};
-pub use logs::{write_anew, write_late, write_log};
+pub use logs::{free_streams, write_anew, write_late, write_log};
 pub use objects::write_group;
 pub use trees::free_tree;
 

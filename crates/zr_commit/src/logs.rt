@@ -3,18 +3,18 @@
 //! A log that grew is appended to, so its full leaves stay where they are. Only when it has become much longer than the
 //! set itself needs is the set written anew in its place, so each word is written about twice in all. A late set is short
 //! lived and is always written anew.
-ghost use Rattle.std.specs.Prelude.{◌≡◌, ◌⊎◌, ◌+◌, ◌*◌, ◌^◌, ◌<◌, ◌≤◌, List, [], ℕ, length, IfOk, OnOk};
+ghost use Rattle.std.specs.Prelude.{◌≡◌, ◌⊎◌, ◌+◌, ◌*◌, ◌^◌, ◌<◌, ◌≤◌, List, [], ℕ, length, All, IfOk, OnOk};
 ghost use Rattle.std.specs.Int.{div_ceil};
 ghost use Rattle.zr_base.specs.Trees.{tree_units};
 ghost use Rattle.zr_rules.specs.Owed.{set_words};
 ghost use Rattle.zr_smap.specs.Cuts.{IsInReach};
 ghost use Rattle.zr_store.specs.Causes.{Costs, HasCause};
-ghost use Rattle.zr_store.specs.Store.{Stored, Now, AreStored};
+ghost use Rattle.zr_store.specs.Store.{Stored, Now, AreStored, Swaps};
 ghost use Rattle.zr_tree.specs.Trees.{tree_reach, tree_blocks, TellsOf};
 ghost use Rattle.zr_meta.specs.Heads.{IsStream};
 ghost use Rattle.zr_root.specs.Streams.{HasWords};
 ghost use Rattle.zr_root.specs.Appends.{Appends, TellsOfStream};
-ghost use Rattle.zr_commit.specs.Logs.{Rewrites, RewritesSet, StoresLate, log_puts, log_frees};
+ghost use Rattle.zr_commit.specs.Logs.{Rewrites, RewritesSet, StoresLate, streams_reach, log_puts, log_frees};
 
 use crate::trees::free_tree;
 use std::alloc::Global;
@@ -23,6 +23,26 @@ use zr_ranges::RangeSet;
 use zr_root::{append, write_stream};
 use zr_smap::{condensed, needs_anew};
 use zr_store::{Blocks, StoreErr};
+
+/// Gives back the blocks of streams, one stream after another. After an error some of them may have been given back.
+pub fn free_streams<B: Blocks>(
+    alloc: Global,
+    store: &mut B,
+    streams: &[Stream],
+) -> Result<(), StoreErr>
+    requires { All IsStream streams.now }
+    ensures follows { (start : B) → B.follows start store.old → B.follows start store.new }
+    ensures puts { (frees : ℕ) × Costs 0 frees (B.account store.old) (B.account store.new) }
+    ensures costs { (s : Stored) → B.holds store.old s → AreStored (streams_reach s streams.now) s → Costs 0 (length (streams_reach s streams.now)) (B.account store.old) (B.account store.new) }
+    ensures cause { HasCause 0 (B.account store.old) (B.account store.new) result }
+    ensures errors { (s : Stored) → B.holds store.old s → AreStored (streams_reach s streams.now) s → TellsOf s (streams_reach s streams.now) result }
+    ensures swaps { (s : Stored) → B.holds store.old s → AreStored (streams_reach s streams.now) s → OnOk result (Now (B.holds store.new) (λ n. Swaps s n (streams_reach s streams.now) [])) }
+{
+    for stream in streams {
+        free_tree(alloc, store, &stream.tree)?;
+    }
+    Ok(())
+}
 
 /// Stores words as a stream in place of another one, whose blocks are given back first. After an error the old stream is
 /// not to be read on, since some of its blocks may have been given back.

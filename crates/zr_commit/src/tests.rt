@@ -204,6 +204,8 @@ fn a_late_set_has_blocks_and_metadata(rt: HostRuntime) -> Result<(), Fail> {
         read_stream(alloc, &mut store, &late)?.as_slice(),
         [327_682, 622_592].as_slice()
     );
+    free_streams(alloc, &mut store, &[late])?;
+    assert_eq!(rt; store.kept.len(), 0);
     Ok(())
 }
 

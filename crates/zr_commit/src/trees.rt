@@ -1,7 +1,6 @@
 //! Giving back all blocks of a tree.
 //!
-//! The tree is read first and nothing is given back before all of it is known, so an error of reading leaves the store as
-//! it was.
+//! The tree is read first, and its blocks are given back when all of it is known.
 ghost use Rattle.std.specs.Prelude.{◌≡◌, List, [], ℕ, length, IfErr, OnOk};
 ghost use Rattle.zr_bptr.specs.Spelling.{IsTree};
 ghost use Rattle.zr_store.specs.declared.StoreErr.TheVariants.{NoMemory};
@@ -28,7 +27,7 @@ fn free_all<B: Blocks>(alloc: Global, store: &mut B, bs: &[Bptr]) -> Result<(), 
 }
 
 /// Gives back the tree blocks and the leaves of a tree. Each tree block is read, and no leaf. After an error some of the
-/// blocks may have been given back, if memory ran out, and none otherwise.
+/// blocks may have been given back.
 pub fn free_tree<B: Blocks>(alloc: Global, store: &mut B, t: &Tree) -> Result<(), StoreErr>
     requires { IsTree t.now }
     ensures follows { (start : B) → B.follows start store.old → B.follows start store.new }
