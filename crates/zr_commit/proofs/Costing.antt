@@ -1,5 +1,5 @@
 -- What writing a group takes.
-use Rattle.std.proofs.Common.{◌≡◌, ◌+◌, ◌*◌, ◌<◌, ◌≤◌, ℕ, List, length, take, Result, arith}
+use Rattle.std.proofs.Common.{◌≡◌, ◌+◌, ◌*◌, ◌<◌, ℕ, List, length, take, Result, arith}
 use Rattle.zr_store.specs.declared.StoreErr.{StoreErr}
 use Rattle.zr_store.specs.Causes.{Account, Costs, HasCause}
 use Rattle.zr_store.proofs.Causes.{costs_then, costs_most, cause_then, cause_most}

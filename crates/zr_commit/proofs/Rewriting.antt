@@ -1,7 +1,6 @@
 -- Streams that are written in place of others.
-use Rattle.std.proofs.Common.{◌≡◌, ◌∙◌, ◌+◌, ◌*◌, ◌^◌, ◌<◌, ◌≤◌, ℕ, List, [], Result, Ok, Err, refl, arith, lit<}
+use Rattle.std.proofs.Common.{◌∙◌, ◌^◌, ◌≤◌, ℕ, List, [], Result, Ok, Err, refl, arith, lit<}
 use Rattle.std.specs.Prelude.{IfOk}
-use Rattle.std.specs.Int.{div_ceil}
 use Rattle.std.proofs.Math.Nat.{pow-le-pow_right}
 use Rattle.zr_bptr.specs.declared.Ptr.{Ptr}
 use Rattle.zr_bptr.specs.declared.Ptr.TheVariants.{Hole, At}

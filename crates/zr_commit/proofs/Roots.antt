@@ -1,5 +1,5 @@
 -- The root of a head that is stored.
-use Rattle.std.proofs.Common.{◌≡◌, ◌∙◌, ◌*◌, ◌≤◌, ℕ, zero, suc, ◌^◌, List, length, refl, sym, ap, subst, arith}
+use Rattle.std.proofs.Common.{◌≡◌, ◌∙◌, ◌≤◌, ℕ, zero, suc, ◌^◌, List, length, refl, sym, ap, subst, arith}
 use Rattle.std.specs.Int.{div_ceil}
 use Rattle.zr_base.specs.Trees.{IsHeight}
 use Rattle.zr_base.specs.declared.space.DevRow.{DevRow}

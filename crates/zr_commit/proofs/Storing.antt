@@ -1,9 +1,8 @@
 -- The directory with the records of the objects that were written.
-use Rattle.std.proofs.Common.{◌≡◌, ◌∙◌, ◌+◌, ◌/◌, ◌<◌, ◌≤◌, inl, inr, ℕ, suc, List, [], ◌∷◌, ◌++◌, length, Bool, true, false, nat_eq, Result, Ok, Err, Option, Some, None, refl, sym, ap, subst, arith, eq-eqb, ◌-◌}
+use Rattle.std.proofs.Common.{◌≡◌, ◌∙◌, ◌/◌, ◌<◌, ◌≤◌, inl, inr, ℕ, suc, List, [], ◌∷◌, ◌++◌, Bool, true, false, nat_eq, Result, Ok, Err, Option, Some, None, refl, sym, ap, subst, arith, eq-eqb, ◌-◌}
 use Rattle.std.specs.Prelude.{if◌then◌else◌, option_map, IfOk}
 use Rattle.std.specs.List.{AllByRecursion, flat_map}
 use Rattle.std.proofs.lemmas.Bool.{ne_eqb}
-use Rattle.std.proofs.lemmas.List.Sums.{sum_by-append}
 use Rattle.sha2.specs.Sha256.{sha256}
 use Rattle.zr_bptr.specs.declared.Bptr.{Bptr}
 use Rattle.zr_bptr.specs.declared.Tree.{Tree}
@@ -15,17 +14,16 @@ use Rattle.zr_tree.specs.Blocks.{IsNoBlock}
 use Rattle.zr_tree.specs.Trees.{own, tree_at, tree_reach, IsAmong}
 use Rattle.zr_tree.proofs.Frames.{Agree}
 use Rattle.zr_tree.proofs.Others.{keeps_others}
-use Rattle.zr_tree.proofs.Wholes.{among_hits, among_parts, among_within, tells_within, within_back}
+use Rattle.zr_tree.proofs.Wholes.{among_hits, among_parts, among_within, within_back}
 use Rattle.zr_objset.specs.Records.{record_of}
 use Rattle.zr_objset.specs.Changes.{changed, leaves_of, StoresRecords}
 use Rattle.zr_objset.specs.Errors.{IsNoLeaf, TellsOfLeaves}
 use Rattle.zr_objset.proofs.Keeping.{beside, tree_same, same_record}
 use Rattle.zr_objset.proofs.Within.{leaf_within}
-use Rattle.zr_objset.proofs.Tells.{tells_tree}
 use Rattle.zr_txg.specs.Tables.{IsRisingFrom, IsRising, value_at}
-use Rattle.zr_txg.specs.Changes.{ObjectChange, Changes, object_in}
+use Rattle.zr_txg.specs.Changes.{ObjectChange, Changes}
 use Rattle.zr_commit.specs.Objects.{object_blocks, blocks_of, blocks_in, blocks_now, IsObjectWritten, AreWritten, WritesObjects, WritesGroup}
-use Rattle.zr_commit.proofs.Swapping.{swaps_both, rest_stored, front_stored, tells_same}
+use Rattle.zr_commit.proofs.Swapping.{swaps_both, rest_stored, front_stored}
 use Rattle.zr_commit.proofs.Writing.{blocks_in_same, all_written_to}
 
 -- ---- the records of the changed objects

@@ -1,5 +1,5 @@
 -- Calls on a store one after the other, and trees beside those that they change.
-use Rattle.std.proofs.Common.{◌≡◌, ◌∙◌, ◌+◌, ◌-◌, ◌<◌, ◌≤◌, ℕ, List, [], ◌∷◌, ◌++◌, Result, Option, Some, None, refl, sym, ap, subst, arith}
+use Rattle.std.proofs.Common.{◌≡◌, ◌∙◌, ◌-◌, ℕ, List, ◌++◌, Result, Option, Some, None, refl, ap, subst, arith}
 use Rattle.std.specs.List.{sum_by}
 use Rattle.std.proofs.lemmas.List.Sums.{sum_by-append}
 use Rattle.sha2.specs.Sha256.{sha256}
@@ -7,14 +7,14 @@ use Rattle.zr_bptr.specs.declared.Bptr.{Bptr}
 use Rattle.zr_bptr.specs.declared.Ptr.{Ptr}
 use Rattle.zr_bptr.specs.declared.ObjRec.{ObjRec}
 use Rattle.zr_store.specs.declared.StoreErr.{StoreErr}
-use Rattle.zr_store.specs.Store.{Stored, Swaps, AreStored, IsOnce, one_at}
+use Rattle.zr_store.specs.Store.{Stored, Swaps, AreStored, one_at}
 use Rattle.zr_tree.specs.Blocks.{IsNoBlock}
-use Rattle.zr_tree.specs.Trees.{tree_at, tree_leaves, updated, TellsOf}
+use Rattle.zr_tree.specs.Trees.{tree_at, updated, TellsOf}
 use Rattle.zr_tree.proofs.Below.{weight_same}
 use Rattle.zr_tree.proofs.Frames.{Agree, frame}
 use Rattle.zr_tree.proofs.Others.{keeps}
 use Rattle.zr_tree.proofs.Wholes.{among_hits}
-use Rattle.zr_commit.specs.Objects.{object_blocks, IsWritten, IsObjectWritten}
+use Rattle.zr_commit.specs.Objects.{object_blocks, IsObjectWritten}
 
 -- what two calls did together
 pub swaps_both : (s n m : Stored) (out into more now : List Bptr) → Swaps s n out into → Swaps n m more now → Swaps s m (out ++ more) (into ++ now)

@@ -1,4 +1,4 @@
-use Rattle.std.proofs.Common.{◌<◌, ◌^◌, arith}
+use Rattle.std.proofs.Common.{arith}
 use Rattle.zr_root.proofs.Tails.{told_tree}
 use Rattle.zr_commit.proofs.Rewriting.{few_words}
 use Rattle.zr_commit.proofs.logs.write_log.Goals as goal

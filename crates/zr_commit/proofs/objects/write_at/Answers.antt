@@ -1,4 +1,4 @@
-use Rattle.std.proofs.Common.{◌≡◌, ◌+◌, ◌*◌, ◌∙◌, List, [], ℕ, length, Option, None, Err, sym, subst}
+use Rattle.std.proofs.Common.{◌+◌, ◌*◌, ◌∙◌, List, [], ℕ, length, Option, None, Err, sym, subst}
 use Rattle.std.specs.Prelude.{IfSome}
 use Rattle.std.specs.List.{AllByRecursion}
 use Rattle.std.proofs.lemmas.Result.{err_from_is_err_and}

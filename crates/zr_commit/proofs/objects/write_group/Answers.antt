@@ -1,4 +1,4 @@
-use Rattle.std.proofs.Common.{◌≡◌, ◌∙◌, ◌<◌, ◌++◌, List, ℕ, Vec, Global, length, Option, Err, sym, ap, subst, arith}
+use Rattle.std.proofs.Common.{◌∙◌, ◌<◌, ◌++◌, List, ℕ, Vec, Global, length, Option, Err, sym, ap, subst, arith}
 use Rattle.std.proofs.lemmas.Result.{err_from_is_err_and}
 use Rattle.zr_bptr.specs.declared.ObjRec.{ObjRec}
 use Rattle.zr_store.specs.Store.{Now}
