@@ -1,0 +1,10 @@
+pub mod Freeing
+pub mod LateWords
+pub mod Roots
+pub mod Rewriting
+pub mod Entries
+pub mod Swapping
+pub mod Writing
+pub mod Storing
+pub mod Costing
+pub mod Giving
