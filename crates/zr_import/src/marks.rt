@@ -95,7 +95,10 @@ impl Marks {
         ensures err { OnErr result ((d : ℕ) → units_at self.new d ≡ units_at self.old d) }
     {
         let dev = dev as usize;
-        if dev >= self.left.len() || e.len == 0 {
+        if e.len == 0 {
+            return Ok(false);
+        }
+        if dev >= self.left.len() {
             return Ok(false);
         }
         if !self.left[dev].covers(e) {

@@ -9,7 +9,8 @@ ghost use Rattle.zr_store.specs.Causes.{Costs};
 ghost use Rattle.zr_store.specs.Store.{Stored};
 ghost use Rattle.zr_image.specs.Roots.{late_counted, rows_of};
 ghost use Rattle.zr_import.specs.Causes.{HasCause};
-ghost use Rattle.zr_import.specs.declared.errors.ImportErr.TheVariants.{Rule, NoMemory};
+ghost use Rattle.zr_import.specs.declared.errors.ImportErr.TheVariants as error;
+ghost use Rattle.zr_base.specs.declared.space.DevPart.{DevPart};
 ghost use Rattle.zr_import.specs.Units.{HasMaximal};
 
 use crate::errors::ImportErr;
@@ -54,7 +55,7 @@ fn part_without_late(alloc: Global, p: &DevPart) -> Result<DevPart, NoMemory>
 }
 
 fn devs_without_late(alloc: Global, parts: &[DevPart]) -> Result<Items<DevPart>, NoMemory>
-    ensures { IfOk result (λ devs. devs ≡ map (λ p. record p { late1 = []; late2 = [] }) parts.now) }
+    ensures { IfOk result (λ devs. devs ≡ map (λ (p : DevPart). record p { late1 = []; late2 = [] }) parts.now) }
 {
     let mut devs = Items::new(alloc);
     for p in parts {
@@ -96,8 +97,8 @@ fn read_parts(
     requires head { IsHead (rows_of uber.now) head.now }
     requires count { length words.now ≡ sum_by (λ t. t.words) head.now.streams }
     ensures parts { IfOk result (SpellsParts uber.now.version (rows_of uber.now) head.now words.now) }
-    ensures rule { (n : ℕ) → IsErrOf result (Rule n) → (n ≡ 1) ⊎ (n ≡ 2) }
-    ensures memory { IfErr result (λ e. (e ≡ NoMemory) ⊎ ((n : ℕ) × (e ≡ Rule n))) }
+    ensures rule { (n : ℕ) → IsErrOf result (error.Rule n) → (n ≡ 1) ⊎ (n ≡ 2) }
+    ensures memory { IfErr result (λ e. (e ≡ error.NoMemory) ⊎ ((n : ℕ) × (e ≡ error.Rule n))) }
 {
     match parts_of(alloc, head, rows_of(uber), words, uber.version) {
         Ok(parts) => Ok(parts),

@@ -3,13 +3,15 @@
 //! What stands where is tested as soon as the block above is read: a hole where a leaf must be, a block where none may
 //! be, a leaf of another length. Then the pointers are gone below in order, and each is marked before its block is read.
 //! Each level ends by its number, so that a walk goes at most five blocks deep.
-ghost use Rattle.std.specs.Prelude.{◌≡◌, ◌+◌, ◌-◌, ◌*◌, ◌^◌, ◌<◌, ◌≤◌, ◌↔◌, List, ℕ, length, All, IfOk, OnOk, IsTrue};
+ghost use Rattle.std.specs.Prelude.{◌≡◌, ◌≢◌, ◌+◌, ◌-◌, ◌*◌, ◌^◌, ◌<◌, ◌≤◌, ◌↔◌, ◌++◌, ◌∷◌, [], List, ℕ, length, All, IfOk, OnOk, IsTrue};
 ghost use Rattle.zr_bptr.specs.Spelling.{IsTree, IsPointer};
+ghost use Rattle.zr_bptr.specs.declared.Ptr.TheVariants.{At};
 ghost use Rattle.zr_store.specs.Causes.{Costs};
 ghost use Rattle.zr_store.specs.Store.{Stored};
 ghost use Rattle.zr_tree.specs.Blocks.{FitsAt};
-ghost use Rattle.zr_tree.specs.Trees.{kids, IsWhole, IsSoundAt};
+ghost use Rattle.zr_tree.specs.Trees.{kids, reach, tree_reach, IsWhole, IsSoundAt};
 ghost use Rattle.zr_import.specs.Causes.{HasCause};
+ghost use Rattle.zr_import.specs.declared.walks.Kept.TheVariants.{Nothing};
 ghost use Rattle.zr_import.specs.Shapes.{MayStand, StandFrom};
 
 use crate::blocks::{read_pointers, read_unit};
@@ -120,6 +122,7 @@ fn keep<B: Blocks>(
     b: &Bptr,
     found: &mut Found,
 ) -> Result<(), ImportErr>
+    ensures met { kept ≢ Nothing → OnOk result (found.new.met.items ≡ found.old.met.items ++ b.now ∷ []) }
     ensures follows { (start : B) → B.follows start store.old → B.follows start store.new }
     ensures costs { Costs 0 0 (B.account store.old) (B.account store.new) }
     ensures cause { HasCause (B.account store.old) (B.account store.new) result }
@@ -147,6 +150,11 @@ fn pointers_below<B: Blocks>(
 ) -> Result<Vec<Ptr>, ImportErr>
     requires low { below < 5 }
     requires index { index ≤ 2 ^ 40 }
+    ensures count { IfOk result (λ pointers. length pointers.items ≡ 32) }
+    ensures fit { IfOk result (λ pointers. All (FitsAt below) pointers.items) }
+    ensures means { (s : Stored) → B.holds store.old s → IfOk result (λ pointers. pointers.items ≡ kids s below b.now) }
+    ensures whole { (s : Stored) → B.holds store.old s → b.now.level ≡ below + 1 → IfOk result (λ pointers. IsWhole s b.now) }
+    ensures stand { IfOk result (λ pointers. StandFrom shape.now below index pointers.items) }
     ensures follows { (start : B) → B.follows start store.old → B.follows start store.new }
     ensures costs { Costs 0 0 (B.account store.old) (B.account store.new) }
     ensures cause { HasCause (B.account store.old) (B.account store.new) result }
@@ -172,6 +180,8 @@ fn walk_below<B: Blocks>(
 ) -> Result<(), ImportErr>
     requires tall { level ≤ 5 }
     requires index { index ≤ 2 ^ 26 * (5 - level) }
+    ensures met { (s : Stored) → B.holds store.old s → shape.now.kept ≢ Nothing → OnOk result (found.new.met.items ≡ found.old.met.items ++ reach s level p.now) }
+    ensures sound { (s : Stored) → B.holds store.old s → FitsAt level p.now → OnOk result (IsSoundAt s level p.now) }
     ensures follows { (start : B) → B.follows start store.old → B.follows start store.new }
     ensures costs { Costs 0 0 (B.account store.old) (B.account store.new) }
     ensures cause { HasCause (B.account store.old) (B.account store.new) result }
@@ -206,6 +216,8 @@ pub(crate) fn walk_tree<B: Blocks>(
     found: &mut Found,
 ) -> Result<(), ImportErr>
     requires { IsTree t.now }
+    ensures met { (s : Stored) → B.holds store.old s → shape.now.kept ≢ Nothing → OnOk result (found.new.met.items ≡ found.old.met.items ++ tree_reach s t.now) }
+    ensures sound { (s : Stored) → B.holds store.old s → OnOk result (IsSoundAt s t.now.height t.now.root) }
     ensures follows { (start : B) → B.follows start store.old → B.follows start store.new }
     ensures costs { Costs 0 0 (B.account store.old) (B.account store.new) }
     ensures cause { HasCause (B.account store.old) (B.account store.new) result }
@@ -233,6 +245,8 @@ pub fn read_marked<B: Blocks>(
     ensures cause { HasCause (B.account store.old) (B.account store.new) result }
     ensures same { (s : Stored) → B.holds store.old s → B.holds store.new s }
     ensures len { IfOk result (λ bytes. length bytes.items ≡ 4096 * leaves) }
+    ensures met { (s : Stored) → B.holds store.old s → OnOk result (met.new.items ≡ met.old.items ++ reach s root.now.level (At root.now)) }
+    ensures sound { (s : Stored) → B.holds store.old s → OnOk result (IsSoundAt s root.now.level (At root.now)) }
 {
     if root.at.len != 1 {
         return Err(ImportErr::Rule(1));
