@@ -1,6 +1,7 @@
 -- Sets that are made of their extents, and sets that lose some.
 use Rattle.std.specs.Prelude.{IsTrue, false, true, ◌||◌}
 use Rattle.std.proofs.Common.{◌≡◌, ◌<◌, ◌≤◌, ◌+◌, ℕ, zero, suc, List, [], ◌∷◌, ◌++◌, length, get_or, take, refl, sym, ◌∙◌, ap, subst, arith}
+use Rattle.std.proofs.Math.Seq.{take-suc}
 use Rattle.std.proofs.lemmas.List.{get_or_past}
 use Rattle.std.proofs.lemmas.Grind.{common_steps}
 use Rattle.std.proofs.lemmas.Bool.Decides.{nat_tests}
@@ -34,3 +35,14 @@ is_apart_from i xs d m lt = apart_from 0 i xs d m lt
 has_unit-append : (xs ys : List Extent) (u : ℕ) → has_unit (xs ++ ys) u ≡ (has_unit xs u || has_unit ys u)
 has_unit-append [] ys u = refl
 has_unit-append (x ∷ xs) ys u = grind (arith, nat_tests, has_unit-append xs ys u)
+
+-- with one more extent a set of the first ones has one more of them
+pub one_more : (i : ℕ) (xs old new : List Extent) (d : Extent) → IsMaximal xs → i < length xs → old ≡ take i xs → AddsUnits old new (get_or xs i d) → new ≡ take (i + 1) xs
+one_more i xs old new d m lt old_is adds =
+    let e = get_or xs i d in
+    let next : take (i + 1) xs ≡ take i xs ++ e ∷ [] = (let n : i + 1 ≡ suc i = omega arith in ap (λ (k : ℕ). take k xs) n ∙ take-suc xs i d lt) in
+    same_extents 0 0 new (take (i + 1) xs) adds.maximal (maximal_take (i + 1) xs m)
+    (λ u.
+        let is = ap (λ (es : List Extent). has_unit es u) next ∙ has_unit-append (take i xs) (e ∷ []) u in
+        let was = ap (λ (es : List Extent). has_unit es u) old_is in
+        grind (arith, nat_tests, is, was, adds.members u))

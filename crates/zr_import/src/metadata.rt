@@ -64,12 +64,12 @@ fn devs_without_late(alloc: Global, parts: &[DevPart]) -> Result<Items<DevPart>,
     Ok(devs)
 }
 
-/// The late sets count as empty where the root is a reset: it has freed all, whatever they say.
+/// The late sets count as empty where the root is a reset, or is of the first form: it has freed all, whatever they say.
 fn late_counted(alloc: Global, uber: &Uber, parts: SpaceParts) -> Result<SpaceParts, NoMemory>
     requires { parts.cond ≡ None }
     ensures { IfOk result (λ counted. counted ≡ late_counted uber.now parts) }
 {
-    if uber.reset != uber.txg {
+    if uber.reset != 0 && uber.reset != uber.txg {
         return Ok(parts);
     }
     let devs = devs_without_late(alloc, parts.devs.as_slice())?;

@@ -2,13 +2,14 @@
 //!
 //! The walk begins with all held units, and takes out those that it meets. So a pointer to units that are not held, or
 //! that another pointer led to, is refused when it is met, and behind the walk all held units must be gone.
-ghost use Rattle.std.specs.Prelude.{◌≡◌, ◌+◌, ◌*◌, ◌^◌, ◌<◌, ◌≤◌, ◌↔◌, List, ℕ, length, map, All, IfOk, IfSome, OnOk, IsTrue, true};
+ghost use Rattle.std.specs.Prelude.{◌≡◌, ◌+◌, ◌*◌, ◌^◌, ◌<◌, ◌≤◌, ◌↔◌, List, ℕ, length, map, All, IfOk, IfErr, IfSome, OnOk, IsTrue, true, ◌⊎◌};
 ghost use Rattle.zr_bptr.specs.Spelling.{IsTree, IsObject};
 ghost use Rattle.zr_store.specs.Causes.{Costs};
 ghost use Rattle.zr_store.specs.Store.{Stored};
 ghost use Rattle.zr_image.specs.Roots.{HasRootSize};
 ghost use Rattle.zr_import.specs.Causes.{HasCause};
 ghost use Rattle.zr_import.specs.Units.{HasMaximal};
+ghost use Rattle.zr_import.specs.declared.errors.ImportErr.TheVariants.{NoMemory, Rule};
 
 use crate::blocks::read;
 use crate::errors::ImportErr;
@@ -34,6 +35,7 @@ fn add_objects(objects: &mut Vec<ObjRec>, records: &[Option<ObjRec>]) -> Result<
     requires lawful { All (λ r. IfSome r IsObject) records.now }
     requires before { All IsObject objects.old.items }
     ensures lawful { All IsObject objects.new.items }
+    ensures errors { IfErr result (λ e. (e ≡ NoMemory) ⊎ (e ≡ Rule 1)) }
 {
     for record in records {
         if let Some(r) = record {
@@ -144,7 +146,9 @@ fn walk_all<B: Blocks>(
 }
 
 /// Takes out the kept units of a device.
-fn take_kept(held: &mut Marks, dev: u32, kept: &[Extent]) -> Result<(), ImportErr> {
+fn take_kept(held: &mut Marks, dev: u32, kept: &[Extent]) -> Result<(), ImportErr>
+    ensures { IfErr result (λ e. (e ≡ NoMemory) ⊎ (e ≡ Rule 7)) }
+{
     for e in kept {
         if !held.take(dev, *e)? {
             return Err(ImportErr::Rule(7));
@@ -159,7 +163,9 @@ fn take_late(
     held: &Marks,
     dev: u32,
     runs: &[LateRun],
-) -> Result<(), ImportErr> {
+) -> Result<(), ImportErr>
+    ensures { IfErr result (λ e. (e ≡ NoMemory) ⊎ (e ≡ Rule 7)) }
+{
     for run in runs {
         if !held.is_apart(dev, run.at) || !free.take(dev, run.at)? {
             return Err(ImportErr::Rule(7));
@@ -171,6 +177,7 @@ fn take_late(
 /// Takes the kept units of all devices out of those that are left of the held ones, of which none is left then.
 fn spend_held(left: &mut Marks, parts: &[DevPart]) -> Result<(), ImportErr>
     requires { length parts.now ≤ 32 }
+    ensures { IfErr result (λ e. (e ≡ NoMemory) ⊎ (e ≡ Rule 7)) }
 {
     for (dev, part) in parts.iter().enumerate() {
         take_kept(left, dev as u32, part.kept.as_slice())?;
@@ -184,6 +191,7 @@ fn spend_held(left: &mut Marks, parts: &[DevPart]) -> Result<(), ImportErr>
 /// Takes the late units of all devices out of those that are neither held nor metadata.
 fn spend_late(free: &mut Marks, held: &Marks, parts: &[DevPart]) -> Result<(), ImportErr>
     requires { length parts.now ≤ 32 }
+    ensures { IfErr result (λ e. (e ≡ NoMemory) ⊎ (e ≡ Rule 7)) }
 {
     for (dev, part) in parts.iter().enumerate() {
         take_late(free, held, dev as u32, part.late1.as_slice())?;

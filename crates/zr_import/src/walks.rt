@@ -3,7 +3,7 @@
 //! What stands where is tested as soon as the block above is read: a hole where a leaf must be, a block where none may
 //! be, a leaf of another length. Then the pointers are gone below in order, and each is marked before its block is read.
 //! Each level ends by its number, so that a walk goes at most five blocks deep.
-ghost use Rattle.std.specs.Prelude.{◌≡◌, ◌≢◌, ◌+◌, ◌-◌, ◌*◌, ◌^◌, ◌<◌, ◌≤◌, ◌↔◌, ◌++◌, ◌∷◌, [], List, ℕ, length, All, IfOk, OnOk, IsTrue};
+ghost use Rattle.std.specs.Prelude.{◌≡◌, ◌≢◌, ◌+◌, ◌-◌, ◌*◌, ◌^◌, ◌<◌, ◌≤◌, ◌↔◌, ◌++◌, ◌∷◌, [], List, ℕ, length, All, IfOk, IfErr, OnOk, IsTrue, ◌⊎◌};
 ghost use Rattle.zr_bptr.specs.Spelling.{IsTree, IsPointer};
 ghost use Rattle.zr_bptr.specs.declared.Ptr.TheVariants.{At};
 ghost use Rattle.zr_store.specs.Causes.{Costs};
@@ -11,6 +11,7 @@ ghost use Rattle.zr_store.specs.Store.{Stored};
 ghost use Rattle.zr_tree.specs.Blocks.{FitsAt};
 ghost use Rattle.zr_tree.specs.Trees.{kids, reach, tree_reach, IsWhole, IsSoundAt};
 ghost use Rattle.zr_import.specs.Causes.{HasCause};
+ghost use Rattle.zr_import.specs.declared.errors.ImportErr.TheVariants.{NoMemory, Rule};
 ghost use Rattle.zr_import.specs.declared.walks.Kept.TheVariants.{Nothing};
 ghost use Rattle.zr_import.specs.Shapes.{MayStand, StandFrom};
 
@@ -50,7 +51,10 @@ pub(crate) struct Found {
 
 impl Found {
     /// Nothing yet.
-    pub(crate) fn new(alloc: Global) -> Found {
+    pub(crate) fn new(alloc: Global) -> Found
+        ensures met { result.met.items ≡ [] }
+        ensures bytes { result.bytes.items ≡ [] }
+    {
         Found {
             met: Vec::new(alloc),
             bytes: Vec::new(alloc),
@@ -103,7 +107,9 @@ fn are_in_place(shape: &Shape, level: u32, index: u64, pointers: &[Ptr]) -> bool
 }
 
 /// Marks a pointer that is not younger than the root.
-fn meet(marks: &mut Marks, txg: u64, b: &Bptr) -> Result<(), ImportErr> {
+fn meet(marks: &mut Marks, txg: u64, b: &Bptr) -> Result<(), ImportErr>
+    ensures { IfErr result (λ e. (e ≡ NoMemory) ⊎ (e ≡ Rule 7)) }
+{
     if b.birth > txg {
         return Err(ImportErr::Rule(7));
     }
