@@ -134,6 +134,7 @@ pub fn read_meta<B: Blocks>(
     ensures same { (s : Stored) → B.holds store.old s → B.holds store.new s }
     ensures head { IfOk result (λ meta. IsHead (rows_of uber.now) meta.head) }
     ensures held { IfOk result (λ meta. All HasMaximal meta.parts.devs) }
+    ensures few { IfOk result (λ meta. length meta.parts.devs ≤ 32) }
 {
     let mut met = Vec::new(alloc);
     let head = read_head(alloc, store, marks, uber, &mut met)?;
