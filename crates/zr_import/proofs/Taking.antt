@@ -43,6 +43,6 @@ one_more i xs old new d m lt old_is adds =
     let next : take (i + 1) xs ≡ take i xs ++ e ∷ [] = (let n : i + 1 ≡ suc i = omega arith in ap (λ (k : ℕ). take k xs) n ∙ take-suc xs i d lt) in
     same_extents 0 0 new (take (i + 1) xs) adds.maximal (maximal_take (i + 1) xs m)
     (λ u.
-        let is = ap (λ (es : List Extent). has_unit es u) next ∙ has_unit-append (take i xs) (e ∷ []) u in
-        let was = ap (λ (es : List Extent). has_unit es u) old_is in
-        grind (arith, nat_tests, is, was, adds.members u))
+    let is = ap (λ (es : List Extent). has_unit es u) next ∙ has_unit-append (take i xs) (e ∷ []) u in
+    let was = ap (λ (es : List Extent). has_unit es u) old_is in
+    grind (arith, nat_tests, is, was, adds.members u))

@@ -13,11 +13,7 @@ use zr_bptr::{Bptr, Ptr, decode_block};
 use zr_store::Blocks;
 
 /// The bytes of a block.
-pub(crate) fn read<B: Blocks>(
-    alloc: Global,
-    store: &mut B,
-    b: &Bptr,
-) -> Result<Vec<u8>, ImportErr>
+pub(crate) fn read<B: Blocks>(alloc: Global, store: &mut B, b: &Bptr) -> Result<Vec<u8>, ImportErr>
     ensures follows { (start : B) → B.follows start store.old → B.follows start store.new }
     ensures costs { Costs 0 0 (B.account store.old) (B.account store.new) }
     ensures cause { HasCause (B.account store.old) (B.account store.new) result }

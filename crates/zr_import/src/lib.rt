@@ -22,6 +22,8 @@ pub use errors::ImportErr;
 pub use marks::Marks;
 pub use metadata::{Meta, read_meta};
 pub use objects::walk_objects;
-pub use roots::{Root, import_root};
+pub use roots::{Root, are_on, import_root};
 pub use walks::read_marked;
 
+#[cfg(test)]
+mod tests;

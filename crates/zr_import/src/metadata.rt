@@ -83,7 +83,8 @@ fn late_counted(alloc: Global, uber: &Uber, parts: SpaceParts) -> Result<SpacePa
 
 /// Whether none of the blocks lies on units that are held.
 fn are_apart(held: &Marks, met: &[Bptr]) -> bool {
-    met.iter().all(|b| held.is_apart(b.at.dev, extent_of(&b.at)))
+    met.iter()
+        .all(|b| held.is_apart(b.at.dev, extent_of(&b.at)))
 }
 
 /// What the words of the streams record. The first rule of forms and sets that is broken is told.

@@ -158,12 +158,7 @@ fn take_kept(held: &mut Marks, dev: u32, kept: &[Extent]) -> Result<(), ImportEr
 }
 
 /// Takes out late units, which are not held.
-fn take_late(
-    free: &mut Marks,
-    held: &Marks,
-    dev: u32,
-    runs: &[LateRun],
-) -> Result<(), ImportErr>
+fn take_late(free: &mut Marks, held: &Marks, dev: u32, runs: &[LateRun]) -> Result<(), ImportErr>
     ensures { IfErr result (λ e. (e ≡ NoMemory) ⊎ (e ≡ Rule 7)) }
 {
     for run in runs {

@@ -1,5 +1,5 @@
 //! A whole root.
-ghost use Rattle.std.specs.Prelude.{◌≡◌, ◌≤◌, ◌+◌, ℕ, length, IfOk, IsTrue, true, All};
+ghost use Rattle.std.specs.Prelude.{◌≡◌, ◌↔◌, ◌≤◌, ◌+◌, ℕ, length, IfOk, IsTrue, true, All};
 ghost use Rattle.std.specs.List.{list_all};
 ghost use Rattle.zr_label.specs.Blocks.{IsUber};
 ghost use Rattle.zr_meta.specs.Heads.{IsHead};
@@ -15,7 +15,7 @@ use crate::marks::Marks;
 use crate::metadata::read_meta;
 use crate::objects::walk_objects;
 use std::alloc::Global;
-use zr_base::{Dva, Items, SpaceParts};
+use zr_base::{DevState, Dva, Items, SpaceParts};
 use zr_label::Uber;
 use zr_meta::Head;
 use zr_store::Blocks;
@@ -28,13 +28,17 @@ pub struct Root {
     pub meta: Items<Dva>,
 }
 
+/// Whether all devices of a root are in service.
+pub fn are_on(uber: &Uber) -> bool
+    requires { IsUber uber.now }
+    ensures { IsTrue result ↔ IsTrue (list_all (λ r. is_on r.state) (rows_of uber.now)) }
+{
+    rows_of(uber).iter().all(|r| r.state == DevState::On)
+}
+
 /// Reads a root, and all that it points to but the leaves of objects. The time and the memory are linear in the blocks that
 /// it reads, of which there are no more than units.
-pub fn import_root<B: Blocks>(
-    alloc: Global,
-    store: &mut B,
-    uber: &Uber,
-) -> Result<Root, ImportErr>
+pub fn import_root<B: Blocks>(alloc: Global, store: &mut B, uber: &Uber) -> Result<Root, ImportErr>
     requires uber { IsUber uber.now }
     requires on { IsTrue (list_all (λ r. is_on r.state) (rows_of uber.now)) }
     ensures follows { (start : B) → B.follows start store.old → B.follows start store.new }
