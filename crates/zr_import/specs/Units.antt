@@ -1,12 +1,11 @@
 -- Units that pointers may still lead to.
-use Rattle.std.specs.Prelude.{◌≡◌, ◌≢◌, ℕ, ◌+◌, ◌<◌, List, [], ◌∷◌, slice_index_or, if◌then◌else◌}
+use Rattle.std.specs.Prelude.{◌≡◌, ◌≢◌, ℕ, ◌≤◌, ◌<◌, List, [], ◌∷◌, slice_index_or}
 use Rattle.zr_base.specs.declared.space.Dva.{Dva}
-use Rattle.zr_base.specs.declared.space.DevRow.{DevRow}
+use Rattle.zr_bptr.specs.declared.Bptr.{Bptr}
 use Rattle.zr_base.specs.declared.space.DevPart.{DevPart}
 use Rattle.zr_base.specs.declared.space.Extent.{Extent}
-use Rattle.zr_base.specs.Extents.{HasAll, HasNone, IsMaximal, RemovesUnits}
+use Rattle.zr_base.specs.Extents.{HasAll, IsMaximal, RemovesUnits}
 use Rattle.zr_ranges.specs.Ranges.{Ranges}
-use Rattle.zr_rules.specs.Places.{is_on}
 
 -- the units of the device with this index
 abbrev pub units_at : List Ranges → ℕ → List Extent
@@ -26,10 +25,10 @@ pub record Takes (old new : List Ranges) (d : ℕ) (e : Extent) : Type 0 where
   pub taken : RemovesUnits (units_at old d) (units_at new d) e
   pub others : (other : ℕ) → other ≢ d → units_at new other ≡ units_at old other
 
--- all units of each device in service
-abbrev pub rows_units : List DevRow → List (List Extent)
-rows_units [] = []
-rows_units (r ∷ rows) = (if is_on r.state then record { start = 0; len = r.units } ∷ [] else []) ∷ rows_units rows
+-- These blocks were marked in order: none is younger than the group, and the units of each were there and are gone.
+abbrev pub MarksAll : ℕ → List Ranges → List Ranges → List Bptr → Type 0
+MarksAll txg old new [] = new ≡ old
+MarksAll txg old new (b ∷ bs) = (b.birth ≤ txg) × ((mid : List Ranges) × (Has old b.at.dev (extent_of b.at) × (Takes old mid b.at.dev (extent_of b.at) × MarksAll txg mid new bs)))
 
 -- each device's held units are maximal extents in order
 abbrev pub HasMaximal : DevPart → Type 0

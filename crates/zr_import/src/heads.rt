@@ -2,16 +2,21 @@
 //!
 //! A string of bytes fills leaves of 4,096 bytes, with zeros behind its end. Which streams there are, and how many leaves
 //! each has, is known from the head before the first of them is read.
-ghost use Rattle.std.specs.Prelude.{◌≡◌, ◌+◌, ◌*◌, ◌^◌, ◌<◌, ◌≤◌, ◌↔◌, List, ℕ, length, drop, sum_by, All, IfOk, IsTrue, true};
-ghost use Rattle.std.specs.List.{AllByRecursion};
+ghost use Rattle.std.specs.Prelude.{◌≡◌, ◌+◌, ◌*◌, ◌^◌, ◌<◌, ◌≤◌, ◌↔◌, List, ℕ, length, drop, sum_by, ◌++◌, All, IfOk, OnOk, IsTrue, true};
+ghost use Rattle.std.specs.List.{AllByRecursion, flat_map};
 ghost use Rattle.std.specs.Int.{div_ceil};
 ghost use Rattle.zr_base.specs.Words.{words, zeros};
 ghost use Rattle.zr_bptr.specs.Spelling.{IsPointer};
+ghost use Rattle.zr_bptr.specs.declared.Ptr.TheVariants.{At};
+ghost use Rattle.zr_tree.specs.Trees.{reach, tree_reach};
+ghost use Rattle.zr_root.specs.Streams.{HasBytes, HasWords};
+ghost use Rattle.zr_import.specs.Units.{MarksAll};
+ghost use Rattle.zr_import.specs.Words.{HaveWords};
 ghost use Rattle.zr_label.specs.Blocks.{IsUber};
-ghost use Rattle.zr_meta.specs.Heads.{IsHead, IsStream};
+ghost use Rattle.zr_meta.specs.Heads.{IsHead, IsStream, head_bytes};
 ghost use Rattle.zr_store.specs.Causes.{Costs};
 ghost use Rattle.zr_store.specs.Store.{Stored};
-ghost use Rattle.zr_image.specs.Roots.{concrete_units, rows_of};
+ghost use Rattle.zr_image.specs.Roots.{concrete_units, head_tree, rows_of};
 ghost use Rattle.zr_import.specs.Causes.{HasCause};
 
 use crate::errors::ImportErr;
@@ -57,7 +62,11 @@ fn read_bytes<B: Blocks>(
     met: &mut Vec<Bptr>,
 ) -> Result<Vec<u8>, ImportErr>
     requires root { IsPointer root.now }
+    requires some { 0 < len }
     requires len { len ≤ 2 ^ 50 }
+    ensures marks { (s : Stored) → B.holds store.old s → OnOk result (MarksAll txg marks.old marks.new (reach s root.now.level (At root.now))) }
+    ensures met { (s : Stored) → B.holds store.old s → OnOk result (met.new.items ≡ met.old.items ++ reach s root.now.level (At root.now)) }
+    ensures bytes { (s : Stored) → B.holds store.old s → IfOk result (λ bytes. HasBytes s (record { root = At root.now; height = root.now.level }) bytes.items) }
     ensures follows { (start : B) → B.follows start store.old → B.follows start store.new }
     ensures costs { Costs 0 0 (B.account store.old) (B.account store.new) }
     ensures cause { HasCause (B.account store.old) (B.account store.new) result }
@@ -123,6 +132,10 @@ pub(crate) fn read_head<B: Blocks>(
     ensures cause { HasCause (B.account store.old) (B.account store.new) result }
     ensures same { (s : Stored) → B.holds store.old s → B.holds store.new s }
     ensures head { IfOk result (IsHead (rows_of uber.now)) }
+    ensures form { IfOk result (λ h. (h.form ≡ 1) ↔ (uber.now.reset ≡ 0)) }
+    ensures marks { (s : Stored) → B.holds store.old s → OnOk result (MarksAll uber.now.txg marks.old marks.new (tree_reach s (head_tree uber.now))) }
+    ensures met { (s : Stored) → B.holds store.old s → OnOk result (met.new.items ≡ met.old.items ++ tree_reach s (head_tree uber.now)) }
+    ensures bytes { (s : Stored) → B.holds store.old s → IfOk result (λ h. HasBytes s (head_tree uber.now) (head_bytes h)) }
     ensures fits { IfOk result (λ h. All (λ t. div_ceil t.words 512 ≤ concrete_units (rows_of uber.now)) h.streams) }
 {
     let Ptr::At(root) = &uber.root else {
@@ -159,6 +172,9 @@ fn read_stream<B: Blocks>(
     ensures cause { HasCause (B.account store.old) (B.account store.new) result }
     ensures same { (s : Stored) → B.holds store.old s → B.holds store.new s }
     ensures count { IfOk result (λ ns. length ns.items ≡ stream.now.words) }
+    ensures marks { (s : Stored) → B.holds store.old s → OnOk result (MarksAll txg marks.old marks.new (tree_reach s stream.now.tree)) }
+    ensures met { (s : Stored) → B.holds store.old s → OnOk result (met.new.items ≡ met.old.items ++ tree_reach s stream.now.tree) }
+    ensures words { (s : Stored) → B.holds store.old s → IfOk result (λ ns. HasWords s stream.now ns.items) }
 {
     let Ptr::At(root) = &stream.tree.root else {
         return Ok(Vec::new(alloc));
@@ -183,6 +199,9 @@ pub(crate) fn read_streams<B: Blocks>(
     ensures cause { HasCause (B.account store.old) (B.account store.new) result }
     ensures same { (s : Stored) → B.holds store.old s → B.holds store.new s }
     ensures count { IfOk result (λ ns. length ns.items ≡ sum_by (λ t. t.words) streams.now) }
+    ensures marks { (s : Stored) → B.holds store.old s → OnOk result (MarksAll txg marks.old marks.new (flat_map (λ t. tree_reach s t.tree) streams.now)) }
+    ensures met { (s : Stored) → B.holds store.old s → OnOk result (met.new.items ≡ met.old.items ++ flat_map (λ t. tree_reach s t.tree) streams.now) }
+    ensures words { (s : Stored) → B.holds store.old s → IfOk result (λ ns. HaveWords s streams.now ns.items) }
 {
     let mut all = Vec::new(alloc);
     for stream in streams {

@@ -5,7 +5,7 @@
 ghost use Rattle.std.specs.Prelude.{◌≡◌, ◌↔◌, ◌<◌, ◌≤◌, ◌^◌, ℕ, [], length, map, false, IsTrue, IfOk, OnErr, All};
 ghost use Rattle.zr_base.specs.Extents.{HasNone, IsMaximal};
 ghost use Rattle.zr_ranges.specs.Ranges.{Ranges};
-ghost use Rattle.zr_import.specs.Units.{units_at, extent_of, rows_units, Has, Takes, HasMaximal};
+ghost use Rattle.zr_import.specs.Units.{units_at, extent_of, Has, Takes, HasMaximal};
 
 use std::alloc::Global;
 use std::marker::Model;

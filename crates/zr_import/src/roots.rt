@@ -15,7 +15,7 @@ use crate::marks::Marks;
 use crate::metadata::read_meta;
 use crate::objects::walk_objects;
 use std::alloc::Global;
-use zr_base::{DevState, Dva, Items, SpaceParts};
+use zr_base::{DevRow, DevState, Dva, Items, SpaceParts};
 use zr_label::Uber;
 use zr_meta::Head;
 use zr_store::Blocks;
@@ -28,12 +28,24 @@ pub struct Root {
     pub meta: Items<Dva>,
 }
 
+fn is_on(r: &DevRow) -> bool
+    ensures { result ≡ is_on r.now.state }
+{
+    r.state == DevState::On
+}
+
+fn are_all_on(rows: &[DevRow]) -> bool
+    ensures { result ≡ list_all (λ r. is_on r.state) rows.now }
+{
+    rows.iter().all(|r| is_on(r))
+}
+
 /// Whether all devices of a root are in service.
 pub fn are_on(uber: &Uber) -> bool
     requires { IsUber uber.now }
-    ensures { IsTrue result ↔ IsTrue (list_all (λ r. is_on r.state) (rows_of uber.now)) }
+    ensures { result ≡ list_all (λ r. is_on r.state) (rows_of uber.now) }
 {
-    rows_of(uber).iter().all(|r| r.state == DevState::On)
+    are_all_on(rows_of(uber))
 }
 
 /// Reads a root, and all that it points to but the leaves of objects. The time and the memory are linear in the blocks that
@@ -41,6 +53,8 @@ pub fn are_on(uber: &Uber) -> bool
 pub fn import_root<B: Blocks>(alloc: Global, store: &mut B, uber: &Uber) -> Result<Root, ImportErr>
     requires uber { IsUber uber.now }
     requires on { IsTrue (list_all (λ r. is_on r.state) (rows_of uber.now)) }
+    ensures head { IfOk result (λ root. IsHead (rows_of uber.now) root.head) }
+    ensures few { IfOk result (λ root. length root.parts.devs ≤ 32) }
     ensures follows { (start : B) → B.follows start store.old → B.follows start store.new }
     ensures costs { Costs 0 0 (B.account store.old) (B.account store.new) }
     ensures cause { HasCause (B.account store.old) (B.account store.new) result }

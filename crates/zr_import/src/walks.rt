@@ -3,17 +3,18 @@
 //! What stands where is tested as soon as the block above is read: a hole where a leaf must be, a block where none may
 //! be, a leaf of another length. Then the pointers are gone below in order, and each is marked before its block is read.
 //! Each level ends by its number, so that a walk goes at most five blocks deep.
-ghost use Rattle.std.specs.Prelude.{◌≡◌, ◌≢◌, ◌+◌, ◌-◌, ◌*◌, ◌^◌, ◌<◌, ◌≤◌, ◌↔◌, ◌++◌, ◌∷◌, [], List, ℕ, length, All, IfOk, IfErr, OnOk, IsTrue, ◌⊎◌};
+ghost use Rattle.std.specs.Prelude.{◌≡◌, ◌≢◌, ◌+◌, ◌-◌, ◌*◌, ◌^◌, ◌<◌, ◌≤◌, ◌↔◌, ◌++◌, ◌∷◌, [], List, ℕ, length, true, All, IfOk, IfErr, OnOk, IsTrue, ◌⊎◌};
 ghost use Rattle.zr_bptr.specs.Spelling.{IsTree, IsPointer};
 ghost use Rattle.zr_bptr.specs.declared.Ptr.TheVariants.{At};
 ghost use Rattle.zr_store.specs.Causes.{Costs};
 ghost use Rattle.zr_store.specs.Store.{Stored};
 ghost use Rattle.zr_tree.specs.Blocks.{FitsAt};
-ghost use Rattle.zr_tree.specs.Trees.{kids, reach, tree_reach, IsWhole, IsSoundAt};
+ghost use Rattle.zr_tree.specs.Trees.{kids, reach, leaves_below, tree_reach, IsWhole, IsSoundAt};
 ghost use Rattle.zr_import.specs.Causes.{HasCause};
 ghost use Rattle.zr_import.specs.declared.errors.ImportErr.TheVariants.{NoMemory, Rule};
-ghost use Rattle.zr_import.specs.declared.walks.Kept.TheVariants.{Nothing};
-ghost use Rattle.zr_import.specs.Shapes.{MayStand, StandFrom};
+ghost use Rattle.zr_import.specs.declared.walks.Kept.TheVariants.{Nothing, Bytes};
+ghost use Rattle.zr_import.specs.Units.{MarksAll};
+ghost use Rattle.zr_import.specs.Shapes.{MayStand, StandFrom, HasFirst, AddsLeaves, ReadsTree};
 
 use crate::blocks::{read_pointers, read_unit};
 use crate::errors::ImportErr;
@@ -108,7 +109,8 @@ fn are_in_place(shape: &Shape, level: u32, index: u64, pointers: &[Ptr]) -> bool
 
 /// Marks a pointer that is not younger than the root.
 fn meet(marks: &mut Marks, txg: u64, b: &Bptr) -> Result<(), ImportErr>
-    ensures { IfErr result (λ e. (e ≡ NoMemory) ⊎ (e ≡ Rule 7)) }
+    ensures marks { OnOk result (MarksAll txg marks.old marks.new (b.now ∷ [])) }
+    ensures errors { IfErr result (λ e. (e ≡ NoMemory) ⊎ (e ≡ Rule 7)) }
 {
     if b.birth > txg {
         return Err(ImportErr::Rule(7));
@@ -129,6 +131,8 @@ fn keep<B: Blocks>(
     found: &mut Found,
 ) -> Result<(), ImportErr>
     ensures met { kept ≢ Nothing → OnOk result (found.new.met.items ≡ found.old.met.items ++ b.now ∷ []) }
+    ensures leaf { (s : Stored) → B.holds store.old s → kept ≡ Bytes → level ≡ 0 → OnOk result (AddsLeaves s (b.now ∷ []) found.old.bytes.items found.new.bytes.items) }
+    ensures block { 0 < level → OnOk result (found.new.bytes.items ≡ found.old.bytes.items) }
     ensures follows { (start : B) → B.follows start store.old → B.follows start store.new }
     ensures costs { Costs 0 0 (B.account store.old) (B.account store.new) }
     ensures cause { HasCause (B.account store.old) (B.account store.new) result }
@@ -188,6 +192,9 @@ fn walk_below<B: Blocks>(
     requires index { index ≤ 2 ^ 26 * (5 - level) }
     ensures met { (s : Stored) → B.holds store.old s → shape.now.kept ≢ Nothing → OnOk result (found.new.met.items ≡ found.old.met.items ++ reach s level p.now) }
     ensures sound { (s : Stored) → B.holds store.old s → FitsAt level p.now → OnOk result (IsSoundAt s level p.now) }
+    ensures marks { (s : Stored) → B.holds store.old s → OnOk result (MarksAll shape.now.txg marks.old marks.new (reach s level p.now)) }
+    ensures bytes { (s : Stored) → B.holds store.old s → shape.now.kept ≡ Bytes → OnOk result (AddsLeaves s (leaves_below s level p.now) found.old.bytes.items found.new.bytes.items) }
+    ensures first { (s : Stored) → B.holds store.old s → shape.now.full ≡ true → MayStand shape.now level index p.now → OnOk result (HasFirst s shape.now.leaves shape.now.leaf_units level index p.now) }
     ensures follows { (start : B) → B.follows start store.old → B.follows start store.new }
     ensures costs { Costs 0 0 (B.account store.old) (B.account store.new) }
     ensures cause { HasCause (B.account store.old) (B.account store.new) result }
@@ -224,6 +231,7 @@ pub(crate) fn walk_tree<B: Blocks>(
     requires { IsTree t.now }
     ensures met { (s : Stored) → B.holds store.old s → shape.now.kept ≢ Nothing → OnOk result (found.new.met.items ≡ found.old.met.items ++ tree_reach s t.now) }
     ensures sound { (s : Stored) → B.holds store.old s → OnOk result (IsSoundAt s t.now.height t.now.root) }
+    ensures marks { (s : Stored) → B.holds store.old s → OnOk result (MarksAll shape.now.txg marks.old marks.new (tree_reach s t.now)) }
     ensures follows { (start : B) → B.follows start store.old → B.follows start store.new }
     ensures costs { Costs 0 0 (B.account store.old) (B.account store.new) }
     ensures cause { HasCause (B.account store.old) (B.account store.new) result }
@@ -245,6 +253,7 @@ pub fn read_marked<B: Blocks>(
     met: &mut Vec<Bptr>,
 ) -> Result<Vec<u8>, ImportErr>
     requires root { IsPointer root.now }
+    requires some { 0 < leaves }
     requires leaves { leaves ≤ 2 ^ 48 }
     ensures follows { (start : B) → B.follows start store.old → B.follows start store.new }
     ensures costs { Costs 0 0 (B.account store.old) (B.account store.new) }
@@ -253,6 +262,8 @@ pub fn read_marked<B: Blocks>(
     ensures len { IfOk result (λ bytes. length bytes.items ≡ 4096 * leaves) }
     ensures met { (s : Stored) → B.holds store.old s → OnOk result (met.new.items ≡ met.old.items ++ reach s root.now.level (At root.now)) }
     ensures sound { (s : Stored) → B.holds store.old s → OnOk result (IsSoundAt s root.now.level (At root.now)) }
+    ensures marks { (s : Stored) → B.holds store.old s → OnOk result (MarksAll txg marks.old marks.new (reach s root.now.level (At root.now))) }
+    ensures bytes { (s : Stored) → B.holds store.old s → IfOk result (λ bytes. ReadsTree s (record { root = At root.now; height = root.now.level }) leaves bytes.items) }
 {
     if root.at.len != 1 {
         return Err(ImportErr::Rule(1));
