@@ -5,3 +5,4 @@ pub mod Leaves
 pub mod Marking
 pub mod Below
 pub mod Reading
+pub mod Directory

@@ -50,3 +50,6 @@ sum_next {X} f items i d lt =
     let e = ap (λ (k : ℕ). sum_by f (take k items)) n ∙ ap (sum_by f) (take-suc items i d lt) ∙ sum_by-append f (take i items) (get_or items i d ∷ []) in
     let one = sum_by-cons f (get_or items i d) [] in
     omega (arith, e, one)
+
+pub count_next : (items : List Stream) (i : ℕ) (d : Stream) (old own new : ℕ) → i < length items → old ≡ sum_by (λ (t : Stream). t.words) (take i items) → own ≡ (get_or items i d).words → new ≡ old + own → new ≡ sum_by (λ (t : Stream). t.words) (take (i + 1) items)
+count_next items i d old own new lt before here is = let e = sum_next (λ (t : Stream). t.words) items i d lt in omega (arith, e, before, here, is)

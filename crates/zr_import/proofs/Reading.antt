@@ -29,5 +29,5 @@ pub no_words : (t : Stream) → ((b : Bptr) → t.tree.root ≡ At b → ⊥) �
 no_words t none h = go t.tree.root none h
   where
     go : (p : Ptr) → ((b : Bptr) → p ≡ At b → ⊥) → IsTreeOf t.words t.tree.height p → t.words ≡ 0
-    go Hole no is = is.0
-    go (At b) no is = absurd (no b refl)
+    go Hole none_at is = is.0
+    go (At b) none_at is = absurd (none_at b refl)

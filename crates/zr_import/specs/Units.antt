@@ -1,5 +1,5 @@
 -- Units that pointers may still lead to.
-use Rattle.std.specs.Prelude.{◌≡◌, ◌≢◌, ℕ, ◌≤◌, ◌<◌, List, [], ◌∷◌, slice_index_or}
+use Rattle.std.specs.Prelude.{◌≡◌, ◌≢◌, ℕ, ◌≤◌, ◌<◌, List, [], ◌∷◌, slice_index_or, map, All}
 use Rattle.zr_base.specs.declared.space.Dva.{Dva}
 use Rattle.zr_bptr.specs.declared.Bptr.{Bptr}
 use Rattle.zr_base.specs.declared.space.DevPart.{DevPart}
@@ -33,3 +33,11 @@ MarksAll txg old new (b ∷ bs) = (b.birth ≤ txg) × ((mid : List Ranges) × (
 -- each device's held units are maximal extents in order
 abbrev pub HasMaximal : DevPart → Type 0
 HasMaximal p = IsMaximal p.held
+
+-- These blocks were marked, where at first just the held units could be. Where nothing is kept, no held unit is left.
+pub record MarksHeld (txg : ℕ) (devs : List DevPart) (blocks : List Bptr) : Type 0 where
+  pub held : List Ranges
+  pub left : List Ranges
+  pub held_is : map (λ (r : Ranges). r.extents) held ≡ map (λ (p : DevPart). p.held) devs
+  pub marks : MarksAll txg held left blocks
+  pub spent : All (λ (p : DevPart). p.kept ≡ []) devs → All (λ (r : Ranges). r.extents ≡ []) left

@@ -11,7 +11,8 @@ ghost use Rattle.zr_image.specs.Roots.{late_counted, rows_of};
 ghost use Rattle.zr_import.specs.Causes.{HasCause};
 ghost use Rattle.zr_import.specs.declared.errors.ImportErr.TheVariants as error;
 ghost use Rattle.zr_base.specs.declared.space.DevPart.{DevPart};
-ghost use Rattle.zr_import.specs.Units.{HasMaximal};
+ghost use Rattle.zr_import.specs.Units.{HasMaximal, MarksAll};
+ghost use Rattle.zr_import.specs.Words.{ReadsMeta, meta_reach};
 
 use crate::errors::ImportErr;
 use crate::heads::{read_head, read_streams, rows_of};
@@ -136,6 +137,9 @@ pub fn read_meta<B: Blocks>(
     ensures head { IfOk result (λ meta. IsHead (rows_of uber.now) meta.head) }
     ensures held { IfOk result (λ meta. All HasMaximal meta.parts.devs) }
     ensures few { IfOk result (λ meta. length meta.parts.devs ≤ 32) }
+    ensures reads { (s : Stored) → B.holds store.old s → IfOk result (λ meta. ReadsMeta s uber.now meta.head meta.parts) }
+    ensures marks { (s : Stored) → B.holds store.old s → IfOk result (λ meta. MarksAll uber.now.txg marks.old marks.new (meta_reach s uber.now meta.head)) }
+    ensures at { (s : Stored) → B.holds store.old s → IfOk result (λ meta. meta.at ≡ map (λ b. b.at) (meta_reach s uber.now meta.head)) }
 {
     let mut met = Vec::new(alloc);
     let head = read_head(alloc, store, marks, uber, &mut met)?;

@@ -2,13 +2,16 @@
 //!
 //! The walk begins with all held units, and takes out those that it meets. So a pointer to units that are not held, or
 //! that another pointer led to, is refused when it is met, and behind the walk all held units must be gone.
-ghost use Rattle.std.specs.Prelude.{◌≡◌, ◌+◌, ◌*◌, ◌^◌, ◌<◌, ◌≤◌, ◌↔◌, List, ℕ, length, map, All, IfOk, IfErr, IfSome, OnOk, IsTrue, true, ◌⊎◌};
+ghost use Rattle.std.specs.Prelude.{◌≡◌, ◌+◌, ◌*◌, ◌^◌, ◌<◌, ◌≤◌, ◌↔◌, ◌++◌, [], List, ℕ, length, map, All, IfOk, IfErr, IfSome, OnOk, IsTrue, true, ◌⊎◌};
 ghost use Rattle.zr_bptr.specs.Spelling.{IsTree, IsObject};
 ghost use Rattle.zr_store.specs.Causes.{Costs};
 ghost use Rattle.zr_store.specs.Store.{Stored};
 ghost use Rattle.zr_image.specs.Roots.{HasRootSize};
 ghost use Rattle.zr_import.specs.Causes.{HasCause};
-ghost use Rattle.zr_import.specs.Units.{HasMaximal};
+ghost use Rattle.std.specs.List.{flat_map};
+ghost use Rattle.zr_tree.specs.Trees.{tree_reach};
+ghost use Rattle.zr_objset.specs.Records.{object_reach, leaf_reach, all_reach};
+ghost use Rattle.zr_import.specs.Units.{HasMaximal, MarksAll, MarksHeld};
 ghost use Rattle.zr_import.specs.declared.errors.ImportErr.TheVariants.{NoMemory, Rule};
 
 use crate::blocks::read;
@@ -30,25 +33,41 @@ fn has_root_size(r: &ObjRec) -> bool
     }
 }
 
+/// The object of a record, where there is one.
+fn add_object(objects: &mut Vec<ObjRec>, record: &Option<ObjRec>) -> Result<(), ImportErr>
+    requires lawful { IfSome record.now IsObject }
+    requires before { All IsObject objects.old.items }
+    ensures lawful { All IsObject objects.new.items }
+    ensures reach { (s : Stored) → OnOk result (flat_map (λ r. tree_reach s r.tree) objects.new.items ≡ flat_map (λ r. tree_reach s r.tree) objects.old.items ++ object_reach s record.now) }
+    ensures errors { IfErr result (λ e. (e ≡ NoMemory) ⊎ (e ≡ Rule 1)) }
+{
+    match record {
+        None => Ok(()),
+        Some(r) => {
+            if !has_root_size(r) {
+                return Err(ImportErr::Rule(1));
+            }
+            objects.push(*r)?;
+            Ok(())
+        }
+    }
+}
+
 /// The objects of these records.
 fn add_objects(objects: &mut Vec<ObjRec>, records: &[Option<ObjRec>]) -> Result<(), ImportErr>
     requires lawful { All (λ r. IfSome r IsObject) records.now }
     requires before { All IsObject objects.old.items }
     ensures lawful { All IsObject objects.new.items }
+    ensures reach { (s : Stored) → OnOk result (flat_map (λ r. tree_reach s r.tree) objects.new.items ≡ flat_map (λ r. tree_reach s r.tree) objects.old.items ++ flat_map (object_reach s) records.now) }
     ensures errors { IfErr result (λ e. (e ≡ NoMemory) ⊎ (e ≡ Rule 1)) }
 {
     for record in records {
-        if let Some(r) = record {
-            if !has_root_size(r) {
-                return Err(ImportErr::Rule(1));
-            }
-            objects.push(*r)?;
-        }
+        add_object(objects, record)?;
     }
     Ok(())
 }
 
-/// The objects of a leaf of the directory.
+/// The objects of a leaf of the directory; a tree block has none.
 fn read_objects<B: Blocks>(
     alloc: Global,
     store: &mut B,
@@ -61,7 +80,11 @@ fn read_objects<B: Blocks>(
     ensures cause { HasCause (B.account store.old) (B.account store.new) result }
     ensures same { (s : Stored) → B.holds store.old s → B.holds store.new s }
     ensures lawful { All IsObject objects.new.items }
+    ensures reach { (s : Stored) → B.holds store.old s → OnOk result (flat_map (λ r. tree_reach s r.tree) objects.new.items ≡ flat_map (λ r. tree_reach s r.tree) objects.old.items ++ leaf_reach s b.now) }
 {
+    if b.level != 0 {
+        return Ok(());
+    }
     let bytes = read(alloc, store, b)?;
     let Some(records) = decode_records(alloc, bytes.as_slice())? else {
         return Err(ImportErr::Rule(1));
@@ -80,12 +103,11 @@ fn read_directory<B: Blocks>(
     ensures cause { HasCause (B.account store.old) (B.account store.new) result }
     ensures same { (s : Stored) → B.holds store.old s → B.holds store.new s }
     ensures lawful { IfOk result (λ objects. All IsObject objects.items) }
+    ensures reach { (s : Stored) → B.holds store.old s → IfOk result (λ objects. flat_map (λ r. tree_reach s r.tree) objects.items ≡ flat_map (leaf_reach s) met.now) }
 {
     let mut objects = Vec::new(alloc);
     for b in met {
-        if b.level == 0 {
-            read_objects(alloc, store, b, &mut objects)?;
-        }
+        read_objects(alloc, store, b, &mut objects)?;
     }
     Ok(objects)
 }
@@ -99,6 +121,7 @@ fn walk_object<B: Blocks>(
     r: &ObjRec,
 ) -> Result<(), ImportErr>
     requires { IsObject r.now }
+    ensures marks { (s : Stored) → B.holds store.old s → OnOk result (MarksAll txg held.old held.new (tree_reach s r.now.tree)) }
     ensures follows { (start : B) → B.follows start store.old → B.follows start store.new }
     ensures costs { Costs 0 0 (B.account store.old) (B.account store.new) }
     ensures cause { HasCause (B.account store.old) (B.account store.new) result }
@@ -124,6 +147,7 @@ fn walk_all<B: Blocks>(
     dir: &Tree,
 ) -> Result<(), ImportErr>
     requires { IsTree dir.now }
+    ensures marks { (s : Stored) → B.holds store.old s → OnOk result (MarksAll txg held.old held.new (all_reach s dir.now)) }
     ensures follows { (start : B) → B.follows start store.old → B.follows start store.new }
     ensures costs { Costs 0 0 (B.account store.old) (B.account store.new) }
     ensures cause { HasCause (B.account store.old) (B.account store.new) result }
@@ -147,7 +171,8 @@ fn walk_all<B: Blocks>(
 
 /// Takes out the kept units of a device.
 fn take_kept(held: &mut Marks, dev: u32, kept: &[Extent]) -> Result<(), ImportErr>
-    ensures { IfErr result (λ e. (e ≡ NoMemory) ⊎ (e ≡ Rule 7)) }
+    ensures none { kept.now ≡ [] → held.new ≡ held.old }
+    ensures errors { IfErr result (λ e. (e ≡ NoMemory) ⊎ (e ≡ Rule 7)) }
 {
     for e in kept {
         if !held.take(dev, *e)? {
@@ -172,7 +197,8 @@ fn take_late(free: &mut Marks, held: &Marks, dev: u32, runs: &[LateRun]) -> Resu
 /// Takes the kept units of all devices out of those that are left of the held ones, of which none is left then.
 fn spend_held(left: &mut Marks, parts: &[DevPart]) -> Result<(), ImportErr>
     requires { length parts.now ≤ 32 }
-    ensures { IfErr result (λ e. (e ≡ NoMemory) ⊎ (e ≡ Rule 7)) }
+    ensures none { All (λ p. p.kept ≡ []) parts.now → OnOk result (All (λ s. s.extents ≡ []) left.old) }
+    ensures errors { IfErr result (λ e. (e ≡ NoMemory) ⊎ (e ≡ Rule 7)) }
 {
     for (dev, part) in parts.iter().enumerate() {
         take_kept(left, dev as u32, part.kept.as_slice())?;
@@ -210,6 +236,7 @@ pub fn walk_objects<B: Blocks>(
     requires dir { IsTree dir.now }
     requires few { length parts.now.devs ≤ 32 }
     requires held { All HasMaximal parts.now.devs }
+    ensures marks { (s : Stored) → B.holds store.old s → OnOk result (MarksHeld txg parts.now.devs (all_reach s dir.now)) }
     ensures follows { (start : B) → B.follows start store.old → B.follows start store.new }
     ensures costs { Costs 0 0 (B.account store.old) (B.account store.new) }
     ensures cause { HasCause (B.account store.old) (B.account store.new) result }
