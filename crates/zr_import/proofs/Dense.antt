@@ -61,8 +61,8 @@ module _ (s : Stored) (n units below : ℕ) where
       ⊎_elim
       (λ inside. slot_left (own_leaves p) (flat_map own_leaves ps) r inside)
       (λ past.
-          let none = none_behind (index + width) ps (let e = one.count in omega (arith, e, past, lt)) rest in
-          ap (λ (xs : List Bptr). slot (map At (own_leaves p ++ xs)) r) none ∙ ap (λ (xs : List Bptr). slot (map At xs) r) (append-nil (own_leaves p)))
+      let none = none_behind (index + width) ps (let e = one.count in omega (arith, e, past, lt)) rest in
+      ap (λ (xs : List Bptr). slot (map At (own_leaves p ++ xs)) r) none ∙ ap (λ (xs : List Bptr). slot (map At xs) r) (append-nil (own_leaves p)))
       (cases_lt r (length (own_leaves p)))
 
   tail_slot : (index : ℕ) (p : Ptr) (ps : List Ptr) → HasFirst s n units below index p → AllFirst (index + width) ps → (j k : ℕ) → j ≡ width + k
@@ -70,9 +70,9 @@ module _ (s : Stored) (n units below : ℕ) where
   tail_slot index p ps one rest j k is =
       ⊎_elim
       (λ short.
-          let none = none_behind (index + width) ps (let e = one.count in omega (arith, e, short)) rest in
-          slot_past (own_leaves p ++ flat_map own_leaves ps) j (let e = length-append (own_leaves p) (flat_map own_leaves ps) in let z = ap (λ (xs : List Bptr). length xs) none in omega (arith, e, z, short, is))
-          ∙ sym (ap (λ (xs : List Bptr). slot (map At xs) k) none))
+      let none = none_behind (index + width) ps (let e = one.count in omega (arith, e, short)) rest in
+      slot_past (own_leaves p ++ flat_map own_leaves ps) j (let e = length-append (own_leaves p) (flat_map own_leaves ps) in let z = ap (λ (xs : List Bptr). length xs) none in omega (arith, e, z, short, is))
+      ∙ sym (ap (λ (xs : List Bptr). slot (map At xs) k) none))
       (λ full. slot_right (own_leaves p) (flat_map own_leaves ps) j k (let e = one.count in omega (arith, e, full, is)))
       (cases_lt (length (own_leaves p)) width)
 
@@ -139,6 +139,7 @@ block_first s n units level below index p b level_is is count each =
     pow_positive : (h : ℕ) → 0 < 32 ^ h
     pow_positive zero = omega arith
     pow_positive (suc h) = let e = pow-succ' 32 h in let p = pow_positive h in omega (arith, e, p)
+
     mod_small : (i w : ℕ) → 0 < w → i % w < w
     mod_small i w p = mod-lt i p
 

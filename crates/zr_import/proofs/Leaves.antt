@@ -89,13 +89,14 @@ places_of s t n units first index =
     ⊎_elim
     (λ lt. inside s t index (div-eq_of_lt lt) ∙ first.places index ∙ ap (λ (i : ℕ). slot (map At leaves) i) (mod-eq_of_lt lt))
     (λ ge.
-        outside s t index t.height (omega arith) (λ none. absurd (past index w ge (positive t.height) none))
-        ∙ sym (slot_past leaves index (let c = first.count in omega (arith, c, ge))))
+    outside s t index t.height (omega arith) (λ none. absurd (past index w ge (positive t.height) none))
+    ∙ sym (slot_past leaves index (let c = first.count in omega (arith, c, ge))))
     (cases_lt index w)
   where
     positive : (h : ℕ) → 0 < 32 ^ h
     positive zero = omega arith
     positive (suc h) = let e = pow-succ' 32 h in let p = positive h in omega (arith, e, p)
+
     past : (i w : ℕ) → w ≤ i → 0 < w → i / w ≡ 0 → ⊥
     past i w le p none = let e = div-add-mod i w in let small = mod-lt i p in let gone : w * (i / w) ≡ 0 = ap (λ (k : ℕ). w * k) none ∙ omega arith in omega (arith, e, small, gone, le)
 

@@ -247,5 +247,6 @@ pub fn walk_objects<B: Blocks>(
     walk_all(alloc, store, &mut left, txg, dir)?;
     spend_held(&mut left, devs)?;
     let held = Marks::of_held(alloc, devs)?;
-    spend_late(marks, &held, devs)
+    spend_late(marks, &held, devs)?;
+    Ok(())
 }

@@ -1,5 +1,5 @@
 //! A whole root.
-ghost use Rattle.std.specs.Prelude.{◌≡◌, ◌↔◌, ◌≤◌, ◌+◌, ℕ, length, IfOk, IsTrue, true, All};
+ghost use Rattle.std.specs.Prelude.{◌≡◌, ◌↔◌, ◌≤◌, ◌+◌, ℕ, length, map, IfOk, IsTrue, true, All};
 ghost use Rattle.std.specs.List.{list_all};
 ghost use Rattle.zr_label.specs.Blocks.{IsUber};
 ghost use Rattle.zr_meta.specs.Heads.{IsHead};
@@ -7,7 +7,10 @@ ghost use Rattle.zr_rules.specs.Places.{is_on};
 ghost use Rattle.zr_store.specs.Causes.{Costs};
 ghost use Rattle.zr_store.specs.Store.{Stored};
 ghost use Rattle.zr_image.specs.Roots.{rows_of};
+ghost use Rattle.zr_objset.specs.Records.{all_reach};
 ghost use Rattle.zr_import.specs.Causes.{HasCause};
+ghost use Rattle.zr_import.specs.Units.{MarksHeld};
+ghost use Rattle.zr_import.specs.Words.{ReadsMeta, meta_reach};
 
 use crate::errors::ImportErr;
 use crate::heads::rows_of;
@@ -55,6 +58,9 @@ pub fn import_root<B: Blocks>(alloc: Global, store: &mut B, uber: &Uber) -> Resu
     requires on { IsTrue (list_all (λ r. is_on r.state) (rows_of uber.now)) }
     ensures head { IfOk result (λ root. IsHead (rows_of uber.now) root.head) }
     ensures few { IfOk result (λ root. length root.parts.devs ≤ 32) }
+    ensures reads { (s : Stored) → B.holds store.old s → IfOk result (λ root. ReadsMeta s uber.now root.head root.parts) }
+    ensures meta { (s : Stored) → B.holds store.old s → IfOk result (λ root. root.meta ≡ map (λ b. b.at) (meta_reach s uber.now root.head)) }
+    ensures live { (s : Stored) → B.holds store.old s → IfOk result (λ root. MarksHeld uber.now.txg root.parts.devs (all_reach s root.head.dir)) }
     ensures follows { (start : B) → B.follows start store.old → B.follows start store.new }
     ensures costs { Costs 0 0 (B.account store.old) (B.account store.new) }
     ensures cause { HasCause (B.account store.old) (B.account store.new) result }
