@@ -1,7 +1,7 @@
 -- The leaves of a tree that has the first so many: how many are below a pointer, and which stands at an index.
 use Rattle.std.specs.Prelude.{All, min}
 use Rattle.std.specs.List.{flat_map}
-use Rattle.std.proofs.Common.{◌≡◌, ◌<◌, ◌≤◌, ◌+◌, ◌-◌, ◌*◌, ◌/◌, ◌%◌, ◌^◌, ℕ, zero, suc, List, [], ◌∷◌, ◌++◌, length, get_or, map, refl, sym, ◌∙◌, ap, subst, arith, ⊎_elim, length-append, append-nil}
+use Rattle.std.proofs.Common.{◌≡◌, ◌<◌, ◌≤◌, ◌+◌, ◌-◌, ◌*◌, ◌/◌, ◌%◌, ◌^◌, ℕ, zero, suc, List, [], ◌∷◌, ◌++◌, length, map, refl, sym, ◌∙◌, ap, subst, arith, ⊎_elim, length-append, append-nil}
 use Rattle.std.proofs.Math.Nat.{mul-add, add-mul, mul_comm, mul_assoc, div-add-mod, mod-lt, pow-suc, pow-succ'}
 use Rattle.std.proofs.lemmas.Bool.{cases_lt}
 use Rattle.std.proofs.lemmas.List.Elements.{All-append}
@@ -9,7 +9,7 @@ use Rattle.zr_bptr.specs.declared.Bptr.{Bptr}
 use Rattle.zr_bptr.specs.declared.Ptr.{Ptr}
 use Rattle.zr_bptr.specs.declared.Ptr.TheVariants.{Hole, At}
 use Rattle.zr_store.specs.Store.{Stored}
-use Rattle.zr_tree.specs.Trees.{kids, slot, digit, leaf_at, leaves_below}
+use Rattle.zr_tree.specs.Trees.{kids, slot, digit, leaves_below}
 use Rattle.zr_tree.proofs.Holes.{div-suc}
 use Rattle.zr_root.proofs.Shapes.{slot_past}
 use Rattle.zr_import.specs.Shapes.{HasFirst}

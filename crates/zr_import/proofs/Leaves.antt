@@ -1,8 +1,8 @@
 -- What is read of the leaves of a tree, and what that says of the tree.
-use Rattle.std.specs.Prelude.{All, min}
+use Rattle.std.specs.Prelude.{All}
 use Rattle.std.specs.List.{flat_map}
 use Rattle.std.specs.Int.{div_ceil}
-use Rattle.std.proofs.Common.{◌≡◌, ◌≢◌, ◌<◌, ◌≤◌, ◌+◌, ◌-◌, ◌*◌, ◌/◌, ◌%◌, ◌^◌, ℕ, zero, suc, List, [], ◌∷◌, ◌++◌, length, get_or, take, drop, map, refl, sym, ◌∙◌, ap, subst, arith, ⊎_elim, append_assoc, append-nil}
+use Rattle.std.proofs.Common.{◌≡◌, ◌<◌, ◌≤◌, ◌-◌, ◌*◌, ◌/◌, ◌^◌, ℕ, zero, suc, List, [], ◌∷◌, ◌++◌, length, get_or, take, drop, map, refl, sym, ◌∙◌, ap, subst, arith, ⊎_elim, append_assoc, append-nil}
 use Rattle.std.proofs.Math.Nat.{mod-eq_of_lt, div-eq_of_lt, div-add-mod, mod-lt, pow-succ'}
 use Rattle.std.proofs.lemmas.Bool.{cases_lt}
 use Rattle.std.proofs.lemmas.Grind.{flat_map-append}
@@ -16,10 +16,10 @@ use Rattle.zr_bptr.specs.declared.Ptr.TheVariants.{Hole, At}
 use Rattle.zr_bptr.specs.declared.Tree.{Tree}
 use Rattle.zr_store.specs.Store.{Stored}
 use Rattle.zr_tree.specs.Blocks.{FitsAt}
-use Rattle.zr_tree.specs.Trees.{kids, own, slot, leaf_at, tree_at, leaves_below, blocks, IsWhole, IsSoundAt}
+use Rattle.zr_tree.specs.Trees.{kids, slot, tree_at, leaves_below, blocks, IsWhole, IsSoundAt}
 use Rattle.zr_tree.proofs.Holes.{inside}
 use Rattle.zr_tree.proofs.Raise.{outside}
-use Rattle.zr_root.specs.Streams.{IsUnitAt, HasSum, HasLeaves, HasBytes}
+use Rattle.zr_root.specs.Streams.{IsUnitAt, HasSum, HasBytes}
 use Rattle.zr_root.specs.Levels.{ReadsLeaves}
 use Rattle.zr_root.proofs.Joining.{all_among}
 use Rattle.zr_root.proofs.Shapes.{slot_past}

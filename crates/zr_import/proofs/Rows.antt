@@ -1,8 +1,7 @@
 -- The rows of the devices of a root, and what its parts record of them.
-use Rattle.std.specs.Prelude.{IsTrue, All, true, false, Bool, ◌&&◌, ◌==◌, nat_le, if◌then◌else◌, ◌⊎◌, map}
+use Rattle.std.specs.Prelude.{IsTrue, All, true, false, Bool, ◌&&◌, ◌==◌, nat_le, if◌then◌else◌, map}
 use Rattle.std.specs.List.{AllByRecursion, list_all}
-use Rattle.std.proofs.Common.{◌≡◌, ◌<◌, ◌≤◌, ◌+◌, ◌^◌, ℕ, zero, suc, List, [], ◌∷◌, length, get_or, drop, refl, sym, ◌∙◌, ap, subst, arith}
-use Rattle.std.proofs.lemmas.Grind.{common_steps}
+use Rattle.std.proofs.Common.{◌≡◌, ◌≤◌, ◌+◌, ◌^◌, ℕ, zero, suc, List, [], ◌∷◌, length, drop, refl, ap, arith}
 use Rattle.std.proofs.lemmas.Bool.Decides.{nat_tests}
 use Rattle.zr_base.specs.declared.space.DevRow.{DevRow}
 use Rattle.zr_base.specs.declared.space.DevPart.{DevPart}

@@ -1,4 +1,4 @@
-use Rattle.std.proofs.Common.{rules, ◌≡◌, ◌*◌, ◌≤◌, ◌∙◌, List, ℕ, length, drop, ap, arith}
+use Rattle.std.proofs.Common.{rules, ◌≡◌, length, drop, arith}
 use Rattle.zr_base.specs.Words.{zeros}
 use Rattle.zr_root.proofs.Joining.{ceil_of}
 use Rattle.zr_bptr.specs.declared.Tree.{Tree}

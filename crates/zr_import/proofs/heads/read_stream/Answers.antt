@@ -1,7 +1,5 @@
-use Rattle.std.proofs.Common.{rules, ◌≡◌, ◌*◌, ◌<◌, ◌∙◌, List, ℕ, length, ap, arith}
+use Rattle.std.proofs.Common.{rules, ◌≡◌, ◌∙◌, List, ℕ, length, ap, arith}
 use Rattle.zr_meta.proofs.Fronts.{words_small}
-use Rattle.zr_bptr.specs.declared.Ptr.{Ptr}
-use Rattle.zr_bptr.specs.declared.Ptr.TheVariants.{At}
 use Rattle.zr_root.proofs.Standing.{has_words, has_none}
 use Rattle.std.proofs.Common.{subst, ◌++◌}
 use Rattle.zr_bptr.specs.declared.Tree.{Tree}

@@ -1,4 +1,4 @@
-use Rattle.std.proofs.Common.{rules, ◌≡◌, ◌∙◌, ◌++◌, ◌<◌, List, ℕ, length, length-append, sym, ap, subst, arith}
+use Rattle.std.proofs.Common.{rules, ◌≡◌, ◌∙◌, ◌++◌, ◌<◌, List, ℕ, length, length-append, sym, ap, subst}
 use Rattle.zr_meta.specs.declared.Stream.{Stream}
 use Rattle.zr_tree.specs.Trees.{tree_reach}
 use Rattle.zr_objset.proofs.Walking.{reach_more}

@@ -1,6 +1,5 @@
-use Rattle.std.proofs.Common.{◌≡◌, ◌∙◌, ◌≤◌, List, length, subst, sym, ap}
+use Rattle.std.proofs.Common.{◌∙◌, ◌≤◌, List, length, subst, sym, ap}
 use Rattle.std.specs.Prelude.{All}
-use Rattle.zr_base.specs.declared.space.DevPart.{DevPart}
 use Rattle.zr_base.specs.declared.space.SpaceParts.{SpaceParts}
 use Rattle.std.proofs.Common.{ℕ, ◌++◌, map}
 use Rattle.std.specs.List.{flat_map}

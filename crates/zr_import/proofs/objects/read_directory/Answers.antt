@@ -1,4 +1,4 @@
-use Rattle.std.proofs.Common.{rules, ◌≡◌, ◌∙◌, [], sym}
+use Rattle.std.proofs.Common.{rules, []}
 use Rattle.zr_objset.specs.Records.{leaf_reach}
 use Rattle.zr_objset.proofs.Walking.{reach_more}
 use Rattle.zr_import.proofs.objects.read_directory.Goals as goal

@@ -1,4 +1,4 @@
-use Rattle.std.proofs.Common.{◌≡◌, ◌∙◌, List, [], map, sym, ap, subst}
+use Rattle.std.proofs.Common.{◌≡◌, ◌∙◌, [], map, sym, ap, subst}
 use Rattle.std.specs.Prelude.{All}
 use Rattle.zr_base.specs.declared.space.DevPart.{DevPart}
 use Rattle.zr_import.proofs.objects.walk_objects.Goals as goal

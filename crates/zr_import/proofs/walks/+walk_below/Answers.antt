@@ -1,20 +1,18 @@
-use Rattle.std.proofs.Common.{rules, ◌≡◌, ◌∙◌, ◌+◌, ◌*◌, ◌-◌, ◌<◌, ◌^◌, ℕ, List, length, suc, sym, ap, subst, arith, get_or, ⊎_elim}
+use Rattle.std.proofs.Common.{rules, ◌≡◌, ◌∙◌, ◌+◌, ◌*◌, ◌-◌, ◌<◌, ◌^◌, ℕ, List, length, suc, sym, ap, subst, arith}
 use Rattle.std.specs.Prelude.{All}
 use Rattle.std.proofs.Math.Nat.{add-mul}
-use Rattle.std.proofs.lemmas.Bool.{cases_lt}
 use Rattle.std.proofs.lemmas.Grind.{common_steps}
 use Rattle.std.proofs.lemmas.List.Elements.{All-more}
 use Rattle.zr_bptr.specs.Spelling.{IsOfLevel}
-use Rattle.zr_bptr.specs.declared.Bptr.{Bptr}
 use Rattle.zr_bptr.specs.declared.Ptr.{Ptr}
 use Rattle.zr_bptr.specs.declared.Ptr.TheVariants.{Hole}
 use Rattle.zr_tree.specs.Blocks.{FitsAt}
 use Rattle.zr_tree.specs.Trees.{reach, leaves_below, slot, IsSoundAt}
 use Rattle.zr_tree.proofs.Walking.{walked, sound_block}
 use Rattle.zr_import.specs.Shapes.{MayStand, HasFirst}
-use Rattle.zr_import.proofs.Dense.{block_first, hole_first, leaf_first}
+use Rattle.zr_import.proofs.Dense.{block_first}
 use Rattle.zr_import.proofs.Marking.{marks_more, adds_more}
-use Rattle.zr_import.proofs.Below.{marks_block, marks_leaf, adds_block, adds_leaf, first_more}
+use Rattle.zr_import.proofs.Below.{marks_block, adds_block, first_more}
 use Rattle.zr_import.proofs.walks.+walk_below.Goals as goal
 
 pub loop-next-preserved : goal.loop-next-preserved
