@@ -1,0 +1,4 @@
+pub mod Causes
+pub mod Units
+pub mod Shapes
+pub mod Words

@@ -1,0 +1,43 @@
+-- Units that pointers may still lead to.
+use Rattle.std.specs.Prelude.{◌≡◌, ◌≢◌, ℕ, ◌≤◌, ◌<◌, List, [], ◌∷◌, slice_index_or, map, All}
+use Rattle.zr_base.specs.declared.space.Dva.{Dva}
+use Rattle.zr_bptr.specs.declared.Bptr.{Bptr}
+use Rattle.zr_base.specs.declared.space.DevPart.{DevPart}
+use Rattle.zr_base.specs.declared.space.Extent.{Extent}
+use Rattle.zr_base.specs.Extents.{HasAll, IsMaximal, RemovesUnits}
+use Rattle.zr_ranges.specs.Ranges.{Ranges}
+
+-- the units of the device with this index
+abbrev pub units_at : List Ranges → ℕ → List Extent
+units_at sets d = (slice_index_or sets d (record { extents = []; spare = 0 })).extents
+
+-- the units of an address
+abbrev pub extent_of : Dva → Extent
+extent_of at = record { start = at.start; len = at.len }
+
+-- some units, all of which are there
+pub record Has (sets : List Ranges) (d : ℕ) (e : Extent) : Type 0 where
+  pub some : 0 < e.len
+  pub all : HasAll (units_at sets d) e
+
+-- the units of the device are no longer there, and all others are
+pub record Takes (old new : List Ranges) (d : ℕ) (e : Extent) : Type 0 where
+  pub taken : RemovesUnits (units_at old d) (units_at new d) e
+  pub others : (other : ℕ) → other ≢ d → units_at new other ≡ units_at old other
+
+-- These blocks were marked in order: none is younger than the group, and the units of each were there and are gone.
+abbrev pub MarksAll : ℕ → List Ranges → List Ranges → List Bptr → Type 0
+MarksAll txg old new [] = new ≡ old
+MarksAll txg old new (b ∷ bs) = (b.birth ≤ txg) × ((mid : List Ranges) × (Has old b.at.dev (extent_of b.at) × (Takes old mid b.at.dev (extent_of b.at) × MarksAll txg mid new bs)))
+
+-- each device's held units are maximal extents in order
+abbrev pub HasMaximal : DevPart → Type 0
+HasMaximal p = IsMaximal p.held
+
+-- These blocks were marked, where at first just the held units could be. Where nothing is kept, no held unit is left.
+pub record MarksHeld (txg : ℕ) (devs : List DevPart) (blocks : List Bptr) : Type 0 where
+  pub held : List Ranges
+  pub left : List Ranges
+  pub held_is : map (λ (r : Ranges). r.extents) held ≡ map (λ (p : DevPart). p.held) devs
+  pub marks : MarksAll txg held left blocks
+  pub spent : All (λ (p : DevPart). p.kept ≡ []) devs → All (λ (r : Ranges). r.extents ≡ []) left

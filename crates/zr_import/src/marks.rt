@@ -1,0 +1,135 @@
+//! The units to which a pointer may still lead.
+//!
+//! A unit that was met is taken out. So a pointer may be marked where all its units are there, and what is left behind a
+//! walk are the units that it did not meet.
+ghost use Rattle.std.specs.Prelude.{◌≡◌, ◌↔◌, ◌<◌, ◌≤◌, ◌^◌, ℕ, [], length, map, false, IsTrue, IfOk, OnErr, All};
+ghost use Rattle.zr_base.specs.Extents.{HasNone, IsMaximal};
+ghost use Rattle.zr_ranges.specs.Ranges.{Ranges};
+ghost use Rattle.zr_import.specs.Units.{units_at, extent_of, Has, Takes, HasMaximal};
+
+use std::alloc::Global;
+use std::marker::Model;
+use zr_base::{DevPart, DevRow, DevState, Dva, Extent, NoMemory};
+use zr_ranges::RangeSet;
+
+/// The units of each device to which a pointer may still lead.
+#[derive(Drop)]
+pub struct Marks {
+    left: Vec<RangeSet>,
+}
+
+impl Model for Marks {
+    ghost use Rattle.std.specs.Prelude.{List};
+    ghost use Rattle.zr_ranges.specs.Ranges.{Ranges};
+
+    ghost Value = { List Ranges };
+
+    ghost view = { λ a. a.left.items };
+}
+
+/// The units of an address.
+pub(crate) fn extent_of(at: &Dva) -> Extent
+    ensures { result ≡ extent_of at.now }
+{
+    Extent {
+        start: at.start,
+        len: u64::from(at.len),
+    }
+}
+
+/// A set of these extents.
+fn set_of(alloc: Global, extents: &[Extent]) -> Result<RangeSet, NoMemory>
+    requires { IsMaximal extents.now }
+    ensures { IfOk result (λ set. set.extents ≡ extents.now) }
+{
+    let mut set = RangeSet::new(alloc);
+    for e in extents {
+        set.add(*e)?;
+    }
+    Ok(set)
+}
+
+/// All units of a device in service, and none of another.
+fn row_set(alloc: Global, row: &DevRow) -> Result<RangeSet, NoMemory>
+    requires { row.now.units ≤ 2 ^ 36 }
+{
+    let mut set = RangeSet::new(alloc);
+    if row.state == DevState::On && row.units > 0 {
+        set.add(Extent {
+            start: 0,
+            len: row.units,
+        })?;
+    }
+    Ok(set)
+}
+
+impl Marks {
+    /// All units of the devices in service.
+    pub fn of_rows(alloc: Global, rows: &[DevRow]) -> Result<Marks, NoMemory>
+        requires { All (λ r. r.units ≤ 2 ^ 36) rows.now }
+    {
+        let mut left = Vec::new(alloc);
+        for row in rows {
+            left.push(row_set(alloc, row)?)?;
+        }
+        Ok(Marks { left })
+    }
+
+    /// The held units of each device.
+    pub fn of_held(alloc: Global, parts: &[DevPart]) -> Result<Marks, NoMemory>
+        requires { All HasMaximal parts.now }
+        ensures { IfOk result (λ marks. map (λ (s : Ranges). s.extents) marks ≡ map (λ p. p.held) parts.now) }
+    {
+        let mut left = Vec::new(alloc);
+        for part in parts {
+            left.push(set_of(alloc, part.held.as_slice())?)?;
+        }
+        Ok(Marks { left })
+    }
+
+    /// Takes out units, where all of them are there. It is logarithmic in the extents, and moves those above.
+    pub fn take(&mut self, dev: u32, e: Extent) -> Result<bool, NoMemory>
+        ensures fits { IfOk result (λ yes. IsTrue yes ↔ Has self.old dev e) }
+        ensures takes { IfOk result (λ yes. IsTrue yes → Takes self.old self.new dev e) }
+        ensures same { IfOk result (λ yes. yes ≡ false → self.new ≡ self.old) }
+        ensures err { OnErr result ((d : ℕ) → units_at self.new d ≡ units_at self.old d) }
+    {
+        let dev = dev as usize;
+        if e.len == 0 {
+            return Ok(false);
+        }
+        if dev >= self.left.len() {
+            return Ok(false);
+        }
+        if !self.left[dev].covers(e) {
+            return Ok(false);
+        }
+        self.left[dev].remove(e)?;
+        Ok(true)
+    }
+
+    /// Marks an address: false where it is not within its device, or meets a unit that was met before or may not be met.
+    pub fn mark(&mut self, at: &Dva) -> Result<bool, NoMemory>
+        ensures fits { IfOk result (λ yes. IsTrue yes ↔ Has self.old at.now.dev (extent_of at.now)) }
+        ensures takes { IfOk result (λ yes. IsTrue yes → Takes self.old self.new at.now.dev (extent_of at.now)) }
+        ensures same { IfOk result (λ yes. yes ≡ false → self.new ≡ self.old) }
+        ensures err { OnErr result ((d : ℕ) → units_at self.new d ≡ units_at self.old d) }
+    {
+        self.take(at.dev, extent_of(at))
+    }
+
+    /// Whether none of the units is there.
+    pub fn is_apart(&self, dev: u32, e: Extent) -> bool
+        ensures { IsTrue result ↔ HasNone (units_at self.now dev) e }
+    {
+        let dev = dev as usize;
+        dev >= self.left.len() || self.left[dev].is_apart(e)
+    }
+
+    /// Whether no unit is there.
+    pub fn is_empty(&self) -> bool
+        ensures { IsTrue result ↔ All (λ s. s.extents ≡ []) self.now }
+    {
+        self.left.iter().all(|set| set.extents().is_empty())
+    }
+}

@@ -1,0 +1,252 @@
+//! The directory and all objects, and the use of each unit.
+//!
+//! The walk begins with all held units, and takes out those that it meets. So a pointer to units that are not held, or
+//! that another pointer led to, is refused when it is met, and behind the walk all held units must be gone.
+ghost use Rattle.std.specs.Prelude.{◌≡◌, ◌+◌, ◌*◌, ◌^◌, ◌<◌, ◌≤◌, ◌↔◌, ◌++◌, [], List, ℕ, length, map, All, IfOk, IfErr, IfSome, OnOk, IsTrue, true, ◌⊎◌};
+ghost use Rattle.zr_bptr.specs.Spelling.{IsTree, IsObject};
+ghost use Rattle.zr_store.specs.Causes.{Costs};
+ghost use Rattle.zr_store.specs.Store.{Stored};
+ghost use Rattle.zr_image.specs.Roots.{HasRootSize};
+ghost use Rattle.zr_import.specs.Causes.{HasCause};
+ghost use Rattle.std.specs.List.{flat_map};
+ghost use Rattle.zr_tree.specs.Trees.{tree_reach};
+ghost use Rattle.zr_objset.specs.Records.{object_reach, leaf_reach, all_reach};
+ghost use Rattle.zr_import.specs.Units.{HasMaximal, MarksAll, MarksHeld};
+ghost use Rattle.zr_import.specs.declared.errors.ImportErr.TheVariants.{NoMemory, Rule};
+
+use crate::blocks::read;
+use crate::errors::ImportErr;
+use crate::marks::Marks;
+use crate::walks::{Found, Kept, Shape, walk_tree};
+use std::alloc::Global;
+use zr_base::{DevPart, Extent, LateRun, SpaceParts};
+use zr_bptr::{Bptr, ObjRec, Ptr, Tree, decode_records};
+use zr_store::Blocks;
+
+/// Whether an object that is one leaf has a leaf of its block size.
+fn has_root_size(r: &ObjRec) -> bool
+    ensures { IsTrue result ↔ HasRootSize r.now }
+{
+    match &r.tree.root {
+        Ptr::Hole => true,
+        Ptr::At(b) => r.tree.height > 0 || b.at.len == r.units,
+    }
+}
+
+/// The object of a record, where there is one.
+fn add_object(objects: &mut Vec<ObjRec>, record: &Option<ObjRec>) -> Result<(), ImportErr>
+    requires lawful { IfSome record.now IsObject }
+    requires before { All IsObject objects.old.items }
+    ensures lawful { All IsObject objects.new.items }
+    ensures reach { (s : Stored) → OnOk result (flat_map (λ r. tree_reach s r.tree) objects.new.items ≡ flat_map (λ r. tree_reach s r.tree) objects.old.items ++ object_reach s record.now) }
+    ensures errors { IfErr result (λ e. (e ≡ NoMemory) ⊎ (e ≡ Rule 1)) }
+{
+    match record {
+        None => Ok(()),
+        Some(r) => {
+            if !has_root_size(r) {
+                return Err(ImportErr::Rule(1));
+            }
+            objects.push(*r)?;
+            Ok(())
+        }
+    }
+}
+
+/// The objects of these records.
+fn add_objects(objects: &mut Vec<ObjRec>, records: &[Option<ObjRec>]) -> Result<(), ImportErr>
+    requires lawful { All (λ r. IfSome r IsObject) records.now }
+    requires before { All IsObject objects.old.items }
+    ensures lawful { All IsObject objects.new.items }
+    ensures reach { (s : Stored) → OnOk result (flat_map (λ r. tree_reach s r.tree) objects.new.items ≡ flat_map (λ r. tree_reach s r.tree) objects.old.items ++ flat_map (object_reach s) records.now) }
+    ensures errors { IfErr result (λ e. (e ≡ NoMemory) ⊎ (e ≡ Rule 1)) }
+{
+    for record in records {
+        add_object(objects, record)?;
+    }
+    Ok(())
+}
+
+/// The objects of a leaf of the directory; a tree block has none.
+fn read_objects<B: Blocks>(
+    alloc: Global,
+    store: &mut B,
+    b: &Bptr,
+    objects: &mut Vec<ObjRec>,
+) -> Result<(), ImportErr>
+    requires before { All IsObject objects.old.items }
+    ensures follows { (start : B) → B.follows start store.old → B.follows start store.new }
+    ensures costs { Costs 0 0 (B.account store.old) (B.account store.new) }
+    ensures cause { HasCause (B.account store.old) (B.account store.new) result }
+    ensures same { (s : Stored) → B.holds store.old s → B.holds store.new s }
+    ensures lawful { All IsObject objects.new.items }
+    ensures reach { (s : Stored) → B.holds store.old s → OnOk result (flat_map (λ r. tree_reach s r.tree) objects.new.items ≡ flat_map (λ r. tree_reach s r.tree) objects.old.items ++ leaf_reach s b.now) }
+{
+    if b.level != 0 {
+        return Ok(());
+    }
+    let bytes = read(alloc, store, b)?;
+    let Some(records) = decode_records(alloc, bytes.as_slice())? else {
+        return Err(ImportErr::Rule(1));
+    };
+    add_objects(objects, records.as_slice())
+}
+
+/// The objects of the leaves of the directory, by rising ID.
+fn read_directory<B: Blocks>(
+    alloc: Global,
+    store: &mut B,
+    met: &[Bptr],
+) -> Result<Vec<ObjRec>, ImportErr>
+    ensures follows { (start : B) → B.follows start store.old → B.follows start store.new }
+    ensures costs { Costs 0 0 (B.account store.old) (B.account store.new) }
+    ensures cause { HasCause (B.account store.old) (B.account store.new) result }
+    ensures same { (s : Stored) → B.holds store.old s → B.holds store.new s }
+    ensures lawful { IfOk result (λ objects. All IsObject objects.items) }
+    ensures reach { (s : Stored) → B.holds store.old s → IfOk result (λ objects. flat_map (λ r. tree_reach s r.tree) objects.items ≡ flat_map (leaf_reach s) met.now) }
+{
+    let mut objects = Vec::new(alloc);
+    for b in met {
+        read_objects(alloc, store, b, &mut objects)?;
+    }
+    Ok(objects)
+}
+
+/// The tree of an object, whose leaves are marked and not read.
+fn walk_object<B: Blocks>(
+    alloc: Global,
+    store: &mut B,
+    held: &mut Marks,
+    txg: u64,
+    r: &ObjRec,
+) -> Result<(), ImportErr>
+    requires { IsObject r.now }
+    ensures marks { (s : Stored) → B.holds store.old s → OnOk result (MarksAll txg held.old held.new (tree_reach s r.now.tree)) }
+    ensures follows { (start : B) → B.follows start store.old → B.follows start store.new }
+    ensures costs { Costs 0 0 (B.account store.old) (B.account store.new) }
+    ensures cause { HasCause (B.account store.old) (B.account store.new) result }
+    ensures same { (s : Stored) → B.holds store.old s → B.holds store.new s }
+{
+    let shape = Shape {
+        txg,
+        leaf_units: r.units,
+        leaves: 1 << 25,
+        full: false,
+        kept: Kept::Nothing,
+    };
+    let mut found = Found::new(alloc);
+    walk_tree(alloc, store, held, &shape, &r.tree, &mut found)
+}
+
+/// The tree of the directory, then its leaves, then the trees of its objects by rising ID.
+fn walk_all<B: Blocks>(
+    alloc: Global,
+    store: &mut B,
+    held: &mut Marks,
+    txg: u64,
+    dir: &Tree,
+) -> Result<(), ImportErr>
+    requires { IsTree dir.now }
+    ensures marks { (s : Stored) → B.holds store.old s → OnOk result (MarksAll txg held.old held.new (all_reach s dir.now)) }
+    ensures follows { (start : B) → B.follows start store.old → B.follows start store.new }
+    ensures costs { Costs 0 0 (B.account store.old) (B.account store.new) }
+    ensures cause { HasCause (B.account store.old) (B.account store.new) result }
+    ensures same { (s : Stored) → B.holds store.old s → B.holds store.new s }
+{
+    let shape = Shape {
+        txg,
+        leaf_units: 1,
+        leaves: 4096,
+        full: false,
+        kept: Kept::Pointers,
+    };
+    let mut found = Found::new(alloc);
+    walk_tree(alloc, store, held, &shape, dir, &mut found)?;
+    let objects = read_directory(alloc, store, found.met.as_slice())?;
+    for r in objects.iter() {
+        walk_object(alloc, store, held, txg, r)?;
+    }
+    Ok(())
+}
+
+/// Takes out the kept units of a device.
+fn take_kept(held: &mut Marks, dev: u32, kept: &[Extent]) -> Result<(), ImportErr>
+    ensures none { kept.now ≡ [] → held.new ≡ held.old }
+    ensures errors { IfErr result (λ e. (e ≡ NoMemory) ⊎ (e ≡ Rule 7)) }
+{
+    for e in kept {
+        if !held.take(dev, *e)? {
+            return Err(ImportErr::Rule(7));
+        }
+    }
+    Ok(())
+}
+
+/// Takes out late units, which are not held.
+fn take_late(free: &mut Marks, held: &Marks, dev: u32, runs: &[LateRun]) -> Result<(), ImportErr>
+    ensures { IfErr result (λ e. (e ≡ NoMemory) ⊎ (e ≡ Rule 7)) }
+{
+    for run in runs {
+        if !held.is_apart(dev, run.at) || !free.take(dev, run.at)? {
+            return Err(ImportErr::Rule(7));
+        }
+    }
+    Ok(())
+}
+
+/// Takes the kept units of all devices out of those that are left of the held ones, of which none is left then.
+fn spend_held(left: &mut Marks, parts: &[DevPart]) -> Result<(), ImportErr>
+    requires { length parts.now ≤ 32 }
+    ensures none { All (λ p. p.kept ≡ []) parts.now → OnOk result (All (λ s. s.extents ≡ []) left.old) }
+    ensures errors { IfErr result (λ e. (e ≡ NoMemory) ⊎ (e ≡ Rule 7)) }
+{
+    for (dev, part) in parts.iter().enumerate() {
+        take_kept(left, dev as u32, part.kept.as_slice())?;
+    }
+    if !left.is_empty() {
+        return Err(ImportErr::Rule(7));
+    }
+    Ok(())
+}
+
+/// Takes the late units of all devices out of those that are neither held nor metadata.
+fn spend_late(free: &mut Marks, held: &Marks, parts: &[DevPart]) -> Result<(), ImportErr>
+    requires { length parts.now ≤ 32 }
+    ensures { IfErr result (λ e. (e ≡ NoMemory) ⊎ (e ≡ Rule 7)) }
+{
+    for (dev, part) in parts.iter().enumerate() {
+        take_late(free, held, dev as u32, part.late1.as_slice())?;
+        take_late(free, held, dev as u32, part.late2.as_slice())?;
+    }
+    Ok(())
+}
+
+/// Walks the directory and all objects of a root, where `marks` are the units that its metadata did not meet. Rule 1 is
+/// broken where a block or a leaf is outside its form; rule 7 where a pointer is younger than the root, or leads to units
+/// that are not held or that were met, or a held unit is not met, or a late unit is held, or met twice. Leaves of objects
+/// are not read.
+pub fn walk_objects<B: Blocks>(
+    alloc: Global,
+    store: &mut B,
+    marks: &mut Marks,
+    parts: &SpaceParts,
+    dir: &Tree,
+    txg: u64,
+) -> Result<(), ImportErr>
+    requires dir { IsTree dir.now }
+    requires few { length parts.now.devs ≤ 32 }
+    requires held { All HasMaximal parts.now.devs }
+    ensures marks { (s : Stored) → B.holds store.old s → OnOk result (MarksHeld txg parts.now.devs (all_reach s dir.now)) }
+    ensures follows { (start : B) → B.follows start store.old → B.follows start store.new }
+    ensures costs { Costs 0 0 (B.account store.old) (B.account store.new) }
+    ensures cause { HasCause (B.account store.old) (B.account store.new) result }
+    ensures same { (s : Stored) → B.holds store.old s → B.holds store.new s }
+{
+    let devs = parts.devs.as_slice();
+    let mut left = Marks::of_held(alloc, devs)?;
+    walk_all(alloc, store, &mut left, txg, dir)?;
+    spend_held(&mut left, devs)?;
+    let held = Marks::of_held(alloc, devs)?;
+    spend_late(marks, &held, devs)?;
+    Ok(())
+}
