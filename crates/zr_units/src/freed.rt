@@ -38,6 +38,20 @@ impl FreedSets {
         }
     }
 
+    /// The units of blocks.
+    pub fn blocks(&self) -> &RangeSet
+        ensures { result.now.extents ≡ self.now.blocks }
+    {
+        &self.blocks
+    }
+
+    /// The units of metadata.
+    pub fn meta(&self) -> &RangeSet
+        ensures { result.now.extents ≡ self.now.meta }
+    {
+        &self.meta
+    }
+
     /// How many units they are.
     pub fn units(&self) -> u64
         requires { freed_count self.now ≤ 2 ^ 62 }
