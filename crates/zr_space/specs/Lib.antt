@@ -3,3 +3,5 @@ pub mod Live
 pub mod Causes
 pub mod Drops
 pub mod Paths
+pub mod Totals
+pub mod Records

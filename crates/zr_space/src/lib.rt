@@ -6,9 +6,13 @@
 #![tactic(auto)]
 
 mod device;
+mod records;
 mod remap;
+mod room;
 mod space;
 #[cfg(test)]
 mod tests;
 
+pub use records::SetKind;
 pub use space::{Space, SpaceErr};
+pub use zr_units::FreedSets;

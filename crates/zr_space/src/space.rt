@@ -33,9 +33,9 @@ pub enum SpaceErr {
 /// The space of an open pool.
 #[derive(Drop)]
 pub struct Space {
-    alloc: Global,
-    version: u64,
-    slabs: Slabs,
+    pub(crate) alloc: Global,
+    pub(crate) version: u64,
+    pub(crate) slabs: Slabs,
     pub(crate) devs: Vec<Device>,
 }
 
