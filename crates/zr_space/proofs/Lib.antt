@@ -15,3 +15,5 @@ pub mod Drops
 pub mod Counting
 pub mod Lives
 pub mod Paths
+pub mod Totalling
+pub mod Gains

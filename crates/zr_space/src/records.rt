@@ -72,6 +72,17 @@ fn part_of(alloc: Global, device: &Device) -> Result<DevPart, NoMemory>
     })
 }
 
+// What a root records of devices in service.
+fn parts_of(alloc: Global, devs: &[Device]) -> Result<Items<DevPart>, NoMemory>
+    ensures { IfOk result (λ ps. ps ≡ map part_in devs.now) }
+{
+    let mut parts = Items::new(alloc);
+    for device in devs {
+        parts.push(part_of(alloc, device)?)?;
+    }
+    Ok(parts)
+}
+
 impl Space {
     /// The held units of a device. It costs nothing.
     pub fn held(&self, dev: u32) -> &RangeSet
@@ -116,10 +127,7 @@ impl Space {
     pub fn parts(&self) -> Result<SpaceParts, NoMemory>
         ensures { IfOk result (λ p. p ≡ self.now.parts) }
     {
-        let mut devs = Items::new(self.alloc);
-        for device in &self.devs {
-            devs.push(part_of(self.alloc, device)?)?;
-        }
+        let devs = parts_of(self.alloc, self.devs.as_slice())?;
         Ok(SpaceParts {
             version: self.version,
             devs,

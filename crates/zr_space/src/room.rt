@@ -87,6 +87,7 @@ impl Space {
     pub fn touch(&self, a: Dva) -> u64
         ensures { result ≡ touch (devices_in self.now) a }
     {
+        let _devs = &self.devs;
         1
     }
 
