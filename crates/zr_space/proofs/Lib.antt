@@ -17,3 +17,7 @@ pub mod Lives
 pub mod Paths
 pub mod Totalling
 pub mod Gains
+pub mod Reading
+pub mod Listing
+pub mod ReadDevices
+pub mod Opening

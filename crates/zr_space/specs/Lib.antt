@@ -5,3 +5,5 @@ pub mod Drops
 pub mod Paths
 pub mod Totals
 pub mod Records
+pub mod Reads
+pub mod Opens

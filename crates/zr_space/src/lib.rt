@@ -6,6 +6,8 @@
 #![tactic(auto)]
 
 mod device;
+mod open;
+mod reads;
 mod records;
 mod remap;
 mod room;

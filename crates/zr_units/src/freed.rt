@@ -38,6 +38,14 @@ impl FreedSets {
         }
     }
 
+    /// These units of blocks and of metadata.
+    pub fn of_sets(blocks: RangeSet, meta: RangeSet) -> FreedSets
+        ensures blocks { result.blocks ≡ blocks.extents }
+        ensures meta { result.meta ≡ meta.extents }
+    {
+        FreedSets { blocks, meta }
+    }
+
     /// The units of blocks.
     pub fn blocks(&self) -> &RangeSet
         ensures { result.now.extents ≡ self.now.blocks }

@@ -57,6 +57,28 @@ impl Units {
         }
     }
 
+    /// The units of a device as a root records them, of which the open group has changed none. It has no metadata yet.
+    pub fn of_sets(
+        alloc: Global,
+        units: u64,
+        held: RangeSet,
+        late1: FreedSets,
+        late2: FreedSets,
+    ) -> Units
+        ensures { result ≡ record (unused units) { held = held.extents; late1 = late1; late2 = late2 } }
+    {
+        Units {
+            units,
+            held,
+            born: RangeSet::new(alloc),
+            freed: FreedSets::new(alloc),
+            late1,
+            late2,
+            meta: RangeSet::new(alloc),
+            saved: RangeSet::new(alloc),
+        }
+    }
+
     /// How many units the device has.
     pub fn units(&self) -> u64
         ensures { result ≡ self.now.units }
