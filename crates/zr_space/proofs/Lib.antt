@@ -21,3 +21,4 @@ pub mod Reading
 pub mod Listing
 pub mod ReadDevices
 pub mod Opening
+pub mod Refusing

@@ -1,6 +1,7 @@
 -- The devices of a root become those of a space.
 use Rattle.std.proofs.Common.{◌≡◌, ℕ, zero, suc, ◌+◌, ◌-◌, ◌≤◌, ◌<◌, ◌^◌, Bool, true, false, not, ◌||◌, ◌&&◌, ◌==◌, nat_lt, List, [], ◌∷◌, ◌++◌, map, length, take, get_or, refl, ◌∙◌, sym, ap, ap₂, subst, arith, ⊎_elim, if◌then◌else◌, length-append, None}
-use Rattle.std.proofs.lemmas.Bool.{cases_eq}
+use Rattle.std.specs.Prelude.{slice_index_or}
+use Rattle.std.proofs.lemmas.Bool.{cases_eq, cases_lt}
 use Rattle.std.proofs.lemmas.Bool.Decides.{nat_tests}
 use Rattle.std.proofs.lemmas.List.{length-map, append-nil, take_more}
 use Rattle.zr_base.specs.declared.space.Extent.{Extent}
@@ -121,3 +122,99 @@ module _ (s t : Devices) (devs : List Kept) (k : Kept) (used : List Extent) (spa
           (λ same. let e = ap (λ (n : ℕ). address_hits meta n u) same in grind (arith, nat_tests, l, m, o, h, same, e))
           (λ other. grind (arith, nat_tests, l, m, other))
           (cases_eq d (length devs))
+
+-- metadata is not in what a root records of a device
+pub same_part : (k : Kept) (x : Uses) (list : List Dva) (dev : ℕ) (used used2 : List Extent) → ReadsMeta list dev k.uses x used used2 → part_in (record { row = k.row; uses = x }) ≡ part_in k
+same_part k x list dev used used2 m = rw m.others refl
+
+-- ---- all devices
+
+-- so many devices of the root are those of the space
+pub record IsOpening (parts : SpaceParts) (meta : List Dva) (i : ℕ) (s : Space) : Type 0 where
+  pub parts_are : s.parts ≡ record parts { devs = take i parts.devs }
+  pub opened : (d : ℕ) → opened_of s d ≡ nothing_opened
+  pub count : length s.opened ≡ length s.parts.devs
+  pub synced : s.synced ≡ 0
+  pub meta_is : (d u : ℕ) → address_hits s.meta d u ≡ (if nat_lt d i then address_hits meta d u else 0)
+  pub saved : s.saved_meta ≡ []
+
+pub starts_opening : (parts : SpaceParts) (meta : List Dva) → IsQuiet parts → IsOpening parts meta 0 (space_of parts.version [])
+starts_opening parts meta q = record {
+  parts_are = rw q.cond rw q.ckpt refl;
+  opened = λ d. none_there d;
+  count = refl;
+  synced = refl;
+  meta_is = λ d u. grind (arith, nat_tests);
+  saved = refl;
+}
+  where
+    none_there : (d : ℕ) → opened_of (space_of parts.version []) d ≡ nothing_opened
+    none_there zero = refl
+    none_there (suc d) = refl
+
+opened_more : (os : List OpenSets) (d : ℕ) → ((j : ℕ) → slice_index_or os j nothing_opened ≡ nothing_opened) → slice_index_or (os ++ nothing_opened ∷ []) d nothing_opened ≡ nothing_opened
+opened_more [] zero all = refl
+opened_more [] (suc zero) all = refl
+opened_more [] (suc (suc d)) all = refl
+opened_more (o ∷ os) zero all = all 0
+opened_more (o ∷ os) (suc d) all = opened_more os d (λ j. all (suc j))
+
+len_take : (ps : List DevPart) (i : ℕ) → i ≤ length ps → length (take i ps) ≡ i
+len_take ps zero le = refl
+len_take [] (suc i) le = absurd (omega (arith, le))
+len_take (p ∷ ps) (suc i) le = let r = len_take ps i (omega (arith, le)) in omega (arith, r)
+
+pub opens_more : (parts : SpaceParts) (meta : List Dva) (i : ℕ) (s t : Space) (part : DevPart) → IsOpening parts meta i s → i < length parts.devs → part ≡ get_or parts.devs i part → OpensDevice s t part meta → IsOpening parts meta (i + 1) t
+opens_more parts meta i s t part o lt is d = record {
+  parts_are = d.parts ∙ (ap (λ (p : SpaceParts). record p { devs = p.devs ++ part ∷ [] }) o.parts_are ∙ ap (λ (ps : List DevPart). record parts { devs = ps }) (ap (λ (p : DevPart). take i parts.devs ++ p ∷ []) is ∙ sym (take_more parts.devs i part lt)));
+  opened = λ j. ap (λ (os : List OpenSets). slice_index_or os j nothing_opened) d.opened ∙ opened_more s.opened j o.opened;
+  count = let a = ap (λ (os : List OpenSets). length os) d.opened in let b = ap (λ (p : SpaceParts). length p.devs) d.parts in let e = length-append s.opened (nothing_opened ∷ []) in let f = length-append s.parts.devs (part ∷ []) in let n = o.count in omega (arith, a, b, e, f, n);
+  synced = d.synced ∙ o.synced;
+  meta_is = λ e u. let m = d.meta_is e u in let b = o.meta_is e u in let n = len in grind (arith, nat_tests, m, b, n);
+  saved = d.saved ∙ o.saved;
+}
+  where
+    len : length s.parts.devs ≡ i
+    len = let a = ap (λ (p : SpaceParts). length p.devs) o.parts_are in let b = len_take parts.devs i (omega (arith, lt)) in omega (arith, a, b)
+
+pub room_left : (parts : SpaceParts) (meta : List Dva) (i : ℕ) (s : Space) → IsQuiet parts → IsOpening parts meta i s → i < length parts.devs → length s.parts.devs < 32
+room_left parts meta i s q o lt = let a = ap (λ (p : SpaceParts). length p.devs) o.parts_are in let b = len_take parts.devs i (omega (arith, lt)) in let f = q.few in omega (arith, a, b, f, lt)
+
+-- the role of a unit rests on the parts, on what is opened and on the metadata
+roles_by : (a b : Space) (d u : ℕ) → a.parts ≡ b.parts → opened_of a d ≡ opened_of b d → address_hits a.meta d u ≡ address_hits b.meta d u → address_hits a.saved_meta d u ≡ address_hits b.saved_meta d u → role_at a d u ≡ role_at b d u
+unfolding role_at
+roles_by a b d u p o m s = rw p rw o rw m rw s refl
+
+none_opened : (ps : List DevPart) (d : ℕ) → slice_index_or (map (λ (p : DevPart). nothing_opened) ps) d nothing_opened ≡ nothing_opened
+none_opened [] zero = refl
+none_opened [] (suc d) = refl
+none_opened (p ∷ ps) zero = refl
+none_opened (p ∷ ps) (suc d) = none_opened ps d
+
+take_all : (ps : List DevPart) (i : ℕ) → length ps ≤ i → take i ps ≡ ps
+take_all [] zero le = refl
+take_all [] (suc i) le = refl
+take_all (p ∷ ps) zero le = absurd (omega (arith, le))
+take_all (p ∷ ps) (suc i) le = ap (λ (xs : List DevPart). p ∷ xs) (take_all ps i (omega (arith, le)))
+
+pub all_opened : (parts : SpaceParts) (meta : List Dva) (i : ℕ) (s : Space) → IsOpening parts meta i s → length parts.devs ≤ i → ((d u : ℕ) → length parts.devs ≤ d → address_hits meta d u ≡ 0) → IsOpened parts meta s
+all_opened parts meta i s o le known = record {
+  parts_are = whole;
+  opened = o.opened;
+  synced = o.synced;
+  meta_is = hits;
+  saved = o.saved;
+  roles = λ d u. same_roles d u;
+}
+  where
+    whole : s.parts ≡ parts
+    whole = o.parts_are ∙ ap (λ (ps : List DevPart). record parts { devs = ps }) (take_all parts.devs i le)
+
+    hits : (d u : ℕ) → address_hits s.meta d u ≡ address_hits meta d u
+    hits d u = ⊎_elim
+        (λ lt. let m = o.meta_is d u in let k = known d u in grind (arith, nat_tests, m, k, lt, le))
+        (λ ge. let m = o.meta_is d u in let k = known d u ge in grind (arith, nat_tests, m, k))
+        (cases_lt d (length parts.devs))
+
+    same_roles : (d u : ℕ) → role_at s d u ≡ role_at (root_space parts meta []) d u
+    same_roles d u = roles_by s (root_space parts meta []) d u whole (o.opened d ∙ sym (none_opened parts.devs d)) (hits d u) (ap (λ (list : List Dva). address_hits list d u) o.saved)

@@ -78,3 +78,13 @@ meta_within list dev used units i can lt is some =
   where
     below_as : (u n : ℕ) → 1 ≤ one_if (nat_lt u n) → u < n
     below_as u n le = grind (arith, nat_tests, le)
+
+-- an address has its first unit
+pub has_hit : (list : List Dva) (i : ℕ) → i < length list → 0 < (get_or list i (record { dev = 0; start = 0; len = 0 })).len
+    → 1 ≤ address_hits list (get_or list i (record { dev = 0; start = 0; len = 0 })).dev (get_or list i (record { dev = 0; start = 0; len = 0 })).start
+has_hit list i lt some =
+    let a : Dva = get_or list i (record { dev = 0; start = 0; len = 0 }) in
+    let one = get_or-le-sum_by (λ (d : Dva). one_if (in_address d a.dev a.start)) list i (record { dev = 0; start = 0; len = 0 }) lt in
+    let in_it : in_address a a.dev a.start ≡ true = grind (arith, nat_tests, some) in
+    let hit : one_if (in_address a a.dev a.start) ≡ 1 = ap one_if in_it in
+    omega (arith, one, hit)

@@ -1,12 +1,13 @@
 -- The space of a root.
-use Rattle.std.specs.Prelude.{◌≡◌, ℕ, ◌+◌, ◌≤◌, ◌==◌, List, [], ◌∷◌, ◌++◌, length, if◌then◌else◌, None}
+use Rattle.std.specs.Prelude.{◌≡◌, ℕ, ◌+◌, ◌≤◌, ◌<◌, ◌==◌, List, [], ◌∷◌, ◌++◌, length, if◌then◌else◌, None}
 use Rattle.zr_base.specs.declared.space.Dva.{Dva}
 use Rattle.zr_base.specs.declared.space.DevPart.{DevPart}
 use Rattle.zr_base.specs.declared.space.SpaceParts.{SpaceParts}
 use Rattle.zr_base.specs.declared.space.CkptPart.TheVariants.{Clear}
-use Rattle.zr_rules.specs.Places.{address_hits}
-use Rattle.zr_rules.specs.Space.{Space, OpenSets, opened_of, role_at}
+use Rattle.zr_rules.specs.Places.{address_hits, part_of}
+use Rattle.zr_rules.specs.Space.{Space, OpenSets, opened_of, role_at, IsLawful}
 use Rattle.zr_rules.specs.Equation.{root_space}
+use Rattle.zr_space.specs.Reads.{IsPlain, IsLateSet}
 
 abbrev pub nothing_opened : OpenSets
 nothing_opened = record { born = []; deferred = []; dropped = [] }
@@ -25,6 +26,14 @@ pub record IsQuiet (parts : SpaceParts) : Type 0 where
   pub few : length parts.devs ≤ 32
   pub cond : parts.cond ≡ None
   pub ckpt : parts.ckpt ≡ Clear
+
+-- A space can have these parts and this metadata, with nothing opened: its devices are in service, and it is lawful.
+pub record CanOpen (parts : SpaceParts) (meta : List Dva) : Type 0 where
+  pub quiet : IsQuiet parts
+  pub plain : (d : ℕ) → d < length parts.devs → IsPlain (part_of parts.devs d)
+  pub late1 : (d : ℕ) → d < length parts.devs → IsLateSet (part_of parts.devs d).late1
+  pub late2 : (d : ℕ) → d < length parts.devs → IsLateSet (part_of parts.devs d).late2
+  pub lawful : IsLawful (root_space parts meta [])
 
 -- one device more, with what a root records of it and its metadata
 pub record OpensDevice (old new : Space) (part : DevPart) (meta : List Dva) : Type 0 where

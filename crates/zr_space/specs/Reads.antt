@@ -6,9 +6,10 @@ use Rattle.zr_base.specs.declared.space.LateRun.{LateRun}
 use Rattle.zr_base.specs.declared.space.DevPart.{DevPart}
 use Rattle.zr_base.specs.declared.space.DevState.TheVariants.{On}
 use Rattle.zr_base.specs.Extents.{has_unit, unit_count, IsMaximal, EndsBy}
-use Rattle.zr_rules.specs.Places.{one_if, address_hits}
+use Rattle.zr_rules.specs.Places.{one_if, address_hits, hits_late}
+use Rattle.zr_rules.specs.Space.{IsSet}
 use Rattle.zr_units.specs.Apart.{AreSetsApart, IsWithin}
-use Rattle.zr_units.specs.Uses.{Uses, Freed, HasLists, none_freed, use_hits, use_count, freed_count}
+use Rattle.zr_units.specs.Uses.{Uses, Freed, AreMaximal, HasLists, none_freed, use_hits, use_count, freed_count}
 use Rattle.zr_units.specs.Changes.{has_freed}
 use Rattle.zr_space.specs.Views.{Kept, late_runs}
 
@@ -58,6 +59,20 @@ pub record IsPlain (p : DevPart) : Type 0 where
   pub entries : p.entries ≡ []
   pub counts : p.counts ≡ []
   pub fresh : p.fresh ≡ []
+
+-- the runs list the maximal extents of a late set
+pub record IsLateSet (runs : List LateRun) : Type 0 where
+  pub freed : Freed
+  pub listed : IsListed runs freed
+  pub maximal : AreMaximal freed
+
+-- The device can be read with its metadata, if that lies at this index: its sets are as a root records them, and no unit has two uses.
+pub record CanReadPart (p : DevPart) (meta : List Dva) (dev : ℕ) : Type 0 where
+  pub plain : IsPlain p
+  pub held : IsSet p.row.units p.held
+  pub late1 : IsLateSet p.late1
+  pub late2 : IsLateSet p.late2
+  pub once : (u : ℕ) → one_if (has_unit p.held u) + hits_late p.late1 u + hits_late p.late2 u + address_hits meta dev u ≤ one_if (nat_lt u p.row.units)
 
 -- what is read of a device: no unit has two uses, and those that have one are gathered
 pub record IsRead (k : Kept) (used : List Extent) : Type 0 where

@@ -4,7 +4,8 @@
 //! device is read and tested before it is added, with the metadata that lies on it. The allocator gets what has no use.
 ghost use Rattle.std.specs.Prelude.{◌≡◌, ◌↔◌, ◌<◌, ◌≤◌, ◌++◌, ◌∷◌, ℕ, true, false, length, vec_len, IsTrue, IfOk, IfSome, IfNone, OnErr};
 ghost use Rattle.zr_rules.specs.Places.{address_hits};
-ghost use Rattle.zr_space.specs.Opens.{IsOpened, IsQuiet, OpensDevice};
+ghost use Rattle.zr_space.specs.Opens.{CanOpen, IsOpened, IsQuiet, OpensDevice};
+ghost use Rattle.zr_space.specs.Reads.{CanReadPart};
 
 use crate::reads::{read_device, read_meta};
 use crate::space::{Space, push_reserved};
@@ -33,13 +34,14 @@ fn are_known(meta: &[Dva], devices: usize) -> bool
 
 impl Space {
     /// The space of a root that records these parts and has this metadata. The sets of the devices and the metadata are
-    /// gone over, these once for each device.
+    /// gone over, these once for each device. None exactly where no space can have them.
     pub fn from_parts(
         alloc: Global,
         parts: &SpaceParts,
         meta: &[Dva],
     ) -> Result<Option<Space>, NoMemory>
         ensures some { IfOk result (λ o. IfSome o (IsOpened parts.now meta.now)) }
+        ensures none { IfOk result (λ o. IfNone o (¬ CanOpen parts.now meta.now)) }
     {
         if !is_quiet(parts) || !are_known(meta, parts.devs.len()) {
             return Ok(None);
@@ -57,6 +59,7 @@ impl Space {
     fn open_dev(&mut self, part: &DevPart, meta: &[Dva]) -> Result<bool, NoMemory>
         requires { length self.old.parts.devs < 32 }
         ensures yes { IfOk result (λ b. b ≡ true → OpensDevice self.old self.new part.now meta.now) }
+        ensures no { IfOk result (λ b. b ≡ false → ¬ CanReadPart part.now meta.now (length self.old.parts.devs)) }
     {
         let dev = self.devs.len() as u32;
         let mut used = RangeSet::new(self.alloc);

@@ -3,10 +3,11 @@
 //! What a root records may be anything that its words spell. So each set is tested while it is read: its extents must be
 //! maximal, in order and within the device, and no unit may have two uses. All units that have a use are gathered in one
 //! set, from which the allocator then gets the others.
-ghost use Rattle.std.specs.Prelude.{◌≡◌, ◌↔◌, ◌+◌, ◌<◌, ◌≤◌, ◌^◌, ◌++◌, [], true, false, IsTrue, IfOk, IfSome, IfNone};
+ghost use Rattle.std.specs.Prelude.{◌≡◌, ◌↔◌, ◌+◌, ◌<◌, ◌≤◌, ◌^◌, ◌++◌, [], true, false, ℕ, List, IsTrue, IfOk, IfSome, IfNone};
 ghost use Rattle.zr_base.specs.Extents.{HasNone};
+ghost use Rattle.zr_base.specs.declared.space.Dva.{Dva};
 ghost use Rattle.zr_units.specs.Uses.{Freed};
-ghost use Rattle.zr_space.specs.Reads.{CanRead, Marks, CanReadLate, MarksLate, IsListed, CanReadMeta, ReadsMeta, IsPlain, IsRead};
+ghost use Rattle.zr_space.specs.Reads.{CanRead, Marks, CanReadLate, MarksLate, IsListed, CanReadMeta, ReadsMeta, IsPlain, IsRead, CanReadPart};
 ghost use Rattle.zr_space.specs.Views.{part_in};
 
 use crate::device::Device;
@@ -153,6 +154,7 @@ fn is_plain(part: &DevPart) -> bool
 }
 
 /// A device as a root records it, without metadata. Its units are added to those that are used, of which there are none.
+/// None where it is not in service, a set is not kept as its maximal extents, or a unit has two uses.
 pub fn read_device(
     alloc: Global,
     part: &DevPart,
@@ -162,6 +164,7 @@ pub fn read_device(
     ensures part { IfOk result (λ o. IfSome o (λ k. part_in k ≡ part.now)) }
     ensures meta { IfOk result (λ o. IfSome o (λ k. k.uses.meta ≡ [])) }
     ensures some { IfOk result (λ o. IfSome o (λ k. IsRead k used.new.extents)) }
+    ensures none { IfOk result (λ o. IfNone o ((meta : List Dva) (dev : ℕ) → ¬ CanReadPart part.now meta dev)) }
 {
     if !is_plain(part) {
         return Ok(None);
