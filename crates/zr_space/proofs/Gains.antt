@@ -1,14 +1,13 @@
 -- What the log of the held set gains.
-use Rattle.std.proofs.Common.{◌≡◌, ◌⊎◌, ⊎_elim, ℕ, Bool, true, false, not, ◌&&◌, ◌||◌, List, [], map, ◌∙◌, sym, ap, arith, subst, Result, Ok, Err}
+use Rattle.std.proofs.Common.{◌≡◌, ◌⊎◌, ⊎_elim, ℕ, Bool, List, [], sym, ap, arith, subst, Result, Ok, Err}
 use Rattle.std.specs.Prelude.{IfOk}
 use Rattle.std.proofs.lemmas.Bool.Decides.{nat_tests}
-use Rattle.zr_base.specs.declared.space.Extent.{Extent}
 use Rattle.zr_base.specs.declared.space.Change.{Change}
 use Rattle.zr_base.specs.declared.space.DevPart.{DevPart}
 use Rattle.zr_base.specs.Extents.{has_unit}
-use Rattle.zr_rules.specs.Places.{part_of, is_held}
+use Rattle.zr_rules.specs.Places.{is_held}
 use Rattle.zr_rules.specs.Space.{OpenSets, opened_of, is_born}
-use Rattle.zr_metaslab.specs.Devices.{Devices, free_at, count_at}
+use Rattle.zr_metaslab.specs.Devices.{Devices}
 use Rattle.zr_units.specs.Apart.{AreSetsApart}
 use Rattle.zr_units.specs.Uses.{Uses, IsAccount}
 use Rattle.zr_units.specs.Differences.{IsMerged, IsDifference}
@@ -16,7 +15,7 @@ use Rattle.zr_units.proofs.Differences.{replays, merged_difference}
 use Rattle.zr_space.specs.declared.records.SetKind.{SetKind}
 use Rattle.zr_space.specs.declared.records.SetKind.TheVariants as kinds
 use Rattle.zr_space.specs.Records.{was_held, GainsHeld, Gains}
-use Rattle.zr_space.specs.Views.{Kept, kept_of, part_in, space_of, IsSpace}
+use Rattle.zr_space.specs.Views.{Kept, kept_of, space_of, IsSpace}
 use Rattle.zr_space.proofs.Views.{part_is, opened_is}
 
 pub born_apart : (f : ℕ → Bool) (n : ℕ) (x : Uses) → IsAccount f n x → AreSetsApart x.born x.freed.blocks

@@ -1,5 +1,5 @@
 -- The runs of a late set by their kind.
-use Rattle.std.proofs.Common.{◌≡◌, ◌⊎◌, ℕ, zero, suc, ◌+◌, ◌≤◌, ◌<◌, Bool, true, false, not, ◌||◌, List, [], ◌∷◌, ◌++◌, map, length, take, get_or, inl, inr, refl, ◌∙◌, sym, ap, subst, arith, ⊎_elim, append_assoc, if◌then◌else◌}
+use Rattle.std.proofs.Common.{◌≡◌, ◌⊎◌, ℕ, zero, suc, ◌+◌, ◌≤◌, ◌<◌, Bool, true, false, not, List, [], ◌∷◌, ◌++◌, map, length, take, get_or, inl, inr, refl, ◌∙◌, sym, ap, subst, arith, ⊎_elim, append_assoc}
 use Rattle.std.specs.Prelude.{filter}
 use Rattle.std.proofs.lemmas.List.{take_more, append-nil}
 use Rattle.std.proofs.lemmas.Bool.Decides.{nat_tests}
@@ -7,7 +7,6 @@ use Rattle.zr_base.specs.declared.space.Extent.{Extent}
 use Rattle.zr_base.specs.declared.space.LateRun.{LateRun}
 use Rattle.zr_units.specs.Uses.{Freed}
 use Rattle.zr_space.specs.Views.{late_runs}
-use Rattle.zr_base.specs.Extents.{has_unit}
 use Rattle.zr_space.specs.Reads.{IsListed, CanRead, CanReadLate, Marks}
 use Rattle.zr_space.proofs.Sums.{as_runs}
 

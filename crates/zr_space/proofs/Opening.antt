@@ -1,16 +1,16 @@
 -- The devices of a root become those of a space.
-use Rattle.std.proofs.Common.{◌≡◌, ℕ, zero, suc, ◌+◌, ◌-◌, ◌≤◌, ◌<◌, ◌^◌, Bool, true, false, not, ◌||◌, ◌&&◌, ◌==◌, nat_lt, List, [], ◌∷◌, ◌++◌, map, length, take, get_or, refl, ◌∙◌, sym, ap, ap₂, subst, arith, ⊎_elim, if◌then◌else◌, length-append, None}
+use Rattle.std.proofs.Common.{◌≡◌, ℕ, zero, suc, ◌+◌, ◌≤◌, ◌<◌, true, false, ◌==◌, nat_lt, List, [], ◌∷◌, ◌++◌, map, length, take, get_or, refl, ◌∙◌, sym, ap, arith, ⊎_elim, if◌then◌else◌, length-append, None}
 use Rattle.std.specs.Prelude.{slice_index_or}
 use Rattle.std.proofs.lemmas.Bool.{cases_eq, cases_lt}
 use Rattle.std.proofs.lemmas.Bool.Decides.{nat_tests}
-use Rattle.std.proofs.lemmas.List.{length-map, append-nil, take_more}
+use Rattle.std.proofs.lemmas.List.{length-map, take_more}
 use Rattle.zr_base.specs.declared.space.Extent.{Extent}
 use Rattle.zr_base.specs.declared.space.Dva.{Dva}
 use Rattle.zr_base.specs.declared.space.DevPart.{DevPart}
 use Rattle.zr_base.specs.declared.space.SpaceParts.{SpaceParts}
 use Rattle.zr_base.specs.declared.space.DevState.TheVariants.{On}
 use Rattle.zr_base.specs.declared.space.CkptPart.TheVariants.{Clear}
-use Rattle.zr_base.specs.Extents.{has_unit, unit_count, IsMaximal}
+use Rattle.zr_base.specs.Extents.{has_unit, unit_count}
 use Rattle.zr_rules.specs.Places.{one_if, address_hits}
 use Rattle.zr_rules.specs.Space.{Space, OpenSets, opened_of, role_at}
 use Rattle.zr_rules.specs.Equation.{root_space}
@@ -18,7 +18,7 @@ use Rattle.zr_metaslab.specs.Devices as slab
 use Rattle.zr_metaslab.specs.Devices.{Devices, free_at, count_at, units_at}
 use Rattle.zr_units.specs.Uses.{Uses, IsAccount}
 use Rattle.zr_space.specs.Views.{Kept, kept_of, part_in, opened_in, space_of, IsSpace, meta_from, saved_from, addresses}
-use Rattle.zr_space.specs.Reads.{IsRead, ReadsMeta, Marks}
+use Rattle.zr_space.specs.Reads.{IsRead, ReadsMeta}
 use Rattle.zr_space.specs.Opens.{IsOpened, IsQuiet, OpensDevice, nothing_opened}
 use Rattle.zr_space.proofs.Accounts.{account_as}
 use Rattle.zr_space.proofs.Adding.{on_all}

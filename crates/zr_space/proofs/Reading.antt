@@ -1,11 +1,9 @@
 -- A set is read extent by extent.
-use Rattle.std.proofs.Common.{◌≡◌, ◌↔◌, ◌⊎◌, ℕ, zero, suc, ◌+◌, ◌-◌, ◌≤◌, ◌<◌, ◌^◌, Bool, true, false, ◌||◌, List, [], ◌∷◌, ◌++◌, length, take, drop, get_or, refl, ◌∙◌, sym, ap, subst, arith, ⊎_elim, add-one, drop-cons}
-use Rattle.std.proofs.lemmas.Bool.{cases_lt}
+use Rattle.std.proofs.Common.{◌≡◌, ℕ, zero, suc, ◌+◌, ◌≤◌, ◌<◌, ◌^◌, Bool, true, false, ◌||◌, List, [], ◌∷◌, ◌++◌, length, take, refl, ◌∙◌, sym, ap, subst, arith}
 use Rattle.std.proofs.lemmas.Bool.Decides.{nat_tests}
-use Rattle.std.proofs.lemmas.List.{take_more}
 use Rattle.zr_base.specs.declared.space.Extent.{Extent}
 use Rattle.zr_base.specs.Extents.{in_extent, has_unit, unit_count, IsMaximal, IsMaximalFrom, EndsBy, HasNone, AddsUnits}
-use Rattle.zr_base.proofs.ExtentSets.{has_unit-below, same_extents}
+use Rattle.zr_base.proofs.ExtentSets.{same_extents}
 use Rattle.zr_units.specs.Apart.{AreSetsApart}
 use Rattle.zr_space.specs.Reads.{CanRead, Marks}
 

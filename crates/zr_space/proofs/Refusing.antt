@@ -1,22 +1,17 @@
 -- What no space can have.
-use Rattle.std.proofs.Common.{◌≡◌, ℕ, zero, suc, ◌+◌, ◌-◌, ◌≤◌, ◌<◌, ◌^◌, Bool, true, false, ◌||◌, not, nat_lt, List, [], ◌∷◌, ◌++◌, map, length, refl, ◌∙◌, sym, ap, subst, arith, if◌then◌else◌}
+use Rattle.std.proofs.Common.{◌≡◌, ℕ, ◌+◌, ◌-◌, ◌≤◌, nat_lt, List, [], ◌∷◌, refl, sym, ap, subst, arith}
 use Rattle.std.proofs.lemmas.Bool.Decides.{nat_tests}
 use Rattle.zr_base.specs.declared.space.Extent.{Extent}
 use Rattle.zr_base.specs.declared.space.Dva.{Dva}
 use Rattle.zr_base.specs.declared.space.LateRun.{LateRun}
 use Rattle.zr_base.specs.declared.space.DevPart.{DevPart}
-use Rattle.zr_base.specs.declared.space.SpaceParts.{SpaceParts}
-use Rattle.zr_base.specs.Extents.{in_extent, has_unit, IsMaximal, IsMaximalFrom, EndsBy}
-use Rattle.zr_rules.specs.Places.{one_if, part_of, hits_late, address_hits, is_gone}
-use Rattle.zr_rules.specs.Space.{has_place, set_hits}
-use Rattle.zr_rules.specs.Equation.{root_space}
+use Rattle.zr_base.specs.Extents.{has_unit, IsMaximalFrom, EndsBy}
+use Rattle.zr_rules.specs.Places.{one_if, hits_late}
 use Rattle.zr_units.specs.Apart.{IsWithin}
-use Rattle.zr_units.specs.Uses.{Uses, Freed, AreMaximal}
-use Rattle.zr_units.specs.Changes.{has_freed}
+use Rattle.zr_units.specs.Uses.{Freed, AreMaximal}
 use Rattle.zr_space.specs.Views.{Kept, late_runs, part_in}
-use Rattle.zr_space.specs.Reads.{CanRead, Marks, CanReadLate, MarksLate, IsListed, IsLateSet, CanReadPart, CanReadMeta, IsPlain, IsRead}
-use Rattle.zr_space.specs.Opens.{CanOpen}
-use Rattle.zr_space.proofs.Sums.{extent_hits, once_in, late_hits_are}
+use Rattle.zr_space.specs.Reads.{Marks, CanReadLate, MarksLate, IsListed, CanReadPart, CanReadMeta, IsRead}
+use Rattle.zr_space.proofs.Sums.{once_in, late_hits_are}
 
 ends_by : (low units : ℕ) (es : List Extent) → IsMaximalFrom low es → IsWithin es units → EndsBy units es
 ends_by low units [] m within = tt
@@ -41,9 +36,6 @@ late_once runs f u listed m =
     let x = once_in 0 u f.blocks m.blocks in
     let y = once_in 0 u f.meta m.meta in
     omega (arith, a, b, x, y)
-
-pub held_fails : (p : DevPart) (meta : List Dva) (dev : ℕ) (used : List Extent) → used ≡ [] → (CanRead p.held used p.row.units → ⊥) → CanReadPart p meta dev → ⊥
-held_fails p meta dev used none fails can = fails (record { maximal = can.held.maximal; within = can.held.within; apart = λ u is. ap (λ (es : List Extent). has_unit es u) none })
 
 pub late1_fails : (p : DevPart) (meta : List Dva) (dev : ℕ) (u0 u1 : List Extent) → u0 ≡ [] → Marks p.held u0 u1 → ((f : Freed) → IsListed p.late1 f → CanReadLate f u1 p.row.units → ⊥) → CanReadPart p meta dev → ⊥
 late1_fails p meta dev u0 u1 none marks fails can =
@@ -84,28 +76,3 @@ meta_refused p k meta dev used is none r fails can = fails (λ u.
     let no_saved : one_if (has_unit x.saved u) ≡ 0 = ap (λ (es : List Extent). one_if (has_unit es u)) r.saved in
     let size : one_if (nat_lt u k.row.units) ≡ one_if (nat_lt u x.units) = ap (λ n. one_if (nat_lt u n)) rows in
     omega (arith, o, h1, h2, once, no_freed, no_meta, no_saved, size))
-
--- ---- the whole
-
-pub known_or_refused : (parts : SpaceParts) (meta : List Dva) → CanOpen parts meta → (d u : ℕ) → length parts.devs ≤ d → address_hits meta d u ≡ 0
-known_or_refused parts meta can d u le =
-    let o = can.lawful.once d u in
-    let none : has_place (root_space parts meta []) d u ≡ false = grind (arith, nat_tests, le) in
-    let zero_is : one_if (has_place (root_space parts meta []) d u) ≡ 0 = ap one_if none in
-    omega (arith, o, zero_is)
-
-pub part_can : (parts : SpaceParts) (meta : List Dva) (d : ℕ) → CanOpen parts meta → d < length parts.devs → CanReadPart (part_of parts.devs d) meta d
-part_can parts meta d can lt =
-    let p = can.plain d lt in
-    record {
-      plain = p;
-      held = (can.lawful.sets d).held;
-      late1 = can.late1 d lt;
-      late2 = can.late2 d lt;
-      once = λ u.
-          let o = can.lawful.once d u in
-          let gone : is_gone (part_of parts.devs d).row.state ≡ false = ap is_gone p.on in
-          let place : has_place (root_space parts meta []) d u ≡ nat_lt u (part_of parts.devs d).row.units = grind (arith, nat_tests, lt, gone) in
-          let e = ap one_if place in
-          omega (arith, o, e);
-    }

@@ -1,9 +1,9 @@
 -- The counts from which the room is computed, as sums over the devices.
-use Rattle.std.proofs.Common.{◌≡◌, ℕ, zero, suc, ◌+◌, ◌*◌, ◌≤◌, ◌<◌, ◌^◌, Bool, true, false, ◌==◌, nat_lt, max, List, [], ◌∷◌, ◌++◌, map, length, take, get_or, refl, ◌∙◌, sym, ap, ap₂, arith, add-one, if◌then◌else◌}
-use Rattle.std.specs.Prelude.{not, filter, count_by}
+use Rattle.std.proofs.Common.{◌≡◌, ℕ, zero, suc, ◌+◌, ◌*◌, ◌<◌, ◌^◌, Bool, true, false, ◌==◌, max, List, [], ◌∷◌, ◌++◌, map, length, refl, ◌∙◌, sym, ap, ap₂, arith, add-one, if◌then◌else◌}
+use Rattle.std.specs.Prelude.{filter, count_by}
 use Rattle.std.specs.List.{sum_by, range_with_len}
 use Rattle.std.proofs.lemmas.List.{length-map}
-use Rattle.std.proofs.lemmas.List.Sums.{sum_by-cons, sum_by-append, sum_by_more}
+use Rattle.std.proofs.lemmas.List.Sums.{sum_by-cons, sum_by-append}
 use Rattle.std.proofs.lemmas.Bool.Decides.{nat_tests}
 use Rattle.zr_base.specs.declared.space.Extent.{Extent}
 use Rattle.zr_base.specs.declared.space.Dva.{Dva}
@@ -14,20 +14,18 @@ use Rattle.zr_base.specs.declared.space.DevState.{DevState}
 use Rattle.zr_base.specs.Extents.{unit_count, has_unit}
 use Rattle.zr_rules.specs.Owed.{set_words}
 use Rattle.zr_rules.specs.Places.{one_if, part_of, is_on, is_leaving, is_gone, units_of_dev, state_of_dev}
-use Rattle.zr_rules.specs.Space.{Space, OpenSets, opened_of, frontier}
+use Rattle.zr_rules.specs.Space.{OpenSets, frontier}
 use Rattle.zr_rules.specs.Columns as columns
 use Rattle.zr_rules.specs.Equation.{devices_in}
 use Rattle.zr_rules.specs.Steps.{touch}
-use Rattle.zr_metaslab.specs.Devices.{Devices, free_at, count_at}
-use Rattle.zr_units.specs.Uses.{Uses, Freed, IsAccount, use_count}
-use Rattle.zr_units.specs.Words.{use_words}
+use Rattle.zr_metaslab.specs.Devices.{Devices, count_at}
+use Rattle.zr_units.specs.Uses.{Uses, Freed}
 use Rattle.zr_space.specs.Views.{Kept, kept_of, part_in, opened_in, late_runs, addresses, meta_from, space_of, IsSpace}
 use Rattle.zr_space.specs.Totals.{AreFew, total_by, current_meta, late1_meta, late2_meta, words_in}
 use Rattle.zr_space.proofs.Sums.{as_runs}
 use Rattle.zr_space.proofs.Views.{part_is, opened_is}
 use Rattle.zr_space.proofs.Keeps.{same_free}
 use Rattle.zr_space.proofs.Paths.{one_piece, in_service}
-use Rattle.zr_space.proofs.Counts.{held_in, freed_blocks_in}
 
 -- ---- sums
 

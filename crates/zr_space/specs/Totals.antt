@@ -1,5 +1,5 @@
 -- Sums over the devices of a pool.
-use Rattle.std.specs.Prelude.{ℕ, ◌+◌, ◌≤◌, ◌<◌, ◌^◌, List, length, sum_by}
+use Rattle.std.specs.Prelude.{ℕ, ◌≤◌, ◌<◌, ◌^◌, List, length, sum_by}
 use Rattle.zr_base.specs.Extents.{unit_count}
 use Rattle.zr_units.specs.Uses.{Uses, use_count}
 use Rattle.zr_units.specs.Words.{HasWithin, use_words}

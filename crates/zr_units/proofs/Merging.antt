@@ -1,18 +1,15 @@
 -- Two sets are merged into changes by rising place.
-use Rattle.std.proofs.Common.{◌≡◌, ◌⊎◌, ◌∙◌, ℕ, zero, suc, ◌+◌, ◌-◌, ◌^◌, ◌<◌, ◌≤◌, Bool, true, false, not, ◌&&◌, ◌||◌, List, [], ◌∷◌, ◌++◌, length, take, drop, get_or, map, refl, sym, subst, ap, arith, ⊎_elim, if◌then◌else◌, append_assoc}
-use Rattle.std.specs.Prelude.{nat_le, nat_lt, filter}
+use Rattle.std.proofs.Common.{◌≡◌, ◌∙◌, ℕ, ◌+◌, ◌-◌, ◌^◌, ◌<◌, ◌≤◌, Bool, true, false, List, [], ◌∷◌, ◌++◌, map, refl, sym, subst, ap, arith, ⊎_elim, append_assoc}
 use Rattle.std.specs.List.{AllByRecursion}
-use Rattle.std.proofs.lemmas.Bool.{cases_lt, cases_eq}
+use Rattle.std.proofs.lemmas.Bool.{cases_lt}
 use Rattle.std.proofs.lemmas.Bool.Decides.{nat_tests}
-use Rattle.std.proofs.lemmas.Grind.{common_steps}
 use Rattle.std.proofs.lemmas.List.{append-nil}
 use Rattle.zr_base.specs.declared.space.Extent.{Extent}
 use Rattle.zr_base.specs.declared.space.Change.{Change}
-use Rattle.zr_base.specs.Extents.{IsMaximalFrom, IsMaximal, in_extent, has_unit}
+use Rattle.zr_base.specs.Extents.{IsMaximalFrom, IsMaximal, has_unit}
 use Rattle.zr_base.proofs.ExtentSets.{has_unit-below, raised, starts_again}
-use Rattle.zr_rules.specs.Logs.{taken_after, IsInTurn}
 use Rattle.zr_units.specs.Apart.{AreSetsApart}
-use Rattle.zr_units.specs.Differences.{runs_of, AreInOrder, IsMerged, IsDifference, Replays, StartsFrom, PutsBelow}
+use Rattle.zr_units.specs.Differences.{runs_of, AreInOrder, IsMerged, StartsFrom, PutsBelow}
 
 abbrev pub change : Bool → Extent → Change
 change free e = record { free = free; at = e }

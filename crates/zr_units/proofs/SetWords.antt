@@ -1,14 +1,11 @@
 -- The words of a set.
-use Rattle.std.proofs.Common.{◌≡◌, ◌⊎◌, ◌∙◌, ℕ, zero, suc, ◌+◌, ◌-◌, ◌^◌, ◌<◌, ◌≤◌, ◌==◌, true, List, [], ◌∷◌, length, take, drop, get_or, add-one, drop-cons, refl, ap, arith, ⊎_elim, if◌then◌else◌}
-use Rattle.std.specs.Prelude.{nat_le}
-use Rattle.std.specs.Int.{div_ceil}
-use Rattle.std.proofs.lemmas.Bool.{cases_lt, cases_eq}
+use Rattle.std.proofs.Common.{◌≡◌, ℕ, zero, suc, ◌+◌, ◌-◌, ◌<◌, ◌≤◌, List, [], ◌∷◌, length, take, drop, get_or, add-one, drop-cons, refl, arith, ⊎_elim}
+use Rattle.std.proofs.lemmas.Bool.{cases_eq}
 use Rattle.std.proofs.lemmas.Bool.Decides.{nat_tests}
-use Rattle.std.proofs.lemmas.Grind.{common_steps}
 use Rattle.std.proofs.lemmas.List.Sums.{sum_by_more, sum_by-cons}
 use Rattle.zr_base.specs.declared.space.Extent.{Extent}
-use Rattle.zr_base.specs.Extents.{IsMaximalFrom, IsMaximal, in_extent, has_unit, unit_count}
-use Rattle.zr_base.proofs.ExtentSets.{unit_count-more, extent_fits, unit_count-le}
+use Rattle.zr_base.specs.Extents.{IsMaximalFrom, IsMaximal, unit_count}
+use Rattle.zr_base.proofs.ExtentSets.{unit_count-more, extent_fits}
 use Rattle.zr_rules.specs.Owed.{set_words, extent_words}
 use Rattle.zr_units.specs.Apart.{IsWithin}
 

@@ -1,4 +1,4 @@
-use Rattle.std.proofs.Common.{◌≡◌, ◌+◌, ◌≤◌, ℕ, false, true, get_or, ap, sym, arith}
+use Rattle.std.proofs.Common.{◌≡◌, false, true, get_or, arith}
 use Rattle.zr_base.specs.declared.space.Dva.{Dva}
 use Rattle.zr_space.proofs.ReadDevices.{has_hit}
 use Rattle.zr_space.proofs.open.are_known.Goals as goal

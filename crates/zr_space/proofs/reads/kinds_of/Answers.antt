@@ -1,4 +1,4 @@
-use Rattle.std.proofs.Common.{◌≡◌, length, List, ap, arith}
+use Rattle.std.proofs.Common.{length, List, ap, arith}
 use Rattle.zr_base.specs.declared.space.Extent.{Extent}
 use Rattle.std.proofs.lemmas.Bool.Decides.{nat_tests}
 use Rattle.zr_space.proofs.Listing.{none_listed}

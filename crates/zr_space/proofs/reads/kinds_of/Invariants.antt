@@ -1,4 +1,3 @@
-use Rattle.std.proofs.Common.{take}
 use Rattle.zr_space.proofs.Listing.{IsListing}
 use Rattle.zr_space.proofs.reads.kinds_of.Given as goal
 

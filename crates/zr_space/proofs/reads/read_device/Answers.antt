@@ -1,8 +1,7 @@
-use Rattle.std.proofs.Common.{◌≡◌, ◌∙◌, sym, subst, List, refl}
+use Rattle.std.proofs.Common.{sym, subst, List, refl}
 use Rattle.zr_base.specs.declared.space.Extent.{Extent}
 use Rattle.zr_units.specs.Uses.{Uses, Freed}
-use Rattle.zr_space.specs.Views.{Kept}
-use Rattle.zr_space.specs.Reads.{IsRead, IsPlain, CanRead, Marks, CanReadLate, MarksLate}
+use Rattle.zr_space.specs.Reads.{IsRead, IsPlain, CanRead, Marks, CanReadLate}
 use Rattle.zr_base.specs.declared.space.LateRun.{LateRun}
 use Rattle.zr_space.specs.Reads.{IsListed}
 use Rattle.zr_space.proofs.ReadDevices.{device_read}

@@ -1,6 +1,4 @@
-use Rattle.std.proofs.Common.{◌∙◌}
 use Rattle.zr_units.specs.Uses.{Freed}
-use Rattle.zr_space.specs.Reads.{Marks}
 use Rattle.zr_space.proofs.Listing.{blocks_fail, meta_fails}
 use Rattle.zr_space.proofs.reads.read_late.Goals as goal
 

@@ -1,4 +1,4 @@
-use Rattle.std.proofs.Common.{◌≡◌, ◌+◌, ◌≤◌, false, true, get_or, arith}
+use Rattle.std.proofs.Common.{◌≡◌, false, true, get_or, arith}
 use Rattle.zr_base.specs.declared.space.Dva.{Dva}
 use Rattle.zr_space.proofs.ReadDevices.{meta_within}
 use Rattle.zr_space.proofs.reads.read_meta.Goals as goal

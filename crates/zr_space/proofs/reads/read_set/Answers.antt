@@ -1,4 +1,4 @@
-use Rattle.std.proofs.Common.{◌≡◌, ◌+◌, ◌∷◌, ◌≤◌, ◌<◌, take, drop, get_or, length, List, refl, subst, sym, arith}
+use Rattle.std.proofs.Common.{◌+◌, ◌∷◌, take, drop, get_or, List, refl, subst, sym}
 use Rattle.std.proofs.lemmas.List.{take_more}
 use Rattle.zr_base.specs.declared.space.Extent.{Extent}
 use Rattle.zr_units.proofs.SetWords.{drop_first, drop_end}

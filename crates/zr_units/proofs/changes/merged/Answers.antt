@@ -1,5 +1,4 @@
-use Rattle.std.proofs.Common.{◌+◌, drop, get_or, arith, sym}
-use Rattle.zr_base.specs.declared.space.Extent.{Extent}
+use Rattle.std.proofs.Common.{◌+◌, drop}
 use Rattle.zr_units.proofs.Merging.{merges_one, merges_all}
 use Rattle.zr_units.proofs.SetWords.{drop_first, drop_end}
 use Rattle.zr_units.proofs.changes.merged.Goals as goal

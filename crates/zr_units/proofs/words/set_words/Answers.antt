@@ -1,7 +1,6 @@
-use Rattle.std.proofs.Common.{◌≡◌, ◌∙◌, length, sym, ap, arith}
+use Rattle.std.proofs.Common.{◌∙◌, length, sym, ap, arith}
 use Rattle.zr_base.specs.declared.space.Extent.{Extent}
 use Rattle.std.proofs.Common.{List}
-use Rattle.zr_rules.specs.Owed.{set_words}
 use Rattle.zr_units.proofs.SetWords.{words_are_few, words_at_most}
 use Rattle.zr_units.proofs.words.set_words.Goals as goal
 

@@ -1,5 +1,4 @@
 use Rattle.std.proofs.Common.{◌+◌, arith}
-use Rattle.zr_base.specs.declared.space.Extent.{Extent}
 use Rattle.zr_units.proofs.SetWords.{words_more, words_most, count_at_most}
 use Rattle.zr_units.proofs.words.words_of.Goals as goal
 

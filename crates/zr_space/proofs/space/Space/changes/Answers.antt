@@ -1,13 +1,8 @@
-use Rattle.std.proofs.Common.{◌≡◌, ◌∙◌, ◌<◌, List, length, sym, ap, subst, arith}
+use Rattle.std.proofs.Common.{◌≡◌, ◌∙◌, ◌<◌, length, sym, subst, arith}
 use Rattle.std.proofs.lemmas.List.{length-map}
-use Rattle.zr_base.specs.declared.space.Change.{Change}
 use Rattle.zr_rules.specs.Space.{Space}
 use Rattle.zr_units.specs.Apart.{AreSetsApart}
-use Rattle.zr_units.specs.Differences.{IsMerged}
-use Rattle.zr_metaslab.specs.Devices.{free_at, count_at}
 use Rattle.zr_space.specs.Views.{Kept, kept_of, part_in, space_of}
-use Rattle.zr_space.specs.Records.{Gains}
-use Rattle.zr_space.specs.declared.records.SetKind.TheVariants as kinds
 use Rattle.zr_space.proofs.Views.{kept_read}
 use Rattle.zr_space.proofs.Gains.{born_apart, gains_held, gains_none, ok_as}
 use Rattle.zr_space.proofs.space.Space.changes.Goals as goal

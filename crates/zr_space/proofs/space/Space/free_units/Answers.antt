@@ -1,4 +1,4 @@
-use Rattle.std.proofs.Common.{◌≡◌, ◌+◌, ◌∙◌, ◌<◌, ◌≤◌, ◌^◌, length, sym, ap, subst, arith}
+use Rattle.std.proofs.Common.{◌≡◌, ◌+◌, ◌∙◌, length, ap, subst, arith}
 use Rattle.std.specs.List.{sum_by, range_with_len}
 use Rattle.zr_rules.specs.Space.{Space}
 use Rattle.zr_rules.specs.Columns.{free_units}

@@ -1,4 +1,4 @@
-use Rattle.std.proofs.Common.{◌≡◌, List, length, ap, refl, arith}
+use Rattle.std.proofs.Common.{List, length, ap, refl, arith}
 use Rattle.zr_base.specs.declared.space.DevPart.{DevPart}
 use Rattle.zr_space.proofs.Opening.{all_opened}
 use Rattle.zr_space.proofs.space.Space.from_parts.Goals as goal

@@ -1,6 +1,4 @@
 use Rattle.std.proofs.Common.{◌≡◌, ◌∙◌, ◌+◌, ◌*◌, List, length, sym, ap, subst, max, refl}
-use Rattle.zr_rules.specs.Space.{Space}
-use Rattle.zr_rules.specs.Columns as columns
 use Rattle.zr_space.specs.Views.{Kept}
 use Rattle.zr_space.specs.Totals.{AreFew, total_by, current_meta, late1_meta, late2_meta, words_in}
 use Rattle.zr_space.proofs.Totalling.{are_few, sizes_are}
