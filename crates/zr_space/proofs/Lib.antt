@@ -15,3 +15,4 @@ pub mod Drops
 pub mod Counting
 pub mod Lives
 pub mod Paths
+pub mod InUse

@@ -6,6 +6,7 @@
 #![tactic(auto)]
 
 mod device;
+mod live;
 mod remap;
 mod space;
 #[cfg(test)]
