@@ -22,3 +22,4 @@ pub mod Listing
 pub mod ReadDevices
 pub mod Opening
 pub mod Refusing
+pub mod InUse

@@ -6,6 +6,7 @@
 #![tactic(auto)]
 
 mod device;
+mod live;
 mod open;
 mod reads;
 mod records;

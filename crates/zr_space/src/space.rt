@@ -51,7 +51,7 @@ impl Model for Space {
 }
 
 // The units of an address.
-fn extent_of(at: &Dva) -> Extent
+pub(crate) fn extent_of(at: &Dva) -> Extent
     ensures { result ≡ extent_of at.now }
 {
     Extent {

@@ -2,3 +2,10 @@ pub mod Reading
 pub mod Taking
 pub mod Caching
 pub mod Overwriting
+pub mod Apart
+pub mod Rooms
+pub mod Uses
+pub mod Follows
+pub mod Held
+pub mod Moves
+pub mod Frames

@@ -59,7 +59,7 @@ step_kept slot from n apart old new (added_none is) = ap (λ (s : Stand). part (
 step_kept slot from n apart old new (added w may written) = written.seen.bytes slot from n (apart w may, tt)
 
 module _ (slots : List (Option ℕ)) (at : Dva) (apart : (d e slot : ℕ) → slot_of slots d ≡ Some slot → slot_of slots e ≡ Some slot → d ≡ e) where
-  untouched : (r : Piece) (w : PendingWrite) (slot : ℕ) → IsWriteOf slots at w → meets (as_part at) r ≡ false → slot_of slots r.dev ≡ Some slot → ¬ Meets w slot (unit_at r.at.start) (4096 * r.at.len)
+  pub untouched : (r : Piece) (w : PendingWrite) (slot : ℕ) → IsWriteOf slots at w → meets (as_part at) r ≡ false → slot_of slots r.dev ≡ Some slot → ¬ Meets w slot (unit_at r.at.start) (4096 * r.at.len)
   untouched r w slot is none there met =
       let same : slot_of slots at.dev ≡ Some slot = is.slot ∙ ap (λ (n : ℕ). some_slot n) met.same in
       let dev = apart at.dev r.dev slot same there in
@@ -80,7 +80,7 @@ module _ (slots : List (Option ℕ)) (at : Dva) (apart : (d e slot : ℕ) → sl
           (λ before after step same. step_kept slot (unit_at r.at.start) (4096 * r.at.len) (λ w may. untouched r w slot may none is) before after step ∙ same) old new writes refl).1
     ]) refl
 
-    runs_kept : (runs : List Piece) → list_any (meets (as_part at)) runs ≡ false → flat_map (run_bytes new.now.seen slots) runs ≡ flat_map (run_bytes old.now.seen slots) runs
+    pub runs_kept : (runs : List Piece) → list_any (meets (as_part at)) runs ≡ false → flat_map (run_bytes new.now.seen slots) runs ≡ flat_map (run_bytes old.now.seen slots) runs
     runs_kept [] none = refl
     runs_kept (r ∷ rs) none =
         let split = neither (meets (as_part at) r) (list_any (meets (as_part at)) rs) none in
@@ -108,10 +108,10 @@ module _ (slots : List (Option ℕ)) (at : Dva) (apart : (d e slot : ℕ) → sl
     ]
 
 -- a call that takes units or none leaves the devices mounted
-pub stays_mounted : (kind : Kind) (policy : Policy) (want : ℕ) (old new : Space) (before after : List ℕ) (slots : List (Option ℕ)) → MayTake kind policy want old new → after ≡ before
+pub stays_mounted : (kind : Kind) (policy : Policy) (want : ℕ) (old new : Space) (before after : List ℕ) (slots : List (Option ℕ)) (taken : Option Dva) → MayTake kind policy want old new taken → after ≡ before
     → AreMounted before slots (devices_in old) → AreMounted after slots (devices_in new)
-stays_mounted kind policy want old new before after slots (inl same) sizes mounted =
+stays_mounted kind policy want old new before after slots None same sizes mounted =
     subst (λ (n : List ℕ). AreMounted n slots (devices_in new)) (sym sizes) (subst (λ (s : Space). AreMounted before slots (devices_in s)) (sym same) mounted)
-stays_mounted kind policy want old new before after slots (inr (at, takes)) sizes mounted =
+stays_mounted kind policy want old new before after slots (Some at) takes sizes mounted =
     subst (λ (n : List ℕ). AreMounted n slots (devices_in new)) (sym sizes)
     (subst (λ (ds : Devices). AreMounted before slots ds) (sym (same_devices old new (takes_frame kind policy want old new at takes))) mounted)

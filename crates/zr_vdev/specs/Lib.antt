@@ -2,3 +2,5 @@ pub mod Mounts
 pub mod Runs
 pub mod Puts
 pub mod Caches
+pub mod Stores
+pub mod Fails

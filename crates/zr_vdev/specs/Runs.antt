@@ -24,3 +24,7 @@ view_of disks slots s = record { disks = disks; slots = slots; devices = devices
 -- what a store on a shelf reckons with: faults of its disks, and the free units of devices in service
 abbrev pub account_of : ℕ → Space → Account
 account_of faults s = record { faults = faults; room = free_units s; load = 0; put_load = 0; free_load = 0; resolves = is_resolved (devices_in s) }
+
+-- what a store that is only read reckons with: there is room for no block
+abbrev pub reader_account : ℕ → Space → Account
+reader_account faults s = record { faults = faults; room = 0; load = 0; put_load = 0; free_load = 0; resolves = is_resolved (devices_in s) }

@@ -1,5 +1,5 @@
 //! Blocks through the cache.
-ghost use Rattle.std.specs.Prelude.{◌≡◌, ◌≢◌, ◌-◌, ◌*◌, ◌/◌, ◌<◌, ◌≤◌, ◌⊎◌, ℕ, List, true, length, IsErrOf, OnOk, OnErr, IfOk, IfErr};
+ghost use Rattle.std.specs.Prelude.{◌≡◌, ◌≢◌, ◌+◌, ◌-◌, ◌*◌, ◌/◌, ◌<◌, ◌≤◌, ◌⊎◌, ◌∷◌, [], ℕ, List, true, length, IsErrOf, OnOk, OnErr, IfOk, IfErr, IfSome};
 ghost use Rattle.sha2.specs.Sha256.{sha256};
 ghost use Rattle.zr_base.specs.Counts.{HasRisen};
 ghost use Rattle.zr_base.specs.declared.space.Dva.{Dva};
@@ -16,13 +16,14 @@ ghost use Rattle.zr_cache.specs.Entries.{capacity};
 ghost use Rattle.zr_vdev.specs.Mounts.{AreMounted};
 ghost use Rattle.zr_rules.specs.Columns.{free_of};
 ghost use Rattle.zr_rules.specs.Placement.{HasNoPlacement};
+ghost use Rattle.zr_rules.specs.Places.{units_of_dev};
 ghost use Rattle.zr_vdev.specs.Puts.{Takes, MayTake, MayPut, IsWriteOf};
-ghost use Rattle.zr_vdev.specs.Runs.{view_of, account_of};
+ghost use Rattle.zr_vdev.specs.Runs.{view_of, account_of, AreRunsOf};
 ghost use Rattle.zr_vdev.specs.Caches.{AreRead, KeepsBlock};
 
-use crate::kind::Mount;
+use crate::kind::{Mount, Place};
 use crate::reads::read_block;
-use crate::writes::write_block;
+use crate::writes::{NotPut, write_block};
 use std::alloc::Global;
 use zr_base::{Dva, Extent};
 use zr_bptr::Bptr;
@@ -98,16 +99,17 @@ fn keep_block(
     Ok(())
 }
 
-/// Stores a new block, and caches it. After an error nothing is cached, and nothing was done or the units stay taken.
-pub fn put_block<S: Shelf>(
+/// Stores a new block, and caches it where there is memory for that. After an error nothing is cached, and nothing was
+/// done or the units that it names stay taken.
+pub fn put_block<S: Shelf, P: Place>(
     alloc: Global,
     space: &mut Space,
     shelf: &mut S,
     cache: &mut Cache,
-    mount: &Mount,
+    mount: &Mount<P>,
     bytes: &[u8],
     level: u8,
-) -> Result<Bptr, StoreErr>
+) -> Result<Bptr, NotPut>
     requires mounted { AreMounted (S.sizes shelf.old) mount.now.slots.now (devices_in space.old) }
     requires group { 1 ≤ mount.now.txg }
     requires level { level ≤ 5 }
@@ -118,22 +120,25 @@ pub fn put_block<S: Shelf>(
     ensures none_fell { NoneFell (S.counts shelf.old) (S.counts shelf.new) }
     ensures mounted { AreMounted (S.sizes shelf.new) mount.now.slots.now (devices_in space.new) }
     ensures told { S.tells shelf.old → S.tells shelf.new }
-    ensures failed { IsErrOf result Failed → HasRisen (S.counts shelf.old).disk (S.counts shelf.new).disk }
-    ensures no_run { (needed longest : ℕ) → IsErrOf result (NoRun needed longest) → (needed ≡ length bytes.now / 4096) × HasNoPlacement (free_of space.old) (length bytes.now / 4096) longest }
-    ensures errors { IfErr result (λ e. (e ≡ Failed) ⊎ ((e ≡ NoMemory) ⊎ ((needed longest : ℕ) × (e ≡ NoRun needed longest)))) }
+    ensures failed { IfErr result (λ e. e.error ≡ Failed → HasRisen (S.counts shelf.old).disk (S.counts shelf.new).disk) }
+    ensures no_run { IfErr result (λ e. (needed longest : ℕ) → e.error ≡ NoRun needed longest → (needed ≡ length bytes.now / 4096) × HasNoPlacement (free_of space.old) (length bytes.now / 4096) longest) }
+    ensures errors { IfErr result (λ e. (e.error ≡ Failed) ⊎ ((e.error ≡ NoMemory) ⊎ ((needed longest : ℕ) × (e.error ≡ NoRun needed longest)))) }
     ensures pointer { IfOk result (IsPointerTo level bytes.now) }
     ensures birth { IfOk result (λ b. b.birth ≡ mount.now.txg) }
-    ensures taken { IfOk result (λ b. Takes mount.now.kind mount.now.pick.now.policy (length bytes.now / 4096) space.old space.new b.at) }
+    ensures taken { IfOk result (λ b. Takes mount.now.kind (P.policy mount.now.pick.now) (length bytes.now / 4096) space.old space.new b.at) }
+    ensures within { IfOk result (λ b. b.at.start + b.at.len ≤ units_of_dev space.new.parts.devs b.at.dev) }
+    ensures within_taken { IfErr result (λ e. IfSome e.taken (λ at. at.start + at.len ≤ units_of_dev space.new.parts.devs at.dev)) }
+    ensures run { IfOk result (λ b. AreRunsOf (devices_in space.new) b.at (as_part b.at ∷ [])) }
     ensures written { S.tells shelf.old → IfOk result (λ b. WritesOnly (IsWriteOf mount.now.slots.now b.at) (S.world shelf.old) (S.world shelf.new)) }
     ensures there { S.tells shelf.old → IfOk result (λ b. address_bytes (view_of (S.world shelf.new).now.seen mount.now.slots.now space.new) b.at ≡ bytes.now) }
-    ensures kept { OnErr result (MayTake mount.now.kind mount.now.pick.now.policy (length bytes.now / 4096) space.old space.new) }
-    ensures err { S.tells shelf.old → OnErr result (MayPut mount.now.kind mount.now.pick.now.policy (length bytes.now / 4096) mount.now.slots.now space.old space.new (S.world shelf.old) (S.world shelf.new)) }
+    ensures kept { IfErr result (λ e. MayTake mount.now.kind (P.policy mount.now.pick.now) (length bytes.now / 4096) space.old space.new e.taken) }
+    ensures err { S.tells shelf.old → IfErr result (λ e. MayPut mount.now.kind (P.policy mount.now.pick.now) (length bytes.now / 4096) mount.now.slots.now space.old space.new (S.world shelf.old) (S.world shelf.new) e.taken) }
     ensures cache { S.tells shelf.old → AreRead (S.world shelf.old).now.seen mount.now.slots.now space.old cache.old → AreRead (S.world shelf.new).now.seen mount.now.slots.now space.new cache.new }
     ensures room { capacity cache.new ≡ capacity cache.old }
 {
     match write_block(alloc, space, shelf, mount, bytes, level) {
         Ok(b) => {
-            keep_block(alloc, cache, &b, bytes)?;
+            let _ = keep_block(alloc, cache, &b, bytes);
             Ok(b)
         }
         Err(error) => {

@@ -54,7 +54,7 @@ fn read_all<S: Shelf>(
 }
 
 // The runs of a pointer's address.
-fn runs_of(alloc: Global, space: &Space, b: &Bptr) -> Result<Vec<Piece>, StoreErr>
+pub(crate) fn runs_of(alloc: Global, space: &Space, b: &Bptr) -> Result<Vec<Piece>, StoreErr>
     ensures runs { IfOk result (λ runs. AreRunsOf (devices_in space.now) b.now.at runs.items) }
     ensures unresolved { (at : Dva) (expected : List ℕ) → IsErrOf result (Unresolved at expected) → IsOf b.now at expected }
     ensures nowhere { (at : Dva) (expected : List ℕ) → IsErrOf result (Unresolved at expected) → is_resolved (devices_in space.now) at ≡ false }

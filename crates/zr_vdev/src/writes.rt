@@ -1,5 +1,5 @@
 //! Writing a new block.
-ghost use Rattle.std.specs.Prelude.{◌≡◌, ◌+◌, ◌-◌, ◌*◌, ◌/◌, ◌<◌, ◌≤◌, ◌^◌, ◌⊎◌, ◌∷◌, [], ℕ, List, true, length, IsErrOf, OnOk, OnErr, IfOk, IfErr, IsTrue};
+ghost use Rattle.std.specs.Prelude.{◌≡◌, ◌+◌, ◌-◌, ◌*◌, ◌/◌, ◌<◌, ◌≤◌, ◌^◌, ◌⊎◌, ◌∷◌, [], ℕ, List, true, length, IsErrOf, OnOk, OnErr, IfOk, IfErr, IfSome, IsTrue};
 ghost use Rattle.zr_base.specs.Blocks.{is_block_size};
 ghost use Rattle.zr_base.specs.Counts.{HasRisen};
 ghost use Rattle.zr_base.specs.declared.space.Dva.{Dva};
@@ -19,8 +19,9 @@ ghost use Rattle.zr_view.specs.Runs.{run_bytes, HasDisk};
 ghost use Rattle.zr_vdev.specs.Mounts.{AreMounted};
 ghost use Rattle.zr_vdev.specs.Runs.{view_of, AreRunsOf};
 ghost use Rattle.zr_vdev.specs.Puts.{Takes, MayTake, MayPut, IsWriteOf};
+ghost use Rattle.zr_vdev.specs.Fails.{not_put};
 
-use crate::kind::{Kind, Mount};
+use crate::kind::{Kind, Mount, Place};
 use std::alloc::Global;
 use zr_base::{Dva, Extent};
 use zr_bptr::{Bptr, leaves_in, sum_of};
@@ -29,6 +30,28 @@ use zr_shelf::{DeskErr, Shelf};
 use zr_space::{Space, SpaceErr};
 use zr_store::StoreErr;
 use zr_view::write_run;
+
+/// Why a block was not put, and the units that it took all the same.
+#[derive(Clone, Copy, Debug, PartialEq, Eq)]
+pub struct NotPut {
+    pub error: StoreErr,
+    pub taken: Option<Dva>,
+}
+
+impl From<zr_base::NoMemory> for NotPut {
+    ghost from_gives = { λ _ e. e ≡ not_put NoMemory };
+
+    fn from(_: zr_base::NoMemory) -> Self {
+        not_put(StoreErr::NoMemory)
+    }
+}
+
+// No units were taken.
+fn not_put(error: StoreErr) -> NotPut
+    ensures { result ≡ not_put error }
+{
+    NotPut { error, taken: None }
+}
 
 // The units of a block.
 fn units_of(size: usize) -> u32
@@ -42,18 +65,18 @@ fn units_of(size: usize) -> u32
 }
 
 // Takes units of the kind.
-fn take_units(space: &mut Space, mount: &Mount, want: u64) -> Result<Dva, StoreErr>
+fn take_units<P: Place>(space: &mut Space, mount: &Mount<P>, want: u64) -> Result<Dva, StoreErr>
     requires some { 0 < want }
     requires few { want ≤ 256 }
-    ensures ok { IfOk result (Takes mount.now.kind mount.now.pick.now.policy want space.old space.new) }
+    ensures ok { IfOk result (Takes mount.now.kind (P.policy mount.now.pick.now) want space.old space.new) }
     ensures within { IfOk result (λ at. at.start + at.len ≤ units_of_dev space.new.parts.devs at.dev) }
     ensures no_run { (needed longest : ℕ) → IsErrOf result (NoRun needed longest) → (needed ≡ want) × HasNoPlacement (free_of space.old) want longest }
     ensures errors { IfErr result (λ e. (e ≡ NoMemory) ⊎ ((needed longest : ℕ) × (e ≡ NoRun needed longest))) }
     ensures err { OnErr result (space.new ≡ space.old) }
 {
     let taken = match mount.kind {
-        Kind::Block => space.alloc(want, mount.pick),
-        Kind::Meta => space.alloc_meta(want, mount.pick),
+        Kind::Block => mount.pick.take(space, want),
+        Kind::Meta => mount.pick.take_meta(space, want),
     };
     match taken {
         Ok(at) => Ok(at),
@@ -107,16 +130,16 @@ fn write_at<S: Shelf>(
     }
 }
 
-/// Stores a new block: it takes units, and writes them in one call. After an error nothing was done, or the units stay
-/// taken. A level above 0 takes the bytes of one tree block.
-pub fn write_block<S: Shelf>(
+/// Stores a new block: it takes units, and writes them in one call. After an error nothing was done, or the units that
+/// it names stay taken. A level above 0 takes the bytes of one tree block.
+pub fn write_block<S: Shelf, P: Place>(
     alloc: Global,
     space: &mut Space,
     shelf: &mut S,
-    mount: &Mount,
+    mount: &Mount<P>,
     bytes: &[u8],
     level: u8,
-) -> Result<Bptr, StoreErr>
+) -> Result<Bptr, NotPut>
     requires mounted { AreMounted (S.sizes shelf.old) mount.now.slots.now (devices_in space.old) }
     requires group { 1 ≤ mount.now.txg }
     requires level { level ≤ 5 }
@@ -127,29 +150,39 @@ pub fn write_block<S: Shelf>(
     ensures none_fell { NoneFell (S.counts shelf.old) (S.counts shelf.new) }
     ensures mounted { AreMounted (S.sizes shelf.new) mount.now.slots.now (devices_in space.new) }
     ensures told { S.tells shelf.old → S.tells shelf.new }
-    ensures failed { IsErrOf result Failed → HasRisen (S.counts shelf.old).disk (S.counts shelf.new).disk }
-    ensures no_run { (needed longest : ℕ) → IsErrOf result (NoRun needed longest) → (needed ≡ length bytes.now / 4096) × HasNoPlacement (free_of space.old) (length bytes.now / 4096) longest }
-    ensures no_run_same { (needed longest : ℕ) → IsErrOf result (NoRun needed longest) → space.new ≡ space.old }
-    ensures errors { IfErr result (λ e. (e ≡ Failed) ⊎ ((e ≡ NoMemory) ⊎ ((needed longest : ℕ) × (e ≡ NoRun needed longest)))) }
+    ensures failed { IfErr result (λ e. e.error ≡ Failed → HasRisen (S.counts shelf.old).disk (S.counts shelf.new).disk) }
+    ensures no_run { IfErr result (λ e. (needed longest : ℕ) → e.error ≡ NoRun needed longest → (needed ≡ length bytes.now / 4096) × HasNoPlacement (free_of space.old) (length bytes.now / 4096) longest) }
+    ensures no_run_same { IfErr result (λ e. (needed longest : ℕ) → e.error ≡ NoRun needed longest → space.new ≡ space.old) }
+    ensures errors { IfErr result (λ e. (e.error ≡ Failed) ⊎ ((e.error ≡ NoMemory) ⊎ ((needed longest : ℕ) × (e.error ≡ NoRun needed longest)))) }
     ensures pointer { IfOk result (IsPointerTo level bytes.now) }
     ensures birth { IfOk result (λ b. b.birth ≡ mount.now.txg) }
-    ensures taken { IfOk result (λ b. Takes mount.now.kind mount.now.pick.now.policy (length bytes.now / 4096) space.old space.new b.at) }
+    ensures taken { IfOk result (λ b. Takes mount.now.kind (P.policy mount.now.pick.now) (length bytes.now / 4096) space.old space.new b.at) }
+    ensures within { IfOk result (λ b. b.at.start + b.at.len ≤ units_of_dev space.new.parts.devs b.at.dev) }
+    ensures within_taken { IfErr result (λ e. IfSome e.taken (λ at. at.start + at.len ≤ units_of_dev space.new.parts.devs at.dev)) }
     ensures run { IfOk result (λ b. AreRunsOf (devices_in space.new) b.at (as_part b.at ∷ [])) }
     ensures written { S.tells shelf.old → IfOk result (λ b. WritesOnly (IsWriteOf mount.now.slots.now b.at) (S.world shelf.old) (S.world shelf.new)) }
     ensures there { S.tells shelf.old → IfOk result (λ b. address_bytes (view_of (S.world shelf.new).now.seen mount.now.slots.now space.new) b.at ≡ bytes.now) }
-    ensures kept { OnErr result (MayTake mount.now.kind mount.now.pick.now.policy (length bytes.now / 4096) space.old space.new) }
-    ensures err { S.tells shelf.old → OnErr result (MayPut mount.now.kind mount.now.pick.now.policy (length bytes.now / 4096) mount.now.slots.now space.old space.new (S.world shelf.old) (S.world shelf.new)) }
+    ensures kept { IfErr result (λ e. MayTake mount.now.kind (P.policy mount.now.pick.now) (length bytes.now / 4096) space.old space.new e.taken) }
+    ensures err { S.tells shelf.old → IfErr result (λ e. MayPut mount.now.kind (P.policy mount.now.pick.now) (length bytes.now / 4096) mount.now.slots.now space.old space.new (S.world shelf.old) (S.world shelf.new) e.taken) }
 {
     let birth = mount.txg;
     let units = units_of(bytes.len());
     let fill = leaves_of_bytes(alloc, bytes, level)?;
-    let at = take_units(space, mount, u64::from(units))?;
-    write_at(shelf, mount.slots, &at, bytes)?;
-    Ok(Bptr {
-        at,
-        level,
-        birth,
-        fill,
-        sum: sum_of(bytes),
-    })
+    let at = match take_units(space, mount, u64::from(units)) {
+        Ok(at) => at,
+        Err(error) => return Err(not_put(error)),
+    };
+    match write_at(shelf, mount.slots, &at, bytes) {
+        Ok(()) => Ok(Bptr {
+            at,
+            level,
+            birth,
+            fill,
+            sum: sum_of(bytes),
+        }),
+        Err(error) => Err(NotPut {
+            error,
+            taken: Some(at),
+        }),
+    }
 }

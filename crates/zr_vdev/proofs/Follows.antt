@@ -1,0 +1,380 @@
+-- What calls of a store in a row leave alone.
+use Rattle.std.proofs.Common.{◌≡◌, ℕ, ◌≤◌, ◌+◌, ◌/◌, Bool, true, false, List, [], ◌∷◌, length, Option, Some, None, inl, inr, ◌<◌, refl, sym, ◌∙◌, ap, subst, arith}
+use Rattle.std.specs.Prelude.{if◌then◌else◌, IfSome}
+use Rattle.std.proofs.lemmas.Bool.Decides.{nat_tests}
+use Rattle.std.specs.Map.{remove_entry}
+use Rattle.std.proofs.Math.Path.{fun_ext}
+use Rattle.zr_base.specs.declared.space.Dva.{Dva}
+use Rattle.zr_base.specs.declared.space.DevRow.{DevRow}
+use Rattle.zr_base.specs.declared.space.Entry.{Entry}
+use Rattle.zr_bptr.specs.declared.Bptr.{Bptr}
+use Rattle.zr_store.specs.Causes.{Spends, IsNoRun}
+use Rattle.zr_store.specs.Store.{is_size}
+use Rattle.zr_rules.specs.Placement.{HasNoPlacement}
+use Rattle.zr_cache.specs.Entries.{entries, is_key, capacity}
+use Rattle.zr_cache.proofs.Keeping.{holds-forgotten}
+use Rattle.zr_vdev.specs.Runs.{account_of}
+use Rattle.zr_vdev.specs.Caches.{IsRead, AreRead}
+use Rattle.zr_base.specs.declared.space.DevPart.{DevPart}
+use Rattle.zr_base.specs.declared.space.Policy.{Policy}
+use Rattle.zr_shelf.specs.Counts.{Counts, NoneFell}
+use Rattle.zr_shelf.specs.Disks.{Stand, PendingWrite}
+use Rattle.zr_shelf.specs.Moments.{World, IsStill}
+use Rattle.zr_shelf.specs.Doings.{Adds, IsAdded, WritesOnly, latest}
+use Rattle.zr_shelf.specs.Doings.Adds.{added_none, added}
+use Rattle.zr_shelf.proofs.Doings.{writes_nothing, writes_more, writes_still}
+use Rattle.zr_shelf.proofs.Runs.{still_trans}
+use Rattle.zr_rules.specs.Places.{in_address, part_of, units_of_dev}
+use Rattle.zr_rules.specs.Devices.{Devices}
+use Rattle.zr_rules.specs.Roles.{Role, is_live_role, is_meta_role, is_free_role, freed, kept_of, dropped}
+use Rattle.zr_rules.specs.Roles.Role.{Free}
+use Rattle.zr_rules.specs.Space.{Space, role_at}
+use Rattle.zr_rules.specs.Frees.{keeps, IsSamePart, IsSameFrame, in_any}
+use Rattle.zr_rules.specs.Resolve.{leads_to, is_resolved}
+use Rattle.zr_rules.specs.Columns.{free_units, free_of}
+use Rattle.zr_rules.specs.Equation.{devices_in}
+use Rattle.zr_space.specs.Drops.{KeepsParts}
+use Rattle.zr_space.specs.Paths.{AreInService}
+use Rattle.zr_cache.specs.declared.table.Cache.{Cache}
+use Rattle.zr_vdev.specs.declared.kind.Kind.{Kind}
+use Rattle.zr_vdev.specs.declared.kind.Kind.TheVariants as kinds
+use Rattle.zr_vdev.specs.Puts.{Takes, GivesBack, MayTake, MayPut, IsWriteOf}
+use Rattle.zr_vdev.specs.Stores.{IsInUse, GivesBackLost, may_write, may_change, is_open_role, IsWriteInto, KeepsRows, KeepsOthers, Continues, GoesOnReading}
+use Rattle.zr_vdev.proofs.Taking.{takes_frame, takes_place}
+use Rattle.zr_vdev.proofs.Rooms.{room_taken, room_kept, is_short, no_room}
+use Rattle.zr_vdev.proofs.Held.{read_same}
+use Rattle.zr_vdev.proofs.Uses.{is_of, taken_was_free, take_keeps, give_keeps, use_roles, leads_there}
+
+-- ---- writes
+
+widen_step : (A B : PendingWrite → Type 0) → ((w : PendingWrite) → A w → B w) → (old new : Stand) → Adds A old new → Adds B old new
+widen_step A B wider old new (added_none is) = added_none is
+widen_step A B wider old new (added w may written) = added w (wider w may) written
+
+widen_all : (A B : PendingWrite → Type 0) → ((w : PendingWrite) → A w → B w) → (more : List Stand) (first : Stand) → IsAdded A more first → IsAdded B more first
+widen_all A B wider [] first h = tt
+widen_all A B wider (s ∷ more) first h = (widen_step A B wider (latest more first) s h.0, widen_all A B wider more first h.1)
+
+pub widen : (A B : PendingWrite → Type 0) → ((w : PendingWrite) → A w → B w) → (old new : World) → WritesOnly A old new → WritesOnly B old new
+widen A B wider old new h = record { more = h.more; joins = h.joins; added = widen_all A B wider h.more old.now h.added }
+
+-- ---- rows
+
+pub frame_rows : (old new : Space) → IsSameFrame old new → KeepsRows old new
+frame_rows old new f = record { version = f.version; cond = f.cond; ckpt = f.ckpt; synced = f.synced; devices = f.devices; each = f.each; lawful = f.lawful }
+
+pub parts_rows : (old new : Space) → KeepsParts old new → KeepsRows old new
+parts_rows old new f = record { version = f.version; cond = f.cond; ckpt = f.ckpt; synced = f.synced; devices = f.devices; each = f.each; lawful = λ was. f.lawful }
+
+same_parts : (a b c : DevPart) → IsSamePart a b → IsSamePart b c → IsSamePart a c
+same_parts a b c p q = record { row = q.row ∙ p.row; entries = q.entries ∙ p.entries; counts = q.counts ∙ p.counts; late1 = q.late1 ∙ p.late1; late2 = q.late2 ∙ p.late2 }
+
+rows_itself : (s : Space) → KeepsRows s s
+rows_itself s = record { version = refl; cond = refl; ckpt = refl; synced = refl; devices = refl; each = λ d. record { row = refl; entries = refl; counts = refl; late1 = refl; late2 = refl }; lawful = λ l. l }
+
+rows_more : (a b c : Space) → KeepsRows a b → KeepsRows b c → KeepsRows a c
+rows_more a b c p q = record {
+  version = q.version ∙ p.version;
+  cond = q.cond ∙ p.cond;
+  ckpt = q.ckpt ∙ p.ckpt;
+  synced = q.synced ∙ p.synced;
+  devices = q.devices ∙ p.devices;
+  each = λ d. same_parts (part_of a.parts.devs d) (part_of b.parts.devs d) (part_of c.parts.devs d) (p.each d) (q.each d);
+  lawful = λ l. q.lawful (p.lawful l);
+}
+
+-- ---- roles
+
+pub others_itself : (kind : Kind) (s : Space) → KeepsOthers kind s s
+others_itself kind s = record { rows = rows_itself s; stays = λ d u may. refl; writable = λ d u may. may }
+
+pub others_more : (kind : Kind) (a b c : Space) → KeepsOthers kind a b → KeepsOthers kind b c → KeepsOthers kind a c
+others_more kind a b c p q = record {
+  rows = rows_more a b c p.rows q.rows;
+  stays = λ d u may. let first = p.stays d u may in q.stays d u (ap (may_change kind) first ∙ may) ∙ first;
+  writable = λ d u may. p.writable d u (q.writable d u may);
+}
+
+free_written : (kind : Kind) → may_write kind Free ≡ true
+free_written kinds.Block = refl
+free_written kinds.Meta = refl
+
+free_changed : (kind : Kind) → may_change kind Free ≡ true
+free_changed kinds.Block = refl
+free_changed kinds.Meta = refl
+
+true_false : true ≡ false → ⊥
+true_false e = cc
+
+own_changed : (kind : Kind) (r : Role) → is_of kind r ≡ true → may_change kind r ≡ true
+own_changed kinds.Block r is = grind (arith, nat_tests, is)
+own_changed kinds.Meta r is = grind (arith, nat_tests, is)
+
+own_not_free : (kind : Kind) (r : Role) → is_of kind r ≡ true → is_free_role r ≡ true → ⊥
+own_not_free kinds.Block r is free = grind (arith, nat_tests, is, free)
+own_not_free kinds.Meta r is free = grind (arith, nat_tests, is, free)
+
+freed_written : (b : Bool) (r : Role) → is_live_role r ≡ true → is_open_role (if b then kept_of r else freed r) ≡ true → is_open_role r ≡ true
+freed_written true r is may = grind (arith, nat_tests, is, may)
+freed_written false r is may = grind (arith, nat_tests, is, may)
+
+dropped_written : (r : Role) → is_meta_role r ≡ true → is_free_role (dropped r) ≡ true → is_free_role r ≡ true
+dropped_written r is free = grind (arith, nat_tests, is, free)
+
+if_true : {A : Type 0} (b : Bool) (x y : A) → b ≡ true → (if b then x else y) ≡ x
+if_true true x y h = refl
+if_true false x y h = cc
+
+pub takes_others : (kind : Kind) (policy : Policy) (want : ℕ) (old new : Space) (at : Dva) → Takes kind policy want old new at → KeepsOthers kind old new
+takes_others kind policy want old new at takes = record {
+  rows = frame_rows old new (takes_frame kind policy want old new at takes);
+  stays = λ d u may. (elim (in_address at d u) as (λ (b : Bool). in_address at d u ≡ b → role_at new d u ≡ role_at old d u) [
+    | true ↦ λ is. absurd (true_false (sym (ap (may_change kind) (taken_was_free kind policy want old new at takes d u is) ∙ free_changed kind) ∙ may))
+    | false ↦ λ is. take_keeps kind policy want old new at takes d u is
+  ]) refl;
+  writable = λ d u may. (elim (in_address at d u) as (λ (b : Bool). in_address at d u ≡ b → may_write kind (role_at old d u) ≡ true) [
+    | true ↦ λ is. ap (may_write kind) (taken_was_free kind policy want old new at takes d u is) ∙ free_written kind
+    | false ↦ λ is. sym (ap (may_write kind) (take_keeps kind policy want old new at takes d u is)) ∙ may
+  ]) refl;
+}
+
+give_rows : (kind : Kind) (old new : Space) (a : Dva) (birth : ℕ) → GivesBack kind old new a birth → KeepsRows old new
+give_rows kinds.Block old new a birth gives = frame_rows old new gives.frame
+give_rows kinds.Meta old new a birth gives = parts_rows old new gives.1
+
+give_written : (kind : Kind) (old new : Space) (a : Dva) (birth : ℕ) → AreInService (devices_in old) → IsInUse kind old a → GivesBack kind old new a birth → (d u : ℕ) → in_address a d u ≡ true → may_write kind (role_at new d u) ≡ true → may_write kind (role_at old d u) ≡ true
+give_written kinds.Block old new a birth on h gives d u is may =
+    let leads = leads_there (devices_in old) on a d u h.known h.within is in
+    let now = gives.roles d u ∙ if_true (leads_to (devices_in old) a d u) _ _ leads in
+    freed_written (keeps old.parts.ckpt birth) (role_at old d u) (h.used d u leads) (sym (ap is_open_role now) ∙ may)
+give_written kinds.Meta old new a birth on h gives d u is may =
+    let any : in_any (a ∷ []) d u ≡ true = grind (arith, nat_tests, is) in
+    let now = gives.0.roles d u ∙ if_true (in_any (a ∷ []) d u) _ _ any in
+    dropped_written (role_at old d u) (use_roles kinds.Meta old a on h d u is) (sym (ap is_free_role now) ∙ may)
+
+pub gives_others : (kind : Kind) (old new : Space) (a : Dva) (birth : ℕ) → AreInService (devices_in old) → IsInUse kind old a → GivesBack kind old new a birth → KeepsOthers kind old new
+gives_others kind old new a birth on h gives = record {
+  rows = give_rows kind old new a birth gives;
+  stays = λ d u may. (elim (in_address a d u) as (λ (b : Bool). in_address a d u ≡ b → role_at new d u ≡ role_at old d u) [
+    | true ↦ λ is. absurd (true_false (sym (own_changed kind (role_at old d u) (use_roles kind old a on h d u is)) ∙ may))
+    | false ↦ λ is. give_keeps kind old new a birth on gives d u is
+  ]) refl;
+  writable = λ d u may. (elim (in_address a d u) as (λ (b : Bool). in_address a d u ≡ b → may_write kind (role_at old d u) ≡ true) [
+    | true ↦ λ is. give_written kind old new a birth on h gives d u is may
+    | false ↦ λ is. sym (ap (may_write kind) (give_keeps kind old new a birth on gives d u is)) ∙ may
+  ]) refl;
+}
+
+-- ---- room
+
+pub takes_room : (kind : Kind) (policy : Policy) (want : ℕ) (old new : Space) (at : Dva) → Takes kind policy want old new at → at.len ≡ want → free_units old ≤ free_units new + want
+takes_room kind policy want old new at takes len =
+    let frame = takes_frame kind policy want old new at takes in
+    let r = room_taken old new frame.devices (λ d. (frame.each d).row) at (λ d u free out. ap is_free_role (take_keeps kind policy want old new at takes d u out) ∙ free) in
+    omega (arith, r, len)
+
+pub gives_room : (kind : Kind) (old new : Space) (a : Dva) (birth : ℕ) → AreInService (devices_in old) → IsInUse kind old a → GivesBack kind old new a birth → free_units old ≤ free_units new
+gives_room kind old new a birth on h gives =
+    let rows = give_rows kind old new a birth gives in
+    room_kept old new rows.devices (λ d. (rows.each d).row) (λ d u free. (elim (in_address a d u) as (λ (b : Bool). in_address a d u ≡ b → is_free_role (role_at new d u) ≡ true) [
+      | true ↦ λ is. absurd (own_not_free kind (role_at old d u) (use_roles kind old a on h d u is) free)
+      | false ↦ λ is. ap is_free_role (give_keeps kind old new a birth on gives d u is) ∙ free
+    ]) refl)
+
+-- ---- the writes of a call
+
+pub write_into : (kind : Kind) (policy : Policy) (want : ℕ) (slots : List (Option ℕ)) (old new : Space) (at : Dva) → 0 < want → Takes kind policy want old new at → (before now : World) → WritesOnly (IsWriteOf slots at) before now → WritesOnly (IsWriteInto kind slots old) before now
+write_into kind policy want slots old new at some takes before now writes =
+    let len = (takes_place kind policy want old new at takes).len in
+    widen (IsWriteOf slots at) (IsWriteInto kind slots old)
+    (λ w is. record { at = at; is = is; some = omega (arith, len, some); open_units = λ u in_it. ap (may_write kind) (taken_was_free kind policy want old new at takes at.dev u in_it) ∙ free_written kind })
+    before now writes
+
+pub narrower : (kind : Kind) (slots : List (Option ℕ)) (old mid : Space) → KeepsOthers kind old mid → (before now : World) → WritesOnly (IsWriteInto kind slots mid) before now → WritesOnly (IsWriteInto kind slots old) before now
+narrower kind slots old mid others before now writes =
+    widen (IsWriteInto kind slots mid) (IsWriteInto kind slots old)
+    (λ w into. record { at = into.at; is = into.is; some = into.some; open_units = λ u in_it. others.writable into.at.dev u (into.open_units u in_it) })
+    before now writes
+
+-- ---- calls in a row
+
+pub no_fall : (c : Counts) → NoneFell c c
+no_fall c = record { disk = omega arith; attach = omega arith; input = omega arith; output = omega arith }
+
+more_falls : (a b c : Counts) → NoneFell a b → NoneFell b c → NoneFell a c
+more_falls a b c p q =
+    let d = p.disk in let e = q.disk in
+    let f = p.attach in let g = q.attach in
+    let h = p.input in let i = q.input in
+    let j = p.output in let k = q.output in
+    record { disk = omega (arith, d, e); attach = omega (arith, f, g); input = omega (arith, h, i); output = omega (arith, j, k) }
+
+pub continues_itself : (kind : Kind) (slots : List (Option ℕ)) (sizes : List ℕ) (counts : Counts) (told : Type 0) (world : World) (s : Space) (c : Cache) → Continues kind slots sizes sizes counts counts told told world world s s c c
+continues_itself kind slots sizes counts told world s c = record {
+  sizes = refl;
+  none_fell = no_fall counts;
+  told = λ t. t;
+  space = others_itself kind s;
+  written = λ t. writes_nothing (IsWriteInto kind slots s) world;
+  read = λ t r. r;
+  room = refl;
+}
+
+pub continues_more : (kind : Kind) (slots : List (Option ℕ)) (n1 n2 n3 : List ℕ) (c1 c2 c3 : Counts) (t1 t2 t3 : Type 0) (w1 w2 w3 : World) (s1 s2 s3 : Space) (k1 k2 k3 : Cache)
+    → Continues kind slots n1 n2 c1 c2 t1 t2 w1 w2 s1 s2 k1 k2 → Continues kind slots n2 n3 c2 c3 t2 t3 w2 w3 s2 s3 k2 k3 → Continues kind slots n1 n3 c1 c3 t1 t3 w1 w3 s1 s3 k1 k3
+continues_more kind slots n1 n2 n3 c1 c2 c3 t1 t2 t3 w1 w2 w3 s1 s2 s3 k1 k2 k3 p q = record {
+  sizes = q.sizes ∙ p.sizes;
+  none_fell = more_falls c1 c2 c3 p.none_fell q.none_fell;
+  told = λ t. q.told (p.told t);
+  space = others_more kind s1 s2 s3 p.space q.space;
+  written = λ t. writes_more (IsWriteInto kind slots s1) w1 w2 w3 (p.written t) (narrower kind slots s1 s2 p.space w2 w3 (q.written (p.told t)));
+  read = λ t r. q.read (p.told t) (p.read t r);
+  room = q.room ∙ p.room;
+}
+
+pub continues_on : {M : Type 0} (kind_of : M → Kind) (slots_of : M → List (Option ℕ)) (m n : M) → n ≡ m → {n1 n2 n3 : List ℕ} {c1 c2 c3 : Counts} {t1 t2 t3 : Type 0} {w1 w2 w3 : World} {s1 s2 s3 : Space} {k1 k2 k3 : Cache}
+    → Continues (kind_of m) (slots_of m) n1 n2 c1 c2 t1 t2 w1 w2 s1 s2 k1 k2 → Continues (kind_of n) (slots_of n) n2 n3 c2 c3 t2 t3 w2 w3 s2 s3 k2 k3 → Continues (kind_of m) (slots_of m) n1 n3 c1 c3 t1 t3 w1 w3 s1 s3 k1 k3
+continues_on {M} kind_of slots_of m n same {n1} {n2} {n3} {c1} {c2} {c3} {t1} {t2} {t3} {w1} {w2} {w3} {s1} {s2} {s3} {k1} {k2} {k3} p q =
+    continues_more (kind_of m) (slots_of m) n1 n2 n3 c1 c2 c3 t1 t2 t3 w1 w2 w3 s1 s2 s3 k1 k2 k3 p
+    (subst (λ (x : M). Continues (kind_of x) (slots_of x) n2 n3 c2 c3 t2 t3 w2 w3 s2 s3 k2 k3) same q)
+
+-- ---- devices
+
+abbrev make : ℕ → (ℕ → DevRow) → (ℕ → List Entry) → Devices
+make n row entries = record { count = n; row = row; entries = entries }
+
+pub rows_devices : (old new : Space) → KeepsRows old new → devices_in new ≡ devices_in old
+rows_devices old new rows =
+    ap (λ (n : ℕ). make n (devices_in new).row (devices_in new).entries) rows.devices
+    ∙ (ap (λ (r : ℕ → DevRow). make (length old.parts.devs) r (devices_in new).entries) (fun_ext (λ d. (rows.each d).row))
+    ∙ ap (λ (e : ℕ → List Entry). make (length old.parts.devs) (devices_in old).row e) (fun_ext (λ d. (rows.each d).entries)))
+
+pub give_devices : (kind : Kind) (old new : Space) (a : Dva) (birth : ℕ) → GivesBack kind old new a birth → devices_in new ≡ devices_in old
+give_devices kind old new a birth gives = rows_devices old new (give_rows kind old new a birth gives)
+
+-- ---- the calls
+
+module _ (kind : Kind) (slots : List (Option ℕ)) (sizes : List ℕ) (counts : Counts) (told : Type 0) (world : World) where
+  -- a change of the space alone
+  pub space_step : (s t : Space) (c d : Cache) → KeepsOthers kind s t → ((disks : List (List ℕ)) → AreRead disks slots s c → AreRead disks slots t d) → capacity d ≡ capacity c → Continues kind slots sizes sizes counts counts told told world world s t c d
+  space_step s t c d others read room = record {
+    sizes = refl;
+    none_fell = no_fall counts;
+    told = λ t. t;
+    space = others;
+    written = λ t. writes_nothing (IsWriteInto kind slots s) world;
+    read = λ t r. read world.now.seen r;
+    room = room;
+  }
+
+  pub lost_step : (s t : Space) (c : Cache) (lost : Option Dva) (txg : ℕ) → AreInService (devices_in s) → GivesBackLost kind s t lost txg → Continues kind slots sizes sizes counts counts told told world world s t c c
+  lost_step s t c None txg on same = space_step s t c c (subst (KeepsOthers kind s) (sym same) (others_itself kind s)) (λ disks r. subst (λ (x : Space). AreRead disks slots x c) (sym same) r) refl
+  lost_step s t c (Some a) txg on (inl (used, gives)) = space_step s t c c (gives_others kind s t a txg on used gives) (λ disks r. read_same disks slots s t c (give_devices kind s t a txg gives) r) refl
+  lost_step s t c (Some a) txg on (inr (not_used, same)) = space_step s t c c (subst (KeepsOthers kind s) (sym same) (others_itself kind s)) (λ disks r. subst (λ (x : Space). AreRead disks slots x c) (sym same) r) refl
+
+pub lost_room : (kind : Kind) (s t : Space) (lost : Option Dva) (txg : ℕ) → AreInService (devices_in s) → GivesBackLost kind s t lost txg → free_units s ≤ free_units t
+lost_room kind s t None txg on same = let e = ap (λ (x : Space). free_units x) same in omega (arith, e)
+lost_room kind s t (Some a) txg on (inl (used, gives)) = gives_room kind s t a txg on used gives
+lost_room kind s t (Some a) txg on (inr (not_used, same)) = let e = ap (λ (x : Space). free_units x) same in omega (arith, e)
+
+pub read_forgotten : (disks : List (List ℕ)) (slots : List (Option ℕ)) (s : Space) (c d : Cache) (b : Bptr) → entries d ≡ remove_entry (is_key b) (entries c) → AreRead disks slots s c → AreRead disks slots s d
+read_forgotten disks slots s c d b is read = holds-forgotten (IsRead disks slots s) (entries c) (entries d) read b is
+
+-- what a call may take of the account
+pub spends : (units puts frees : ℕ) (counts counts' : Counts) (s t : Space) → NoneFell counts counts' → free_units s ≤ free_units t + units → devices_in t ≡ devices_in s → Spends units puts frees (account_of counts.disk s) (account_of counts'.disk t)
+spends units puts frees counts counts' s t none_fell room devices = record {
+  faults = none_fell.disk;
+  room = room;
+  load = omega arith;
+  put_load = refl;
+  free_load = refl;
+  resolves = λ at. ap (λ (ds : Devices). is_resolved ds at) devices;
+}
+
+take_more : (kind : Kind) (policy : Policy) (want : ℕ) (old new : Space) (taken : Option Dva) → MayTake kind policy want old new taken → free_units old ≤ free_units new + want
+take_more kind policy want old new None same = let e = ap (λ (x : Space). free_units x) same in omega (arith, e)
+take_more kind policy want old new (Some at) takes = takes_room kind policy want old new at takes (takes_place kind policy want old new at takes).len
+
+pub put_room : (kind : Kind) (policy : Policy) (want : ℕ) (old mid new : Space) (lost taken : Option Dva) (txg : ℕ) → AreInService (devices_in old) → GivesBackLost kind old mid lost txg → MayTake kind policy want mid new taken → free_units old ≤ free_units new + want
+put_room kind policy want old mid new lost taken txg on gives takes =
+    let a = lost_room kind old mid lost txg on gives in
+    let b = take_more kind policy want mid new taken takes in
+    omega (arith, a, b)
+
+pub may_devices : (kind : Kind) (policy : Policy) (want : ℕ) (old new : Space) (taken : Option Dva) → MayTake kind policy want old new taken → devices_in new ≡ devices_in old
+may_devices kind policy want old new None same = ap devices_in same
+may_devices kind policy want old new (Some at) takes = rows_devices old new (frame_rows old new (takes_frame kind policy want old new at takes))
+
+pub may_others : (kind : Kind) (policy : Policy) (want : ℕ) (old new : Space) (taken : Option Dva) → MayTake kind policy want old new taken → KeepsOthers kind old new
+may_others kind policy want old new None same = subst (KeepsOthers kind old) (sym same) (others_itself kind old)
+may_others kind policy want old new (Some at) takes = takes_others kind policy want old new at takes
+
+pub may_writes : (kind : Kind) (policy : Policy) (want : ℕ) (slots : List (Option ℕ)) (old new : Space) (before now : World) (taken : Option Dva) → 0 < want → MayPut kind policy want slots old new before now taken → WritesOnly (IsWriteInto kind slots old) before now
+may_writes kind policy want slots old new before now None some (same, still) = subst (WritesOnly (IsWriteInto kind slots old) before) (sym still) (writes_nothing (IsWriteInto kind slots old) before)
+may_writes kind policy want slots old new before now (Some at) some (takes, writes) = write_into kind policy want slots old new at some takes before now writes
+
+-- a run that is missing after what was lost is given back
+pub missing : (kind : Kind) (old mid : Space) (lost : Option Dva) (txg : ℕ) → AreInService (devices_in old) → GivesBackLost kind old mid lost txg → (faults want needed longest : ℕ) → 0 < want → needed ≡ want → HasNoPlacement (free_of mid) want longest → IsNoRun want (account_of faults old) needed longest
+missing kind old mid lost txg on gives faults want needed longest some is none = record {
+  wanted = is;
+  short = let s = is_short (free_of mid) want longest some none in omega (arith, s, is);
+  full = λ one.
+      let room = lost_room kind old mid lost txg on gives in
+      let zero = no_room mid longest (subst (λ (n : ℕ). HasNoPlacement (free_of mid) n longest) one none) in
+      omega (arith, room, zero);
+}
+
+-- a read
+pub read_step : (kind : Kind) (slots : List (Option ℕ)) (n1 n2 : List ℕ) (c1 c2 : Counts) (t1 t2 : Type 0) (w1 w2 : World) (s : Space) (k1 k2 : Cache)
+    → n2 ≡ n1 → NoneFell c1 c2 → (t1 → t2) → (t1 → IsStill w1 w2) → (t1 → AreRead w1.now.seen slots s k1 → AreRead w2.now.seen slots s k2) → capacity k2 ≡ capacity k1 → Continues kind slots n1 n2 c1 c2 t1 t2 w1 w2 s s k1 k2
+read_step kind slots n1 n2 c1 c2 t1 t2 w1 w2 s k1 k2 sizes none_fell told still read room = record {
+  sizes = sizes;
+  none_fell = none_fell;
+  told = told;
+  space = others_itself kind s;
+  written = λ t. writes_still (IsWriteInto kind slots s) w1 w2 (still t);
+  read = read;
+  room = room;
+}
+
+-- a put
+pub put_step : (kind : Kind) (policy : Policy) (want : ℕ) (slots : List (Option ℕ)) (n1 n2 : List ℕ) (c1 c2 : Counts) (t1 t2 : Type 0) (w1 w2 : World) (s t : Space) (k1 k2 : Cache) (taken : Option Dva) → 0 < want
+    → n2 ≡ n1 → NoneFell c1 c2 → (t1 → t2) → MayTake kind policy want s t taken → (t1 → MayPut kind policy want slots s t w1 w2 taken) → (t1 → AreRead w1.now.seen slots s k1 → AreRead w2.now.seen slots t k2) → capacity k2 ≡ capacity k1
+    → Continues kind slots n1 n2 c1 c2 t1 t2 w1 w2 s t k1 k2
+put_step kind policy want slots n1 n2 c1 c2 t1 t2 w1 w2 s t k1 k2 taken some sizes none_fell told takes put read room = record {
+  sizes = sizes;
+  none_fell = none_fell;
+  told = told;
+  space = may_others kind policy want s t taken takes;
+  written = λ is. may_writes kind policy want slots s t w1 w2 taken some (put is);
+  read = read;
+  room = room;
+}
+
+-- a block has a unit
+pub some_units : (n : ℕ) → is_size n ≡ true → 0 < n / 4096
+some_units n is = grind (arith, nat_tests, is)
+
+-- what was taken lies within its device
+pub taken_within : (s : Space) (taken : Option Dva) → IfSome taken (λ (at : Dva). at.start + at.len ≤ units_of_dev s.parts.devs at.dev) → (at : Dva) → taken ≡ Some at → at.start + at.len ≤ units_of_dev s.parts.devs at.dev
+taken_within s None h at is = cc
+taken_within s (Some a) h at is = subst (λ (x : Dva). x.start + x.len ≤ units_of_dev s.parts.devs x.dev) (same a at is) h
+  where
+    same : (x y : Dva) → Some x ≡ Some y → x ≡ y
+    same x y e = cc
+
+-- ---- reads in a row
+
+pub reads_more : {slots slots' : List (Option ℕ)} {space space' : Space} → slots' ≡ slots → space' ≡ space → {n1 n2 n3 : List ℕ} {c1 c2 c3 : Counts} {t1 t2 t3 : Type 0} {w1 w2 w3 : World} {k1 k2 k3 : Cache}
+    → GoesOnReading slots space n1 n2 c1 c2 t1 t2 w1 w2 k1 k2 → GoesOnReading slots' space' n2 n3 c2 c3 t2 t3 w2 w3 k2 k3 → GoesOnReading slots space n1 n3 c1 c3 t1 t3 w1 w3 k1 k3
+reads_more {slots} {slots'} {space} {space'} same_slots same_space {n1} {n2} {n3} {c1} {c2} {c3} {t1} {t2} {t3} {w1} {w2} {w3} {k1} {k2} {k3} p after =
+    let q : GoesOnReading slots space n2 n3 c2 c3 t2 t3 w2 w3 k2 k3 =
+    subst (λ (xs : List (Option ℕ)). GoesOnReading xs space n2 n3 c2 c3 t2 t3 w2 w3 k2 k3) same_slots (subst (λ (s : Space). GoesOnReading slots' s n2 n3 c2 c3 t2 t3 w2 w3 k2 k3) same_space after) in
+    record {
+      sizes = q.sizes ∙ p.sizes;
+      none_fell = more_falls c1 c2 c3 p.none_fell q.none_fell;
+      told = λ t. q.told (p.told t);
+      still = λ t. still_trans w1 w2 w3 (p.still t) (q.still (p.told t));
+      read = λ t r. q.read (p.told t) (p.read t r);
+      room = q.room ∙ p.room;
+    }

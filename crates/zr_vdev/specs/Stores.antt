@@ -1,0 +1,139 @@
+-- What a store of blocks on a shelf holds, and what its calls leave alone.
+use Rattle.std.specs.Prelude.{◌≡◌, ℕ, ◌≤◌, ◌<◌, ◌+◌, ◌==◌, ◌&&◌, nat_lt, nat_le, if◌then◌else◌, Bool, true, false, ◌||◌, ◌⊎◌, List, [], Option, Some, None, All, length, map}
+use Rattle.zr_base.specs.declared.space.Dva.{Dva}
+use Rattle.zr_bptr.specs.declared.Bptr.{Bptr}
+use Rattle.zr_shelf.specs.Counts.{Counts, NoneFell}
+use Rattle.zr_shelf.specs.Disks.{PendingWrite}
+use Rattle.zr_shelf.specs.Moments.{World, IsStill}
+use Rattle.zr_shelf.specs.Doings.{WritesOnly}
+use Rattle.zr_rules.specs.Places.{in_address, address_hits, part_of}
+use Rattle.zr_rules.specs.Roles.{Role, is_live_role, is_copy_role, is_meta_role, is_free_role}
+use Rattle.zr_rules.specs.Roles.Role.{Free, FreshLive, FreshCopy}
+use Rattle.zr_rules.specs.Space.{Space, role_at, IsLawful}
+use Rattle.zr_rules.specs.Equation.{devices_in}
+use Rattle.zr_rules.specs.Resolve.{is_resolved}
+use Rattle.zr_rules.specs.Frees.{IsSamePart}
+use Rattle.zr_space.specs.Live.{IsLive}
+use Rattle.zr_space.specs.Drops.{IsMeta}
+use Rattle.zr_store.specs.Store.{Stored, IsOnce, hits}
+use Rattle.zr_view.specs.Views.{address_bytes}
+use Rattle.zr_cache.specs.declared.table.Cache.{Cache}
+use Rattle.zr_cache.specs.Entries.{capacity}
+use Rattle.zr_vdev.specs.declared.kind.Kind.{Kind}
+use Rattle.zr_vdev.specs.declared.kind.Kind.TheVariants.{Block, Meta}
+use Rattle.zr_vdev.specs.Runs.{view_of}
+use Rattle.zr_vdev.specs.Puts.{IsWriteOf, GivesBack}
+use Rattle.zr_vdev.specs.Caches.{AreRead}
+
+-- ---- what is held
+
+-- the units of the address are in use by a block, or by metadata
+abbrev pub IsInUse : Kind → Space → Dva → Type 0
+IsInUse Block s a = IsLive s a
+IsInUse Meta s a = IsMeta s a
+
+-- no unit of the address is one of the other's, if there is one
+abbrev pub IsApart : Option Dva → Dva → Type 0
+IsApart None a = Unit {0}
+IsApart (Some lost) a = (d u : ℕ) → in_address a d u ≡ true → in_address lost d u ≡ false
+
+-- the address is in use, and what stands in its units was put there: no unit is one that a put took and could not write
+pub record IsStoredAt (kind : Kind) (s : Space) (lost : Option Dva) (a : Dva) : Type 0 where
+  pub used : IsInUse kind s a
+  pub whole : IsApart lost a
+
+-- two addresses have a unit in common
+abbrev pub shares : Dva → Dva → Bool
+shares a b = a.dev == b.dev && (nat_lt 0 a.len && (nat_lt 0 b.len && (if nat_le a.start b.start then nat_lt b.start (a.start + a.len) else nat_lt a.start (b.start + b.len))))
+
+-- units that a put took for nothing are given back, where they are still in use
+abbrev pub GivesBackLost : Kind → Space → Space → Option Dva → ℕ → Type 0
+GivesBackLost kind old new None txg = new ≡ old
+GivesBackLost kind old new (Some at) txg = (IsInUse kind old at × GivesBack kind old new at txg) ⊎ (¬ IsInUse kind old at × (new ≡ old))
+
+abbrev pub addresses_of : List Bptr → List Dva
+addresses_of pointers = map (λ (b : Bptr). b.at) pointers
+
+-- The pointers are those of blocks that are stored, no two of which have a unit in common, so no address comes twice, and each leads to units. A pointer has the bytes of its address, and none where no block is
+-- stored: what stands in free units is nothing.
+pub record HoldsBlocks (kind : Kind) (slots : List (Option ℕ)) (tells : Type 0) (disks : List (List ℕ)) (space : Space) (lost : Option Dva) (cache : Cache) (s : Stored) : Type 0 where
+  pub told : tells
+  pub taken : (at : Dva) → lost ≡ Some at → IsInUse kind space at
+  pub read : AreRead disks slots space cache
+  pub stored : All (λ (b : Bptr). IsStoredAt kind space lost b.at) s.pointers
+  pub once : (d u : ℕ) → address_hits (addresses_of s.pointers) d u ≤ 1
+  pub alone : IsOnce s
+  pub resolves : (at : Dva) → 0 < hits s.pointers at → is_resolved (devices_in space) at ≡ true
+  pub there : (b : Bptr) → IsStoredAt kind space lost b.at → s.bytes b ≡ address_bytes (view_of disks slots space) b.at
+  pub nothing : (b : Bptr) → ¬ IsStoredAt kind space lost b.at → s.bytes b ≡ []
+
+-- A store that is only read: these blocks are there, no address twice, each leads to units, and each pointer has the bytes of its address.
+pub record HoldsRead (slots : List (Option ℕ)) (tells : Type 0) (disks : List (List ℕ)) (space : Space) (cache : Cache) (s : Stored) : Type 0 where
+  pub told : tells
+  pub read : AreRead disks slots space cache
+  pub alone : IsOnce s
+  pub resolves : (at : Dva) → 0 < hits s.pointers at → is_resolved (devices_in space) at ≡ true
+  pub bytes : (b : Bptr) → s.bytes b ≡ address_bytes (view_of disks slots space) b.at
+
+-- ---- what is left alone
+
+-- free, or allocated by the open group
+abbrev pub is_open_role : Role → Bool
+is_open_role Free = true
+is_open_role FreshLive = true
+is_open_role FreshCopy = true
+is_open_role _ = false
+
+-- Units that a store may write. A block that the open group allocated is free as soon as it is given back.
+abbrev pub may_write : Kind → Role → Bool
+may_write Block r = is_open_role r
+may_write Meta r = is_free_role r
+
+-- roles that a store changes
+abbrev pub may_change : Kind → Role → Bool
+may_change Block r = is_free_role r || (is_live_role r || is_copy_role r)
+may_change Meta r = is_free_role r || is_meta_role r
+
+-- the write has units that the store might write
+pub record IsWriteInto (kind : Kind) (slots : List (Option ℕ)) (s : Space) (w : PendingWrite) : Type 0 where
+  pub at : Dva
+  pub is : IsWriteOf slots at w
+  pub some : 0 < at.len
+  pub open_units : (u : ℕ) → in_address at at.dev u ≡ true → may_write kind (role_at s at.dev u) ≡ true
+
+-- The version, the checkpoint, the condensing, the frontier and each device's row, mapping and late sets are the same, and what was lawful stays so.
+pub record KeepsRows (old new : Space) : Type 0 where
+  pub version : new.parts.version ≡ old.parts.version
+  pub cond : new.parts.cond ≡ old.parts.cond
+  pub ckpt : new.parts.ckpt ≡ old.parts.ckpt
+  pub synced : new.synced ≡ old.synced
+  pub devices : length new.parts.devs ≡ length old.parts.devs
+  pub each : (d : ℕ) → IsSamePart (part_of old.parts.devs d) (part_of new.parts.devs d)
+  pub lawful : IsLawful old → IsLawful new
+
+-- What reads did since some start: no size changed and no count fell, the shelf is told still and nothing was written. What is cached stays the bytes of its
+-- address.
+pub record GoesOnReading (slots : List (Option ℕ)) (space : Space) (sizes_old sizes_new : List ℕ) (counts_old counts_new : Counts) (told_old told_new : Type 0) (before now : World) (cache_old cache_new : Cache) : Type 0 where
+  pub sizes : sizes_new ≡ sizes_old
+  pub none_fell : NoneFell counts_old counts_new
+  pub told : told_old → told_new
+  pub still : told_old → IsStill before now
+  pub read : told_old → AreRead before.now.seen slots space cache_old → AreRead now.now.seen slots space cache_new
+  pub room : capacity cache_new ≡ capacity cache_old
+
+-- Roles that are none of the store's stay. What it may write now it might write before, so what was written lies there.
+pub record KeepsOthers (kind : Kind) (old new : Space) : Type 0 where
+  pub rows : KeepsRows old new
+  pub stays : (d u : ℕ) → may_change kind (role_at old d u) ≡ false → role_at new d u ≡ role_at old d u
+  pub writable : (d u : ℕ) → may_write kind (role_at new d u) ≡ true → may_write kind (role_at old d u) ≡ true
+
+-- What calls did since some start: no size changed and no count fell, the shelf is told still, and nothing was written but units that might be written at the
+-- start. What is cached stays the bytes of its address.
+pub record Continues (kind : Kind) (slots : List (Option ℕ)) (sizes_old sizes_new : List ℕ) (counts_old counts_new : Counts) (told_old told_new : Type 0) (before now : World) (old new : Space) (cache_old cache_new : Cache) : Type 0 where
+  pub sizes : sizes_new ≡ sizes_old
+  pub none_fell : NoneFell counts_old counts_new
+  pub told : told_old → told_new
+  pub space : KeepsOthers kind old new
+  pub written : told_old → WritesOnly (IsWriteInto kind slots old) before now
+  pub read : told_old → AreRead before.now.seen slots old cache_old → AreRead now.now.seen slots new cache_new
+  pub room : capacity cache_new ≡ capacity cache_old

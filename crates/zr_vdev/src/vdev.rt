@@ -1,0 +1,200 @@
+//! The store of blocks on a shelf.
+//!
+//! A block is stored where its units are in use. What stands in free units is nothing: a pointer to them reads no bytes,
+//! so a put that fails half way changes nothing that can be read. The units that such a put took are noted as lost, and
+//! nothing is read there either. The next put gives them back.
+ghost use Rattle.std.specs.Prelude.{◌≡◌, ◌≤◌, ◌<◌, ◌+◌, ◌↔◌, IsTrue, OnOk, OnErr};
+ghost use Rattle.zr_rules.specs.Equation.{devices_in};
+ghost use Rattle.zr_space.specs.Paths.{AreInService};
+ghost use Rattle.zr_vdev.specs.Mounts.{AreMounted, HaveDisks};
+ghost use Rattle.zr_vdev.specs.Puts.{GivesBack};
+ghost use Rattle.zr_vdev.specs.Runs.{account_of};
+ghost use Rattle.zr_vdev.specs.Stores.{IsInUse, IsApart, IsStoredAt, HoldsBlocks, Continues, GivesBackLost, shares};
+
+use crate::cached::{get_block, put_block};
+use crate::kind::{Kind, Mount, Place};
+use crate::nothing::read_nothing;
+use std::alloc::Global;
+use zr_base::{Dva, NoMemory};
+use zr_bptr::Bptr;
+use zr_cache::Cache;
+use zr_shelf::Shelf;
+use zr_space::Space;
+use zr_store::{Blocks, StoreErr};
+
+/// A store of the blocks of one kind on a shelf, whose devices are all in service. `lost` is the address whose units the
+/// last put took and could not write. They stay taken until the next put gives them back.
+#[derive(Drop)]
+pub struct Vdev<'a, S: Shelf, P: Place> {
+    pub space: &'a mut Space,
+    pub shelf: &'a mut S,
+    pub cache: &'a mut Cache,
+    pub lost: Option<Dva>,
+    pub mount: Mount<'a, P>,
+    ghost mounted: { HaveDisks (S.sizes shelf.now) mount.slots.now (devices_in space.now) },
+    ghost service: { AreInService (devices_in space.now) },
+    ghost group: { 1 ≤ mount.txg },
+}
+
+// Whether two addresses have a unit in common.
+fn shares(a: &Dva, b: &Dva) -> bool
+    ensures { result ≡ shares a.now b.now }
+{
+    if a.dev != b.dev || a.len == 0 || b.len == 0 {
+        return false;
+    }
+    if a.start <= b.start {
+        return b.start - a.start < u64::from(a.len);
+    }
+    a.start - b.start < u64::from(b.len)
+}
+
+// Whether the address has no unit of the other one.
+fn is_apart(lost: Option<Dva>, at: &Dva) -> bool
+    ensures { IsTrue result ↔ IsApart lost at.now }
+{
+    match lost {
+        Some(a) => !shares(&a, at),
+        None => true,
+    }
+}
+
+// Whether the units of the address are in use by what is of the kind.
+fn is_in_use(space: &Space, kind: Kind, at: &Dva) -> bool
+    ensures { IsTrue result ↔ IsInUse kind space.now at.now }
+{
+    match kind {
+        Kind::Block => space.live(*at),
+        Kind::Meta => space.is_meta(*at),
+    }
+}
+
+// Gives back what is in use.
+fn give_back(space: &mut Space, kind: Kind, at: Dva, birth: u64) -> Result<(), NoMemory>
+    requires { IsInUse kind space.old at }
+    ensures ok { OnOk result (GivesBack kind space.old space.new at birth) }
+    ensures devices { devices_in space.new ≡ devices_in space.old }
+    ensures err { OnErr result (space.new ≡ space.old) }
+{
+    match kind {
+        Kind::Block => space.free(at, birth),
+        Kind::Meta => space.drop_meta(at),
+    }
+}
+
+// Gives back the units that a put took for nothing.
+fn give_back_lost(
+    space: &mut Space,
+    kind: Kind,
+    lost: Option<Dva>,
+    txg: u64,
+) -> Result<(), NoMemory>
+    ensures ok { OnOk result (GivesBackLost kind space.old space.new lost txg) }
+    ensures devices { devices_in space.new ≡ devices_in space.old }
+    ensures err { OnErr result (space.new ≡ space.old) }
+{
+    match lost {
+        Some(at) => {
+            if is_in_use(space, kind, &at) {
+                return give_back(space, kind, at, txg);
+            }
+            Ok(())
+        }
+        None => Ok(()),
+    }
+}
+
+impl<'a, S: Shelf, P: Place> Vdev<'a, S, P> {
+    /// The store over a space, a shelf and a cache, which are given back with its end.
+    pub fn new(
+        space: &'a mut Space,
+        shelf: &'a mut S,
+        cache: &'a mut Cache,
+        mount: Mount<'a, P>,
+    ) -> Vdev<'a, S, P>
+        requires mounted { AreMounted (S.sizes shelf.old) mount.slots.now (devices_in space.old) }
+        requires service { AreInService (devices_in space.old) }
+        requires group { 1 ≤ mount.txg }
+        ensures space { result.space.now ≡ space.old }
+        ensures shelf { result.shelf.now ≡ shelf.old }
+        ensures cache { result.cache.now ≡ cache.old }
+        ensures lost { result.lost ≡ None }
+        ensures mount { result.mount ≡ mount.entry }
+        ensures same_space { result.space.ghost_name ≡ space.entry.ghost_name }
+        ensures same_shelf { result.shelf.ghost_name ≡ shelf.entry.ghost_name }
+        ensures same_cache { result.cache.ghost_name ≡ cache.entry.ghost_name }
+    {
+        Vdev {
+            space,
+            shelf,
+            cache,
+            lost: None,
+            mount,
+        }
+    }
+
+    /// Whether a block is stored at the address. Logarithmic in the extents of the device.
+    pub fn has(&self, at: &Dva) -> bool
+        ensures { IsTrue result ↔ IsStoredAt self.now.mount.kind self.now.space.now self.now.lost at.now }
+    {
+        is_in_use(self.space, self.mount.kind, at) && is_apart(self.lost, at)
+    }
+}
+
+impl<S: Shelf, P: Place> Blocks for Vdev<'_, S, P> {
+    ghost account = { λ v. account_of (S.counts v.shelf.now).disk v.space.now };
+
+    ghost holds = { λ v s. HoldsBlocks v.mount.kind v.mount.slots.now (S.tells v.shelf.now) (S.world v.shelf.now).now.seen v.space.now v.lost v.cache.now s };
+
+    ghost follows = { λ start now.
+        (now.space.ghost_name ≡ start.space.ghost_name) × (now.shelf.ghost_name ≡ start.shelf.ghost_name) × (now.cache.ghost_name ≡ start.cache.ghost_name)
+        × (now.mount ≡ start.mount)
+        × Continues start.mount.kind start.mount.slots.now (S.sizes start.shelf.now) (S.sizes now.shelf.now) (S.counts start.shelf.now) (S.counts now.shelf.now) (S.tells start.shelf.now) (S.tells now.shelf.now) (S.world start.shelf.now) (S.world now.shelf.now) start.space.now now.space.now start.cache.now now.cache.now };
+
+    ghost once = { λ v s held. held.alone };
+
+    ghost resolved = { λ v s held. held.resolves };
+
+    fn put(&mut self, alloc: Global, bytes: &[u8], level: u8) -> Result<Bptr, StoreErr> {
+        give_back_lost(self.space, self.mount.kind, self.lost, self.mount.txg)?;
+        self.lost = None;
+        match put_block(
+            alloc,
+            self.space,
+            self.shelf,
+            self.cache,
+            &self.mount,
+            bytes,
+            level,
+        ) {
+            Ok(b) => Ok(b),
+            Err(failure) => {
+                self.lost = failure.taken;
+                Err(failure.error)
+            }
+        }
+    }
+
+    /// The bytes of a block. One that is cached makes no call on a disk.
+    fn get(&mut self, alloc: Global, b: &Bptr) -> Result<Vec<u8>, StoreErr> {
+        if self.has(&b.at) {
+            return get_block(
+                alloc,
+                self.space,
+                self.shelf,
+                self.cache,
+                self.mount.slots,
+                b,
+            );
+        }
+        read_nothing(alloc, self.space, b)
+    }
+
+    fn free(&mut self, _alloc: Global, b: &Bptr) -> Result<(), StoreErr> {
+        if self.has(&b.at) {
+            give_back(self.space, self.mount.kind, b.at, b.birth)?;
+            self.cache.forget(b);
+        }
+        Ok(())
+    }
+}
