@@ -8,6 +8,7 @@ ghost use Rattle.zr_script.specs.Generated.{next, given};
 use std::marker::Model;
 
 const FACTOR: u64 = 6364136223846793005;
+
 const STEP: u64 = 1442695040888963407;
 
 /// A generator, which contracts see as its state.

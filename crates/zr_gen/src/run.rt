@@ -2,7 +2,7 @@
 //!
 //! Each part of the run is added behind the parts before it. The drawn lines pass the state of the draws from one to
 //! the next, so that a line depends on the number and on the lines before it alone.
-ghost use Rattle.std.specs.Prelude.{◌≡◌, ◌≤◌, ◌<◌, ◌++◌, ◌∷◌, [], ◌+◌, IfOk, OnOk, length, map, codes};
+ghost use Rattle.std.specs.Prelude.{◌≡◌, ◌≤◌, ◌<◌, ◌++◌, ◌∷◌, [], ◌+◌, ◌%◌, ◌==◌, if◌then◌else◌, IfOk, OnOk, length, map, codes};
 ghost use Rattle.std.specs.List.{range_with_len};
 ghost use Rattle.zr_script.specs.declared.command.Command.TheVariants as cmd;
 ghost use Rattle.zr_script.specs.Generated.{drawn, before_line, drawn_lines, makes, first_two, script_of};
@@ -57,14 +57,21 @@ fn put_makes(commands: &mut Items<Command>) -> Result<(), NoMemory>
     ensures { OnOk result (commands.new ≡ commands.old ++ makes) }
 {
     for id in 0..OBJECTS {
-        let units = match id % 3 {
-            0 => 1,
-            1 => 2,
-            _ => 4,
-        };
+        let units = units_of(id);
         commands.push(Command::Make { id, units })?;
     }
     Ok(())
+}
+
+/// The units of the blocks of an object.
+fn units_of(id: u64) -> u64
+    ensures { result ≡ (if id % 3 == 0 then 1 else (if id % 3 == 1 then 2 else 4)) }
+{
+    match id % 3 {
+        0 => 1,
+        1 => 2,
+        _ => 4,
+    }
 }
 
 /// Adds the drawn lines, with what stands before each.
