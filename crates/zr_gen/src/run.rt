@@ -15,8 +15,9 @@ use zr_script::Command;
 /// The objects of a run, with the identities from 0 on.
 const OBJECTS: u64 = 16;
 
-/// All commands of the run of `number` with `count` drawn lines: at most `count` and 40 of them. The pool is made on
-/// the first two devices, the third is added and the first is removed. It takes memory and time linear in `count`.
+/// All commands of the run of `number` with `count` drawn lines: `count` and 39 of them, where `count` is not 0. The
+/// pool is made on the first two devices, the third is added and the first is removed. It takes memory and time linear
+/// in `count`.
 pub fn script_of(
     alloc: Global,
     number: u64,
@@ -24,7 +25,8 @@ pub fn script_of(
     devs: &[Blob],
 ) -> Result<Items<Command>, NoMemory>
     requires { 3 ≤ length devs.now }
-    ensures { IfOk result (λ commands. commands ≡ script_of number count devs.now) }
+    ensures commands { IfOk result (λ commands. commands ≡ script_of number count devs.now) }
+    ensures length { IfOk result (λ commands. 0 < count → length commands ≡ count + 39) }
 {
     let mut commands = Items::new(alloc);
     commands.push(create_line(alloc, devs)?)?;
@@ -121,7 +123,7 @@ fn put_before(
     Ok(())
 }
 
-/// The line that the next draws give. A range that it names lies in the first 531,968 bytes of its object.
+/// The line that the next draws give: one draw for its kind, then those of its object and range, if it has one.
 fn drawn_line(draws: &mut Draws) -> Command
     ensures { drawn draws.old ≡ (result, draws.new) }
 {
