@@ -1,0 +1,10 @@
+use Rattle.std.proofs.Common.{◌≡◌, length, arith, ap, ◌∙◌}
+use Rattle.std.proofs.lemmas.Grind.{common_steps}
+use Rattle.zr_script.specs.Generated.{script_of}
+use Rattle.zr_gen.proofs.Count.{length-script_of}
+use Rattle.zr_gen.proofs.run.script_of.Goals as goal
+
+pub returns-clause-length : goal.returns-clause-length
+returns-clause-length c = λ some.
+    let all : c.push-3.new.self ≡ script_of c.args.number c.args.count c.args.devs.now = grind (arith, common_steps) in
+    ap length all ∙ length-script_of c.args.number c.args.count c.args.devs.now some
