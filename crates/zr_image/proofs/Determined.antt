@@ -1,21 +1,25 @@
--- Checks that have one outcome: the walk of a directory and of its objects.
+-- Checks that have one outcome: the walk of a directory and of its objects, and the streams of a root.
 use Rattle.std.proofs.Common.{◌≡◌, ℕ, zero, suc, ◌+◌, ◌*◌, ◌^◌, Bool, true, false, inl, inr, List, [], ◌∷◌, ◌++◌, refl, sym, ◌∙◌, subst, Option, Some, None, Result, Ok, Err}
 use Rattle.std.specs.List.{enumerate_from}
+use Rattle.std.specs.Int.{div_ceil}
 use Rattle.zr_base.specs.declared.refusal.Refusal.{Refusal}
 use Rattle.zr_bptr.specs.declared.Bptr.{Bptr}
 use Rattle.zr_bptr.specs.declared.Ptr.{Ptr}
 use Rattle.zr_bptr.specs.declared.Ptr.TheVariants.{Hole, At}
 use Rattle.zr_bptr.specs.declared.Tree.{Tree}
 use Rattle.zr_bptr.specs.declared.ObjRec.{ObjRec}
+use Rattle.zr_label.specs.declared.root.Uber.{Uber}
+use Rattle.zr_meta.specs.declared.Stream.{Stream}
 use Rattle.zr_tree.specs.Trees.{tree_leaves}
 use Rattle.zr_tree.proofs.Spelled as blocks
 use Rattle.zr_objset.proofs.Spelled as leaves
+use Rattle.zr_root.proofs.Beside.{one_value}
 use Rattle.zr_view.specs.Views.{View}
 use Rattle.zr_image.specs.Checks.{Check, ◌>>=◌, Gives, Demands, Finds, Each}
 use Rattle.zr_image.specs.Numbers.{Form, Units, broken}
 use Rattle.zr_image.specs.Reading.{content, store_of, HasSum, damage, ReadsBlock}
 use Rattle.zr_image.specs.Walks.{Setting, MayMark, Marks, IsBlockOf, ReadsLeaf, WalksBelow, Walks}
-use Rattle.zr_image.specs.Roots.{IsLeafOf, ReadsRecords, WalksObject, WalksAll, block_setting}
+use Rattle.zr_image.specs.Roots.{IsLeafOf, ReadsRecords, WalksObject, WalksAll, block_setting, meta_setting, StandIn, ReadsStream}
 
 -- two outcomes are one
 abbrev pub HasOneOutcome : {A : Type 0} → Check A → Type 0
@@ -115,3 +119,18 @@ module _ (v : View) where
         (λ marks. both (Each (ReadsRecords v) (tree_leaves (store_of v) dir) []) (λ records. Each (WalksObject v may_be txg) records marks)
         (each_one (ReadsRecords v) records_one (tree_leaves (store_of v) dir) [])
         (λ records. each_one (WalksObject v may_be txg) object_one records marks))
+
+-- ---- the streams of a root
+
+module _ (v : View) (u : Uber) where
+  one_words : (t : Stream) (a b : List ℕ) → StandIn v t a → StandIn v t b → a ≡ b
+  one_words t a b one other = one_value (store_of v) t a b one.small other.small one.stand other.stand
+
+  stream_one : (t : Stream) (before : List ℕ × List Bptr) → HasOneOutcome (ReadsStream v u t before)
+  stream_one t before =
+      both (Walks (meta_setting v u (div_ceil t.words 512)) t.tree before.1) (λ marks. Finds (StandIn v t) (broken Form) >>= λ words. Gives (before.0 ++ words, marks))
+      (walk_one (meta_setting v u (div_ceil t.words 512)) t.tree.height 0 t.tree.root before.1)
+      (λ marks. both (Finds (StandIn v t) (broken Form)) (λ words. Gives (before.0 ++ words, marks)) (finds_one (StandIn v t) (broken Form) (one_words t)) (λ words. gives_one (before.0 ++ words, marks)))
+
+  pub streams_one : (ts : List Stream) (before : List ℕ × List Bptr) → HasOneOutcome (Each (ReadsStream v u) ts before)
+  streams_one ts before = each_one (ReadsStream v u) stream_one ts before

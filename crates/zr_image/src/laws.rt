@@ -8,13 +8,18 @@ ghost use Rattle.zr_bptr.specs.declared.Ptr.{Ptr};
 ghost use Rattle.zr_bptr.specs.declared.Tree.{Tree};
 ghost use Rattle.zr_label.specs.Blocks.{SpellsLabel, SpellsUber};
 ghost use Rattle.zr_meta.specs.declared.Stream.{Stream};
+ghost use Rattle.zr_meta.specs.declared.Head.{Head};
+ghost use Rattle.zr_meta.specs.Heads.{IsStream, IsHead};
+ghost use Rattle.std.specs.Int.{div_ceil};
+ghost use Rattle.zr_base.specs.declared.space.DevRow.{DevRow};
+ghost use Rattle.zr_bptr.specs.declared.Ptr.TheVariants.{At};
 ghost use Rattle.zr_label.specs.Geometry.{label_block_at, ring_slot_at, unit_at};
 ghost use Rattle.zr_label.specs.declared.root.Label.{Label};
 ghost use Rattle.zr_label.specs.declared.root.Uber.{Uber};
 ghost use Rattle.zr_label.specs.declared.root.Seen.{Seen};
 ghost use Rattle.zr_model.specs.State.{PoolState, ShelfPart, Empty, Refused, Is};
 ghost use Rattle.zr_rules.specs.Equation.{root_space};
-ghost use Rattle.zr_image.specs.Numbers.{Form, Sets, Mappings, Destinations, Condensing, Removal, Units, SavedRoots, Room, rule_number};
+ghost use Rattle.zr_image.specs.Numbers.{Form, Sets, Mappings, Destinations, Condensing, Removal, Units, SavedRoots, Room, broken, rule_number};
 ghost use Rattle.zr_image.specs.Current.{IsCurrent, IsShownAt, IsShown, FindsCurrent, IsOnePool, IsInWindow, IsOldest, slots_of, missing_device, reset_of};
 ghost use Rattle.zr_image.specs.Honest.{IsLeft};
 ghost use Rattle.zr_tree.specs.Trees.{tree_leaves};
@@ -22,7 +27,8 @@ ghost use Rattle.zr_view.specs.Views.{View, address_bytes};
 ghost use Rattle.zr_image.specs.Reading.{HasSum, damage, store_of};
 ghost use Rattle.zr_image.specs.Walks.{Setting, MayMark, Walks};
 ghost use Rattle.zr_image.specs.Rules.{AreLawfulParts, IsBalanced};
-ghost use Rattle.zr_image.specs.Roots.{Root, StandIn, WalksAll, block_setting};
+ghost use Rattle.zr_image.specs.Roots.{Root, StandIn, ReadsStream, WalksAll, block_setting, meta_setting};
+ghost use Rattle.zr_image.specs.Checks.{Each};
 ghost use Rattle.zr_image.specs.StateOf.{IsPart};
 ghost use Rattle.zr_image.specs.Frame.{KeepsRoot, KeepsMeaning, KeepsShelf};
 ghost use Rattle.zr_image.specs.Examples.{two_checks, root_of, two_rows, gone_row, on_row, turned, strangers, split, chain, parts_of, on_with, chain_view, unit_five, five, pointer_five, walk_at, one_block, HasDamagedFirst};
@@ -136,9 +142,19 @@ pub fn a_directory_is_walked_before_its_leaves_are_read()
         → tree_leaves (store_of v) dir ≡ p ∷ more → (HasSum v p → ⊥) → WalksAll v may_be txg dir (Err (damage v p)) }
 {}
 
-/// A stream has one value: no other numbers of 64 bits stand in it, so a root is not refused for words that it has not.
-pub fn a_stream_has_one_value()
-    ensures { (v : View) (t : Stream) (a b : List ℕ) → StandIn v t a → StandIn v t b → a ≡ b }
+/// A stream has one value, and the streams of a root are read one after another: what the first is refused for is the
+/// answer, be the others in their form or not. Words, padding and holes of a stream are told before the next is walked.
+pub fn streams_are_read_in_their_order()
+    ensures value { (v : View) (t : Stream) (a b : List ℕ) → StandIn v t a → StandIn v t b → a ≡ b }
+    ensures one { (v : View) (u : Uber) (ts : List Stream) (before : List ℕ × List Bptr) (x y : Result (List ℕ × List Bptr) Refusal) → Each (ReadsStream v u) ts before x → Each (ReadsStream v u) ts before y → x ≡ y }
+    ensures form { (v : View) (u : Uber) (t : Stream) (ts : List Stream) (before : List ℕ × List Bptr) (marks : List Bptr) (x : Result (List ℕ × List Bptr) Refusal) → Walks (meta_setting v u (div_ceil t.words 512)) t.tree before.1 (Ok marks)
+        → ((words : List ℕ) → StandIn v t words → ⊥) → Each (ReadsStream v u) (t ∷ ts) before x → x ≡ Err (broken Form) }
 {
     zr_root::streams_have_one_value();
 }
+
+/// The root of a stream, and that of the directory, is a block of one unit, also where it is a leaf.
+pub fn roots_of_metadata_have_one_unit()
+    ensures stream { (t : Stream) (b : Bptr) → IsStream t → t.tree.root ≡ At b → b.at.len ≡ 1 }
+    ensures directory { (table : List DevRow) (h : Head) (b : Bptr) → IsHead table h → h.dir.root ≡ At b → b.at.len ≡ 1 }
+{}
