@@ -1,7 +1,9 @@
 //! Look-ups: the record of an object, the pointer to a block, and a block's bytes.
 //!
 //! What the group has changed is found in it without a read.
-ghost use Rattle.std.specs.Prelude.{◌≡◌, ◌*◌, ◌/◌, ◌≤◌, ◌∷◌, [], ℕ, length, replicate, IfOk, IfSome};
+ghost use Rattle.std.specs.Prelude.{◌≡◌, ◌*◌, ◌/◌, ◌<◌, ◌≤◌, ◌∷◌, [], ℕ, length, replicate, IfOk, IfSome, Option, Some};
+ghost use Rattle.zr_bptr.specs.declared.ObjRec.{ObjRec};
+ghost use Rattle.zr_txg.specs.Changes.{object_in};
 ghost use Rattle.zr_store.specs.Causes.{Costs, HasCause};
 ghost use Rattle.zr_store.specs.Store.{Stored};
 ghost use Rattle.zr_bptr.specs.Spelling.{IsTree, IsObject};
@@ -38,6 +40,8 @@ pub fn record_of<B: Blocks>(
     ensures same { (s : Stored) → B.holds store.old s → B.holds store.new s }
     ensures errors { (s : Stored) → B.holds store.old s → TellsOfLeaves s (tree_reach s dir.now) (own (tree_at s dir.now (id / 16))) (IsNoLeaf s) result }
     ensures lawful { IfOk result (λ r. IfSome r IsObject) }
+    ensures few { IfOk result (λ found. IfSome found (λ r. id < 65536)) }
+    ensures changed { (r : Option ObjRec) → id < 65536 → object_in group.now id ≡ Some r → IfOk result (λ found. found ≡ r) }
     ensures record { (s : Stored) → B.holds store.old s → IfOk result (λ r. r ≡ record_now s dir.now group.now id) }
 {
     if id > 65535 {
