@@ -25,7 +25,7 @@ kept_before [] k (suc (suc d)) ne = refl
 kept_before (x ∷ xs) k zero ne = refl
 kept_before (x ∷ xs) k (suc d) ne = kept_before xs k d (grind (arith, nat_tests, ne))
 
-on_all : (devs : List Kept) (k : Kept) (P : ℕ → Kept → Type 0) → P (length devs) k → ((d : ℕ) → (d == length devs) ≡ false → P d (kept_of devs d)) → (d : ℕ) → P d (kept_of (devs ++ k ∷ []) d)
+pub on_all : (devs : List Kept) (k : Kept) (P : ℕ → Kept → Type 0) → P (length devs) k → ((d : ℕ) → (d == length devs) ≡ false → P d (kept_of devs d)) → (d : ℕ) → P d (kept_of (devs ++ k ∷ []) d)
 on_all devs k P here others d =
     ⊎_elim
     (λ same. subst (λ i. P i (kept_of (devs ++ k ∷ []) i)) (sym same) (subst (P (length devs)) (sym (kept_last devs k)) here))

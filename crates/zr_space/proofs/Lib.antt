@@ -15,3 +15,10 @@ pub mod Drops
 pub mod Counting
 pub mod Lives
 pub mod Paths
+pub mod Totalling
+pub mod Gains
+pub mod Reading
+pub mod Listing
+pub mod ReadDevices
+pub mod Opening
+pub mod Refusing

@@ -25,7 +25,7 @@ pub nowhere : (n : ℕ) (ds : Devices) (d u : ℕ) → is_gone (state_at ds d) �
 nowhere zero ds d u on past = refl
 nowhere (suc n) ds d u on past = rw on rw past refl
 
-one_piece : (n : ℕ) (ds : Devices) (d u len : ℕ) → AreInService ds → pieces n ds d u len ≡ 1
+pub one_piece : (n : ℕ) (ds : Devices) (d u len : ℕ) → AreInService ds → pieces n ds d u len ≡ 1
 one_piece zero ds d u len on = refl
 one_piece (suc n) ds d u len on = let g = on.there d in let l = on.stays d in rw g rw l refl
 

@@ -3,3 +3,7 @@ pub mod Live
 pub mod Causes
 pub mod Drops
 pub mod Paths
+pub mod Totals
+pub mod Records
+pub mod Reads
+pub mod Opens

@@ -6,9 +6,15 @@
 #![tactic(auto)]
 
 mod device;
+mod open;
+mod reads;
+mod records;
 mod remap;
+mod room;
 mod space;
 #[cfg(test)]
 mod tests;
 
+pub use records::SetKind;
 pub use space::{Space, SpaceErr};
+pub use zr_units::FreedSets;

@@ -33,9 +33,9 @@ pub enum SpaceErr {
 /// The space of an open pool.
 #[derive(Drop)]
 pub struct Space {
-    alloc: Global,
-    version: u64,
-    slabs: Slabs,
+    pub(crate) alloc: Global,
+    pub(crate) version: u64,
+    pub(crate) slabs: Slabs,
     pub(crate) devs: Vec<Device>,
 }
 
@@ -76,8 +76,8 @@ fn new_device(alloc: Global, units: u64, txg: u64) -> Device
     }
 }
 
-// Adds a device where there is room for it.
-fn push_reserved(devs: &mut Vec<Device>, device: Device)
+/// Adds a device where there is room for it.
+pub fn push_reserved(devs: &mut Vec<Device>, device: Device)
     requires { vec_len devs.old < vec_capacity devs.old }
     ensures { devs.new.items ≡ devs.old.items ++ device ∷ [] }
 {

@@ -1,1 +1,4 @@
 pub mod Ends
+pub mod Merging
+pub mod SetWords
+pub mod Differences

@@ -1,3 +1,5 @@
 pub mod Apart
 pub mod Uses
 pub mod Changes
+pub mod Differences
+pub mod Words

@@ -38,6 +38,28 @@ impl FreedSets {
         }
     }
 
+    /// These units of blocks and of metadata.
+    pub fn of_sets(blocks: RangeSet, meta: RangeSet) -> FreedSets
+        ensures blocks { result.blocks ≡ blocks.extents }
+        ensures meta { result.meta ≡ meta.extents }
+    {
+        FreedSets { blocks, meta }
+    }
+
+    /// The units of blocks.
+    pub fn blocks(&self) -> &RangeSet
+        ensures { result.now.extents ≡ self.now.blocks }
+    {
+        &self.blocks
+    }
+
+    /// The units of metadata.
+    pub fn meta(&self) -> &RangeSet
+        ensures { result.now.extents ≡ self.now.meta }
+    {
+        &self.meta
+    }
+
     /// How many units they are.
     pub fn units(&self) -> u64
         requires { freed_count self.now ≤ 2 ^ 62 }

@@ -7,8 +7,11 @@
 //! sets by their names alone and takes no memory.
 #![tactic(auto)]
 
+mod changes;
 mod freed;
 mod parts;
 mod units;
+mod words;
 
+pub use freed::FreedSets;
 pub use units::Units;

@@ -1,16 +1,21 @@
 //! The sets of one device, and what happens to them.
-ghost use Rattle.std.specs.Prelude.{◌≡◌, ℕ, ◌+◌, ◌^◌, ◌<◌, ◌≤◌, ◌||◌, true, false, OnOk, OnErr, length, []};
+ghost use Rattle.std.specs.Prelude.{◌≡◌, ℕ, ◌+◌, ◌^◌, ◌<◌, ◌≤◌, ◌||◌, true, false, OnOk, OnErr, IfOk, length, []};
 ghost use Rattle.zr_base.specs.Extents.{HasAll, HasNone, in_extent, has_unit, unit_count};
 ghost use Rattle.zr_metaslab.specs.Devices.{Devices, free_at, count_at, units_at};
 ghost use Rattle.zr_units.specs.Uses.{IsAccount, unused, use_count, freed_count};
+ghost use Rattle.zr_units.specs.Apart.{AreSetsApart};
+ghost use Rattle.zr_units.specs.Differences.{IsMerged};
+ghost use Rattle.zr_units.specs.Words.{HasWithin, use_words};
 ghost use Rattle.zr_units.specs.Changes.{Holds, HoldsMeta, DropsMeta, DropsSaved, FreesUnits, TakesBack, FreesBorn, aged_uses, cleared_uses, saved_uses, has_freed};
 
+use crate::changes::merged;
 use crate::freed::FreedSets;
 use crate::parts::free_parts;
+use crate::words::set_words;
 use std::alloc::Global;
 use std::marker::Model;
 use std::mem;
-use zr_base::{Extent, NoMemory};
+use zr_base::{Change, Extent, NoMemory};
 use zr_metaslab::Slabs;
 use zr_ranges::RangeSet;
 
@@ -52,6 +57,28 @@ impl Units {
         }
     }
 
+    /// The units of a device as a root records them, of which the open group has changed none. It has no metadata yet.
+    pub fn of_sets(
+        alloc: Global,
+        units: u64,
+        held: RangeSet,
+        late1: FreedSets,
+        late2: FreedSets,
+    ) -> Units
+        ensures { result ≡ record (unused units) { held = held.extents; late1 = late1; late2 = late2 } }
+    {
+        Units {
+            units,
+            held,
+            born: RangeSet::new(alloc),
+            freed: FreedSets::new(alloc),
+            late1,
+            late2,
+            meta: RangeSet::new(alloc),
+            saved: RangeSet::new(alloc),
+        }
+    }
+
     /// How many units the device has.
     pub fn units(&self) -> u64
         ensures { result ≡ self.now.units }
@@ -85,6 +112,51 @@ impl Units {
         ensures { result.now.extents ≡ self.now.saved }
     {
         &self.saved
+    }
+
+    /// What the open group has freed of earlier groups' units.
+    pub fn freed(&self) -> &FreedSets
+        ensures { result.now ≡ self.now.freed }
+    {
+        &self.freed
+    }
+
+    /// What the last group freed.
+    pub fn late1(&self) -> &FreedSets
+        ensures { result.now ≡ self.now.late1 }
+    {
+        &self.late1
+    }
+
+    /// What the group before the last freed.
+    pub fn late2(&self) -> &FreedSets
+        ensures { result.now ≡ self.now.late2 }
+    {
+        &self.late2
+    }
+
+    /// The words of the sets that a space map or a late set records, were each written anew: the held units, and the
+    /// block units that are freed and not free yet. On a device of at most 32,768 units it costs nothing, and on a larger
+    /// one it goes over their extents.
+    pub fn words(&self, version: u64) -> u64
+        requires within { HasWithin self.now }
+        requires small { use_count self.now < 2 ^ 40 }
+        ensures words { result ≡ use_words version self.now }
+        ensures few { result ≤ use_count self.now }
+    {
+        set_words(&self.held, self.units, version)
+            + set_words(&self.freed.blocks, self.units, version)
+            + set_words(&self.late1.blocks, self.units, version)
+            + set_words(&self.late2.blocks, self.units, version)
+    }
+
+    /// What the open group changed in the held set, as changes by rising place: what it allocated and still has, and what
+    /// it freed of earlier groups' blocks. It goes over these, and not over the set.
+    pub fn changes(&self, alloc: Global) -> Result<Vec<Change>, NoMemory>
+        requires { AreSetsApart self.now.born self.now.freed.blocks }
+        ensures { IfOk result (λ cs. IsMerged self.now.born self.now.freed.blocks cs.items) }
+    {
+        merged(alloc, self.born.extents(), self.freed.blocks.extents())
     }
 
     /// How many units are in use: held, or of metadata.

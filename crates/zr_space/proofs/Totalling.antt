@@ -1,0 +1,273 @@
+-- The counts from which the room is computed, as sums over the devices.
+use Rattle.std.proofs.Common.{◌≡◌, ℕ, zero, suc, ◌+◌, ◌*◌, ◌≤◌, ◌<◌, ◌^◌, Bool, true, false, ◌==◌, nat_lt, max, List, [], ◌∷◌, ◌++◌, map, length, take, get_or, refl, ◌∙◌, sym, ap, ap₂, arith, add-one, if◌then◌else◌}
+use Rattle.std.specs.Prelude.{not, filter, count_by}
+use Rattle.std.specs.List.{sum_by, range_with_len}
+use Rattle.std.proofs.lemmas.List.{length-map}
+use Rattle.std.proofs.lemmas.List.Sums.{sum_by-cons, sum_by-append, sum_by_more}
+use Rattle.std.proofs.lemmas.Bool.Decides.{nat_tests}
+use Rattle.zr_base.specs.declared.space.Extent.{Extent}
+use Rattle.zr_base.specs.declared.space.Dva.{Dva}
+use Rattle.zr_base.specs.declared.space.LateRun.{LateRun}
+use Rattle.zr_base.specs.declared.space.DevPart.{DevPart}
+use Rattle.zr_base.specs.declared.space.DevState.TheVariants.{On}
+use Rattle.zr_base.specs.declared.space.DevState.{DevState}
+use Rattle.zr_base.specs.Extents.{unit_count, has_unit}
+use Rattle.zr_rules.specs.Owed.{set_words}
+use Rattle.zr_rules.specs.Places.{one_if, part_of, is_on, is_leaving, is_gone, units_of_dev, state_of_dev}
+use Rattle.zr_rules.specs.Space.{Space, OpenSets, opened_of, frontier}
+use Rattle.zr_rules.specs.Columns as columns
+use Rattle.zr_rules.specs.Equation.{devices_in}
+use Rattle.zr_rules.specs.Steps.{touch}
+use Rattle.zr_metaslab.specs.Devices.{Devices, free_at, count_at}
+use Rattle.zr_units.specs.Uses.{Uses, Freed, IsAccount, use_count}
+use Rattle.zr_units.specs.Words.{use_words}
+use Rattle.zr_space.specs.Views.{Kept, kept_of, part_in, opened_in, late_runs, addresses, meta_from, space_of, IsSpace}
+use Rattle.zr_space.specs.Totals.{AreFew, total_by, current_meta, late1_meta, late2_meta, words_in}
+use Rattle.zr_space.proofs.Sums.{as_runs}
+use Rattle.zr_space.proofs.Views.{part_is, opened_is}
+use Rattle.zr_space.proofs.Keeps.{same_free}
+use Rattle.zr_space.proofs.Paths.{one_piece, in_service}
+use Rattle.zr_space.proofs.Counts.{held_in, freed_blocks_in}
+
+-- ---- sums
+
+pass_first : {X : Type 0} (p : X → Bool) (x : X) (xs : List X) → p x ≡ true → filter p (x ∷ xs) ≡ x ∷ filter p xs
+pass_first p x xs is = rw is refl
+
+all_pass : {X : Type 0} (p : X → Bool) (xs : List X) → ((x : X) → p x ≡ true) → filter p xs ≡ xs
+all_pass p [] pass = refl
+all_pass {X} p (x ∷ xs) pass = pass_first p x xs (pass x) ∙ ap (λ (l : List X). x ∷ l) (all_pass p xs pass)
+
+sum_as : {X : Type 0} (f g : X → ℕ) (xs : List X) → ((x : X) → f x ≡ g x) → sum_by f xs ≡ sum_by g xs
+sum_as f g [] same = refl
+sum_as f g (x ∷ xs) same =
+    let s = same x in
+    let r = sum_as f g xs same in
+    let a = sum_by-cons f x xs in
+    let b = sum_by-cons g x xs in
+    omega (arith, s, r, a, b)
+
+sum_none : {X : Type 0} (f : X → ℕ) (xs : List X) → ((x : X) → f x ≡ 0) → sum_by f xs ≡ 0
+sum_none f [] none = refl
+sum_none f (x ∷ xs) none = let s = none x in let r = sum_none f xs none in let a = sum_by-cons f x xs in omega (arith, s, r, a)
+
+range_suc : (h : ℕ → ℕ) (a n : ℕ) → sum_by h (range_with_len a (suc n)) ≡ sum_by h (range_with_len a n) + h (a + n)
+range_suc h a zero = let z : a + 0 ≡ a = omega arith in let e = ap h z in omega (arith, e)
+range_suc h a (suc n) =
+    let next : (a + 1) + n ≡ a + suc n = omega arith in
+    let r = range_suc h (a + 1) n in
+    let e = ap h next in
+    let x = sum_by-cons h a (range_with_len (a + 1) (suc n)) in
+    let y = sum_by-cons h a (range_with_len (a + 1) n) in
+    omega (arith, r, e, x, y)
+
+pub range_more : (h : ℕ → ℕ) (a n : ℕ) → sum_by h (range_with_len a (n + 1)) ≡ sum_by h (range_with_len a n) + h (a + n)
+range_more h a n = rw add-one (range_suc h a n)
+
+-- a sum by index is one over the devices
+from_range : (h : ℕ → ℕ) (g : Kept → ℕ) (a : ℕ) (devs : List Kept) → ((i : ℕ) → h (a + i) ≡ g (kept_of devs i)) → sum_by h (range_with_len a (length devs)) ≡ sum_by g devs
+from_range h g a [] same = refl
+from_range h g a (x ∷ xs) same =
+    let here : h a ≡ g x = ap h (let z : a ≡ a + 0 = omega arith in z) ∙ same 0 in
+    let rest = from_range h g (a + 1) xs (λ i. ap h (let z : (a + 1) + i ≡ a + suc i = omega arith in z) ∙ same (suc i)) in
+    let p = sum_by-cons h a (range_with_len (a + 1) (length xs)) in
+    let q = sum_by-cons g x xs in
+    omega (arith, here, rest, p, q)
+
+-- ---- late sets and metadata
+
+abbrev late_len : LateRun → ℕ
+late_len r = if r.meta then r.at.len else 0
+
+late_len_of : (meta : Bool) (es : List Extent) → sum_by late_len (as_runs meta es) ≡ (if meta then unit_count es else 0)
+late_len_of true [] = refl
+late_len_of false [] = refl
+late_len_of true (e ∷ es) = let r = late_len_of true es in let a = sum_by-cons late_len (record { at = e; meta = true }) (as_runs true es) in omega (arith, r, a)
+late_len_of false (e ∷ es) = let r = late_len_of false es in let a = sum_by-cons late_len (record { at = e; meta = false }) (as_runs false es) in omega (arith, r, a)
+
+late_meta_is : (f : Freed) → columns.late_meta_units (late_runs f) ≡ unit_count f.meta
+late_meta_is f =
+    let a = sum_by-append late_len (as_runs false f.blocks) (as_runs true f.meta) in
+    let b = late_len_of false f.blocks in
+    let m = late_len_of true f.meta in
+    omega (arith, a, b, m)
+
+late_blocks_of : (es ms : List Extent) → columns.late_blocks (as_runs false es ++ as_runs true ms) ≡ es
+late_blocks_of [] [] = refl
+late_blocks_of [] (m ∷ ms) = late_blocks_of [] ms
+late_blocks_of (e ∷ es) ms = ap (λ (l : List Extent). e ∷ l) (late_blocks_of es ms)
+
+addresses_units : (k d : ℕ) (es : List Extent) → columns.units_on (addresses k es) d ≡ (if k == d then unit_count es else 0)
+addresses_units k d [] = grind (arith, nat_tests)
+addresses_units k d (e ∷ es) =
+    let rest = addresses_units k d es in
+    let more = sum_by-cons (λ (a : Dva). if a.dev == d then a.len else 0) (record { dev = k; start = e.start; len = e.len }) (addresses k es) in
+    grind (arith, nat_tests, rest, more)
+
+units_append : (xs ys : List Dva) (d : ℕ) → columns.units_on (xs ++ ys) d ≡ columns.units_on xs d + columns.units_on ys d
+units_append xs ys d = sum_by-append (λ (a : Dva). if a.dev == d then a.len else 0) xs ys
+
+units_below : (k d : ℕ) (devs : List Kept) → d < k → columns.units_on (meta_from k devs) d ≡ 0
+units_below k d [] lt = refl
+units_below k d (x ∷ xs) lt =
+    let rest = units_below (k + 1) d xs (omega (arith, lt)) in
+    grind (arith, nat_tests, lt, rest, units_append (addresses k x.uses.meta) (meta_from (k + 1) xs) d, addresses_units k d x.uses.meta)
+
+units_at : (k j : ℕ) (devs : List Kept) → columns.units_on (meta_from k devs) (k + j) ≡ unit_count (kept_of devs j).uses.meta
+units_at k zero [] = refl
+units_at k (suc j) [] = refl
+units_at k zero (x ∷ xs) =
+    let rest = units_below (k + 1) (k + 0) xs (omega arith) in
+    grind (arith, nat_tests, rest, units_append (addresses k x.uses.meta) (meta_from (k + 1) xs) (k + 0), addresses_units k (k + 0) x.uses.meta)
+units_at k (suc j) (x ∷ xs) =
+    let next : (k + 1) + j ≡ k + suc j = omega arith in
+    let rest = ap (λ (d : ℕ). columns.units_on (meta_from (k + 1) xs) d) (sym next) ∙ units_at (k + 1) j xs in
+    grind (arith, nat_tests, rest, units_append (addresses k x.uses.meta) (meta_from (k + 1) xs) (k + suc j), addresses_units k (k + suc j) x.uses.meta)
+
+addresses_len : (k : ℕ) (es : List Extent) → sum_by (λ (a : Dva). a.len) (addresses k es) ≡ unit_count es
+addresses_len k [] = refl
+addresses_len k (e ∷ es) =
+    let rest = addresses_len k es in
+    let more = sum_by-cons (λ (a : Dva). a.len) (record { dev = k; start = e.start; len = e.len }) (addresses k es) in
+    omega (arith, rest, more)
+
+meta_len : (k : ℕ) (devs : List Kept) → sum_by (λ (a : Dva). a.len) (meta_from k devs) ≡ total_by current_meta devs
+meta_len k [] = refl
+meta_len k (x ∷ xs) =
+    let rest = meta_len (k + 1) xs in
+    let here = addresses_len k x.uses.meta in
+    let both = sum_by-append (λ (a : Dva). a.len) (addresses k x.uses.meta) (meta_from (k + 1) xs) in
+    let more = sum_by-cons (λ (d : Kept). current_meta d.uses) x xs in
+    omega (arith, rest, here, both, more)
+
+-- ---- what a root records of devices that are all in service
+
+abbrev AreOn : List Kept → Type 0
+AreOn devs = (d : ℕ) → (kept_of devs d).row.state ≡ On
+
+on_parts_are : (devs : List Kept) → AreOn devs → columns.on_parts (map part_in devs) ≡ map part_in devs
+on_parts_are [] on = refl
+on_parts_are (x ∷ xs) on = pass_first (λ (p : DevPart). is_on p.row.state) (part_in x) (map part_in xs) (ap is_on (on 0)) ∙ ap (λ (l : List DevPart). part_in x ∷ l) (on_parts_are xs (λ d. on (suc d)))
+
+late1_total : (devs : List Kept) → columns.late1_meta (map part_in devs) ≡ total_by late1_meta devs
+late1_total [] = refl
+late1_total (x ∷ xs) =
+    let rest = late1_total xs in
+    let here = late_meta_is x.uses.late1 in
+    let p = sum_by-cons (λ (p : DevPart). columns.late_meta_units p.late1) (part_in x) (map part_in xs) in
+    let q = sum_by-cons (λ (d : Kept). late1_meta d.uses) x xs in
+    omega (arith, rest, here, p, q)
+
+late2_total : (devs : List Kept) → columns.late2_meta (map part_in devs) ≡ total_by late2_meta devs
+late2_total [] = refl
+late2_total (x ∷ xs) =
+    let rest = late2_total xs in
+    let here = late_meta_is x.uses.late2 in
+    let p = sum_by-cons (λ (p : DevPart). columns.late_meta_units p.late2) (part_in x) (map part_in xs) in
+    let q = sum_by-cons (λ (d : Kept). late2_meta d.uses) x xs in
+    omega (arith, rest, here, p, q)
+
+streams_total : (devs : List Kept) → AreOn devs → sum_by (λ (p : DevPart). columns.device_streams p.row.state) (map part_in devs) ≡ 4 * length devs
+streams_total [] on = refl
+streams_total (x ∷ xs) on =
+    let rest = streams_total xs (λ d. on (suc d)) in
+    let here : columns.device_streams x.row.state ≡ 4 = ap columns.device_streams (on 0) in
+    let p = sum_by-cons (λ (p : DevPart). columns.device_streams p.row.state) (part_in x) (map part_in xs) in
+    omega (arith, rest, here, p)
+
+none_gone : (devs : List Kept) → AreOn devs → count_by (λ (p : DevPart). is_gone p.row.state) (map part_in devs) ≡ 0
+none_gone [] on = refl
+none_gone (x ∷ xs) on =
+    let rest = none_gone xs (λ d. on (suc d)) in
+    let here = ap (λ (st : DevState). one_if (is_gone st)) (on 0) in
+    let p = sum_by-cons (λ (p : DevPart). if is_gone p.row.state then 1 else 0) (part_in x) (map part_in xs) in
+    omega (arith, rest, here, p)
+
+-- the words of a device, by its part and what the open group did on it
+abbrev words_by : ℕ → DevPart → OpenSets → ℕ
+words_by version p o =
+    set_words version p.held + 3 * set_words version p.kept + 8 * length p.entries + set_words version p.fresh
+    + set_words version o.deferred + set_words version (columns.late_blocks p.late1) + set_words version (columns.late_blocks p.late2)
+
+words_are : (version : ℕ) (devs : List Kept) (d : ℕ) → columns.device_words (space_of version devs) d ≡ words_in version (kept_of devs d).uses
+words_are version devs d =
+    let k = kept_of devs d in
+    let both : columns.device_words (space_of version devs) d ≡ words_by version (part_in k) (opened_in k) = ap₂ (words_by version) (part_is devs d) (opened_is version devs d) in
+    let one : set_words version (columns.late_blocks (late_runs k.uses.late1)) ≡ set_words version k.uses.late1.blocks = ap (set_words version) (late_blocks_of k.uses.late1.blocks k.uses.late1.meta) in
+    let two : set_words version (columns.late_blocks (late_runs k.uses.late2)) ≡ set_words version k.uses.late2.blocks = ap (set_words version) (late_blocks_of k.uses.late2.blocks k.uses.late2.meta) in
+    let none : words_by version (part_in k) (opened_in k) ≡ words_in version k.uses = omega (arith, one, two) in
+    both ∙ none
+
+module _ (version : ℕ) (slabs : Devices) (devs : List Kept) (s : IsSpace slabs devs) where
+  count_is : length (map part_in devs) ≡ length devs
+  count_is = length-map devs part_in
+
+  on_are : columns.on_devices (space_of version devs) ≡ range_with_len 0 (length devs)
+  on_are =
+      all_pass (λ (d : ℕ). is_on (state_of_dev (map part_in devs) d)) (range_with_len 0 (length (map part_in devs))) (λ d. ap (λ (p : DevPart). is_on p.row.state) (part_is devs d) ∙ ap is_on (s.on d))
+      ∙ ap (range_with_len 0) count_is
+
+  pub free_units_are : sum_by (count_at slabs) (range_with_len 0 (length devs)) ≡ columns.free_units (space_of version devs)
+  free_units_are =
+      sum_as (count_at slabs) (λ (d : ℕ). (columns.columns (space_of version devs) d).free) (range_with_len 0 (length devs)) (λ d. sym ((same_free version slabs devs s).count d))
+      ∙ ap (sum_by (λ (d : ℕ). (columns.columns (space_of version devs) d).free)) (sym on_are)
+
+  pub free_at_most : (d : ℕ) → count_at slabs d < 2 ^ 40
+  free_at_most d = let a = (s.account d).sum in let m = (s.account d).small in omega (arith, a, m)
+
+  pub one_touched : (a : Dva) → 1 ≡ touch (devices_in (space_of version devs)) a
+  one_touched a = sym (one_piece (length (map part_in devs)) (devices_in (space_of version devs)) a.dev a.start a.len (in_service version slabs devs s))
+
+  pub on_units_are : total_by (λ (x : Uses). x.units) devs ≡ columns.on_units (space_of version devs)
+  on_units_are =
+      sym (from_range (units_of_dev (map part_in devs)) (λ (k : Kept). k.uses.units) 0 devs (λ i. ap (units_of_dev (map part_in devs)) (let z : 0 + i ≡ i = omega arith in z) ∙ (ap (λ (p : DevPart). p.row.units) (part_is devs i) ∙ s.rows i)))
+      ∙ ap (sum_by (units_of_dev (map part_in devs))) (sym on_are)
+
+  words_total : sum_by (columns.device_words (space_of version devs)) (range_with_len 0 (length (map part_in devs))) ≡ total_by (words_in version) devs
+  words_total =
+      ap (λ n. sum_by (columns.device_words (space_of version devs)) (range_with_len 0 n)) count_is
+      ∙ from_range (columns.device_words (space_of version devs)) (λ (k : Kept). words_in version k.uses) 0 devs (λ i. ap (columns.device_words (space_of version devs)) (let z : 0 + i ≡ i = omega arith in z) ∙ words_are version devs i)
+
+  turning_meta : sum_by (columns.units_on (meta_from 0 devs)) (columns.on_devices (space_of version devs)) ≡ total_by current_meta devs
+  turning_meta =
+      ap (sum_by (columns.units_on (meta_from 0 devs))) on_are
+      ∙ from_range (columns.units_on (meta_from 0 devs)) (λ (k : Kept). current_meta k.uses) 0 devs (λ i. units_at 0 i devs)
+
+  none_uncopied : columns.uncopied_units (space_of version devs) ≡ 0
+  none_uncopied = sum_none (λ (d : ℕ). if is_leaving (part_of (map part_in devs) d).row.state then sum_by (columns.units_from (frontier (space_of version devs) d)) (part_of (map part_in devs) d).held else 0) (range_with_len 0 (length (map part_in devs)))
+      (λ d. let l : is_leaving (part_of (map part_in devs) d).row.state ≡ false = ap (λ (p : DevPart). is_leaving p.row.state) (part_is devs d) ∙ ap is_leaving (s.on d) in rw l refl)
+
+  pub are_few : AreFew devs
+  are_few = record {
+    few = s.few;
+    within = λ d. record { held = within d; freed = freed d; late1 = late1 d; late2 = late2 d };
+    used = λ d. let a = (s.account d).sum in omega (arith, a);
+    small = λ d. (s.account d).small;
+  }
+    where
+      within : (d u : ℕ) → has_unit (kept_of devs d).uses.held u ≡ true → u < (kept_of devs d).uses.units
+      within d u is = let o = (s.account d).once u in grind (arith, nat_tests, o, is)
+
+      freed : (d u : ℕ) → has_unit (kept_of devs d).uses.freed.blocks u ≡ true → u < (kept_of devs d).uses.units
+      freed d u is = let o = (s.account d).once u in grind (arith, nat_tests, o, is)
+
+      late1 : (d u : ℕ) → has_unit (kept_of devs d).uses.late1.blocks u ≡ true → u < (kept_of devs d).uses.units
+      late1 d u is = let o = (s.account d).once u in grind (arith, nat_tests, o, is)
+
+      late2 : (d u : ℕ) → has_unit (kept_of devs d).uses.late2.blocks u ≡ true → u < (kept_of devs d).uses.units
+      late2 d u is = let o = (s.account d).once u in grind (arith, nat_tests, o, is)
+
+  pub sizes_are : (words streams current late1 late2 turning past : ℕ) → words ≡ total_by (words_in version) devs → streams ≡ 2 + 4 * length devs
+      → current ≡ total_by current_meta devs → late1 ≡ total_by late1_meta devs → late2 ≡ total_by late2_meta devs → turning ≡ current + late1 + late2 → past ≡ max current (max late1 late2)
+      → record { blocks = 0; objects = 0; words = words; streams = streams; gone = 0; uncopied = 0; turning = turning; past = past; snaps = false } ≡ columns.sizes (space_of version devs) 0 0
+  sizes_are words streams current late1 late2 turning past w st c a b t p =
+      let on = on_parts_are devs s.on in
+      let e1 : sum_by (columns.device_words (space_of version devs)) (range_with_len 0 (length (map part_in devs))) ≡ words = words_total ∙ sym w in
+      let e2 : sum_by (λ (q : DevPart). columns.device_streams q.row.state) (map part_in devs) ≡ 4 * length devs = streams_total devs s.on in
+      let e3 = none_gone devs s.on in
+      let e4 = none_uncopied in
+      let e5 : sum_by (columns.units_on (meta_from 0 devs)) (columns.on_devices (space_of version devs)) ≡ current = turning_meta ∙ sym c in
+      let e6 : columns.late1_meta (map part_in devs) ≡ late1 = late1_total devs ∙ sym a in
+      let e7 : columns.late2_meta (map part_in devs) ≡ late2 = late2_total devs ∙ sym b in
+      let e8 : sum_by (λ (d : Dva). d.len) (meta_from 0 devs) ≡ current = meta_len 0 devs ∙ sym c in
+      rw on rw e1 rw e2 rw e3 rw e4 rw e5 rw e6 rw e7 rw e8 rw st rw t rw p refl

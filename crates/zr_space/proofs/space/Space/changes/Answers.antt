@@ -1,0 +1,31 @@
+use Rattle.std.proofs.Common.{◌≡◌, ◌∙◌, ◌<◌, List, length, sym, ap, subst, arith}
+use Rattle.std.proofs.lemmas.List.{length-map}
+use Rattle.zr_base.specs.declared.space.Change.{Change}
+use Rattle.zr_rules.specs.Space.{Space}
+use Rattle.zr_units.specs.Apart.{AreSetsApart}
+use Rattle.zr_units.specs.Differences.{IsMerged}
+use Rattle.zr_metaslab.specs.Devices.{free_at, count_at}
+use Rattle.zr_space.specs.Views.{Kept, kept_of, part_in, space_of}
+use Rattle.zr_space.specs.Records.{Gains}
+use Rattle.zr_space.specs.declared.records.SetKind.TheVariants as kinds
+use Rattle.zr_space.proofs.Views.{kept_read}
+use Rattle.zr_space.proofs.Gains.{born_apart, gains_held, gains_none, ok_as}
+use Rattle.zr_space.proofs.space.Space.changes.Goals as goal
+
+pub changes-requires : goal.changes-requires
+changes-requires c =
+    let k : Kept = record { row = c.behind-self.inside.row; uses = c.behind-self.inside.units } in
+    let there : c.args.dev < length c.self.inside.devs.items = let l : c.args.dev < length (space_of c.self.inside.version c.self.inside.devs.items).parts.devs = subst (λ (s : Space). c.args.dev < length s.parts.devs) (sym c.self.view_is) c.requires in let e = length-map c.self.inside.devs.items part_in in omega (arith, l, e) in
+    let is : k ≡ kept_of c.self.inside.devs.items c.args.dev = c.behind-self.view_is ∙ kept_read c.self.inside.devs.items c.args.dev c.index.result.now there c.index.ensures in
+    subst (λ (z : Kept). AreSetsApart z.uses.born z.uses.freed.blocks) (sym is) (born_apart _ _ _ (c.self.invariant.account c.args.dev))
+
+pub returns-in-Held : goal.returns-in-Held
+returns-in-Held c =
+    let k : Kept = record { row = c.behind-self.inside.row; uses = c.behind-self.inside.units } in
+    let there : c.args.dev < length c.self.inside.devs.items = let l : c.args.dev < length (space_of c.self.inside.version c.self.inside.devs.items).parts.devs = subst (λ (s : Space). c.args.dev < length s.parts.devs) (sym c.self.view_is) c.requires in let e = length-map c.self.inside.devs.items part_in in omega (arith, l, e) in
+    let is : k ≡ kept_of c.self.inside.devs.items c.args.dev = c.behind-self.view_is ∙ kept_read c.self.inside.devs.items c.args.dev c.index.result.now there c.index.ensures in
+    rw (← c.self.view_is) rw c.in-Held.is
+    (ok_as c.changes.result _ _ (λ cs m. gains_held c.self.inside.version c.self.inside.slabs c.self.inside.devs.items c.args.dev k cs.items c.self.invariant is m) c.changes.ensures)
+
+pub returns-in-Kept : goal.returns-in-Kept
+returns-in-Kept c = rw (← c.self.view_is) (gains_none c.self.inside.version c.self.inside.devs.items c.args.dev c.args.set c.new.result.items c.in-Kept.is c.new.ensures.items)

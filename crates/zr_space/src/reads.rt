@@ -1,0 +1,186 @@
+//! The sets of a device as a root records them.
+//!
+//! What a root records may be anything that its words spell. So each set is tested while it is read: its extents must be
+//! maximal, in order and within the device, and no unit may have two uses. All units that have a use are gathered in one
+//! set, from which the allocator then gets the others.
+ghost use Rattle.std.specs.Prelude.{◌≡◌, ◌↔◌, ◌+◌, ◌<◌, ◌≤◌, ◌^◌, ◌++◌, [], true, false, ℕ, List, IsTrue, IfOk, IfSome, IfNone};
+ghost use Rattle.zr_base.specs.Extents.{HasNone};
+ghost use Rattle.zr_base.specs.declared.space.Dva.{Dva};
+ghost use Rattle.zr_units.specs.Uses.{Freed};
+ghost use Rattle.zr_space.specs.Reads.{CanRead, Marks, CanReadLate, MarksLate, IsListed, CanReadMeta, ReadsMeta, IsPlain, IsRead, CanReadPart};
+ghost use Rattle.zr_space.specs.Views.{part_in};
+
+use crate::device::Device;
+use std::alloc::Global;
+use zr_base::{DevPart, DevState, Dva, Extent, LateRun, NoMemory};
+use zr_ranges::RangeSet;
+use zr_units::{FreedSets, Units};
+
+// Whether an extent has units, all from `low` on and below `units`.
+fn is_next(e: Extent, low: u64, units: u64) -> bool
+    ensures { IsTrue result ↔ ((low ≤ e.start) × (0 < e.len) × (e.start + e.len ≤ units)) }
+{
+    low <= e.start && 0 < e.len && e.len <= units && e.start <= units - e.len
+}
+
+/// The set of a device of so many units whose extents these are. Its units are added to those that are used. None exactly
+/// where they are not maximal, in order and within the device, or one of their units is used; then some may have been
+/// added.
+pub fn read_set(
+    alloc: Global,
+    used: &mut RangeSet,
+    extents: &[Extent],
+    units: u64,
+) -> Result<Option<RangeSet>, NoMemory>
+    requires { units < 2 ^ 40 }
+    ensures set { IfOk result (λ o. IfSome o (λ set. set.extents ≡ extents.now)) }
+    ensures some { IfOk result (λ o. IfSome o (λ set. CanRead extents.now used.old.extents units)) }
+    ensures used { IfOk result (λ o. IfSome o (λ set. Marks extents.now used.old.extents used.new.extents)) }
+    ensures none { IfOk result (λ o. IfNone o (¬ CanRead extents.now used.old.extents units)) }
+{
+    let mut set = RangeSet::new(alloc);
+    let mut low = 0;
+    for e in extents {
+        if !is_next(*e, low, units) {
+            return Ok(None);
+        }
+        if !used.is_apart(*e) {
+            return Ok(None);
+        }
+        set.add(*e)?;
+        used.add(*e)?;
+        low = e.start + e.len + 1;
+    }
+    Ok(Some(set))
+}
+
+// The extents of blocks and those of metadata of a late set.
+#[derive(Drop)]
+struct Kinds {
+    blocks: Vec<Extent>,
+    meta: Vec<Extent>,
+}
+
+// The extents of a late set by their kind, None exactly where one of blocks comes behind one of metadata.
+fn kinds_of(alloc: Global, runs: &[LateRun]) -> Result<Option<Kinds>, NoMemory>
+    ensures some { IfOk result (λ o. IfSome o (λ k. IsListed runs.now (record { blocks = k.blocks.items; meta = k.meta.items }))) }
+    ensures none { IfOk result (λ o. IfNone o ((f : Freed) → ¬ IsListed runs.now f)) }
+{
+    let mut blocks = Vec::new(alloc);
+    let mut meta = Vec::new(alloc);
+    for run in runs {
+        if run.meta {
+            meta.push(run.at)?;
+            continue;
+        }
+        if !meta.is_empty() {
+            return Ok(None);
+        }
+        blocks.push(run.at)?;
+    }
+    Ok(Some(Kinds { blocks, meta }))
+}
+
+/// The late set of a device of so many units that the runs list. Its units are added to those that are used. None exactly
+/// where they list none, or one whose units are not the device's or have another use; then some may have been added.
+pub fn read_late(
+    alloc: Global,
+    used: &mut RangeSet,
+    runs: &[LateRun],
+    units: u64,
+) -> Result<Option<FreedSets>, NoMemory>
+    requires { units < 2 ^ 40 }
+    ensures listed { IfOk result (λ o. IfSome o (IsListed runs.now)) }
+    ensures some { IfOk result (λ o. IfSome o (λ f. CanReadLate f used.old.extents units)) }
+    ensures used { IfOk result (λ o. IfSome o (λ f. MarksLate f used.old.extents used.new.extents)) }
+    ensures none { IfOk result (λ o. IfNone o ((f : Freed) → IsListed runs.now f → ¬ CanReadLate f used.old.extents units)) }
+{
+    let Some(kinds) = kinds_of(alloc, runs)? else {
+        return Ok(None);
+    };
+    let Some(blocks) = read_set(alloc, used, kinds.blocks.as_slice(), units)? else {
+        return Ok(None);
+    };
+    let Some(meta) = read_set(alloc, used, kinds.meta.as_slice(), units)? else {
+        return Ok(None);
+    };
+    Ok(Some(FreedSets::of_sets(blocks, meta)))
+}
+
+/// Reads the metadata that lies on a device. Its units are added to those that are used. False exactly where a unit of it
+/// is not the device's, is there twice or has another use; then some may have been added.
+pub fn read_meta(
+    units: &mut Units,
+    used: &mut RangeSet,
+    dev: u32,
+    meta: &[Dva],
+) -> Result<bool, NoMemory>
+    requires small { units.old.units < 2 ^ 40 }
+    requires none { units.old.meta ≡ [] }
+    ensures yes { IfOk result (λ b. b ≡ true → ReadsMeta meta.now dev units.old units.new used.old.extents used.new.extents) }
+    ensures no { IfOk result (λ b. b ≡ false → ¬ CanReadMeta meta.now dev used.old.extents units.old.units) }
+{
+    let room = units.units();
+    for a in meta {
+        let e = Extent {
+            start: a.start,
+            len: u64::from(a.len),
+        };
+        if a.dev != dev || e.len == 0 {
+            continue;
+        }
+        if !is_next(e, 0, room) {
+            return Ok(false);
+        }
+        if !used.is_apart(e) {
+            return Ok(false);
+        }
+        units.hold_meta(e)?;
+        used.add(e)?;
+    }
+    Ok(true)
+}
+
+// Whether a device is in service, with nothing kept, mapped or obsolete.
+fn is_plain(part: &DevPart) -> bool
+    ensures { IsTrue result ↔ IsPlain part.now }
+{
+    part.row.state == DevState::On
+        && part.row.units < 1 << 40
+        && part.kept.is_empty()
+        && part.entries.is_empty()
+        && part.counts.is_empty()
+        && part.fresh.is_empty()
+}
+
+/// A device as a root records it, without metadata. Its units are added to those that are used, of which there are none.
+/// None where it is not in service, a set is not kept as its maximal extents, or a unit has two uses.
+pub fn read_device(
+    alloc: Global,
+    part: &DevPart,
+    used: &mut RangeSet,
+) -> Result<Option<Device>, NoMemory>
+    requires { used.old.extents ≡ [] }
+    ensures part { IfOk result (λ o. IfSome o (λ k. part_in k ≡ part.now)) }
+    ensures meta { IfOk result (λ o. IfSome o (λ k. k.uses.meta ≡ [])) }
+    ensures some { IfOk result (λ o. IfSome o (λ k. IsRead k used.new.extents)) }
+    ensures none { IfOk result (λ o. IfNone o ((meta : List Dva) (dev : ℕ) → ¬ CanReadPart part.now meta dev)) }
+{
+    if !is_plain(part) {
+        return Ok(None);
+    }
+    let units = part.row.units;
+    let Some(held) = read_set(alloc, used, part.held.as_slice(), units)? else {
+        return Ok(None);
+    };
+    let Some(late1) = read_late(alloc, used, part.late1.as_slice(), units)? else {
+        return Ok(None);
+    };
+    let Some(late2) = read_late(alloc, used, part.late2.as_slice(), units)? else {
+        return Ok(None);
+    };
+    Ok(Some(Device {
+        row: part.row,
+        units: Units::of_sets(alloc, units, held, late1, late2),
+    }))
+}
