@@ -11,6 +11,7 @@ mod reads;
 mod records;
 mod remap;
 mod room;
+mod service;
 mod space;
 #[cfg(test)]
 mod tests;
