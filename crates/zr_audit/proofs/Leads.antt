@@ -6,12 +6,13 @@ use Rattle.std.proofs.lemmas.List.Sums.{sum_by-cons}
 use Rattle.zr_base.specs.declared.space.Dva.{Dva}
 use Rattle.zr_base.specs.declared.space.DevPart.{DevPart}
 use Rattle.zr_base.specs.declared.space.Entry.{Entry}
+use Rattle.zr_base.specs.Extents.{has_unit}
 use Rattle.zr_rules.specs.Places.{Place, one_if, is_leaving, is_gone, is_place, in_address, address_hits, part_of, is_held, is_kept}
 use Rattle.zr_rules.specs.Devices.{Devices, state_at, devices_of}
 use Rattle.zr_rules.specs.Resolve.{resolve, resolved, is_there, is_at, leads_to}
 use Rattle.zr_rules.specs.Roles.{Role, is_copy_role}
 use Rattle.zr_rules.specs.Roles.Role.{Absent, Free, FreshLive, Live, FreshCopy, Copy, Kept, DeferredBlock, DeferredMeta, Late1Block, Late1Meta, Late2Block, Late2Meta, Meta, SavedMeta}
-use Rattle.zr_rules.specs.Space.{Space, role_at, held_role, other_role, copy_hits, is_copy_by, has_place}
+use Rattle.zr_rules.specs.Space.{Space, role_at, held_role, other_role, copy_hits, is_copy_by, has_place, has_late, opened_of, is_born}
 use Rattle.zr_rules.specs.Equation.{devices_in, is_live}
 use Rattle.zr_space.specs.Paths.{AreInService}
 
@@ -59,16 +60,35 @@ none_copied (x ∷ xs) d u stays =
     let first : (if is_leaving x.row.state then sum_by (λ (e : Entry). one_if (is_copy_by x d u e)) x.entries else 0) ≡ 0 = rw (stays 0) refl in
     omega (arith, rest, first, sum_by-cons (λ (p : DevPart). if is_leaving p.row.state then sum_by (λ (e : Entry). one_if (is_copy_by p d u e)) p.entries else 0) x xs)
 
+-- a unit that is not held is no copy
+other_roles : (b1 b2 b3 b4 b5 b6 b7 b8 : Bool) → is_copy_role (if b1 then DeferredBlock else (if b2 then DeferredMeta else (if b3 then Late1Block else (if b4 then Late1Meta else (if b5 then Late2Block else (if b6 then Late2Meta else (if b7 then Meta else (if b8 then SavedMeta else Free)))))))) ≡ false
+other_roles true b2 b3 b4 b5 b6 b7 b8 = refl
+other_roles false true b3 b4 b5 b6 b7 b8 = refl
+other_roles false false true b4 b5 b6 b7 b8 = refl
+other_roles false false false true b5 b6 b7 b8 = refl
+other_roles false false false false true b6 b7 b8 = refl
+other_roles false false false false false true b7 b8 = refl
+other_roles false false false false false false true b8 = refl
+other_roles false false false false false false false true = refl
+other_roles false false false false false false false false = refl
+
+-- a held unit to which nothing was copied is no copy
+held_roles : (kept born : Bool) (n : ℕ) → n ≡ 0 → is_copy_role (if kept then Kept else (if nat_lt 0 n then (if born then FreshCopy else Copy) else (if born then FreshLive else Live))) ≡ false
+held_roles true born n none = refl
+held_roles false true n none = rw none refl
+held_roles false false n none = rw none refl
+
 neither : (b : Bool) (x y : Role) → is_copy_role x ≡ false → is_copy_role y ≡ false → is_copy_role (if b then x else y) ≡ false
 neither true x y first second = first
 neither false x y first second = second
 
 other_is : (s : Space) (d u : ℕ) → is_copy_role (other_role s d u) ≡ false
 other_is s d u =
-    neither _ _ _ refl (neither _ _ _ refl (neither _ _ _ refl (neither _ _ _ refl (neither _ _ _ refl (neither _ _ _ refl (neither _ _ _ refl (neither _ _ _ refl refl)))))))
+    other_roles (has_unit (opened_of s d).deferred u) (has_unit (opened_of s d).dropped u) (has_late false (part_of s.parts.devs d).late1 u) (has_late true (part_of s.parts.devs d).late1 u)
+    (has_late false (part_of s.parts.devs d).late2 u) (has_late true (part_of s.parts.devs d).late2 u) (nat_lt 0 (address_hits s.meta d u)) (nat_lt 0 (address_hits s.saved_meta d u))
 
 held_is : (s : Space) (d u : ℕ) → copy_hits s.parts.devs d u ≡ 0 → is_copy_role (held_role s d u) ≡ false
-held_is s d u none = rw none (neither _ _ _ refl (neither _ _ _ refl refl))
+held_is s d u none = held_roles (is_kept s.parts.devs d u) (is_born s d u) (copy_hits s.parts.devs d u) none
 
 pub no_copy : (s : Space) (d u : ℕ) → AreInService (devices_in s) → is_copy_role (role_at s d u) ≡ false
 unfolding role_at

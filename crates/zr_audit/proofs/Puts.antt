@@ -1,44 +1,14 @@
 -- Putting units into a set that may have some of them.
-use Rattle.std.proofs.Common.{◌≡◌, ℕ, ◌+◌, ◌-◌, ◌≤◌, ◌<◌, min, Bool, true, false, ◌&&◌, ◌||◌, nat_le, nat_lt, List, [], ◌∷◌, ◌++◌, take, length, get_or, refl, ◌∙◌, sym, ap, arith}
+use Rattle.std.proofs.Common.{◌≡◌, ℕ, ◌+◌, ◌-◌, ◌≤◌, ◌<◌, min, Bool, true, false, ◌&&◌, ◌||◌, nat_le, nat_lt, List, [], ◌∷◌, ◌++◌, take, length, get_or, subst, refl, ◌∙◌, ap, arith}
 use Rattle.std.proofs.lemmas.Bool.Decides.{nat_tests}
-use Rattle.std.proofs.lemmas.List.{take_more}
+use Rattle.std.proofs.lemmas.List.{take_more, take_all}
+use Rattle.std.proofs.lemmas.List.Sums.{sum_by-cons}
 use Rattle.zr_base.specs.declared.space.Extent.{Extent}
 use Rattle.zr_base.specs.declared.space.Dva.{Dva}
 use Rattle.zr_base.specs.Extents.{has_unit, in_extent, HasNone, IsFirstPart, HasNoneFrom, AddsUnits}
 use Rattle.zr_rules.specs.Places.{one_if, address_hits, in_address}
 use Rattle.zr_space.proofs.Sums.{hits_append}
 use Rattle.zr_audit.specs.Found.{IsUnion, IsUnionTo}
-
-abbrev pub run : ℕ → ℕ → Extent
-run from to = record { start = from; len = to - from }
-
-in_run : (from to u : ℕ) → from ≤ to → in_extent (run from to) u ≡ (nat_le from u && nat_lt u to)
-in_run from to u le = let end : from + (to - from) ≡ to = omega (arith, le) in ap (λ (n : ℕ). nat_le from u && nat_lt u n) end
-
-from_run : (from to u : ℕ) → in_extent (run from to) u ≡ true → from ≤ u
-from_run from to u here = grind (arith, nat_tests, here)
-
-to_run : (from to u : ℕ) → in_extent (run from to) u ≡ true → u < to
-to_run from to u here = grind (arith, nat_tests, here)
-
--- the set lacks the units up to the next one that it has
-pub lacks_to : (es : List Extent) (part : Extent) (at to : ℕ) → IsFirstPart es at part → to ≤ part.start → HasNone es (run at to)
-lacks_to es part at to first le u here = let lt = to_run at to u here in first.gap u (from_run at to u here) (omega (arith, lt, le))
-
-pub lacks_all : (es : List Extent) (at to : ℕ) → HasNoneFrom es at → HasNone es (run at to)
-lacks_all es at to none u here = none u (from_run at to u here)
-
-pub adds_run : (old new : List Extent) (at to : ℕ) → at ≤ to → AddsUnits old new (run at to) → IsUnionTo old new at to
-adds_run old new at to le adds u = adds.members u ∙ ap (λ b. has_unit old u || b) (in_run at to u le)
-
-absorbs : (a b : Bool) → (b ≡ true → a ≡ true) → a ≡ (a || b)
-absorbs true b has = refl
-absorbs false true has = has refl
-absorbs false false has = refl
-
--- the set has the units already
-pub has_run : (es : List Extent) (part : Extent) (at to : ℕ) → IsFirstPart es at part → part.start ≡ at → to ≤ at + part.len → IsUnionTo es es at to
-has_run es part at to first is le u = absorbs (has_unit es u) (nat_le at u && nat_lt u to) (λ here. first.covered u (grind (arith, nat_tests, is, le, here)))
 
 -- one run more, where the last one ended
 pub union_more : (old mid new : List Extent) (from at to : ℕ) → from ≤ at → at ≤ to → IsUnionTo old mid from at → IsUnionTo mid new at to → IsUnionTo old new from to
@@ -52,11 +22,12 @@ union_all old new e at low high all u = let end : at ≡ e.start + e.len = omega
 
 -- ---- addresses
 
-abbrev pub some_address : Dva
-some_address = record { dev = 0; start = 0; len = 0 }
-
 pub hits_more : (list : List Dva) (i d u : ℕ) (a : Dva) → i < length list → address_hits (take (i + 1) list) d u ≡ address_hits (take i list) d u + one_if (in_address (get_or list i a) d u)
-hits_more list i d u a lt = ap (λ (xs : List Dva). address_hits xs d u) (take_more list i a lt) ∙ hits_append (take i list) (get_or list i a ∷ []) d u
+hits_more list i d u a lt =
+    let front = ap (λ (xs : List Dva). address_hits xs d u) (take_more list i a lt) in
+    let both = hits_append (take i list) (get_or list i a ∷ []) d u in
+    let last = sum_by-cons (λ (x : Dva). one_if (in_address x d u)) (get_or list i a) [] in
+    omega (arith, front, both, last)
 
 -- the set has the units below a bound that some address has
 abbrev pub Has : List Extent → List Extent → List Dva → ℕ → ℕ → Type 0
@@ -68,3 +39,6 @@ has_none es dev units u = grind (arith, nat_tests)
 pub has_more : (old mid new : List Extent) (list : List Dva) (i dev units : ℕ) (a : Dva) (e : Extent) → i < length list → Has old mid (take i list) dev units → IsUnion mid new e
     → ((u : ℕ) → in_extent e u ≡ (in_address (get_or list i a) dev u && nat_lt u units)) → Has old new (take (i + 1) list) dev units
 has_more old mid new list i dev units a e lt has union is u = grind (arith, nat_tests, hits_more list i dev u a lt, has u, union u, is u)
+
+pub has_all : (old new : List Extent) (list : List Dva) (i dev units : ℕ) → length list ≤ i → Has old new (take i list) dev units → Has old new list dev units
+has_all old new list i dev units le has = subst (λ (xs : List Dva). Has old new xs dev units) (take_all i list le) has

@@ -7,6 +7,7 @@ use Rattle.zr_base.specs.Extents.{has_unit, in_extent}
 use Rattle.zr_rules.specs.Places.{count_below, units_of_dev, address_hits}
 use Rattle.zr_rules.specs.Roles.{is_copy_role, is_meta_role}
 use Rattle.zr_rules.specs.Space.{Space, role_at}
+use Rattle.zr_rules.specs.Columns.{columns}
 use Rattle.zr_rules.specs.Equation.{devices_in, is_live}
 
 -- how many different units of a device a walk finds: those that live pointers lead to, copies, and those that the addresses of metadata have
@@ -17,6 +18,10 @@ found s live meta d =
 -- the addresses have exactly the metadata units of the devices
 abbrev pub AreMeta : Space → List Dva → Type 0
 AreMeta s meta = (d u : ℕ) → d < length s.parts.devs → u < units_of_dev s.parts.devs d → nat_lt 0 (address_hits meta d u) ≡ is_meta_role (role_at s d u)
+
+-- how many units of a device are counted as allocated
+abbrev pub allocated_units : Space → ℕ → ℕ
+allocated_units s d = (columns s d).allocated
 
 -- a number for each device, by its index
 abbrev pub for_each_device : Space → (ℕ → ℕ) → List ℕ

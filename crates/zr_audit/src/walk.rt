@@ -1,8 +1,7 @@
 //! The audit of a space.
 ghost use Rattle.std.specs.Prelude.{◌≡◌, IfOk, Option};
-ghost use Rattle.zr_rules.specs.Columns.{columns};
 ghost use Rattle.zr_rules.specs.Equation.{SavedRoot, Adds, walked};
-ghost use Rattle.zr_audit.specs.Found.{found, AreMeta, for_each_device};
+ghost use Rattle.zr_audit.specs.Found.{found, allocated_units, AreMeta, for_each_device};
 
 use crate::answer::Audit;
 use crate::found::count_found;
@@ -22,7 +21,7 @@ pub fn audit(
 ) -> Result<Audit, NoMemory>
     ensures found { IfOk result (λ a. a.walked ≡ for_each_device space.now (found space.now live.now meta.now)) }
     ensures walked { IfOk result (λ a. AreMeta space.now meta.now → a.walked ≡ for_each_device space.now (walked space.now live.now)) }
-    ensures allocated { IfOk result (λ a. a.allocated ≡ for_each_device space.now (λ d. (columns space.now d).allocated)) }
+    ensures allocated { IfOk result (λ a. a.allocated ≡ for_each_device space.now (allocated_units space.now)) }
 
     // Where the units add up, the two numbers are equal.
     ensures equal { IfOk result (λ a. (saved : Option SavedRoot) → Adds space.now live.now saved → AreMeta space.now meta.now → a.walked ≡ a.allocated) }
