@@ -13,12 +13,7 @@ use zr_space::Space;
 /// the addresses of the live pointers, and `meta` those of metadata. Units that come twice count once, and one that leads
 /// nowhere does not count. It goes over the addresses once for each device, and each piece is logarithmic in the extents
 /// that were found before.
-pub fn audit(
-    alloc: Global,
-    space: &Space,
-    live: &[Dva],
-    meta: &[Dva],
-) -> Result<Audit, NoMemory>
+pub fn audit(alloc: Global, space: &Space, live: &[Dva], meta: &[Dva]) -> Result<Audit, NoMemory>
     ensures found { IfOk result (λ a. a.walked ≡ for_each_device space.now (found space.now live.now meta.now)) }
     ensures walked { IfOk result (λ a. AreMeta space.now meta.now → a.walked ≡ for_each_device space.now (walked space.now live.now)) }
     ensures allocated { IfOk result (λ a. a.allocated ≡ for_each_device space.now (allocated_units space.now)) }
