@@ -1,13 +1,13 @@
 -- What is counted is what a walk finds.
-use Rattle.std.proofs.Common.{◌≡◌, ℕ, ◌+◌, ◌<◌, ◌≤◌, Bool, true, false, ◌||◌, ◌&&◌, nat_lt, List, [], ◌∷◌, ◌++◌, map, length, Option, refl, ◌∙◌, sym, ap, arith, if◌then◌else◌}
-use Rattle.std.specs.List.{range_with_len, sum_by}
+use Rattle.std.proofs.Common.{◌≡◌, ℕ, ◌+◌, ◌<◌, ◌≤◌, Bool, true, false, ◌||◌, ◌&&◌, nat_lt, List, [], ◌∷◌, ◌++◌, map, length, Option, ◌∙◌, sym, ap, arith, if◌then◌else◌}
+use Rattle.std.specs.List.{range_with_len}
 use Rattle.std.proofs.lemmas.Bool.Decides.{nat_tests}
 use Rattle.std.proofs.lemmas.List.FromFn.{map-range_with_len_more}
 use Rattle.zr_base.specs.declared.space.Dva.{Dva}
 use Rattle.zr_rules.specs.Places.{Place, one_if, count_below, units_of_dev, address_hits}
 use Rattle.zr_rules.specs.Devices.{Devices}
 use Rattle.zr_rules.specs.Resolve.{is_there, is_at, leads_to, resolve_hits, resolved_units}
-use Rattle.zr_rules.specs.Roles.{is_copy_role, is_meta_role, is_live_role, is_allocated_role}
+use Rattle.zr_rules.specs.Roles.{is_copy_role, is_meta_role, is_live_role}
 use Rattle.zr_rules.specs.Space.{Space, role_at}
 use Rattle.zr_rules.specs.Equation.{SavedRoot, Adds, devices_in, is_live, live_hits, walked}
 use Rattle.zr_space.specs.Paths.{AreInService}

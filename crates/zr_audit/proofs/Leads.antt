@@ -1,5 +1,5 @@
 -- Where all devices are in service, a pointer leads to its own units, and there are no copies.
-use Rattle.std.proofs.Common.{◌≡◌, ℕ, zero, suc, ◌+◌, ◌≤◌, ◌<◌, Bool, true, false, not, ◌==◌, ◌&&◌, nat_le, nat_lt, List, [], ◌∷◌, map, Option, Some, None, refl, ◌∙◌, ap, arith, if◌then◌else◌}
+use Rattle.std.proofs.Common.{◌≡◌, ℕ, zero, suc, ◌+◌, ◌<◌, Bool, true, false, not, ◌==◌, ◌&&◌, nat_le, nat_lt, List, [], ◌∷◌, map, Option, Some, None, refl, ◌∙◌, arith, if◌then◌else◌}
 use Rattle.std.specs.List.{range_with_len, list_any, sum_by}
 use Rattle.std.proofs.lemmas.Bool.Decides.{nat_tests}
 use Rattle.std.proofs.lemmas.List.Sums.{sum_by-cons}
@@ -7,8 +7,8 @@ use Rattle.zr_base.specs.declared.space.Dva.{Dva}
 use Rattle.zr_base.specs.declared.space.DevPart.{DevPart}
 use Rattle.zr_base.specs.declared.space.Entry.{Entry}
 use Rattle.zr_base.specs.Extents.{has_unit}
-use Rattle.zr_rules.specs.Places.{Place, one_if, is_leaving, is_gone, is_place, in_address, address_hits, part_of, is_held, is_kept}
-use Rattle.zr_rules.specs.Devices.{Devices, state_at, devices_of}
+use Rattle.zr_rules.specs.Places.{Place, one_if, is_leaving, is_place, in_address, address_hits, part_of, is_held, is_kept}
+use Rattle.zr_rules.specs.Devices.{Devices}
 use Rattle.zr_rules.specs.Resolve.{resolve, resolved, is_there, is_at, leads_to}
 use Rattle.zr_rules.specs.Roles.{Role, is_copy_role}
 use Rattle.zr_rules.specs.Roles.Role.{Absent, Free, FreshLive, Live, FreshCopy, Copy, Kept, DeferredBlock, DeferredMeta, Late1Block, Late1Meta, Late2Block, Late2Meta, Meta, SavedMeta}

@@ -1,11 +1,11 @@
 -- Putting units into a set that may have some of them.
-use Rattle.std.proofs.Common.{◌≡◌, ℕ, ◌+◌, ◌-◌, ◌≤◌, ◌<◌, min, Bool, true, false, ◌&&◌, ◌||◌, nat_le, nat_lt, List, [], ◌∷◌, ◌++◌, take, length, get_or, subst, refl, ◌∙◌, ap, arith}
+use Rattle.std.proofs.Common.{◌≡◌, ℕ, ◌+◌, ◌≤◌, ◌<◌, ◌&&◌, ◌||◌, nat_le, nat_lt, List, [], ◌∷◌, take, length, get_or, subst, ◌∙◌, ap, arith}
 use Rattle.std.proofs.lemmas.Bool.Decides.{nat_tests}
 use Rattle.std.proofs.lemmas.List.{take_more, take_all}
 use Rattle.std.proofs.lemmas.List.Sums.{sum_by-cons}
 use Rattle.zr_base.specs.declared.space.Extent.{Extent}
 use Rattle.zr_base.specs.declared.space.Dva.{Dva}
-use Rattle.zr_base.specs.Extents.{has_unit, in_extent, HasNone, IsFirstPart, HasNoneFrom, AddsUnits}
+use Rattle.zr_base.specs.Extents.{has_unit, in_extent}
 use Rattle.zr_rules.specs.Places.{one_if, address_hits, in_address}
 use Rattle.zr_space.proofs.Sums.{hits_append}
 use Rattle.zr_audit.specs.Found.{IsUnion, IsUnionTo}

@@ -1,4 +1,4 @@
-use Rattle.std.proofs.Common.{ℕ, ◌||◌, nat_lt}
+use Rattle.std.proofs.Common.{◌||◌, nat_lt}
 use Rattle.zr_rules.specs.Places.{address_hits}
 use Rattle.zr_audit.proofs.Counts.{either, below, counted}
 use Rattle.zr_audit.proofs.found.count_found.Goals as goal

@@ -1,4 +1,4 @@
-use Rattle.std.proofs.Common.{◌≡◌, ◌<◌, length, ap, arith}
+use Rattle.std.proofs.Common.{◌<◌, length, ap, arith}
 use Rattle.zr_base.specs.declared.space.Columns.{Columns}
 use Rattle.zr_audit.specs.Found.{found, allocated_units}
 use Rattle.zr_audit.proofs.Finds.{next_found, one_more, each_done, all_walked, all_equal}
