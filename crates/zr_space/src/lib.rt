@@ -12,6 +12,7 @@ mod reads;
 mod records;
 mod remap;
 mod room;
+mod service;
 mod space;
 #[cfg(test)]
 mod tests;

@@ -1,0 +1,33 @@
+//! The audit of a space.
+ghost use Rattle.std.specs.Prelude.{◌≡◌, IfOk, Option};
+ghost use Rattle.zr_rules.specs.Equation.{SavedRoot, Adds, walked};
+ghost use Rattle.zr_audit.specs.Found.{found, allocated_units, AreMeta, for_each_device};
+
+use crate::answer::Audit;
+use crate::found::count_found;
+use std::alloc::Global;
+use zr_base::{Dva, Items, NoMemory};
+use zr_space::Space;
+
+/// The units that the addresses of a walk lead to beside those that are counted, one number for each device. `live` are
+/// the addresses of the live pointers, and `meta` those of metadata. Units that come twice count once, and one that leads
+/// nowhere does not count. It goes over the addresses once for each device, and each piece is logarithmic in the extents
+/// that were found before.
+pub fn audit(alloc: Global, space: &Space, live: &[Dva], meta: &[Dva]) -> Result<Audit, NoMemory>
+    ensures found { IfOk result (λ a. a.walked ≡ for_each_device space.now (found space.now live.now meta.now)) }
+    ensures walked { IfOk result (λ a. AreMeta space.now meta.now → a.walked ≡ for_each_device space.now (walked space.now live.now)) }
+    ensures allocated { IfOk result (λ a. a.allocated ≡ for_each_device space.now (allocated_units space.now)) }
+
+    // Where the units add up, the two numbers are equal.
+    ensures equal { IfOk result (λ a. (saved : Option SavedRoot) → Adds space.now live.now saved → AreMeta space.now meta.now → a.walked ≡ a.allocated) }
+{
+    space.all_in_service();
+    let mut walked = Items::new(alloc);
+    let mut allocated = Items::new(alloc);
+    for dev in 0..space.devices() {
+        let units = count_found(alloc, live, meta, dev, space.units_of(dev))?;
+        walked.push(units)?;
+        allocated.push(space.columns(dev).allocated)?;
+    }
+    Ok(Audit { walked, allocated })
+}
