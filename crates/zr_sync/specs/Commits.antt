@@ -1,0 +1,32 @@
+-- The root that a commit leaves.
+use Rattle.std.specs.Prelude.{◌≡◌, ℕ, ◌==◌, Bool, List, Option, Some, None, Contains, unwrap_or, if◌then◌else◌}
+use Rattle.zr_label.specs.declared.root.Uber.{Uber}
+use Rattle.zr_shelf.specs.Moments.{World}
+use Rattle.zr_slots.specs.Tables.{IsSlotInBoth}
+use Rattle.zr_slots.specs.Phases.{IsPublished}
+use Rattle.zr_sync.specs.declared.open.OpenPool.{OpenPool}
+
+-- The group of the last reset: a root that names none is itself one. Before the first root there is none, so the group itself is.
+abbrev pub last_reset : Option Uber → ℕ → ℕ
+last_reset None txg = txg
+last_reset (Some u) txg = if u.reset == 0 then u.txg else u.reset
+
+-- the root has the group, the identity and the devices of the pool, and its reset is the group where it is one
+pub record IsNextRoot (pool : OpenPool) (reset : Bool) (u : Uber) : Type 0 where
+  pub txg : u.txg ≡ pool.group.txg
+  pub version : u.version ≡ pool.version
+  pub guid : u.guid ≡ pool.guid
+  pub name : u.name ≡ pool.name
+  pub count : u.count ≡ pool.table.count
+  pub rows : u.rows ≡ pool.table.rows
+  pub reset_is : u.reset ≡ (if reset then pool.group.txg else last_reset pool.last pool.group.txg)
+
+-- The root stands in the slots of its devices: first where the last root's devices are too.
+pub record IsShownFrom (sizes : List ℕ) (pool : OpenPool) (u : Uber) (before now : World) : Type 0 where
+  pub both : List ℕ
+  pub all : List ℕ
+  pub in_both : (slot : ℕ) → Contains both slot → IsSlotInBoth (unwrap_or pool.last u) u pool.table.slots slot
+  pub all_both : (slot : ℕ) → IsSlotInBoth (unwrap_or pool.last u) u pool.table.slots slot → Contains both slot
+  pub in_all : (slot : ℕ) → Contains all slot → IsSlotInBoth u u pool.table.slots slot
+  pub all_all : (slot : ℕ) → IsSlotInBoth u u pool.table.slots slot → Contains all slot
+  pub published : IsPublished sizes both all u before now

@@ -1,0 +1,5 @@
+pub mod Stops
+pub mod Pools
+pub mod Writes
+pub mod Words
+pub mod Commits

@@ -1,0 +1,59 @@
+-- An open pool, as each call needs it and leaves it.
+use Rattle.std.specs.Prelude.{◌≡◌, ℕ, ◌+◌, ◌≤◌, ◌<◌, ◌⊎◌, List, All, length, take, slice_index, slice_index_or, IsTrue, Option, Some, None}
+use Rattle.std.specs.List.{list_all}
+use Rattle.zr_bptr.specs.declared.Tree.{Tree}
+use Rattle.zr_bptr.specs.Spelling.{IsTree}
+use Rattle.zr_label.specs.Blocks.{IsTable, IsName, IsUber, no_row}
+use Rattle.zr_label.specs.Geometry.{is_disk_size}
+use Rattle.zr_label.specs.declared.root.Uber.{Uber}
+use Rattle.zr_lookup.specs.Groups.{IsLawfulGroup}
+use Rattle.zr_meta.specs.Heads.{IsStream, IsRootOf}
+use Rattle.zr_rules.specs.Equation.{devices_in}
+use Rattle.zr_rules.specs.Places.{is_on, part_of}
+use Rattle.zr_rules.specs.Space.{IsLawful}
+use Rattle.zr_space.specs.Paths.{AreInService}
+use Rattle.zr_view.specs.Views.{slot_of}
+use Rattle.zr_vdev.specs.Mounts.{AreMounted}
+use Rattle.zr_sync.specs.declared.open.DeviceStreams.{DeviceStreams}
+use Rattle.zr_sync.specs.declared.open.OpenPool.{OpenPool}
+
+pub record AreStreams (s : DeviceStreams) : Type 0 where
+  pub held : IsStream s.held
+  pub kept : IsStream s.kept
+  pub late1 : IsStream s.late1
+  pub late2 : IsStream s.late2
+
+-- the group follows that of the root that was committed last, or is the first
+abbrev pub IsAfter : Option Uber → ℕ → Type 0
+IsAfter None txg = txg ≡ 1
+IsAfter (Some u) txg = IsUber u × (txg ≡ u.txg + 1)
+
+-- the tree of a directory, whose leaves have one unit
+pub record IsDirectory (t : Tree) : Type 0 where
+  pub tree : IsTree t
+  pub low : t.height ≤ 3
+  pub unit : IsRootOf t.height t.root
+
+-- A pool of one device to 32, all in service, that is open on disks of these sizes.
+pub record IsOpen (sizes : List ℕ) (pool : OpenPool) : Type 0 where
+  pub version : (pool.version ≡ 1) ⊎ (pool.version ≡ 2)
+  pub guid : 0 < pool.guid
+  pub name : IsName pool.name
+  pub some : 1 ≤ pool.table.count
+  pub few : pool.table.count ≤ 32
+  pub table : IsTable pool.version pool.group.txg pool.table.count pool.table.rows
+  pub on : IsTrue (list_all (λ r. is_on r.state) (take pool.table.count pool.table.rows))
+  pub first : 1 ≤ pool.group.txg
+  pub after : IsAfter pool.last pool.group.txg
+  pub group : IsLawfulGroup pool.group
+  pub dir : IsDirectory pool.dir
+  pub head : IsTree pool.head
+  pub streams : All AreStreams pool.streams.items
+  pub count : length pool.streams.items ≡ pool.table.count
+  pub spelled : pool.space.parts.version ≡ pool.version
+  pub devices : length pool.space.parts.devs ≡ pool.table.count
+  pub rows : (d : ℕ) → d < pool.table.count → (part_of pool.space.parts.devs d).row ≡ slice_index_or pool.table.rows d no_row
+  pub lawful : IsLawful pool.space
+  pub mounted : AreMounted sizes pool.table.slots (devices_in pool.space)
+  pub service : AreInService (devices_in pool.space)
+  pub disks : (d slot : ℕ) → d < pool.table.count → slot_of pool.table.slots d ≡ Some slot → IsTrue (is_disk_size 2 (slice_index sizes slot))

@@ -1,0 +1,51 @@
+//! What an open pool holds beside its disks.
+use zr_base::DevRow;
+use zr_bptr::{Ptr, Tree};
+use zr_cache::Cache;
+use zr_label::{Name, Uber};
+use zr_meta::Stream;
+use zr_space::Space;
+use zr_txg::Group;
+
+/// The streams of a device in service: the logs of its held and of its kept units, and its two late sets.
+#[derive(Clone, Copy, PartialEq, Eq, Debug)]
+pub struct DeviceStreams {
+    pub held: Stream,
+    pub kept: Stream,
+    pub late1: Stream,
+    pub late2: Stream,
+}
+
+/// The devices of a pool by index: how many there are, their rows, and the slot of each.
+#[derive(Clone, Copy, PartialEq, Eq, Debug)]
+pub struct Table {
+    pub count: u32,
+    pub rows: [DevRow; 32],
+    pub slots: [Option<u32>; 32],
+}
+
+/// An open pool. `last` is the root that was committed last, none before the first. `dir`, `head` and `streams` are its
+/// directory, the tree of its head, and the streams of each device. `group` is what was changed since.
+#[derive(Drop)]
+pub struct OpenPool {
+    pub name: Name,
+    pub guid: u64,
+    pub version: u64,
+    pub last: Option<Uber>,
+    pub table: Table,
+    pub space: Space,
+    pub cache: Cache,
+    pub dir: Tree,
+    pub head: Tree,
+    pub streams: Vec<DeviceStreams>,
+    pub group: Group,
+}
+
+/// A stream without words.
+pub(crate) const EMPTY: Stream = Stream {
+    words: 0,
+    tree: Tree {
+        root: Ptr::Hole,
+        height: 0,
+    },
+};
