@@ -5,9 +5,11 @@
 
 mod file_desk;
 
-ghost use Rattle.std.specs.Prelude.{◌<◌};
+ghost use Rattle.std.specs.Prelude.{◌≡◌, ◌≢◌, ◌⊎◌, ◌<◌, ◌≤◌, map, IfOk};
 ghost use Rattle.zr_base.specs.declared.space.Policy.{Policy};
 ghost use Rattle.zr_rules.specs.Choices.{AreRuns, IsPick};
+ghost use Rattle.std.specs.String.{string_bytes};
+ghost use Rattle.zr_session.specs.Headline.{IsNoCommandLine};
 
 pub use crate::file_desk::FileDesk;
 use std::alloc::Global;
@@ -24,7 +26,11 @@ const BAD_WORDS: u8 = 1;
 const NO_MEMORY: u8 = 9;
 
 /// Makes the choosers and the desk, and runs. It answers the status.
-fn answer(alloc: Global, words: &[String], rt: HostRuntime) -> Result<u8, NoMemory> {
+fn answer(alloc: Global, words: &[String], rt: HostRuntime) -> Result<u8, NoMemory>
+    ensures known { IfOk result (λ status. (status ≤ 9) × (status ≢ 6)) }
+    ensures bad_words { IfOk result (λ status. status ≡ 1 → IsNoCommandLine 2 (map string_bytes words.now)) }
+    ensures words { IsNoCommandLine 2 (map string_bytes words.now) → IfOk result (λ status. (status ≡ 1) ⊎ (status ≡ 9)) }
+{
     let first = Chooser::new(
         String::from_str(alloc, "first")?,
         Policy::First,
