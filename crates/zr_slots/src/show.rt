@@ -1,8 +1,9 @@
 //! What the slots show, and the parts of it that the checks read.
-ghost use Rattle.std.specs.Prelude.{◌≡◌, ◌<◌, ◌≤◌, ℕ, length, IsErrOf, IfOk};
+ghost use Rattle.std.specs.Prelude.{◌≡◌, ◌<◌, ◌≤◌, ℕ, length, slice_index, IsErrOf, IfOk};
 ghost use Rattle.zr_base.specs.Counts.{HasRisen};
 ghost use Rattle.zr_shelf.specs.Counts.{NoneFell};
 ghost use Rattle.zr_shelf.specs.Moments.{IsStill};
+ghost use Rattle.zr_scan.specs.Scan.{IsSmallAndLawful};
 ghost use Rattle.zr_scan.specs.declared.error.ScanErr.TheVariants.{Failed};
 ghost use Rattle.zr_image.specs.Current.{ShowsAll, seen_at};
 ghost use Rattle.zr_slots.specs.Checks.{AreLawful};
@@ -23,6 +24,7 @@ pub fn scan_all<S: Shelf>(alloc: Global, shelf: &mut S) -> Result<Items<Seen>, S
     ensures still { S.tells shelf.old → IsStill (S.world shelf.old) (S.world shelf.new) }
     ensures count { IfOk result (λ seen. length seen ≡ length (S.sizes shelf.old)) }
     ensures lawful { IfOk result AreLawful }
+    ensures sized { IfOk result (λ seen. (slot : ℕ) → slot < length seen → IsSmallAndLawful (slice_index (S.sizes shelf.old) slot) (seen_at seen slot)) }
     ensures shows { S.tells shelf.old → IfOk result (ShowsAll (S.world shelf.old).now.seen) }
 {
     let mut seen = Items::new(alloc);

@@ -1,5 +1,5 @@
 -- The counts from which the room is computed, as sums over the devices.
-use Rattle.std.proofs.Common.{◌≡◌, ℕ, zero, suc, ◌+◌, ◌*◌, ◌<◌, ◌^◌, Bool, true, false, ◌==◌, max, List, [], ◌∷◌, ◌++◌, map, length, refl, ◌∙◌, sym, ap, ap₂, arith, add-one, if◌then◌else◌}
+use Rattle.std.proofs.Common.{◌≡◌, ℕ, zero, suc, ◌+◌, ◌*◌, ◌<◌, ◌≤◌, ◌^◌, Bool, true, false, ◌==◌, max, List, [], ◌∷◌, ◌++◌, map, length, refl, ◌∙◌, sym, ap, ap₂, arith, add-one, if◌then◌else◌}
 use Rattle.std.specs.Prelude.{filter, count_by}
 use Rattle.std.specs.List.{sum_by, range_with_len}
 use Rattle.std.proofs.lemmas.List.{length-map}
@@ -13,8 +13,9 @@ use Rattle.zr_base.specs.declared.space.DevState.TheVariants.{On}
 use Rattle.zr_base.specs.declared.space.DevState.{DevState}
 use Rattle.zr_base.specs.Extents.{unit_count, has_unit}
 use Rattle.zr_rules.specs.Owed.{set_words}
-use Rattle.zr_rules.specs.Places.{one_if, part_of, is_on, is_leaving, is_gone, units_of_dev, state_of_dev}
-use Rattle.zr_rules.specs.Space.{OpenSets, frontier}
+use Rattle.zr_rules.specs.Roles.{is_free_role}
+use Rattle.zr_rules.specs.Places.{one_if, count_below, part_of, is_on, is_leaving, is_gone, units_of_dev, state_of_dev}
+use Rattle.zr_rules.specs.Space.{Space, OpenSets, frontier, role_at}
 use Rattle.zr_rules.specs.Columns as columns
 use Rattle.zr_rules.specs.Equation.{devices_in}
 use Rattle.zr_rules.specs.Steps.{touch}
@@ -71,6 +72,23 @@ from_range h g a (x ∷ xs) same =
     let p = sum_by-cons h a (range_with_len (a + 1) (length xs)) in
     let q = sum_by-cons g x xs in
     omega (arith, here, rest, p, q)
+
+sum_less : {X : Type 0} (f g : X → ℕ) (xs : List X) → ((x : X) → f x ≤ g x) → sum_by f xs ≤ sum_by g xs
+sum_less f g [] less = omega arith
+sum_less f g (x ∷ xs) less =
+    let s = less x in
+    let r = sum_less f g xs less in
+    let a = sum_by-cons f x xs in
+    let b = sum_by-cons g x xs in
+    omega (arith, s, r, a, b)
+
+count_within : (n : ℕ) (test : ℕ → Bool) → count_below n test ≤ n
+count_within zero test = omega arith
+count_within (suc n) test = let r = count_within n test in grind (arith, nat_tests, r)
+
+-- no more units are free than there are
+pub free_within : (s : Space) → columns.free_units s ≤ columns.on_units s
+free_within s = sum_less (λ (d : ℕ). (columns.columns s d).free) (units_of_dev s.parts.devs) (columns.on_devices s) (λ d. count_within (units_of_dev s.parts.devs d) (λ u. is_free_role (role_at s d u)))
 
 -- ---- late sets and metadata
 
@@ -220,6 +238,9 @@ module _ (version : ℕ) (slabs : Devices) (devs : List Kept) (s : IsSpace slabs
   on_units_are =
       sym (from_range (units_of_dev (map part_in devs)) (λ (k : Kept). k.uses.units) 0 devs (λ i. ap (units_of_dev (map part_in devs)) (let z : 0 + i ≡ i = omega arith in z) ∙ (ap (λ (p : DevPart). p.row.units) (part_is devs i) ∙ s.rows i)))
       ∙ ap (sum_by (units_of_dev (map part_in devs))) (sym on_are)
+
+  pub units_here : (items : List Kept) → items ≡ devs → total_by (λ (x : Uses). x.units) items ≡ columns.on_units (space_of version devs)
+  units_here items is = ap (λ (xs : List Kept). total_by (λ (x : Uses). x.units) xs) is ∙ on_units_are
 
   words_total : sum_by (columns.device_words (space_of version devs)) (range_with_len 0 (length (map part_in devs))) ≡ total_by (words_in version) devs
   words_total =

@@ -1,7 +1,7 @@
 //! The counts from which the room that is owed is computed, without a walk over units.
 //!
 //! Each set of a device counts its units as it changes, so a sum over the devices is all that is left to do.
-ghost use Rattle.std.specs.Prelude.{◌≡◌, ◌+◌, ◌*◌, ◌<◌, ◌≤◌, ◌^◌, length, sum_by};
+ghost use Rattle.std.specs.Prelude.{◌≡◌, ◌+◌, ◌*◌, ◌<◌, ◌≤◌, ◌^◌, false, length, sum_by};
 ghost use Rattle.zr_rules.specs.Columns.{free_units, on_units, sizes};
 ghost use Rattle.zr_rules.specs.Equation.{devices_in};
 ghost use Rattle.zr_rules.specs.Steps.{touch};
@@ -26,6 +26,7 @@ fn meta_units(devs: &[Device]) -> MetaUnits
     ensures late1 { result.late1 ≡ total_by late1_meta devs.now }
     ensures late2 { result.late2 ≡ total_by late2_meta devs.now }
     ensures small { result.current + result.late1 + result.late2 < 2 ^ 46 }
+    ensures few { result.current + result.late1 + result.late2 ≤ total_by (λ x. x.units) devs.now }
 {
     let mut meta = MetaUnits {
         current: 0,
@@ -43,7 +44,8 @@ fn meta_units(devs: &[Device]) -> MetaUnits
 // Adds up the words of the devices' sets.
 fn words(devs: &[Device], version: u64) -> u64
     requires { AreFew devs.now }
-    ensures { result ≡ total_by (words_in version) devs.now }
+    ensures words { result ≡ total_by (words_in version) devs.now }
+    ensures few { result ≤ total_by (λ x. x.units) devs.now }
 {
     let mut words = 0;
     for device in devs {
@@ -55,7 +57,8 @@ fn words(devs: &[Device], version: u64) -> u64
 // Adds up the units of the devices.
 fn units(devs: &[Device]) -> u64
     requires { AreFew devs.now }
-    ensures { result ≡ total_by (λ x. x.units) devs.now }
+    ensures units { result ≡ total_by (λ x. x.units) devs.now }
+    ensures bound { result ≤ 2 ^ 45 }
 {
     let mut units = 0;
     for device in devs {
@@ -67,7 +70,8 @@ fn units(devs: &[Device]) -> u64
 impl Space {
     /// The free units of the devices in service. It goes over the devices.
     pub fn free_units(&self) -> u64
-        ensures { result ≡ free_units self.now }
+        ensures free { result ≡ free_units self.now }
+        ensures bound { free_units self.now ≤ on_units self.now }
     {
         let mut free = 0;
         for dev in 0..self.devs.len() {
@@ -78,7 +82,8 @@ impl Space {
 
     /// All units of the devices in service. It goes over the devices.
     pub fn on_units(&self) -> u64
-        ensures { result ≡ on_units self.now }
+        ensures units { result ≡ on_units self.now }
+        ensures bound { result ≤ 2 ^ 45 }
     {
         units(self.devs.as_slice())
     }
@@ -94,7 +99,14 @@ impl Space {
     /// The counts from which the room is computed, with no changed block or object. On devices of at most 32,768 units it
     /// goes over the devices alone; of a larger one it goes over the extents of four sets.
     pub fn sizes(&self) -> Sizes
-        ensures { result ≡ sizes self.now 0 0 }
+        ensures sizes { result ≡ sizes self.now 0 0 }
+        ensures words { result.words ≤ on_units self.now }
+        ensures past { result.past ≤ on_units self.now }
+        ensures turning { result.turning ≤ 3 * result.past }
+        ensures streams { result.streams ≤ 130 }
+        ensures gone { result.gone ≡ 0 }
+        ensures uncopied { result.uncopied ≡ 0 }
+        ensures snaps { result.snaps ≡ false }
     {
         let devs = self.devs.as_slice();
         let meta = meta_units(devs);

@@ -35,6 +35,9 @@ returns-clause-lawful g c = λ slot lt.
     let count = c.loop-slot.invariant.count in
     record { in_list = lt; size = slice_index (g.S.Shelf.sizes c.args.shelf.now) slot; lawful = c.loop-slot.invariant.lawful slot (omega (arith, lt, count)) }
 
+pub returns-clause-sized : goal.returns-clause-sized
+returns-clause-sized g c = λ slot lt. let count = c.loop-slot.invariant.count in c.loop-slot.invariant.lawful slot (omega (arith, lt, count))
+
 pub returns-clause-shows : goal.returns-clause-shows
 returns-clause-shows g c = λ t.
     let sound = g.S.Shelf.sound c.args.shelf.now t in

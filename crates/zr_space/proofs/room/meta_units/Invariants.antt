@@ -7,5 +7,6 @@ invariant-loop-device l = record {
   current : l.meta.current ≡ total_by current_meta (take l.device-index l.devs);
   late1 : l.meta.late1 ≡ total_by late1_meta (take l.device-index l.devs);
   late2 : l.meta.late2 ≡ total_by late2_meta (take l.device-index l.devs);
+  few : l.meta.current + l.meta.late1 + l.meta.late2 ≤ total_by (λ x. x.units) (take l.device-index l.devs);
   most : l.meta.current + l.meta.late1 + l.meta.late2 ≤ l.device-index * 2 ^ 40;
 }

@@ -1,11 +1,12 @@
 use Rattle.std.proofs.Common.{◌≡◌, ◌<◌, ◌^◌, ℕ, List, map, subst, ◌∙◌, ap, arith}
 use Rattle.zr_base.specs.declared.space.DevPart.{DevPart}
 use Rattle.zr_rules.specs.Places.{units_of_dev}
-use Rattle.zr_rules.specs.Space.{Space}
+use Rattle.zr_rules.specs.Space.{Space, IsLawful}
 use Rattle.zr_rules.specs.Equation.{devices_in}
 use Rattle.zr_metaslab.specs.Devices.{Devices}
 use Rattle.zr_space.specs.Paths.{AreInService}
 use Rattle.zr_space.specs.Views.{Kept, kept_of, part_in, IsSpace}
+use Rattle.zr_space.proofs.Keeps.{lawful}
 use Rattle.zr_space.proofs.Paths.{in_service}
 use Rattle.zr_space.proofs.Views.{part_is}
 use Rattle.zr_space.proofs.space.Space.all_in_service.Goals as goal
@@ -16,6 +17,9 @@ small_units slabs devs d s =
     let account = s.account d in
     let small = account.small in
     omega (arith, units, small)
+
+pub returns-clause-lawful : goal.returns-clause-lawful
+returns-clause-lawful c = subst IsLawful c.self.view_is (lawful c.self.inside.version c.self.inside.slabs c.self.inside.devs.items c.self.invariant)
 
 pub returns-clause-service : goal.returns-clause-service
 returns-clause-service c = subst (λ (s : Space). AreInService (devices_in s)) c.self.view_is (in_service c.self.inside.version c.self.inside.slabs c.self.inside.devs.items c.self.invariant)

@@ -3,7 +3,7 @@ use Rattle.std.specs.List.{sum_by, range_with_len}
 use Rattle.zr_rules.specs.Space.{Space}
 use Rattle.zr_rules.specs.Columns.{free_units}
 use Rattle.zr_metaslab.specs.Devices.{count_at}
-use Rattle.zr_space.proofs.Totalling.{range_more, free_units_are, free_at_most}
+use Rattle.zr_space.proofs.Totalling.{range_more, free_units_are, free_at_most, free_within}
 use Rattle.zr_space.proofs.space.Space.free_units.Goals as goal
 
 pub loop-dev-preserved : goal.loop-dev-preserved
@@ -20,9 +20,12 @@ loop-dev-preserved c =
       end = i.end;
     }
 
-pub returns : goal.returns
-returns c =
+pub returns-clause-free : goal.returns-clause-free
+returns-clause-free c =
     let i = c.loop-dev.invariant in
     let all : c.loop-dev.dev ≡ length c.self.inside.devs.items = let t = c.loop-dev-test.false in let a = c.loop-dev.auto.dev-end in let e = i.end in omega (arith, t, a, e) in
     subst (λ (s : Space). c.loop-dev.free ≡ free_units s) c.self.view_is
     (i.so_far ∙ (ap (λ n. sum_by (count_at c.self.inside.slabs) (range_with_len 0 n)) all ∙ free_units_are c.self.inside.version c.self.inside.slabs c.self.inside.devs.items c.self.invariant))
+
+pub returns-clause-bound : goal.returns-clause-bound
+returns-clause-bound c = free_within c.args.self.now
