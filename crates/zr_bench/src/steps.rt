@@ -44,7 +44,7 @@ pub fn time_copying(rt: &HostRuntime, extents: u64) -> anyhow::Result<Timed>
         .ok()
         .context("out of memory")?;
     let start = Instant::now(rt)?;
-    let given = copy_all(&mut evac, extents);
+    let given = copy_all(&mut evac, extents).ok().context("out of memory")?;
     let spent = start.elapsed(rt)?;
     Ok(Timed { given, spent })
 }
@@ -81,10 +81,9 @@ fn discard_all(ckpt: &mut Ckpt, most: u64) -> Result<u64, NoMemory> {
     Ok(given)
 }
 
-/// An evacuation of each second unit, so many, with room for all copies.
+/// An evacuation of each second unit, so many.
 fn leave_each_second(alloc: Global, extents: u64) -> Result<Evac, NoMemory>
     requires { extents < 2 ^ 32 }
-    ensures { IfOk result (λ evac. extents ≤ evac.spare) }
 {
     let mut held = RangeSet::new(alloc);
     for k in 0..extents {
@@ -95,21 +94,20 @@ fn leave_each_second(alloc: Global, extents: u64) -> Result<Evac, NoMemory>
     }
     let map = Imap::new(alloc);
     let marks = RangeSet::new(alloc);
-    let mut evac = Evac::begin(alloc, 0, &held, map, marks)?;
-    evac.reserve(extents as usize)?;
+    let evac = Evac::begin(alloc, 0, &held, map, marks)?;
     Ok(evac)
 }
 
 /// Copies each piece to where it stands on another device. It answers how many there were.
-fn copy_all(evac: &mut Evac, most: u64) -> u64
-    requires { most ≤ evac.old.spare }
-    ensures { result ≤ most }
+fn copy_all(evac: &mut Evac, most: u64) -> Result<u64, NoMemory>
+    ensures { IfOk result (λ made. made ≤ most) }
 {
     for made in 0..most {
+        evac.reserve(1)?;
         let Some(piece) = evac.next() else {
-            return made;
+            return Ok(made);
         };
         evac.copied(piece, 1, piece.start);
     }
-    most
+    Ok(most)
 }

@@ -1,2 +1,3 @@
 pub mod Frontiers
 pub mod Copies
+pub mod Rest

@@ -7,7 +7,7 @@
 #![tactic(auto)]
 
 ghost use Rattle.std.specs.Prelude.{◌≡◌, ℕ, ◌+◌, ◌-◌, ◌^◌, ◌<◌, ◌≤◌, ◌&&◌, ◌||◌, ◌++◌, ◌∷◌, [], true, false, not, nat_le, nat_lt, min, IfOk, IfSome, IfNone, OnOk};
-ghost use Rattle.zr_base.specs.Extents.{HasAll, HasNone, IsMaximal, RemovesUnits, has_unit, in_extent, unit_count};
+ghost use Rattle.zr_base.specs.Extents.{HasAll, HasNone, IsMaximal, IsMaximalFrom, RemovesUnits, has_unit, in_extent, unit_count};
 ghost use Rattle.zr_rules.specs.Mappings.{IsEntry, end_of_last};
 ghost use Rattle.zr_rules.specs.Places.{one_if};
 ghost use Rattle.zr_rules.specs.Frontiers.{IsRouted, in_part, IsFull};
@@ -20,6 +20,7 @@ use std::alloc::Global;
 use std::marker::Model;
 use zr_base::{Entry, Extent, NoMemory};
 use zr_imap::Imap;
+use zr_paged::PagedSet;
 use zr_ranges::RangeSet;
 
 /// An evacuation: the mapping so far, its marked units, what is left to copy, and the two frontiers.
@@ -29,7 +30,7 @@ pub struct Evac {
     dev: u32,
     map: Imap,
     marks: RangeSet,
-    left: RangeSet,
+    left: PagedSet,
     synced: u64,
     opened: u64,
 }
@@ -55,7 +56,7 @@ pub struct Routed {
 
 impl Evac {
     /// Goes on at the end of the last entry of a mapping, where both frontiers then are. What is left to copy is what
-    /// the device holds from there on. It goes over the held extents from there, with a search for each.
+    /// the device holds from there on. It goes over the held extents.
     pub fn begin(
         alloc: Global,
         dev: u32,
@@ -100,7 +101,7 @@ impl Evac {
         ensures none { IfNone result (self.now.left ≡ []) }
         ensures maximal { IsMaximal self.now.left }
     {
-        next_piece(self.left.extents())
+        next_piece(&self.left)
     }
 
     /// Makes room, so that the next `n` calls of `copied` and `freed` take no memory. Where that room is there it costs
@@ -153,8 +154,8 @@ impl Evac {
     }
 
     /// Units are freed that were copied or are left to copy: what was copied is marked, and the rest is left no more. It
-    /// takes no memory. It costs a change of the marks and one of what is left: a search in each, and the move of the
-    /// extents above.
+    /// takes no memory. It costs a change of the marks, a search in them and the move of those above, and one of what is
+    /// left, a search and the move of one page, however much that is.
     pub fn freed(&mut self, e: Extent)
         requires not_empty { 0 < e.len }
         requires unmarked { HasNone self.old.marks e }
@@ -292,27 +293,42 @@ fn end_of_map(map: &Imap) -> u64
 }
 
 // The units of a set from a unit on.
-fn rest_from(alloc: Global, held: &RangeSet, from: u64) -> Result<RangeSet, NoMemory>
+fn rest_from(alloc: Global, held: &RangeSet, from: u64) -> Result<PagedSet, NoMemory>
     ensures { IfOk result (λ rest. (u : ℕ) → has_unit rest.extents u ≡ (has_unit held.now.extents u && nat_le from u)) }
 {
-    let _held = held.extents();
-    let mut rest = RangeSet::new(alloc);
-    let mut at = from;
-    while let Some(part) = held.first_from(at) {
-        rest.add(part)?;
-        at = part.start + part.len;
+    let runs = held.extents();
+    let mut rest = PagedSet::new(alloc);
+    let mut count = runs.len();
+    while count > 0 {
+        count -= 1;
+        push_part(&mut rest, runs[count], from)?;
     }
     Ok(rest)
 }
 
+// Puts in the units of an extent from a unit on, below all others.
+fn push_part(rest: &mut PagedSet, run: Extent, from: u64) -> Result<(), NoMemory>
+    requires not_empty { 0 < run.len }
+    requires in_range { run.start + run.len ≤ 2 ^ 62 }
+    requires below { IsMaximalFrom (run.start + run.len + 1) rest.old.extents }
+    ensures units { OnOk result ((u : ℕ) → has_unit rest.new.extents u ≡ (has_unit rest.old.extents u || (in_extent run u && nat_le from u))) }
+    ensures maximal { IsMaximal rest.new.extents }
+{
+    let _rest = rest.first();
+    if let Some(part) = part_from(run, from) {
+        rest.push_first(part)?;
+    }
+    Ok(())
+}
+
 // The front of the first extent.
-fn next_piece(left: &[Extent]) -> Option<Extent>
-    requires { IsMaximal left.now }
-    ensures value { result ≡ next_of left.now }
-    ensures front { IfSome result (IsFront left.now) }
+fn next_piece(left: &PagedSet) -> Option<Extent>
+    ensures value { result ≡ next_of left.now.extents }
+    ensures front { IfSome result (IsFront left.now.extents) }
     ensures not_empty { IfSome result (λ e. 0 < e.len) }
     ensures in_range { IfSome result (λ e. e.start + e.len ≤ 2 ^ 62) }
-    ensures none { IfNone result (left.now ≡ []) }
+    ensures none { IfNone result (left.now.extents ≡ []) }
+    ensures maximal { IsMaximal left.now.extents }
 {
     let first = left.first()?;
     Some(Extent {
@@ -322,7 +338,7 @@ fn next_piece(left: &[Extent]) -> Option<Extent>
 }
 
 // Takes out a front of the first extent, and answers where it ends.
-fn take_piece(left: &mut RangeSet, e: Extent, opened: u64) -> u64
+fn take_piece(left: &mut PagedSet, e: Extent, opened: u64) -> u64
     requires not_empty { 0 < e.len }
     requires front { IsFront left.old.extents e }
     requires uncopied { (u : ℕ) → u < opened → has_unit left.old.extents u ≡ false }
@@ -333,7 +349,7 @@ fn take_piece(left: &mut RangeSet, e: Extent, opened: u64) -> u64
     ensures uncopied { (u : ℕ) → u < result → has_unit left.new.extents u ≡ false }
     ensures spare { left.old.spare ≤ left.new.spare }
 {
-    let _left = left.extents();
+    let _left = left.first();
     let piece = left.take_front(e.len);
     piece.start + piece.len
 }
@@ -361,7 +377,7 @@ fn mark_below(marks: &mut RangeSet, e: Extent, at: u64)
 }
 
 // Takes out the units of an extent from a unit on.
-fn drop_above(left: &mut RangeSet, e: Extent, at: u64)
+fn drop_above(left: &mut PagedSet, e: Extent, at: u64)
     requires there { (u : ℕ) → in_extent e u ≡ true → at ≤ u → has_unit left.old.extents u ≡ true }
     requires room { 0 < left.old.spare }
     ensures units { (u : ℕ) → has_unit left.new.extents u ≡ (has_unit left.old.extents u && not (in_extent e u && nat_le at u)) }

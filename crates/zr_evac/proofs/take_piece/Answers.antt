@@ -9,4 +9,4 @@ returns-clause-opened c =
 
 pub returns-clause-uncopied : goal.returns-clause-uncopied
 returns-clause-uncopied c =
-    rest_above c.args.left.now.extents _ c.take_front-piece.result c.extents-left.ensures.maximal c.requires.front.some c.take_front-piece.ensures.start c.take_front-piece.ensures.removed
+    rest_above c.args.left.now.extents _ c.take_front-piece.result c.first-left.ensures.maximal c.requires.front.some c.take_front-piece.ensures.start c.take_front-piece.ensures.removed

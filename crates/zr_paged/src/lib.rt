@@ -1,0 +1,146 @@
+//! A set of units, kept as its maximal extents in pages.
+//!
+//! In one array of extents a change moves all that stand above it. Here they stand in pages of at most 64, so a change is
+//! a search among the pages and a move within one. A page that grows longer is cut in half, into one that stands ready,
+//! so a change that was reserved takes no memory. The pages stand from the highest down: what is emptied from its lowest
+//! unit up gives up its pages at the end of their array, and moves none.
+#![tactic(auto)]
+
+ghost use Rattle.std.specs.Prelude.{◌≡◌, ℕ, ◌+◌, ◌-◌, ◌^◌, ◌<◌, ◌≤◌, ◌∷◌, [], length, min, IfSome, IfNone, OnOk, OnErr};
+ghost use Rattle.zr_base.specs.Extents.{IsMaximal, HasAll, RemovesUnits, unit_count, extent_at};
+
+mod page;
+mod shape;
+
+use page::{Page, make_ready};
+use shape::{lowest, place_of, push_in, remove_in, take_in};
+use std::alloc::Global;
+use std::marker::Model;
+use zr_base::{Extent, NoMemory};
+
+/// A set of units below 2^62, of any number of extents.
+#[derive(Drop)]
+pub struct PagedSet {
+    alloc: Global,
+    pages: Vec<Page>,
+    units: u64,
+    ready: Vec<Page>,
+}
+
+impl Model for PagedSet {
+    ghost use Rattle.std.specs.Prelude.{◌-◌, min, vec_len};
+    ghost use Rattle.std.specs.Vec.{vec_capacity};
+    ghost use Rattle.zr_ranges.specs.Ranges.{Ranges};
+    ghost use Rattle.zr_paged.specs.Pages.{IsPaged, all_of};
+
+    ghost Value = { Ranges };
+
+    ghost view = { λ a. record { extents = all_of a.pages.items; spare = min (vec_len a.ready) (vec_capacity a.pages - vec_len a.pages) } };
+
+    ghost invariant = { λ a. IsPaged a.pages.items a.units };
+}
+
+impl PagedSet {
+    /// No units. It takes no memory.
+    pub fn new(alloc: Global) -> PagedSet
+        ensures { result.extents ≡ [] }
+    {
+        PagedSet {
+            alloc,
+            pages: Vec::new(alloc),
+            units: 0,
+            ready: Vec::new(alloc),
+        }
+    }
+
+    /// Puts in an extent below all others. It costs the move of one page.
+    pub fn push_first(&mut self, e: Extent) -> Result<(), NoMemory>
+        requires { IsMaximal (e ∷ self.old.extents) }
+        ensures ok { OnOk result (self.new.extents ≡ e ∷ self.old.extents) }
+        ensures err { OnErr result (self.new.extents ≡ self.old.extents) }
+    {
+        push_in(self.alloc, &mut self.pages, e)?;
+        self.units += e.len;
+        Ok(())
+    }
+
+    /// Makes room for `n` changes that take no memory, a page for each. Where that room is there it costs nothing.
+    pub fn reserve(&mut self, n: usize) -> Result<(), NoMemory>
+        ensures ok { OnOk result (n ≤ self.new.spare) }
+        ensures extents { self.new.extents ≡ self.old.extents }
+        ensures spare { self.old.spare ≤ self.new.spare }
+    {
+        self.pages.reserve(n)?;
+        make_ready(self.alloc, &mut self.ready, n)
+    }
+
+    /// Takes out the units of an extent that has all in the set. It takes no memory. It costs a search among the pages and
+    /// in one of them, and the move of that page's extents, and where a page comes or goes that of the pages below it.
+    pub fn remove_reserved(&mut self, e: Extent)
+        requires not_empty { 0 < e.len }
+        requires covered { HasAll self.old.extents e }
+        requires room { 0 < self.old.spare }
+        ensures removed { RemovesUnits self.old.extents self.new.extents e }
+        ensures spare { self.old.spare ≤ self.new.spare + 1 }
+    {
+        let k = place_of(self.pages.as_slice(), e.start);
+        remove_in(&mut self.pages, &mut self.ready, k, e);
+        self.units -= e.len;
+    }
+
+    /// Takes out the lowest units, `n` or, where the lowest extent has fewer, that extent. It takes no memory and moves
+    /// nothing, whatever the set has.
+    pub fn take_front(&mut self, n: u64) -> Extent
+        requires not_empty { 0 < length self.old.extents }
+        requires some { 0 < n }
+        ensures start { result.start ≡ (extent_at self.old.extents 0).start }
+        ensures len { result.len ≡ min n (extent_at self.old.extents 0).len }
+        ensures not_empty { 0 < result.len }
+        ensures in_range { result.start + result.len ≤ 2 ^ 62 }
+        ensures covered { HasAll self.old.extents result }
+        ensures removed { RemovesUnits self.old.extents self.new.extents result }
+        ensures spare { self.old.spare ≤ self.new.spare }
+    {
+        let taken = take_in(&mut self.pages, n);
+        self.units -= taken.len;
+        taken
+    }
+
+    /// The lowest extent. It costs the same whatever the set has.
+    pub fn first(&self) -> Option<Extent>
+        ensures some { IfSome result (λ e. (0 < length self.now.extents) × (e ≡ extent_at self.now.extents 0)) }
+        ensures not_empty { IfSome result (λ e. 0 < e.len) }
+        ensures in_range { IfSome result (λ e. e.start + e.len ≤ 2 ^ 62) }
+        ensures none { IfNone result (self.now.extents ≡ []) }
+        ensures maximal { IsMaximal self.now.extents }
+    {
+        lowest(self.pages.as_slice())
+    }
+
+    /// How many units the set has. It is kept, not counted.
+    pub fn units(&self) -> u64
+        ensures units { result ≡ unit_count self.now.extents }
+        ensures bound { result ≤ 2 ^ 62 }
+    {
+        self.units
+    }
+}
+
+#[cfg(test)]
+mod tests {
+    use super::*;
+    use std::test::Fail;
+
+    #[test]
+    fn units_go_from_the_front_and_the_middle(rt: HostRuntime) -> Result<(), Fail> {
+        let mut set = PagedSet::new(rt.alloc());
+        set.push_first(Extent { start: 9, len: 4 })?;
+        set.push_first(Extent { start: 2, len: 3 })?;
+        set.reserve(1)?;
+        set.remove_reserved(Extent { start: 10, len: 1 });
+        assert_eq!(rt; set.units(), 6);
+        assert_eq!(rt; set.take_front(9), Extent { start: 2, len: 3 });
+        assert_eq!(rt; set.first(), Some(Extent { start: 9, len: 1 }));
+        Ok(())
+    }
+}

@@ -1,0 +1,131 @@
+//! A page of a set: at most 65 extents, for which it has room from the start.
+//!
+//! A set keeps at most 64 in a page. With one more it is cut in half, so each change of a page has room.
+ghost use Rattle.std.specs.Prelude.{◌≡◌, ◌+◌, ◌^◌, ◌<◌, ◌≤◌, ◌∷◌, ◌++◌, [], length, min, vec_len, IfOk, OnOk};
+ghost use Rattle.zr_base.specs.Extents.{IsMaximal, HasAll, RemovesUnits, extent_at};
+ghost use Rattle.zr_paged.specs.Pages.{start_of};
+
+use std::alloc::Global;
+use std::marker::Model;
+use zr_base::{Extent, NoMemory};
+use zr_ranges::RangeSet;
+
+/// How many extents a page has at most between two changes.
+pub const PAGE: usize = 64;
+
+/// Extents in order. A page takes all its memory when it is made.
+#[derive(Drop)]
+pub struct Page {
+    runs: RangeSet,
+}
+
+impl Model for Page {
+    ghost use Rattle.std.specs.Prelude.{List, ◌+◌, ◌≤◌, length};
+    ghost use Rattle.zr_base.specs.declared.space.Extent.{Extent};
+
+    ghost Value = { List Extent };
+
+    ghost view = { λ p. p.runs.extents };
+
+    ghost invariant = { λ p. 65 ≤ length p.runs.extents + p.runs.spare };
+}
+
+impl Page {
+    pub fn new(alloc: Global) -> Result<Page, NoMemory>
+        ensures { IfOk result (λ page. page ≡ []) }
+    {
+        let mut runs = RangeSet::new(alloc);
+        runs.reserve(PAGE + 1)?;
+        Ok(Page { runs })
+    }
+
+    pub fn len(&self) -> usize
+        ensures { result ≡ length self.now }
+    {
+        self.runs.extents().len()
+    }
+
+    /// The first extent.
+    pub fn first(&self) -> Extent
+        requires { 0 < length self.now }
+        ensures value { result ≡ extent_at self.now 0 }
+        ensures not_empty { 0 < result.len }
+        ensures in_range { result.start + result.len ≤ 2 ^ 62 }
+    {
+        let runs = self.runs.extents();
+        runs[0]
+    }
+
+    /// Takes out the units of an extent that has all in the page.
+    pub fn remove(&mut self, e: Extent)
+        requires not_empty { 0 < e.len }
+        requires covered { HasAll self.old e }
+        requires short { length self.old ≤ 64 }
+        ensures removed { RemovesUnits self.old self.new e }
+        ensures growth { length self.new ≤ length self.old + 1 }
+    {
+        self.runs.remove_reserved(e);
+    }
+
+    /// Takes out the lowest units, `n` or, where the lowest extent has fewer, that extent.
+    pub fn take_front(&mut self, n: u64) -> Extent
+        requires not_empty { 0 < length self.old }
+        requires some { 0 < n }
+        ensures start { result.start ≡ (extent_at self.old 0).start }
+        ensures len { result.len ≡ min n (extent_at self.old 0).len }
+        ensures not_empty { 0 < result.len }
+        ensures in_range { result.start + result.len ≤ 2 ^ 62 }
+        ensures covered { HasAll self.old result }
+        ensures removed { RemovesUnits self.old self.new result }
+        ensures growth { length self.new ≤ length self.old }
+    {
+        self.runs.take_front(n)
+    }
+
+    /// Takes out the first extent.
+    pub fn take_first(&mut self) -> Extent
+        requires { 0 < length self.old }
+        ensures { self.old ≡ result ∷ self.new }
+    {
+        self.runs.take_front(u64::MAX)
+    }
+
+    /// Adds an extent at the end.
+    pub fn push_last(&mut self, e: Extent)
+        requires maximal { IsMaximal (self.old ++ e ∷ []) }
+        requires short { length self.old ≤ 64 }
+        ensures { self.new ≡ self.old ++ e ∷ [] }
+    {
+        let _runs = self.runs.extents();
+        self.runs.add_reserved(e);
+    }
+
+    /// Adds an extent at the beginning.
+    pub fn push_first(&mut self, e: Extent)
+        requires maximal { IsMaximal (e ∷ self.old) }
+        requires short { length self.old ≤ 64 }
+        ensures { self.new ≡ e ∷ self.old }
+    {
+        let _runs = self.runs.extents();
+        self.runs.add_reserved(e);
+    }
+
+    /// Takes all extents out. The page keeps its memory.
+    pub fn clear(&mut self)
+        ensures { self.new ≡ [] }
+    {
+        self.runs.clear();
+    }
+}
+
+/// Makes empty pages, until so many stand ready.
+pub fn make_ready(alloc: Global, ready: &mut Vec<Page>, wanted: usize) -> Result<(), NoMemory>
+    ensures ok { OnOk result (wanted ≤ vec_len ready.new) }
+    ensures more { vec_len ready.old ≤ vec_len ready.new }
+{
+    while ready.len() < wanted {
+        let page = Page::new(alloc)?;
+        ready.push(page)?;
+    }
+    Ok(())
+}
