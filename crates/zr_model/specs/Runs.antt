@@ -3,6 +3,7 @@ use Rattle.std.specs.Prelude.{◌≡◌, ◌≢◌, ◌⊎◌, ℕ, List, [], �
 use Rattle.std.specs.List.{flat_map}
 use Rattle.zr_shelf.specs.Disks.{Stand}
 use Rattle.zr_shelf.specs.Moments.{World, Throughout}
+use Rattle.zr_base.specs.declared.refusal.Refusal.{Refusal}
 use Rattle.zr_script.specs.declared.command.Command.{Command}
 use Rattle.zr_script.specs.declared.command.Command.TheVariants as cmd
 use Rattle.zr_script.specs.declared.reply.Reply.{Reply}
@@ -42,10 +43,23 @@ pub record Takes (p : Point) (t : Turn) : Type 0 where
   pub step : Step p.shelf.paths p.state t.command t.answer t.point.state
   pub move : Moves p.shelf t.point.shelf
 
+-- What commands mean to a kind of pool.
+pub record Meaning : Type 1 where
+  -- one command from a point, and its answer
+  pub takes : Point → Turn → Type 0
+  -- the command may stand there, by the paths and the state
+  pub serves : List (List ℕ) → State → Command → Type 0
+  -- the command may meet this damage there
+  pub damages : List (List ℕ) → State → Command → Refusal → Type 0
+
+-- what they mean to plain objects, of which none is ever damaged
+abbrev pub plain : Meaning
+plain = record { takes = Takes; serves = IsServed; damages = λ paths state command found. ⊥ }
+
 -- one command after another
-abbrev pub Run : Point → List Turn → Type 0
-Run p [] = Unit {0}
-Run p (t ∷ turns) = Takes p t × Run t.point turns
+abbrev pub Run : Meaning → Point → List Turn → Type 0
+Run m p [] = Unit {0}
+Run m p (t ∷ turns) = m.takes p t × Run m t.point turns
 
 -- how things stand behind the turns
 abbrev pub end_of : Point → List Turn → Point
@@ -61,9 +75,17 @@ abbrev pub Asks : List ℕ → Command → Type 0
 Asks line command = IsLine line command × (command ≢ cmd.Quit)
 
 -- the line is outside the grammar, or asks for what may not stand here
-abbrev pub IsBad : Point → List ℕ → Type 0
-IsBad p line =
-    ((command : Command) → IsLine line command → ⊥) ⊎ ((command : Command) × Asks line command × (IsServed p.shelf.paths p.state command → ⊥))
+abbrev pub IsBad : Meaning → Point → List ℕ → Type 0
+IsBad m p line =
+    ((command : Command) → IsLine line command → ⊥) ⊎ ((command : Command) × Asks line command × (m.serves p.shelf.paths p.state command → ⊥))
+
+-- the line asks for a command that may meet this damage
+abbrev pub MeetsDamage : Meaning → Point → List ℕ → Refusal → Type 0
+MeetsDamage m p line found = (command : Command) × Asks line command × m.damages p.shelf.paths p.state command found
+
+-- some command to such a pool may meet damage
+abbrev pub MayBeDamaged : Meaning → Type 0
+MayBeDamaged m = (paths : List (List ℕ)) × (state : State) × (command : Command) × (found : Refusal) × m.damages paths state command found
 
 -- the same devices, input and output
 pub record IsOutside (old new : Stand) : Type 0 where

@@ -1,18 +1,21 @@
 //! A pool as a run over lines sees it.
 //!
-//! A run takes a line, hands its command to the pool and sends the reply. What a command means is said here by the step
-//! of plain objects, between the shelf and the state before and after. A pool works on the desk as a shelf alone, so it
-//! takes nothing of the input and sends nothing.
-ghost use Rattle.std.specs.Prelude.{◌≡◌, ◌∷◌, List, ℕ, length, IfOk, IfSome, IfNone, IsErrOf};
+//! A run takes a line, hands its command to the pool and sends the reply. What a command means is the pool's own to say,
+//! between the shelf and the state before and after: to plain objects it is their step (`plain`). A pool works on the
+//! desk as a shelf alone, so it takes nothing of the input and sends nothing.
+ghost use Rattle.std.specs.Prelude.{◌≡◌, ◌∷◌, ◌≤◌, List, ℕ, length, IfOk, IfSome, IfNone, IsErrOf};
 ghost use Rattle.zr_base.specs.Counts.{HasRisen};
+ghost use Rattle.zr_base.specs.declared.refusal.Refusal.TheVariants as refusal;
+ghost use Rattle.zr_base.specs.declared.space.Dva.{Dva};
+ghost use Rattle.zr_script.specs.Grammar.{IsLine};
 ghost use Rattle.zr_shelf.specs.Counts.{NoneFell};
-ghost use Rattle.zr_model.specs.State.{State};
-ghost use Rattle.zr_model.specs.Step.{IsServed};
-ghost use Rattle.zr_model.specs.Runs.{Takes, point, turn, KeepsOutside};
-ghost use Rattle.zr_model.specs.declared.pool.Stop.TheVariants.{DiskFault};
+ghost use Rattle.zr_model.specs.State.{State, no_pool};
+ghost use Rattle.zr_model.specs.Runs.{Meaning, point, turn, KeepsOutside};
+ghost use Rattle.zr_model.specs.declared.pool.Stop.TheVariants.{DiskFault, Damaged};
 
 use std::alloc::{AllocError, Global};
-use zr_base::NoMemory;
+use zr_base::{Blob, Dva, Items, NoMemory};
+use zr_choose::Chooser;
 use zr_script::{Command, Reply};
 use zr_shelf::Shelf;
 
@@ -21,6 +24,12 @@ use zr_shelf::Shelf;
 pub enum Stop {
     /// A device failed in a way that no reply tells of.
     DiskFault,
+    /// A block whose bytes have another sum than its pointer says, or that is no spelling of what should stand there.
+    Damaged {
+        at: Dva,
+        expected: [u8; 32],
+        found: [u8; 32],
+    },
     NoMemory,
 }
 
@@ -54,18 +63,36 @@ pub trait Pool {
     /// The pool as one of plain objects.
     ghost state: { Self → State };
 
-    /// Does a command. None where it may not stand here.
+    /// What commands mean to a pool of this kind.
+    ghost meaning: { Meaning };
+
+    /// The pool is one on disks of these sizes.
+    ghost fits: { Self → List ℕ → Type 0 };
+
+    /// No pool yet, on devices with these paths.
+    fn closed(alloc: Global, devs: Items<Blob>) -> Result<Self, NoMemory>
+        requires few { length devs ≤ 32 }
+        ensures paths { IfOk result (λ pool. paths pool ≡ devs) }
+        ensures fits { (sizes : List ℕ) → length sizes ≡ length devs → IfOk result (λ pool. fits pool sizes) }
+        ensures state { IfOk result (λ pool. state pool ≡ no_pool) };
+
+    /// Does a command, with a chooser of free runs. None where it may not stand here. The command is that of a line: its
+    /// names, paths and bytes are as a line may have them.
     fn command<S: Shelf>(
         &mut self,
         alloc: Global,
         shelf: &mut S,
+        pick: &Chooser,
         command: &Command,
     ) -> Result<Option<Reply>, Stop>
-        requires { length (S.sizes shelf.old) ≡ length (paths self.old) }
+        requires fits { fits self.old (S.sizes shelf.old) }
+        requires grammar { (line : List ℕ) × IsLine line command.now }
         ensures step { S.tells shelf.old → (S.world shelf.old).now.paths ≡ paths self.old → IfOk result (λ found. IfSome found (λ reply.
-            Takes (point (S.world shelf.old).now (state self.old)) (turn command.now reply (S.world shelf.new).now (state self.new)))) }
-        ensures none { IfOk result (λ found. IfNone found (IsServed (paths self.old) (state self.old) command.now → ⊥)) }
+            meaning.takes (point (S.world shelf.old).now (state self.old)) (turn command.now reply (S.world shelf.new).now (state self.new)))) }
+        ensures none { IfOk result (λ found. IfNone found (meaning.serves (paths self.old) (state self.old) command.now → ⊥)) }
         ensures failed { IsErrOf result DiskFault → HasRisen (S.counts shelf.old).disk (S.counts shelf.new).disk }
+        ensures damaged { (at : Dva) (expected found : List ℕ) → IsErrOf result (Damaged at expected found) → meaning.damages (paths self.old) (state self.old) command.now (refusal.Damaged at expected found) }
+        ensures fits { fits self.new (S.sizes shelf.new) }
         ensures paths { paths self.new ≡ paths self.old }
         ensures sizes { S.sizes shelf.new ≡ S.sizes shelf.old }
         ensures none_fell { NoneFell (S.counts shelf.old) (S.counts shelf.new) }

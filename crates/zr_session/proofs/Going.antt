@@ -8,15 +8,15 @@ use Rattle.zr_shelf.specs.Disks.{Stand, taken_to}
 use Rattle.zr_script.specs.Lines.{lines_of, before_lines}
 use Rattle.zr_script.specs.ReplyText.{reply_text}
 use Rattle.zr_model.specs.State.{State, no_pool}
-use Rattle.zr_model.specs.Runs.{Point, Turn, point, turn, Takes, Run, end_of, texts, Asks}
+use Rattle.zr_model.specs.Runs.{Meaning, Point, Turn, point, turn, Run, end_of, texts, Asks}
 use Rattle.zr_model.specs.Answers.{IsOpenLine, bytes_to}
 use Rattle.zr_session.specs.Lines.{AnswersLine}
 use Rattle.zr_session.specs.Progress.{HasAnswered, IsAt, IsDue}
 
 -- a run goes on by one command
-run_more : (p : Point) (turns : List Turn) (t : Turn) → Run p turns → Takes (end_of p turns) t → Run p (turns ++ t ∷ [])
-run_more p [] t h k = (k, tt)
-run_more p (u ∷ turns) t h k = (h.0, run_more u.point turns t h.1 k)
+run_more : (meaning : Meaning) (p : Point) (turns : List Turn) (t : Turn) → Run meaning p turns → meaning.takes (end_of p turns) t → Run meaning p (turns ++ t ∷ [])
+run_more meaning p [] t h k = (k, tt)
+run_more meaning p (u ∷ turns) t h k = (h.0, run_more meaning u.point turns t h.1 k)
 
 end_more : (p : Point) (turns : List Turn) (t : Turn) → end_of p (turns ++ t ∷ []) ≡ t.point
 end_more p [] t = refl
@@ -32,14 +32,14 @@ texts_more : (turns : List Turn) (t : Turn) → texts (turns ++ t ∷ []) ≡ te
 texts_more turns t = flat_map-append (λ u. reply_text u.answer) turns (t ∷ []) ∙ ap (λ x. texts turns ++ x) (append-nil (reply_text t.answer))
 
 -- one line more is answered
-pub answered_more : (opening old new : Stand) (before after : State) (lines : List (List ℕ)) (turns : List Turn) (line : List ℕ)
-    → HasAnswered opening old before lines turns → (a : AnswersLine line before after old new)
-    → HasAnswered opening new after (lines ++ line ∷ []) (turns ++ turn a.command a.does.answer new after ∷ [])
-answered_more opening old new before after lines turns line h a =
+pub answered_more : (meaning : Meaning) (opening old new : Stand) (before after : State) (lines : List (List ℕ)) (turns : List Turn) (line : List ℕ)
+    → HasAnswered meaning opening old before lines turns → (a : AnswersLine meaning line before after old new)
+    → HasAnswered meaning opening new after (lines ++ line ∷ []) (turns ++ turn a.command a.does.answer new after ∷ [])
+answered_more meaning opening old new before after lines turns line h a =
     let t = turn a.command a.does.answer new after in
     record {
       asked = zip_more (λ l (u : Turn). Asks l u.command) lines turns line t h.asked a.asks;
-      run = run_more (point opening no_pool) turns t h.run (subst (λ p. Takes p t) (sym h.ends) a.does.takes);
+      run = run_more meaning (point opening no_pool) turns t h.run (subst (λ p. meaning.takes p t) (sym h.ends) a.does.takes);
       ends = end_more (point opening no_pool) turns t;
       sent = a.does.sends.sent ∙ (ap (λ s. s ++ reply_text a.does.answer) h.sent ∙ (append_assoc opening.sent (texts turns) (reply_text a.does.answer) ∙ ap (λ s. opening.sent ++ s) (sym (texts_more turns t))));
     }
@@ -78,8 +78,8 @@ open_both [] part h k = k
 open_both (b ∷ line) part h k = (h.0, open_both line part h.1 k)
 
 -- nothing is taken yet
-pub at_start : (opening : Stand) → IsAt opening opening no_pool [] [] 0 0
-at_start opening = record {
+pub at_start : (meaning : Meaning) (opening : Stand) → IsAt meaning opening opening no_pool [] [] 0 0
+at_start meaning opening = record {
   lines = [];
   turns = [];
   bytes = [];
@@ -96,10 +96,10 @@ at_start opening = record {
 }
 
 -- a piece is taken
-pub at_taken : (opening old new : Stand) (state : State) (piece left line : List ℕ) (count taken : ℕ)
-    → IsAt opening old state [] line count taken → old.left ≡ piece ++ left → new ≡ taken_to old left → taken + length piece ≤ 2 ^ 32 → length piece ≤ 65536
-    → IsAt opening new state piece line count (taken + length piece)
-at_taken opening old new state piece left line count taken a e n m f = record {
+pub at_taken : (meaning : Meaning) (opening old new : Stand) (state : State) (piece left line : List ℕ) (count taken : ℕ)
+    → IsAt meaning opening old state [] line count taken → old.left ≡ piece ++ left → new ≡ taken_to old left → taken + length piece ≤ 2 ^ 32 → length piece ≤ 65536
+    → IsAt meaning opening new state piece line count (taken + length piece)
+at_taken meaning opening old new state piece left line count taken a e n m f = record {
   lines = a.lines;
   turns = a.turns;
   bytes = a.bytes;
@@ -145,14 +145,14 @@ ended_length bytes part more rest taken e t =
     omega arith
 
 -- the line that a line feed ends within a piece is answered
-pub at_line : (opening old new : Stand) (before after : State) (rest line part more : List ℕ) (count taken : ℕ)
-    → IsAt opening old before rest line count taken → rest ≡ part ++ 10 ∷ more → IsOpenLine part → AnswersLine (line ++ part) before after old new
-    → IsAt opening new after more [] (count + 1) taken
-at_line opening old new before after rest line part more count taken a e k l = record {
+pub at_line : (meaning : Meaning) (opening old new : Stand) (before after : State) (rest line part more : List ℕ) (count taken : ℕ)
+    → IsAt meaning opening old before rest line count taken → rest ≡ part ++ 10 ∷ more → IsOpenLine part → AnswersLine meaning (line ++ part) before after old new
+    → IsAt meaning opening new after more [] (count + 1) taken
+at_line meaning opening old new before after rest line part more count taken a e k l = record {
   lines = a.lines ++ (line ++ part) ∷ [];
   turns = a.turns ++ turn l.command l.does.answer new after ∷ [];
   bytes = a.bytes ++ (part ++ 10 ∷ []);
-  answered = answered_more opening old new before after a.lines a.turns (line ++ part) a.answered l;
+  answered = answered_more meaning opening old new before after a.lines a.turns (line ++ part) a.answered l;
   input = a.input ∙ (ap (λ r. a.bytes ++ (r ++ old.left)) e ∙ (ap (λ x. a.bytes ++ x) (append_assoc part (10 ∷ more) old.left)
       ∙ (sym (ended_bytes a.bytes part (more ++ old.left)) ∙ ap (λ x. (a.bytes ++ (part ++ 10 ∷ [])) ++ (more ++ x)) (sym l.does.sends.left))));
   whole = ended_whole a.lines a.bytes line part a.whole;
@@ -166,9 +166,9 @@ at_line opening old new before after rest line part more count taken a e k l = r
 }
 
 -- what no line feed ends is carried over
-pub at_kept : (opening now : Stand) (state : State) (rest line new : List ℕ) (count taken : ℕ)
-    → IsAt opening now state rest line count taken → IsOpenLine rest → new ≡ line ++ rest → length new ≤ 16384 → IsAt opening now state [] new count taken
-at_kept opening now state rest line new count taken a k e s = record {
+pub at_kept : (meaning : Meaning) (opening now : Stand) (state : State) (rest line new : List ℕ) (count taken : ℕ)
+    → IsAt meaning opening now state rest line count taken → IsOpenLine rest → new ≡ line ++ rest → length new ≤ 16384 → IsAt meaning opening now state [] new count taken
+at_kept meaning opening now state rest line new count taken a k e s = record {
   lines = a.lines;
   turns = a.turns;
   bytes = a.bytes ++ rest;
@@ -197,9 +197,9 @@ taken_prompt lines bytes rest line next more w l r n =
     omega arith
 
 -- the line that a line feed ends is the next
-pub due_line : (opening now : Stand) (state : State) (rest line part more : List ℕ) (count taken : ℕ)
-    → IsAt opening now state rest line count taken → rest ≡ part ++ 10 ∷ more → IsOpenLine part → IsDue opening now state (line ++ part) (count + 1)
-due_line opening now state rest line part more count taken a e k = record {
+pub due_line : (meaning : Meaning) (opening now : Stand) (state : State) (rest line part more : List ℕ) (count taken : ℕ)
+    → IsAt meaning opening now state rest line count taken → rest ≡ part ++ 10 ∷ more → IsOpenLine part → IsDue meaning opening now state (line ++ part) (count + 1)
+due_line meaning opening now state rest line part more count taken a e k = record {
   lines = a.lines;
   more = lines_of (more ++ now.left);
   turns = a.turns;
@@ -213,15 +213,15 @@ due_line opening now state rest line part more count taken a e k = record {
   prompt = taken_prompt a.lines a.bytes rest line (line ++ part) (length part) a.whole a.short a.piece (length-append line part);
 }
 
-pub last_front : (opening now : Stand) (state : State) (b : ℕ) (line : List ℕ) (count taken : ℕ)
-    → (a : IsAt opening now state [] (b ∷ line) count taken) → now.left ≡ [] → lines_of opening.left ≡ a.lines ++ (b ∷ line) ∷ []
-last_front opening now state b line count taken a e =
+pub last_front : (meaning : Meaning) (opening now : Stand) (state : State) (b : ℕ) (line : List ℕ) (count taken : ℕ)
+    → (a : IsAt meaning opening now state [] (b ∷ line) count taken) → now.left ≡ [] → lines_of opening.left ≡ a.lines ++ (b ∷ line) ∷ []
+last_front meaning opening now state b line count taken a e =
     ap lines_of (a.input ∙ ap (λ l. a.bytes ++ l) e) ∙ (a.split [] ∙ ap (λ l. a.lines ++ l) (ap lines_of (append-nil (b ∷ line)) ∙ lines_last b line a.is_open))
 
 -- the last line, which no line feed ends
-pub due_last : (opening now : Stand) (state : State) (b : ℕ) (line : List ℕ) (count taken : ℕ)
-    → IsAt opening now state [] (b ∷ line) count taken → now.left ≡ [] → IsDue opening now state (b ∷ line) (count + 1)
-due_last opening now state b line count taken a e = record {
+pub due_last : (meaning : Meaning) (opening now : Stand) (state : State) (b : ℕ) (line : List ℕ) (count taken : ℕ)
+    → IsAt meaning opening now state [] (b ∷ line) count taken → now.left ≡ [] → IsDue meaning opening now state (b ∷ line) (count + 1)
+due_last meaning opening now state b line count taken a e = record {
   lines = a.lines;
   more = [];
   turns = a.turns;
@@ -229,20 +229,20 @@ due_last opening now state b line count taken a e = record {
   answered = a.answered;
   input = a.input;
   most = let t = a.taken_is in let m = a.most in omega arith;
-  front = last_front opening now state b line count taken a e;
+  front = last_front meaning opening now state b line count taken a e;
   number_is = ap (λ n. n + 1) (sym a.count_is);
   prompt = let p = taken_prompt a.lines a.bytes [] (b ∷ line) (b ∷ line) 0 a.whole a.short a.piece (omega arith) in let n = ap length (append-nil a.bytes) in omega arith;
 }
 
 -- a line that has become too long is the front of the next
-pub record IsLong (opening now : Stand) (state : State) (count : ℕ) : Type 0 where
+pub record IsLong (meaning : Meaning) (opening now : Stand) (state : State) (count : ℕ) : Type 0 where
   pub line : List ℕ
-  pub due : IsDue opening now state line (count + 1)
+  pub due : IsDue meaning opening now state line (count + 1)
   pub long : 16384 < length line
 
-long_due : (opening now : Stand) (state : State) (rest line : List ℕ) (count taken : ℕ)
-    → IsAt opening now state rest line count taken → 16384 < length (line ++ rest) → BeginsWith (line ++ rest) (lines_of ((line ++ rest) ++ now.left)) → IsLong opening now state count
-long_due opening now state rest line count taken a m w = record {
+long_due : (meaning : Meaning) (opening now : Stand) (state : State) (rest line : List ℕ) (count taken : ℕ)
+    → IsAt meaning opening now state rest line count taken → 16384 < length (line ++ rest) → BeginsWith (line ++ rest) (lines_of ((line ++ rest) ++ now.left)) → IsLong meaning opening now state count
+long_due meaning opening now state rest line count taken a m w = record {
   line = (line ++ rest) ++ w.back;
   due = record {
     lines = a.lines;
@@ -263,49 +263,49 @@ begins_all : (line more : List ℕ) → 16384 < length line → IsOpenLine line 
 begins_all [] more l h = absurd (omega arith)
 begins_all (b ∷ line) more l h = lines_begin b line more h
 
-pub due_long : (opening now : Stand) (state : State) (rest line : List ℕ) (count taken : ℕ)
-    → IsAt opening now state rest line count taken → IsOpenLine rest → 16384 < length (line ++ rest) → IsLong opening now state count
-due_long opening now state rest line count taken a k l =
-    long_due opening now state rest line count taken a l (begins_all (line ++ rest) now.left l (open_both line rest a.is_open k))
+pub due_long : (meaning : Meaning) (opening now : Stand) (state : State) (rest line : List ℕ) (count taken : ℕ)
+    → IsAt meaning opening now state rest line count taken → IsOpenLine rest → 16384 < length (line ++ rest) → IsLong meaning opening now state count
+due_long meaning opening now state rest line count taken a k l =
+    long_due meaning opening now state rest line count taken a l (begins_all (line ++ rest) now.left l (open_both line rest a.is_open k))
 
 -- the devices stay
-pub paths_kept : (line : List ℕ) (before after : State) (old new : Stand) → AnswersLine line before after old new → new.paths ≡ old.paths
-paths_kept line before after old new a = ap (λ s. s.paths) a.does.takes.move
+pub paths_kept : (meaning : Meaning) (line : List ℕ) (before after : State) (old new : Stand) → AnswersLine meaning line before after old new → new.paths ≡ old.paths
+paths_kept meaning line before after old new a = a.does.paths
 
 -- the same, with the line and the count as they are kept
-pub at_line_as : (opening old new : Stand) (before after : State) (rest line part more : List ℕ) (count taken : ℕ) (left : List ℕ) (number : ℕ)
-    → IsAt opening old before rest line count taken → rest ≡ part ++ 10 ∷ more → IsOpenLine part → AnswersLine (line ++ part) before after old new → left ≡ [] → number ≡ count + 1
-    → IsAt opening new after more left number taken
-at_line_as opening old new before after rest line part more count taken left number a e k l empty is =
-    subst (λ x. IsAt opening new after more x number taken) (sym empty)
-    (subst (λ x. IsAt opening new after more [] x taken) (sym is) (at_line opening old new before after rest line part more count taken a e k l))
+pub at_line_as : (meaning : Meaning) (opening old new : Stand) (before after : State) (rest line part more : List ℕ) (count taken : ℕ) (left : List ℕ) (number : ℕ)
+    → IsAt meaning opening old before rest line count taken → rest ≡ part ++ 10 ∷ more → IsOpenLine part → AnswersLine meaning (line ++ part) before after old new → left ≡ [] → number ≡ count + 1
+    → IsAt meaning opening new after more left number taken
+at_line_as meaning opening old new before after rest line part more count taken left number a e k l empty is =
+    subst (λ x. IsAt meaning opening new after more x number taken) (sym empty)
+    (subst (λ x. IsAt meaning opening new after more [] x taken) (sym is) (at_line meaning opening old new before after rest line part more count taken a e k l))
 
-pub at_kept_as : (opening now new : Stand) (state : State) (rest line kept : List ℕ) (count number taken : ℕ)
-    → IsAt opening now state rest line count taken → IsOpenLine rest → new ≡ now → kept ≡ line ++ rest → length kept ≤ 16384 → number ≡ count → IsAt opening new state [] kept number taken
-at_kept_as opening now new state rest line kept count number taken a k same e s is =
-    subst (λ x. IsAt opening x state [] kept number taken) (sym same)
-    (subst (λ x. IsAt opening now state [] kept x taken) (sym is) (at_kept opening now state rest line kept count taken a k e s))
+pub at_kept_as : (meaning : Meaning) (opening now new : Stand) (state : State) (rest line kept : List ℕ) (count number taken : ℕ)
+    → IsAt meaning opening now state rest line count taken → IsOpenLine rest → new ≡ now → kept ≡ line ++ rest → length kept ≤ 16384 → number ≡ count → IsAt meaning opening new state [] kept number taken
+at_kept_as meaning opening now new state rest line kept count number taken a k same e s is =
+    subst (λ x. IsAt meaning opening x state [] kept number taken) (sym same)
+    (subst (λ x. IsAt meaning opening now state [] kept x taken) (sym is) (at_kept meaning opening now state rest line kept count taken a k e s))
 
 -- what a call that takes a piece did
 abbrev pub TookPiece : ℕ → List ℕ → Stand → Stand → Type 0
 TookPiece n out old new = (left : List ℕ) × (old.left ≡ take n out ++ left) × (new ≡ taken_to old left)
 
-pub at_piece : (opening old new : Stand) (state : State) (out line : List ℕ) (n count taken : ℕ)
-    → IsAt opening old state [] line count taken → TookPiece n out old new → n ≤ length out → taken + length out ≤ 2 ^ 32 → length out ≤ 65536 → IsAt opening new state (take n out) line count (taken + n)
-at_piece opening old new state out line n count taken a t l m f =
+pub at_piece : (meaning : Meaning) (opening old new : Stand) (state : State) (out line : List ℕ) (n count taken : ℕ)
+    → IsAt meaning opening old state [] line count taken → TookPiece n out old new → n ≤ length out → taken + length out ≤ 2 ^ 32 → length out ≤ 65536 → IsAt meaning opening new state (take n out) line count (taken + n)
+at_piece meaning opening old new state out line n count taken a t l m f =
     let e : length (take n out) ≡ n = length-take-le n out l in
-    subst (λ x. IsAt opening new state (take n out) line count (taken + x)) e (at_taken opening old new state (take n out) t.0 line count taken a t.1 t.2 (let k = e in omega arith) (let k = e in omega arith))
+    subst (λ x. IsAt meaning opening new state (take n out) line count (taken + x)) e (at_taken meaning opening old new state (take n out) t.0 line count taken a t.1 t.2 (let k = e in omega arith) (let k = e in omega arith))
 
-pub at_end : (opening old new : Stand) (state : State) (out line : List ℕ) (n count taken : ℕ)
-    → IsAt opening old state [] line count taken → TookPiece n out old new → n ≡ 0 → taken ≤ 2 ^ 32 → IsAt opening new state [] line count taken
-at_end opening old new state out line n count taken a t z m =
+pub at_end : (meaning : Meaning) (opening old new : Stand) (state : State) (out line : List ℕ) (n count taken : ℕ)
+    → IsAt meaning opening old state [] line count taken → TookPiece n out old new → n ≡ 0 → taken ≤ 2 ^ 32 → IsAt meaning opening new state [] line count taken
+at_end meaning opening old new state out line n count taken a t z m =
     let p : take n out ≡ [] = ap (λ k. take k out) z in
-    subst (λ x. IsAt opening new state [] line count x) (add-zero taken)
-    (at_taken opening old new state [] t.0 line count taken a (t.1 ∙ ap (λ x. x ++ t.0) p) t.2 (let k = add-zero taken in omega arith) (omega arith))
+    subst (λ x. IsAt meaning opening new state [] line count x) (add-zero taken)
+    (at_taken meaning opening old new state [] t.0 line count taken a (t.1 ∙ ap (λ x. x ++ t.0) p) t.2 (let k = add-zero taken in omega arith) (omega arith))
 
 pub left_end : (old new : Stand) (out : List ℕ) (n : ℕ) → TookPiece n out old new → n ≡ 0 → old.left ≡ [] → new.left ≡ []
 left_end old new out n t z e = ap (λ s. s.left) t.2 ∙ (sym (t.1 ∙ ap (λ k. take k out ++ t.0) z) ∙ e)
 
-pub start_as : (opening : Stand) (state : State) (line : List ℕ) (count : ℕ) → state ≡ no_pool → line ≡ [] → count ≡ 0 → IsAt opening opening state [] line count 0
-start_as opening state line count s l n =
-    subst (λ x. IsAt opening opening x [] line count 0) (sym s) (subst (λ x. IsAt opening opening no_pool [] x count 0) (sym l) (subst (λ x. IsAt opening opening no_pool [] [] x 0) (sym n) (at_start opening)))
+pub start_as : (meaning : Meaning) (opening : Stand) (state : State) (line : List ℕ) (count : ℕ) → state ≡ no_pool → line ≡ [] → count ≡ 0 → IsAt meaning opening opening state [] line count 0
+start_as meaning opening state line count s l n =
+    subst (λ x. IsAt meaning opening opening x [] line count 0) (sym s) (subst (λ x. IsAt meaning opening opening no_pool [] x count 0) (sym l) (subst (λ x. IsAt meaning opening opening no_pool [] [] x 0) (sym n) (at_start meaning opening)))

@@ -1,77 +1,125 @@
--- What a run came to, by its status.
-use Rattle.std.proofs.Common.{◌≡◌, ◌≢◌, ◌≤◌, inr, ℕ, List, [], ◌∷◌, ◌++◌, length, refl, sym, ap, subst, ◌∙◌, arith, get_or, false, ◌==◌}
-use Rattle.std.proofs.lemmas.Bool.{eqb-false}
+-- How devices are attached, and what a run came to by its status.
+use Rattle.std.proofs.Common.{◌≡◌, ◌≤◌, ◌<◌, ◌+◌, ◌⊎◌, inl, inr, ℕ, zero, suc, List, [], ◌∷◌, ◌++◌, length, map, take, drop, get_or, refl, sym, ap, subst, ◌∙◌, arith, append_assoc, length-append, Result, Ok, Err, IfErr, if◌then◌else◌, ◌==◌}
+use Rattle.std.proofs.lemmas.List.{append-nil, take_more, map-append}
 use Rattle.zr_shelf.specs.Disks.{Stand, with_disk}
-use Rattle.zr_model.specs.Answers.{TellsBadLine, TellsFault}
+use Rattle.zr_model.specs.Runs.{Meaning}
+use Rattle.zr_model.specs.Answers.{IsStarted, IsAttached, IsPartlyAttached, RunsTo, StopsAtDevice, AnswersFront}
+use Rattle.zr_session.specs.declared.device.Device.{Device}
 use Rattle.zr_session.specs.declared.end.End.{End}
-use Rattle.zr_session.specs.declared.end.End.TheVariants.{Answered, BadWords, InputFault, OutputFault, DiskFault, BadLine, AttachFault, InputLimit, NoMemory}
+use Rattle.zr_session.specs.declared.end.End.TheVariants.{Answered, BadWords, InputFault, OutputFault, DiskFault, BadLine, Damaged, AttachFault, InputLimit, NoMemory}
 use Rattle.zr_session.specs.Ends.{status_of, EndsAs, IsOpenedTo}
+use Rattle.zr_session.specs.Headline.{device_of, path_of}
+use Rattle.zr_session.proofs.Devices.{paths_same}
 
-opened_as : (end : End) (path bytes : List ℕ) (old new : Stand) → EndsAs end (with_disk old path bytes) new → IsOpenedTo end path old new
-opened_as Answered path bytes old new h = (bytes, h)
-opened_as BadWords path bytes old new h = absurd h
-opened_as InputFault path bytes old new h = (bytes, h)
-opened_as OutputFault path bytes old new h = (bytes, h)
-opened_as DiskFault path bytes old new h = (bytes, h)
-opened_as BadLine path bytes old new h = (bytes, h)
-opened_as AttachFault path bytes old new h = absurd h
-opened_as InputLimit path bytes old new h = (bytes, h)
-opened_as NoMemory path bytes old new h = inr (bytes, h)
+-- one device more is attached
+pub attached_more : (paths : List (List ℕ)) (path : List ℕ) (old mid new : Stand) → IsAttached paths old mid → ((bytes : List ℕ) × (new ≡ with_disk mid path bytes)) → IsAttached (paths ++ path ∷ []) old new
+attached_more [] path old mid new h d = (d.0, d.1 ∙ ap (λ s. with_disk s path d.0) h)
+attached_more (p ∷ paths) path old mid new h d = (h.0, attached_more paths path (with_disk old p h.0) mid new h.1 d)
 
-pub opened_by : (end : End) (path : List ℕ) (old mid new : Stand) → ((bytes : List ℕ) × (mid ≡ with_disk old path bytes)) → EndsAs end mid new → IsOpenedTo end path old new
-opened_by end path old mid new d h = opened_as end path d.0 old new (subst (λ s. EndsAs end s new) d.1 h)
+-- the slots have these paths then
+pub attached_paths : (paths : List (List ℕ)) (old new : Stand) → IsAttached paths old new → new.paths ≡ old.paths ++ paths
+attached_paths [] old new h = ap (λ s. s.paths) h ∙ sym (append-nil old.paths)
+attached_paths (p ∷ paths) old new h = attached_paths paths (with_disk old p h.0) new h.1 ∙ append_assoc old.paths (p ∷ []) paths
 
--- the first path
-pub named_first : (old mid : Stand) (path : List ℕ) (paths : List (List ℕ)) → ((bytes : List ℕ) × (mid ≡ with_disk old path bytes)) → length old.paths ≡ 0 → paths ≡ path ∷ [] → mid.paths ≡ paths
-named_first old mid path paths d z p = ap (λ s. s.paths) d.1 ∙ (ap (λ ps. ps ++ path ∷ []) (none old.paths z) ∙ sym p)
+-- which are all, where there was none
+pub named_first : (paths named : List (List ℕ)) (old new : Stand) → length old.paths ≡ 0 → IsAttached paths old new → named ≡ paths → new.paths ≡ named
+named_first paths named old new z h e = attached_paths paths old new h ∙ (ap (λ ps. ps ++ paths) (none old.paths z) ∙ sym e)
   where
     none : (xs : List (List ℕ)) → length xs ≡ 0 → xs ≡ []
     none [] e = refl
     none (x ∷ xs) e = absurd (omega arith)
 
-is_bad_line : (e : End) → status_of e ≡ 5 → e ≡ BadLine
-is_bad_line Answered h = absurd (omega arith)
-is_bad_line BadWords h = absurd (omega arith)
-is_bad_line InputFault h = absurd (omega arith)
-is_bad_line OutputFault h = absurd (omega arith)
-is_bad_line DiskFault h = absurd (omega arith)
-is_bad_line BadLine h = refl
-is_bad_line AttachFault h = absurd (omega arith)
-is_bad_line InputLimit h = absurd (omega arith)
-is_bad_line NoMemory h = absurd (omega arith)
+-- one item more of those whose paths are attached
+pub attached_next : {A : Type 0} (f : A → List ℕ) (xs : List A) (i : ℕ) (d : A) (old mid new : Stand) → i < length xs
+    → IsAttached (map f (take i xs)) old mid → ((bytes : List ℕ) × (new ≡ with_disk mid (f (get_or xs i d)) bytes)) → IsAttached (map f (take (i + 1) xs)) old new
+attached_next f xs i d old mid new l h w =
+    let front = ap (map f) (take_more xs i d l) ∙ map-append f (take i xs) (get_or xs i d ∷ []) in
+    subst (λ ps. IsAttached ps old new) (sym front) (attached_more (map f (take i xs)) (f (get_or xs i d)) old mid new h w)
 
-is_disk_fault : (e : End) → status_of e ≡ 4 → e ≡ DiskFault
-is_disk_fault Answered h = absurd (omega arith)
-is_disk_fault BadWords h = absurd (omega arith)
-is_disk_fault InputFault h = absurd (omega arith)
-is_disk_fault OutputFault h = absurd (omega arith)
-is_disk_fault DiskFault h = refl
-is_disk_fault BadLine h = absurd (omega arith)
-is_disk_fault AttachFault h = absurd (omega arith)
-is_disk_fault InputLimit h = absurd (omega arith)
-is_disk_fault NoMemory h = absurd (omega arith)
+split_at : {A : Type 0} (xs : List A) (i : ℕ) (d : A) → i < length xs → take i xs ++ get_or xs i d ∷ drop (suc i) xs ≡ xs
+split_at [] i d l = absurd (omega arith)
+split_at (y ∷ xs) zero d l = refl
+split_at (y ∷ xs) (suc i) d l = ap (λ ys. y ∷ ys) (split_at xs i d (omega arith))
 
-pub one_item : {X : Type 0} (xs : List X) (x : X) → length xs ≡ 1 → x ≡ get_or xs 0 x → xs ≡ x ∷ []
-one_item [] x n e = absurd (omega arith)
-one_item (y ∷ []) x n e = ap (λ z. z ∷ []) (sym e)
-one_item (y ∷ z ∷ xs) x n e = absurd (omega arith)
+-- or at which it failed
+pub attached_partly : {A : Type 0} (f : A → List ℕ) (xs : List A) (i : ℕ) (d : A) (old mid new : Stand) → i < length xs
+    → IsAttached (map f (take i xs)) old mid → new ≡ mid → IsPartlyAttached (map f xs) old new
+attached_partly f xs i d old mid new l h same = (
+  map f (take i xs),
+  f (get_or xs i d),
+  map f (drop (suc i) xs),
+  sym (map-append f (take i xs) (get_or xs i d ∷ drop (suc i) xs)) ∙ ap (map f) (split_at xs i d l),
+  subst (λ s. IsAttached (map f (take i xs)) old s) (sym same) h,
+)
 
-pub at_bad_line : (end : End) (path : List ℕ) (old new : Stand) → status_of end ≡ 5 → IsOpenedTo end path old new → (bytes : List ℕ) × TellsBadLine (with_disk old path bytes) new
-at_bad_line end path old new s h = subst (λ e. IsOpenedTo e path old new) (is_bad_line end s) h
+pub more_sizes : (old new : List ℕ) (n i : ℕ) → ((size : ℕ) × (new ≡ old ++ size ∷ [])) → length old ≡ n + i → length new ≡ n + (i + 1)
+more_sizes old new n i s e = let l = ap length s.1 ∙ length-append old (s.0 ∷ []) in omega arith
 
-pub at_disk_fault : (end : End) (path : List ℕ) (old new : Stand) → status_of end ≡ 4 → IsOpenedTo end path old new → (bytes : List ℕ) × TellsFault (with_disk old path bytes) new
-at_disk_fault end path old new s h = subst (λ e. IsOpenedTo e path old new) (is_disk_fault end s) h
+-- a run behind all devices
+pub opened_by : (meaning : Meaning) (end : End) (paths : List (List ℕ)) (old mid new : Stand) → IsAttached paths old mid → EndsAs meaning end mid new → IsOpenedTo meaning end paths old new
+opened_by meaning Answered paths old mid new d h = (mid, d, h)
+opened_by meaning BadWords paths old mid new d h = absurd h
+opened_by meaning InputFault paths old mid new d h = (mid, d, h)
+opened_by meaning OutputFault paths old mid new d h = (mid, d, h)
+opened_by meaning DiskFault paths old mid new d h = (mid, d, h)
+opened_by meaning BadLine paths old mid new d h = (mid, d, h)
+opened_by meaning Damaged paths old mid new d h = (mid, d, h)
+opened_by meaning AttachFault paths old mid new d h = absurd h
+opened_by meaning InputLimit paths old mid new d h = (mid, d, h)
+opened_by meaning NoMemory paths old mid new d h = inr (inr (mid, d, h))
 
-pub not_empty : {X : Type 0} (xs : List X) → false ≡ (length xs == 0) → length xs ≢ 0
-not_empty xs e = eqb-false _ 0 (sym e)
+-- an end by its status
+abbrev pub end_from : ℕ → End
+end_from n =
+    if n == 0 then Answered else (if n == 1 then BadWords else (if n == 2 then InputFault else (if n == 3 then OutputFault else (
+    if n == 4 then DiskFault else (if n == 5 then BadLine else (if n == 6 then Damaged else (if n == 7 then AttachFault else (
+    if n == 8 then InputLimit else (NoMemory)))))))))
 
-pub known_status : (e : End) → (status_of e ≤ 9) × (status_of e ≢ 6)
-known_status Answered = (omega arith, λ h. absurd (omega arith))
-known_status BadWords = (omega arith, λ h. absurd (omega arith))
-known_status InputFault = (omega arith, λ h. absurd (omega arith))
-known_status OutputFault = (omega arith, λ h. absurd (omega arith))
-known_status DiskFault = (omega arith, λ h. absurd (omega arith))
-known_status BadLine = (omega arith, λ h. absurd (omega arith))
-known_status AttachFault = (omega arith, λ h. absurd (omega arith))
-known_status InputLimit = (omega arith, λ h. absurd (omega arith))
-known_status NoMemory = (omega arith, λ h. absurd (omega arith))
+known_end : (e : End) → e ≡ end_from (status_of e)
+known_end Answered = refl
+known_end BadWords = refl
+known_end InputFault = refl
+known_end OutputFault = refl
+known_end DiskFault = refl
+known_end BadLine = refl
+known_end Damaged = refl
+known_end AttachFault = refl
+known_end InputLimit = refl
+known_end NoMemory = refl
+
+-- what a run came to by its status
+pub opened_with : (meaning : Meaning) (end : End) (n : ℕ) (paths : List (List ℕ)) (old new : Stand) → status_of end ≡ n → IsOpenedTo meaning end paths old new → IsOpenedTo meaning (end_from n) paths old new
+opened_with meaning end n paths old new s h = subst (λ e. IsOpenedTo meaning e paths old new) (known_end end ∙ ap end_from s) h
+
+pub known_status : (e : End) → status_of e ≤ 9
+known_status Answered = omega arith
+known_status BadWords = omega arith
+known_status InputFault = omega arith
+known_status OutputFault = omega arith
+known_status DiskFault = omega arith
+known_status BadLine = omega arith
+known_status Damaged = omega arith
+known_status AttachFault = omega arith
+known_status InputLimit = omega arith
+known_status NoMemory = omega arith
+
+-- the same of the words
+pub runs_to : (P : Stand → Stand → Type 0) (choosers : ℕ) (words : List (List ℕ)) (devices : List Device) (paths : List (List ℕ)) (old new : Stand)
+    → IsStarted choosers words (map device_of devices) → paths ≡ map path_of devices → ((opening : Stand) × IsAttached paths old opening × P opening new) → RunsTo P choosers words old new
+runs_to P choosers words devices paths old new s e h = (map device_of devices, h.0, s, subst (λ ps. IsAttached ps old h.0) (e ∙ sym (paths_same devices)) h.1, h.2)
+
+pub stops_at : (choosers : ℕ) (words : List (List ℕ)) (devices : List Device) (paths : List (List ℕ)) (old new : Stand)
+    → IsStarted choosers words (map device_of devices) → paths ≡ map path_of devices → IsPartlyAttached paths old new → StopsAtDevice choosers words old new
+stops_at choosers words devices paths old new s e h = (map device_of devices, s, subst (λ ps. IsPartlyAttached ps old new) (e ∙ sym (paths_same devices)) h)
+
+pub memory_at : (meaning : Meaning) (choosers : ℕ) (words : List (List ℕ)) (devices : List Device) (paths : List (List ℕ)) (old new : Stand)
+    → IsStarted choosers words (map device_of devices) → paths ≡ map path_of devices → IsOpenedTo meaning NoMemory paths old new
+    → (new ≡ old) ⊎ StopsAtDevice choosers words old new ⊎ RunsTo (AnswersFront meaning) choosers words old new
+memory_at meaning choosers words devices paths old new s e (inl same) = inl same
+memory_at meaning choosers words devices paths old new s e (inr (inl h)) = inr (inl (stops_at choosers words devices paths old new s e h))
+memory_at meaning choosers words devices paths old new s e (inr (inr h)) = inr (inr (runs_to (AnswersFront meaning) choosers words devices paths old new s e h))
+
+-- what holds of any error
+pub of_any_error : {T E : Type 0} (r : Result T E) (X : Type 0) → X → IfErr r (λ e. X)
+of_any_error (Ok v) X x = tt
+of_any_error (Err e) X x = x

@@ -4,17 +4,17 @@ use Rattle.std.proofs.lemmas.List.{append-nil}
 use Rattle.zr_base.specs.Counts.{HasRisen}
 use Rattle.zr_shelf.specs.Counts.{Counts, NoneFell}
 use Rattle.zr_shelf.specs.Disks.{Stand, sent_more}
+use Rattle.zr_base.specs.declared.refusal.Refusal.{Refusal}
 use Rattle.zr_script.specs.declared.command.Command.{Command}
 use Rattle.zr_script.specs.declared.reply.Reply.{Reply}
 use Rattle.zr_script.specs.ReplyText as text
 use Rattle.zr_script.specs.ReplyText.{reply_text, last_line}
 use Rattle.zr_model.specs.State.{State}
-use Rattle.zr_model.specs.Step.{IsServed}
-use Rattle.zr_model.specs.Runs.{point, turn, Takes, IsOutside}
+use Rattle.zr_model.specs.Runs.{Meaning, point, turn, IsOutside}
 use Rattle.zr_session.specs.declared.end.End.{End}
-use Rattle.zr_session.specs.declared.end.End.TheVariants.{Answered, BadWords, InputFault, OutputFault, DiskFault, BadLine, AttachFault, InputLimit, NoMemory}
+use Rattle.zr_session.specs.declared.end.End.TheVariants.{Answered, BadWords, InputFault, OutputFault, DiskFault, BadLine, Damaged, AttachFault, InputLimit, NoMemory}
 use Rattle.zr_session.specs.Ends.{HasCause}
-use Rattle.zr_session.specs.Lines.{Sends, SendsPartly, Tells, wholly, partly, IsTextFor, reply, bad_line, fault, StopsAtCommand}
+use Rattle.zr_session.specs.Lines.{Sends, SendsPartly, Tells, wholly, partly, IsTextFor, reply, bad_line, fault, damage, StopsAtCommand}
 
 pub sends_nothing : (old new : Stand) → new ≡ old → Sends old new []
 sends_nothing old new e = record { left = ap (λ s. s.left) e; sent = ap (λ s. s.sent) e ∙ sym (append-nil old.sent) }
@@ -35,74 +35,102 @@ risen_later a b c h k = omega arith
 risen_before : (a b c : ℕ) → a ≤ b → HasRisen b c → HasRisen a c
 risen_before a b c h k = omega arith
 
-pub cause_later : (a b c : Counts) (end : End) → HasCause a b end → NoneFell b c → HasCause a c end
-cause_later a b c Answered h n = tt
-cause_later a b c BadWords h n = h
-cause_later a b c InputFault h n = risen_later a.input b.input c.input h n.input
-cause_later a b c OutputFault h n = risen_later a.output b.output c.output h n.output
-cause_later a b c DiskFault h n = risen_later a.disk b.disk c.disk h n.disk
-cause_later a b c BadLine h n = tt
-cause_later a b c AttachFault h n = risen_later a.attach b.attach c.attach h n.attach
-cause_later a b c InputLimit h n = tt
-cause_later a b c NoMemory h n = tt
+pub cause_later : (d : Type 0) (a b c : Counts) (end : End) → HasCause d a b end → NoneFell b c → HasCause d a c end
+cause_later d a b c Answered h n = tt
+cause_later d a b c BadWords h n = h
+cause_later d a b c InputFault h n = risen_later a.input b.input c.input h n.input
+cause_later d a b c OutputFault h n = risen_later a.output b.output c.output h n.output
+cause_later d a b c DiskFault h n = risen_later a.disk b.disk c.disk h n.disk
+cause_later d a b c BadLine h n = tt
+cause_later d a b c Damaged h n = h
+cause_later d a b c AttachFault h n = risen_later a.attach b.attach c.attach h n.attach
+cause_later d a b c InputLimit h n = tt
+cause_later d a b c NoMemory h n = tt
 
-pub cause_before : (a b c : Counts) (end : End) → NoneFell a b → HasCause b c end → HasCause a c end
-cause_before a b c Answered n h = tt
-cause_before a b c BadWords n h = h
-cause_before a b c InputFault n h = risen_before a.input b.input c.input n.input h
-cause_before a b c OutputFault n h = risen_before a.output b.output c.output n.output h
-cause_before a b c DiskFault n h = risen_before a.disk b.disk c.disk n.disk h
-cause_before a b c BadLine n h = tt
-cause_before a b c AttachFault n h = risen_before a.attach b.attach c.attach n.attach h
-cause_before a b c InputLimit n h = tt
-cause_before a b c NoMemory n h = tt
+pub cause_before : (d : Type 0) (a b c : Counts) (end : End) → NoneFell a b → HasCause d b c end → HasCause d a c end
+cause_before d a b c Answered n h = tt
+cause_before d a b c BadWords n h = h
+cause_before d a b c InputFault n h = risen_before a.input b.input c.input n.input h
+cause_before d a b c OutputFault n h = risen_before a.output b.output c.output n.output h
+cause_before d a b c DiskFault n h = risen_before a.disk b.disk c.disk n.disk h
+cause_before d a b c BadLine n h = tt
+cause_before d a b c Damaged n h = h
+cause_before d a b c AttachFault n h = risen_before a.attach b.attach c.attach n.attach h
+cause_before d a b c InputLimit n h = tt
+cause_before d a b c NoMemory n h = tt
 
-pub cause_told : (a b c : Counts) (end result : End) → HasCause a b end → NoneFell a b → NoneFell b c → ((result ≡ end) ⊎ HasCause b c result) → HasCause a c result
-cause_told a b c end result h m n (inl e) = subst (λ x. HasCause a c x) (sym e) (cause_later a b c end h n)
-cause_told a b c end result h m n (inr k) = cause_before a b c result m k
+-- a call that meets no damage
+pub cause_any : (d : Type 0) (a b : Counts) (end : End) → HasCause ⊥ a b end → HasCause d a b end
+cause_any d a b Answered h = tt
+cause_any d a b BadWords h = h
+cause_any d a b InputFault h = h
+cause_any d a b OutputFault h = h
+cause_any d a b DiskFault h = h
+cause_any d a b BadLine h = tt
+cause_any d a b Damaged h = absurd h
+cause_any d a b AttachFault h = h
+cause_any d a b InputLimit h = tt
+cause_any d a b NoMemory h = tt
+
+pub cause_told : (d : Type 0) (a b c : Counts) (end result : End) → HasCause d a b end → NoneFell a b → NoneFell b c → ((result ≡ end) ⊎ HasCause ⊥ b c result) → HasCause d a c result
+cause_told d a b c end result h m n (inl e) = subst (λ x. HasCause d a c x) (sym e) (cause_later d a b c end h n)
+cause_told d a b c end result h m n (inr k) = cause_before d a b c result m (cause_any d b c result k)
+
+pub cause_from : (d : Type 0) (a b c : Counts) (end : End) → NoneFell a b → HasCause ⊥ b c end → HasCause d a c end
+cause_from d a b c end n h = cause_before d a b c end n (cause_any d b c end h)
 
 -- a reply that was not sent whole
-pub stops_reply : (command : Command) (number : ℕ) (before after : State) (old mid new : Stand) (answer : Reply) (bytes : List ℕ) (end : End)
-    → IsOutside old mid → Takes (point old before) (turn command answer mid after) → bytes ≡ reply_text answer → SendsPartly bytes mid new end → StopsAtCommand command number before old new end
-stops_reply command number before after old mid new answer bytes OutputFault o t e p =
+pub stops_reply : (meaning : Meaning) (command : Command) (number : ℕ) (before after : State) (old mid new : Stand) (answer : Reply) (bytes : List ℕ) (end : End)
+    → IsOutside old mid → meaning.takes (point old before) (turn command answer mid after) → bytes ≡ reply_text answer → SendsPartly bytes mid new end → StopsAtCommand meaning command number before old new end
+stops_reply meaning command number before after old mid new answer bytes OutputFault o t e p =
     (p.0, p.1, reply_text answer, p.2 ∙ e, reply answer (point mid after) t, sends_from old mid new p.0 o p.3)
-stops_reply command number before after old mid new answer bytes NoMemory o t e p = sends_from old mid new [] o p
-stops_reply command number before after old mid new answer bytes Answered o t e p = absurd p
-stops_reply command number before after old mid new answer bytes BadWords o t e p = absurd p
-stops_reply command number before after old mid new answer bytes InputFault o t e p = absurd p
-stops_reply command number before after old mid new answer bytes DiskFault o t e p = absurd p
-stops_reply command number before after old mid new answer bytes BadLine o t e p = absurd p
-stops_reply command number before after old mid new answer bytes AttachFault o t e p = absurd p
-stops_reply command number before after old mid new answer bytes InputLimit o t e p = absurd p
+stops_reply meaning command number before after old mid new answer bytes NoMemory o t e p = sends_from old mid new [] o p
+stops_reply meaning command number before after old mid new answer bytes Answered o t e p = absurd p
+stops_reply meaning command number before after old mid new answer bytes BadWords o t e p = absurd p
+stops_reply meaning command number before after old mid new answer bytes InputFault o t e p = absurd p
+stops_reply meaning command number before after old mid new answer bytes DiskFault o t e p = absurd p
+stops_reply meaning command number before after old mid new answer bytes BadLine o t e p = absurd p
+stops_reply meaning command number before after old mid new answer bytes Damaged o t e p = absurd p
+stops_reply meaning command number before after old mid new answer bytes AttachFault o t e p = absurd p
+stops_reply meaning command number before after old mid new answer bytes InputLimit o t e p = absurd p
 
 -- a last line that was not sent whole
-stops_partly : (command : Command) (number : ℕ) (before : State) (old mid new : Stand) (bytes : List ℕ) (end : End)
-    → IsOutside old mid → IsTextFor command number before old bytes → SendsPartly bytes mid new end → StopsAtCommand command number before old new end
-stops_partly command number before old mid new bytes OutputFault o t p = (p.0, p.1, bytes, p.2, t, sends_from old mid new p.0 o p.3)
-stops_partly command number before old mid new bytes NoMemory o t p = sends_from old mid new [] o p
-stops_partly command number before old mid new bytes Answered o t p = absurd p
-stops_partly command number before old mid new bytes BadWords o t p = absurd p
-stops_partly command number before old mid new bytes InputFault o t p = absurd p
-stops_partly command number before old mid new bytes DiskFault o t p = absurd p
-stops_partly command number before old mid new bytes BadLine o t p = absurd p
-stops_partly command number before old mid new bytes AttachFault o t p = absurd p
-stops_partly command number before old mid new bytes InputLimit o t p = absurd p
+stops_partly : (meaning : Meaning) (command : Command) (number : ℕ) (before : State) (old mid new : Stand) (bytes : List ℕ) (end : End)
+    → IsOutside old mid → IsTextFor meaning command number before old bytes → SendsPartly bytes mid new end → StopsAtCommand meaning command number before old new end
+stops_partly meaning command number before old mid new bytes OutputFault o t p = (p.0, p.1, bytes, p.2, t, sends_from old mid new p.0 o p.3)
+stops_partly meaning command number before old mid new bytes NoMemory o t p = sends_from old mid new [] o p
+stops_partly meaning command number before old mid new bytes Answered o t p = absurd p
+stops_partly meaning command number before old mid new bytes BadWords o t p = absurd p
+stops_partly meaning command number before old mid new bytes InputFault o t p = absurd p
+stops_partly meaning command number before old mid new bytes DiskFault o t p = absurd p
+stops_partly meaning command number before old mid new bytes BadLine o t p = absurd p
+stops_partly meaning command number before old mid new bytes Damaged o t p = absurd p
+stops_partly meaning command number before old mid new bytes AttachFault o t p = absurd p
+stops_partly meaning command number before old mid new bytes InputLimit o t p = absurd p
 
 -- the pool did not take the command
-pub stops_unserved : (command : Command) (number : ℕ) (before : State) (old mid new : Stand) (paths : List (List ℕ)) (end : End)
-    → IsOutside old mid → old.paths ≡ paths → (IsServed paths before command → ⊥) → Tells BadLine (last_line (text.BadLine number)) end mid new → StopsAtCommand command number before old new end
-stops_unserved command number before old mid new paths end o e u (wholly is s) =
-    subst (λ x. StopsAtCommand command number before old new x) (sym is) (λ served. u (subst (λ p. IsServed p before command) e served), sends_from old mid new _ o s)
-stops_unserved command number before old mid new paths end o e u (partly p) =
-    stops_partly command number before old mid new _ end o (bad_line (λ served. u (subst (λ p. IsServed p before command) e served))) p
+pub stops_unserved : (meaning : Meaning) (command : Command) (number : ℕ) (before : State) (old mid new : Stand) (paths : List (List ℕ)) (end : End)
+    → IsOutside old mid → old.paths ≡ paths → (meaning.serves paths before command → ⊥) → Tells BadLine (last_line (text.BadLine number)) end mid new → StopsAtCommand meaning command number before old new end
+stops_unserved meaning command number before old mid new paths end o e u (wholly is s) =
+    subst (λ x. StopsAtCommand meaning command number before old new x) (sym is) (λ served. u (subst (λ p. meaning.serves p before command) e served), sends_from old mid new _ o s)
+stops_unserved meaning command number before old mid new paths end o e u (partly p) =
+    stops_partly meaning command number before old mid new _ end o (bad_line (λ served. u (subst (λ p. meaning.serves p before command) e served))) p
 
 -- a device failed
-pub stops_fault : (command : Command) (number : ℕ) (before : State) (old mid new : Stand) (bytes : List ℕ) (end : End)
-    → IsOutside old mid → bytes ≡ last_line text.DiskFault → Tells DiskFault bytes end mid new → StopsAtCommand command number before old new end
-stops_fault command number before old mid new bytes end o e (wholly is s) =
-    subst (λ x. StopsAtCommand command number before old new x) (sym is) (sends_from old mid new _ o (subst (λ b. Sends mid new b) e s))
-stops_fault command number before old mid new bytes end o e (partly p) =
-    stops_partly command number before old mid new _ end o fault (subst (λ b. SendsPartly b mid new end) e p)
+pub stops_fault : (meaning : Meaning) (command : Command) (number : ℕ) (before : State) (old mid new : Stand) (bytes : List ℕ) (end : End)
+    → IsOutside old mid → bytes ≡ last_line text.DiskFault → Tells DiskFault bytes end mid new → StopsAtCommand meaning command number before old new end
+stops_fault meaning command number before old mid new bytes end o e (wholly is s) =
+    subst (λ x. StopsAtCommand meaning command number before old new x) (sym is) (sends_from old mid new _ o (subst (λ b. Sends mid new b) e s))
+stops_fault meaning command number before old mid new bytes end o e (partly p) =
+    stops_partly meaning command number before old mid new _ end o fault (subst (λ b. SendsPartly b mid new end) e p)
+
+-- damage was met
+pub stops_damage : (meaning : Meaning) (command : Command) (number : ℕ) (before : State) (old mid new : Stand) (paths : List (List ℕ)) (found : Refusal) (end : End)
+    → IsOutside old mid → old.paths ≡ paths → meaning.damages paths before command found → Tells Damaged (last_line (text.Damage found)) end mid new → StopsAtCommand meaning command number before old new end
+stops_damage meaning command number before old mid new paths found end o e h (wholly is s) =
+    subst (λ x. StopsAtCommand meaning command number before old new x) (sym is) (found, subst (λ p. meaning.damages p before command found) (sym e) h, sends_from old mid new _ o s)
+stops_damage meaning command number before old mid new paths found end o e h (partly p) =
+    stops_partly meaning command number before old mid new _ end o (damage found (subst (λ p. meaning.damages p before command found) (sym e) h)) p
 
 -- what follows from three facts of an Ok
 pub from_three : {T E : Type 0} (r : Result T E) (A B C D : Type 0) → OnOk r A → OnOk r B → OnOk r C → (A → B → C → D) → OnOk r D

@@ -2,12 +2,11 @@
 use Rattle.std.specs.Prelude.{◌≡◌, ◌⊎◌, ℕ, List}
 use Rattle.zr_base.specs.Counts.{HasRisen}
 use Rattle.zr_shelf.specs.Counts.{Counts}
-use Rattle.zr_shelf.specs.Disks.{Stand, with_disk}
-use Rattle.zr_model.specs.declared.pool.Stop.{Stop}
-use Rattle.zr_model.specs.declared.pool.Stop.TheVariants as stop
-use Rattle.zr_model.specs.Answers.{IsDone, TellsBadLine, TellsLimit, TellsFault, AnswersTaken, AnswersFront, AnswersPartly}
+use Rattle.zr_shelf.specs.Disks.{Stand}
+use Rattle.zr_model.specs.Runs.{Meaning}
+use Rattle.zr_model.specs.Answers.{IsAttached, IsPartlyAttached, IsDone, TellsBadLine, TellsLimit, TellsFault, TellsDamage, AnswersTaken, AnswersFront, AnswersPartly}
 use Rattle.zr_session.specs.declared.end.End.{End}
-use Rattle.zr_session.specs.declared.end.End.TheVariants.{Answered, BadWords, InputFault, OutputFault, DiskFault, BadLine, AttachFault, InputLimit, NoMemory}
+use Rattle.zr_session.specs.declared.end.End.TheVariants.{Answered, BadWords, InputFault, OutputFault, DiskFault, BadLine, Damaged, AttachFault, InputLimit, NoMemory}
 
 abbrev pub status_of : End → ℕ
 status_of Answered = 0
@@ -16,37 +15,36 @@ status_of InputFault = 2
 status_of OutputFault = 3
 status_of DiskFault = 4
 status_of BadLine = 5
+status_of Damaged = 6
 status_of AttachFault = 7
 status_of InputLimit = 8
 status_of NoMemory = 9
 
-abbrev pub end_of_stop : Stop → End
-end_of_stop stop.DiskFault = DiskFault
-end_of_stop stop.NoMemory = NoMemory
-
--- what a run whose words are good may end by: a fault is told only where its count rose
-abbrev pub HasCause : Counts → Counts → End → Type 0
-HasCause before now InputFault = HasRisen before.input now.input
-HasCause before now OutputFault = HasRisen before.output now.output
-HasCause before now DiskFault = HasRisen before.disk now.disk
-HasCause before now AttachFault = HasRisen before.attach now.attach
-HasCause before now BadWords = ⊥
-HasCause before now _ = Unit {0}
+-- what a run whose words are good may end by: a fault is told only where its count rose, and damage only where this holds
+abbrev pub HasCause : Type 0 → Counts → Counts → End → Type 0
+HasCause damage before now InputFault = HasRisen before.input now.input
+HasCause damage before now OutputFault = HasRisen before.output now.output
+HasCause damage before now DiskFault = HasRisen before.disk now.disk
+HasCause damage before now Damaged = damage
+HasCause damage before now AttachFault = HasRisen before.attach now.attach
+HasCause damage before now BadWords = ⊥
+HasCause damage before now _ = Unit {0}
 
 -- what a run over an input has answered when it ends so
-abbrev pub EndsAs : End → Stand → Stand → Type 0
-EndsAs Answered opening now = IsDone opening now
-EndsAs InputFault opening now = AnswersTaken opening now
-EndsAs OutputFault opening now = AnswersPartly opening now
-EndsAs DiskFault opening now = TellsFault opening now
-EndsAs BadLine opening now = TellsBadLine opening now
-EndsAs InputLimit opening now = TellsLimit opening now
-EndsAs NoMemory opening now = AnswersFront opening now
-EndsAs BadWords opening now = ⊥
-EndsAs AttachFault opening now = ⊥
+abbrev pub EndsAs : Meaning → End → Stand → Stand → Type 0
+EndsAs m Answered opening now = IsDone m opening now
+EndsAs m InputFault opening now = AnswersTaken m opening now
+EndsAs m OutputFault opening now = AnswersPartly m opening now
+EndsAs m DiskFault opening now = TellsFault m opening now
+EndsAs m BadLine opening now = TellsBadLine m opening now
+EndsAs m Damaged opening now = TellsDamage m opening now
+EndsAs m InputLimit opening now = TellsLimit m opening now
+EndsAs m NoMemory opening now = AnswersFront m opening now
+EndsAs m BadWords opening now = ⊥
+EndsAs m AttachFault opening now = ⊥
 
--- what a run came to whose device was to be attached
-abbrev pub IsOpenedTo : End → List ℕ → Stand → Stand → Type 0
-IsOpenedTo AttachFault path old now = now ≡ old
-IsOpenedTo NoMemory path old now = (now ≡ old) ⊎ ((bytes : List ℕ) × EndsAs NoMemory (with_disk old path bytes) now)
-IsOpenedTo end path old now = (bytes : List ℕ) × EndsAs end (with_disk old path bytes) now
+-- what a run came to whose devices were to be attached
+abbrev pub IsOpenedTo : Meaning → End → List (List ℕ) → Stand → Stand → Type 0
+IsOpenedTo m AttachFault paths old now = IsPartlyAttached paths old now
+IsOpenedTo m NoMemory paths old now = (now ≡ old) ⊎ IsPartlyAttached paths old now ⊎ ((opening : Stand) × IsAttached paths old opening × EndsAs m NoMemory opening now)
+IsOpenedTo m end paths old now = (opening : Stand) × IsAttached paths old opening × EndsAs m end opening now

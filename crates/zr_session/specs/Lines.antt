@@ -1,6 +1,7 @@
 -- One line, and what is sent for it.
 use Rattle.std.specs.Prelude.{◌≡◌, ℕ, ◌<◌, List, [], ◌++◌, length}
 use Rattle.zr_shelf.specs.Disks.{Stand}
+use Rattle.zr_base.specs.declared.refusal.Refusal.{Refusal}
 use Rattle.zr_script.specs.declared.command.Command.{Command}
 use Rattle.zr_script.specs.declared.command.Command.TheVariants as cmd
 use Rattle.zr_script.specs.declared.reply.Reply.{Reply}
@@ -8,10 +9,9 @@ use Rattle.zr_script.specs.Grammar.{IsLine}
 use Rattle.zr_script.specs.ReplyText as text
 use Rattle.zr_script.specs.ReplyText.{reply_text, last_line}
 use Rattle.zr_model.specs.State.{State}
-use Rattle.zr_model.specs.Step.{IsServed}
-use Rattle.zr_model.specs.Runs.{Point, point, turn, Takes, Asks}
+use Rattle.zr_model.specs.Runs.{Meaning, Point, point, turn, Asks}
 use Rattle.zr_session.specs.declared.end.End.{End}
-use Rattle.zr_session.specs.declared.end.End.TheVariants.{Answered, OutputFault, DiskFault, BadLine, NoMemory}
+use Rattle.zr_session.specs.declared.end.End.TheVariants.{Answered, OutputFault, DiskFault, BadLine, Damaged, NoMemory}
 
 -- this was sent, and nothing taken
 pub record Sends (old new : Stand) (bytes : List ℕ) : Type 0 where
@@ -30,38 +30,41 @@ pub data Tells (end : End) (bytes : List ℕ) (result : End) (old new : Stand) :
   partly : SendsPartly bytes old new result → Tells end bytes result old new
 
 -- the command is done, and its answer sent
-pub record DoesCommand (command : Command) (before after : State) (old new : Stand) : Type 0 where
+pub record DoesCommand (m : Meaning) (command : Command) (before after : State) (old new : Stand) : Type 0 where
   pub answer : Reply
-  pub takes : Takes (point old before) (turn command answer new after)
+  pub takes : m.takes (point old before) (turn command answer new after)
+  pub paths : new.paths ≡ old.paths
   pub sends : Sends old new (reply_text answer)
 
 -- what is to be sent for a command
-pub data IsTextFor (command : Command) (number : ℕ) (before : State) (old : Stand) : List ℕ → Type 0 where
-  reply : (answer : Reply) (after : Point) → Takes (point old before) (record { command = command; answer = answer; point = after }) → IsTextFor command number before old (reply_text answer)
-  bad_line : (IsServed old.paths before command → ⊥) → IsTextFor command number before old (last_line (text.BadLine number))
-  fault : IsTextFor command number before old (last_line text.DiskFault)
+pub data IsTextFor (m : Meaning) (command : Command) (number : ℕ) (before : State) (old : Stand) : List ℕ → Type 0 where
+  reply : (answer : Reply) (after : Point) → m.takes (point old before) (record { command = command; answer = answer; point = after }) → IsTextFor m command number before old (reply_text answer)
+  bad_line : (m.serves old.paths before command → ⊥) → IsTextFor m command number before old (last_line (text.BadLine number))
+  fault : IsTextFor m command number before old (last_line text.DiskFault)
+  damage : (found : Refusal) → m.damages old.paths before command found → IsTextFor m command number before old (last_line (text.Damage found))
 
 -- the run ends at the command
-abbrev pub StopsAtCommand : Command → ℕ → State → Stand → Stand → End → Type 0
-StopsAtCommand command number before old new OutputFault =
-    (front back next : List ℕ) × (front ++ back ≡ next) × IsTextFor command number before old next × Sends old new front
-StopsAtCommand command number before old new DiskFault = Sends old new (last_line text.DiskFault)
-StopsAtCommand command number before old new BadLine = (IsServed old.paths before command → ⊥) × Sends old new (last_line (text.BadLine number))
-StopsAtCommand command number before old new NoMemory = Sends old new []
-StopsAtCommand command number before old new _ = ⊥
+abbrev pub StopsAtCommand : Meaning → Command → ℕ → State → Stand → Stand → End → Type 0
+StopsAtCommand m command number before old new OutputFault =
+    (front back next : List ℕ) × (front ++ back ≡ next) × IsTextFor m command number before old next × Sends old new front
+StopsAtCommand m command number before old new DiskFault = Sends old new (last_line text.DiskFault)
+StopsAtCommand m command number before old new BadLine = (m.serves old.paths before command → ⊥) × Sends old new (last_line (text.BadLine number))
+StopsAtCommand m command number before old new Damaged = (found : Refusal) × m.damages old.paths before command found × Sends old new (last_line (text.Damage found))
+StopsAtCommand m command number before old new NoMemory = Sends old new []
+StopsAtCommand m command number before old new _ = ⊥
 
 -- the line is answered
-pub record AnswersLine (line : List ℕ) (before after : State) (old new : Stand) : Type 0 where
+pub record AnswersLine (m : Meaning) (line : List ℕ) (before after : State) (old new : Stand) : Type 0 where
   pub command : Command
   pub asks : Asks line command
-  pub does : DoesCommand command before after old new
+  pub does : DoesCommand m command before after old new
 
 -- no command, or it ends at this one
-pub data StopsAtLine (line : List ℕ) (number : ℕ) (before : State) (old new : Stand) (end : End) : Type 0 where
-  outside : ((command : Command) → IsLine line command → ⊥) → Tells BadLine (last_line (text.BadLine number)) end old new → StopsAtLine line number before old new end
-  quit : IsLine line cmd.Quit → end ≡ Answered → new ≡ old → StopsAtLine line number before old new end
-  command : (command : Command) → Asks line command → StopsAtCommand command number before old new end → StopsAtLine line number before old new end
-  memory : end ≡ NoMemory → new ≡ old → StopsAtLine line number before old new end
+pub data StopsAtLine (m : Meaning) (line : List ℕ) (number : ℕ) (before : State) (old new : Stand) (end : End) : Type 0 where
+  outside : ((command : Command) → IsLine line command → ⊥) → Tells BadLine (last_line (text.BadLine number)) end old new → StopsAtLine m line number before old new end
+  quit : IsLine line cmd.Quit → end ≡ Answered → new ≡ old → StopsAtLine m line number before old new end
+  command : (command : Command) → Asks line command → StopsAtCommand m command number before old new end → StopsAtLine m line number before old new end
+  memory : end ≡ NoMemory → new ≡ old → StopsAtLine m line number before old new end
 
 -- A line that has become too long is told, or memory ran out.
 pub data StopsAtRest (line : List ℕ) (number : ℕ) (old new : Stand) (end : End) : Type 0 where

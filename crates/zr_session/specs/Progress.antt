@@ -4,22 +4,22 @@ use Rattle.std.specs.List.{AllZip, flat_map}
 use Rattle.zr_shelf.specs.Disks.{Stand}
 use Rattle.zr_script.specs.Lines.{lines_of}
 use Rattle.zr_model.specs.State.{State, no_pool}
-use Rattle.zr_model.specs.Runs.{Turn, point, Run, end_of, texts, Asks}
+use Rattle.zr_model.specs.Runs.{Meaning, Turn, point, Run, end_of, texts, Asks}
 use Rattle.zr_model.specs.Answers.{IsOpenLine, bytes_to}
 
 -- first lines are answered, and this was sent for them
-pub record HasAnswered (opening now : Stand) (state : State) (lines : List (List ℕ)) (turns : List Turn) : Type 0 where
+pub record HasAnswered (m : Meaning) (opening now : Stand) (state : State) (lines : List (List ℕ)) (turns : List Turn) : Type 0 where
   pub asked : AllZip (λ line t. Asks line t.command) lines turns
-  pub run : Run (point opening no_pool) turns
+  pub run : Run m (point opening no_pool) turns
   pub ends : end_of (point opening no_pool) turns ≡ point now state
   pub sent : now.sent ≡ opening.sent ++ texts turns
 
 -- `rest` is what was taken and not yet looked at, and `line` what stands before it behind the last line feed
-pub record IsAt (opening now : Stand) (state : State) (rest line : List ℕ) (count taken : ℕ) : Type 0 where
+pub record IsAt (m : Meaning) (opening now : Stand) (state : State) (rest line : List ℕ) (count taken : ℕ) : Type 0 where
   pub lines : List (List ℕ)
   pub turns : List Turn
   pub bytes : List ℕ
-  pub answered : HasAnswered opening now state lines turns
+  pub answered : HasAnswered m opening now state lines turns
   pub input : opening.left ≡ bytes ++ (rest ++ now.left)
   pub whole : bytes ≡ flat_map (λ l. l ++ 10 ∷ []) lines ++ line
   pub split : (more : List ℕ) → lines_of (bytes ++ more) ≡ lines ++ lines_of (line ++ more)
@@ -31,12 +31,12 @@ pub record IsAt (opening now : Stand) (state : State) (rest line : List ℕ) (co
   pub most : taken ≤ 2 ^ 32
 
 -- this line is the next
-pub record IsDue (opening now : Stand) (state : State) (line : List ℕ) (number : ℕ) : Type 0 where
+pub record IsDue (m : Meaning) (opening now : Stand) (state : State) (line : List ℕ) (number : ℕ) : Type 0 where
   pub lines : List (List ℕ)
   pub more : List (List ℕ)
   pub turns : List Turn
   pub taken : List ℕ
-  pub answered : HasAnswered opening now state lines turns
+  pub answered : HasAnswered m opening now state lines turns
   pub input : opening.left ≡ taken ++ now.left
   pub most : length taken ≤ 2 ^ 32
   pub front : lines_of opening.left ≡ lines ++ line ∷ more

@@ -3,7 +3,6 @@ ghost use Rattle.std.specs.Prelude.{◌≡◌};
 
 use std::alloc::AllocError;
 use zr_base::NoMemory;
-use zr_model::Stop;
 
 /// How a run ends.
 #[derive(Clone, Copy, Debug, PartialEq, Eq)]
@@ -15,6 +14,7 @@ pub enum End {
     OutputFault,
     DiskFault,
     BadLine,
+    Damaged,
     AttachFault,
     InputLimit,
     NoMemory,
@@ -42,20 +42,6 @@ impl From<AllocError> for End {
     }
 }
 
-impl From<Stop> for End {
-    ghost use Rattle.std.specs.Prelude.{◌≡◌};
-    ghost use Rattle.zr_session.specs.Ends.{end_of_stop};
-
-    ghost from_gives = { λ s e. e ≡ end_of_stop s };
-
-    fn from(stop: Stop) -> End {
-        match stop {
-            Stop::DiskFault => End::DiskFault,
-            Stop::NoMemory => End::NoMemory,
-        }
-    }
-}
-
 impl End {
     ghost use Rattle.zr_session.specs.Ends.{status_of};
 
@@ -70,6 +56,7 @@ impl End {
             End::OutputFault => 3,
             End::DiskFault => 4,
             End::BadLine => 5,
+            End::Damaged => 6,
             End::AttachFault => 7,
             End::InputLimit => 8,
             End::NoMemory => 9,

@@ -10,11 +10,12 @@ mod end;
 mod line;
 mod memory;
 mod object;
+mod program;
 mod script;
 mod session;
 mod table;
 
-pub use session::run;
+pub use program::{run_in_memory, run_on};
 
 #[cfg(test)]
 mod tests;

@@ -1,10 +1,13 @@
 //! Lines within a piece of the input, and what is sent for one.
-ghost use Rattle.std.specs.Prelude.{◌≡◌, ◌⊎◌, length, ◌∷◌, ◌++◌, ◌+◌, ◌<◌, ◌^◌, IfNone, IfSome, IfErr, OnOk};
+ghost use Rattle.std.specs.Prelude.{◌≡◌, ◌⊎◌, length, ◌∷◌, ◌++◌, ◌+◌, ◌<◌, ◌^◌, ℕ, List, IfOk, IfNone, IfSome, IfErr, OnOk};
 ghost use Rattle.std.specs.List.{AllByRecursion};
 ghost use Rattle.zr_shelf.specs.Counts.{NoneFell};
 ghost use Rattle.zr_shelf.specs.Disks.{sent_more};
 ghost use Rattle.zr_model.specs.Answers.{IsOpenLine};
-ghost use Rattle.zr_script.specs.ReplyText.{last_line, BadLine, InputLimit, DiskFault};
+ghost use Rattle.zr_base.specs.declared.refusal.Refusal.TheVariants as refusal;
+ghost use Rattle.zr_script.specs.Grammar.{IsLine};
+ghost use Rattle.zr_script.specs.ReplyText.{last_line, BadLine, InputLimit, DiskFault, Damage};
+ghost use Rattle.zr_model.specs.Runs.{MayBeDamaged};
 ghost use Rattle.zr_session.specs.Ends.{HasCause};
 ghost use Rattle.zr_session.specs.Lines.{AnswersLine, StopsAtLine, DoesCommand, StopsAtCommand, SendsPartly, Tells};
 ghost use Rattle.zr_session.specs.declared.end.End.TheVariants as is_end;
@@ -12,8 +15,10 @@ ghost use Rattle.zr_session.specs.declared.end.End.TheVariants as is_end;
 use crate::end::End;
 use memchr::memchr;
 use std::alloc::Global;
+use zr_base::{Dva, NoMemory};
+use zr_choose::Chooser;
 use zr_model::{Pool, Stop};
-use zr_script::{Command, parse_line, reply_bytes};
+use zr_script::{Command, Word, parse_line, put_line, reply_bytes};
 use zr_shelf::{Desk, DeskErr};
 
 const LINE_FEED: u8 = b'\n';
@@ -32,7 +37,7 @@ pub fn split_line(bytes: &[u8]) -> Option<(&[u8], &[u8])>
 fn send<D: Desk>(desk: &mut D, bytes: &[u8]) -> Result<(), End>
     ensures sent { D.tells desk.old → OnOk result ((D.world desk.new).now ≡ sent_more (D.world desk.old).now bytes.now) }
     ensures partly { D.tells desk.old → IfErr result (SendsPartly bytes.now (D.world desk.old).now (D.world desk.new).now) }
-    ensures cause { IfErr result (HasCause (D.counts desk.old) (D.counts desk.new)) }
+    ensures cause { IfErr result (HasCause ⊥ (D.counts desk.old) (D.counts desk.new)) }
     ensures sizes { D.sizes desk.new ≡ D.sizes desk.old }
     ensures none_fell { NoneFell (D.counts desk.old) (D.counts desk.new) }
     ensures told { D.tells desk.old → D.tells desk.new }
@@ -47,7 +52,7 @@ fn send<D: Desk>(desk: &mut D, bytes: &[u8]) -> Result<(), End>
 /// Sends the last line of a run, which then ends as said, unless that was not sent.
 pub fn tell<D: Desk>(desk: &mut D, text: &[u8], end: End) -> End
     ensures told_it { D.tells desk.old → Tells end text.now result (D.world desk.old).now (D.world desk.new).now }
-    ensures cause { (result ≡ end) ⊎ HasCause (D.counts desk.old) (D.counts desk.new) result }
+    ensures cause { (result ≡ end) ⊎ HasCause ⊥ (D.counts desk.old) (D.counts desk.new) result }
     ensures sizes { D.sizes desk.new ≡ D.sizes desk.old }
     ensures none_fell { NoneFell (D.counts desk.old) (D.counts desk.new) }
     ensures told { D.tells desk.old → D.tells desk.new }
@@ -61,7 +66,7 @@ pub fn tell<D: Desk>(desk: &mut D, text: &[u8], end: End) -> End
 /// Tells that a line is a bad one.
 pub fn refuse_line<D: Desk>(alloc: Global, number: u64, desk: &mut D) -> End
     ensures told_it { D.tells desk.old → Tells is_end.BadLine (last_line (BadLine number)) result (D.world desk.old).now (D.world desk.new).now }
-    ensures cause { HasCause (D.counts desk.old) (D.counts desk.new) result }
+    ensures cause { HasCause ⊥ (D.counts desk.old) (D.counts desk.new) result }
     ensures sizes { D.sizes desk.new ≡ D.sizes desk.old }
     ensures none_fell { NoneFell (D.counts desk.old) (D.counts desk.new) }
     ensures told { D.tells desk.old → D.tells desk.new }
@@ -72,30 +77,89 @@ pub fn refuse_line<D: Desk>(alloc: Global, number: u64, desk: &mut D) -> End
     tell(desk, text.as_bytes(), End::BadLine)
 }
 
-/// Has the pool do a command, and sends its reply. Where a device failed, that is told.
+/// The last line where damage was met, with the sum that the block should have and the one that it has.
+fn damage_text<'a>(
+    alloc: Global,
+    at: &Dva,
+    expected: &'a [u8; 32],
+    found: &'a [u8; 32],
+) -> Result<Vec<u8>, NoMemory>
+    ensures { IfOk result (λ text. text.items ≡ last_line (Damage (refusal.Damaged at.now expected.now found.now))) }
+{
+    let mut text = Vec::new(alloc);
+    put_line(
+        alloc,
+        &mut text,
+        &[
+            Word::Text(b"stopped"),
+            Word::Text(b"damaged"),
+            Word::Text(b"device"),
+            Word::Number(u64::from(at.dev)),
+            Word::Text(b"unit"),
+            Word::Number(at.start),
+            Word::Text(b"expected"),
+            Word::Hex(expected),
+            Word::Text(b"found"),
+            Word::Hex(found),
+        ],
+    )?;
+    Ok(text)
+}
+
+/// Tells that damage was met.
+fn tell_damage<'a, D: Desk>(
+    alloc: Global,
+    at: &Dva,
+    expected: &'a [u8; 32],
+    found: &'a [u8; 32],
+    desk: &mut D,
+) -> End
+    ensures told_it { D.tells desk.old → Tells is_end.Damaged (last_line (Damage (refusal.Damaged at.now expected.now found.now))) result (D.world desk.old).now (D.world desk.new).now }
+    ensures cause { (result ≡ is_end.Damaged) ⊎ HasCause ⊥ (D.counts desk.old) (D.counts desk.new) result }
+    ensures sizes { D.sizes desk.new ≡ D.sizes desk.old }
+    ensures none_fell { NoneFell (D.counts desk.old) (D.counts desk.new) }
+    ensures told { D.tells desk.old → D.tells desk.new }
+{
+    let Ok(text) = damage_text(alloc, at, expected, found) else {
+        return End::NoMemory;
+    };
+    tell(desk, text.as_slice(), End::Damaged)
+}
+
+/// Has the pool do a command, and sends its reply. Where a device failed or damage was met, that is told.
 fn do_command<P: Pool, D: Desk>(
     alloc: Global,
     command: &Command,
     number: u64,
+    pick: &Chooser,
     pool: &mut P,
     desk: &mut D,
 ) -> Result<(), End>
-    requires { length (D.sizes desk.old) ≡ length (P.paths pool.old) }
-    ensures done { D.tells desk.old → (D.world desk.old).now.paths ≡ P.paths pool.old → OnOk result (DoesCommand command.now (P.state pool.old) (P.state pool.new) (D.world desk.old).now (D.world desk.new).now) }
-    ensures stopped { D.tells desk.old → (D.world desk.old).now.paths ≡ P.paths pool.old → IfErr result (StopsAtCommand command.now number (P.state pool.old) (D.world desk.old).now (D.world desk.new).now) }
-    ensures cause { IfErr result (HasCause (D.counts desk.old) (D.counts desk.new)) }
+    requires fits { P.fits pool.old (D.sizes desk.old) }
+    requires grammar { (line : List ℕ) × IsLine line command.now }
+    ensures done { D.tells desk.old → (D.world desk.old).now.paths ≡ P.paths pool.old → OnOk result (DoesCommand P.meaning command.now (P.state pool.old) (P.state pool.new) (D.world desk.old).now (D.world desk.new).now) }
+    ensures stopped { D.tells desk.old → (D.world desk.old).now.paths ≡ P.paths pool.old → IfErr result (StopsAtCommand P.meaning command.now number (P.state pool.old) (D.world desk.old).now (D.world desk.new).now) }
+    ensures cause { IfErr result (HasCause (MayBeDamaged P.meaning) (D.counts desk.old) (D.counts desk.new)) }
+    ensures fits { P.fits pool.new (D.sizes desk.new) }
     ensures paths { P.paths pool.new ≡ P.paths pool.old }
     ensures sizes { D.sizes desk.new ≡ D.sizes desk.old }
     ensures none_fell { NoneFell (D.counts desk.old) (D.counts desk.new) }
     ensures told { D.tells desk.old → D.tells desk.new }
 {
-    match pool.command(alloc, desk, command) {
+    match pool.command(alloc, desk, pick, command) {
         Ok(Some(reply)) => {
             let text = reply_bytes(alloc, &reply)?;
             send(desk, text.as_slice())
         }
         Ok(None) => Err(refuse_line(alloc, number, desk)),
         Err(Stop::DiskFault) => Err(tell(desk, b"stopped disk fault\n", End::DiskFault)),
+        Err(
+            Stop::Damaged {
+                at,
+                expected,
+                found,
+            },
+        ) => Err(tell_damage(alloc, &at, &expected, &found, desk)),
         Err(Stop::NoMemory) => Err(End::NoMemory),
     }
 }
@@ -105,13 +169,15 @@ pub fn answer_line<P: Pool, D: Desk>(
     alloc: Global,
     line: &[u8],
     number: u64,
+    pick: &Chooser,
     pool: &mut P,
     desk: &mut D,
 ) -> Result<(), End>
-    requires { length (D.sizes desk.old) ≡ length (P.paths pool.old) }
-    ensures answered { D.tells desk.old → (D.world desk.old).now.paths ≡ P.paths pool.old → OnOk result (AnswersLine line.now (P.state pool.old) (P.state pool.new) (D.world desk.old).now (D.world desk.new).now) }
-    ensures stopped { D.tells desk.old → (D.world desk.old).now.paths ≡ P.paths pool.old → IfErr result (StopsAtLine line.now number (P.state pool.old) (D.world desk.old).now (D.world desk.new).now) }
-    ensures cause { IfErr result (HasCause (D.counts desk.old) (D.counts desk.new)) }
+    requires fits { P.fits pool.old (D.sizes desk.old) }
+    ensures answered { D.tells desk.old → (D.world desk.old).now.paths ≡ P.paths pool.old → OnOk result (AnswersLine P.meaning line.now (P.state pool.old) (P.state pool.new) (D.world desk.old).now (D.world desk.new).now) }
+    ensures stopped { D.tells desk.old → (D.world desk.old).now.paths ≡ P.paths pool.old → IfErr result (StopsAtLine P.meaning line.now number (P.state pool.old) (D.world desk.old).now (D.world desk.new).now) }
+    ensures cause { IfErr result (HasCause (MayBeDamaged P.meaning) (D.counts desk.old) (D.counts desk.new)) }
+    ensures fits { P.fits pool.new (D.sizes desk.new) }
     ensures paths { P.paths pool.new ≡ P.paths pool.old }
     ensures sizes { D.sizes desk.new ≡ D.sizes desk.old }
     ensures none_fell { NoneFell (D.counts desk.old) (D.counts desk.new) }
@@ -123,5 +189,5 @@ pub fn answer_line<P: Pool, D: Desk>(
     if let Command::Quit = command {
         return Err(End::Answered);
     }
-    do_command(alloc, &command, number, pool, desk)
+    do_command(alloc, &command, number, pick, pool, desk)
 }

@@ -1,5 +1,5 @@
 //! The pool whose objects are in memory. Nothing of it is on the devices.
-ghost use Rattle.std.specs.Prelude.{◌≡◌, ◌↔◌, ℕ, true, List, None, IsTrue, IfOk, IfSome, IfNone, OnOk};
+ghost use Rattle.std.specs.Prelude.{◌≡◌, ◌↔◌, ℕ, true, List, length, None, IsTrue, IfOk, IfSome, IfNone, OnOk};
 ghost use Rattle.zr_model.specs.State.{State, PoolState, opened, with_objects};
 ghost use Rattle.zr_model.specs.Step.{Step, AnswersOpen, IsServed};
 ghost use Rattle.zr_script.specs.declared.command.Command.TheVariants.{Create};
@@ -8,6 +8,7 @@ ghost use Rattle.zr_session.specs.Memory.{state_in};
 use crate::table::ObjectTable;
 use std::alloc::Global;
 use zr_base::{Blob, Items, NoMemory};
+use zr_choose::Chooser;
 use zr_model::{Pool, Stop};
 use zr_script::{Command, Reply};
 use zr_shelf::Shelf;
@@ -61,7 +62,7 @@ impl OpenPool {
 
 impl MemoryPool {
     /// No pool yet.
-    pub fn new(paths: Items<Blob>) -> MemoryPool
+    fn new(paths: Items<Blob>) -> MemoryPool
         ensures paths { result.paths ≡ paths }
         ensures pool { result.pool ≡ None }
     {
@@ -108,16 +109,26 @@ impl MemoryPool {
 }
 
 impl Pool for MemoryPool {
+    ghost use Rattle.zr_model.specs.Runs.{plain};
     ghost use Rattle.zr_session.specs.Memory.{state_in};
 
     ghost paths = { λ p. p.paths };
 
     ghost state = { λ p. state_in p.paths p.pool };
 
+    ghost fits = { λ p sizes. length sizes ≡ length p.paths };
+
+    ghost meaning = { plain };
+
+    fn closed(_alloc: Global, devs: Items<Blob>) -> Result<MemoryPool, NoMemory> {
+        Ok(MemoryPool::new(devs))
+    }
+
     fn command<S: Shelf>(
         &mut self,
         alloc: Global,
         _shelf: &mut S,
+        _pick: &Chooser,
         command: &Command,
     ) -> Result<Option<Reply>, Stop> {
         Ok(self.act(alloc, command)?)

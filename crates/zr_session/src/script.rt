@@ -6,6 +6,7 @@ ghost use Rattle.std.specs.Prelude.{◌≡◌, ◌≢◌, ◌∷◌, ◌++◌, [
 ghost use Rattle.zr_shelf.specs.Counts.{NoneFell};
 ghost use Rattle.zr_shelf.specs.Disks.{Stand};
 ghost use Rattle.zr_model.specs.Answers.{IsOpenLine};
+ghost use Rattle.zr_model.specs.Runs.{MayBeDamaged};
 ghost use Rattle.zr_session.specs.Ends.{HasCause, EndsAs};
 ghost use Rattle.zr_session.specs.Lines.{AnswersLine, StopsAtLine, StopsAtRest};
 ghost use Rattle.zr_session.specs.Progress.{IsAt};
@@ -13,6 +14,7 @@ ghost use Rattle.zr_session.specs.Progress.{IsAt};
 use crate::end::End;
 use crate::line::{answer_line, refuse_line, split_line};
 use std::alloc::{AllocError, Global};
+use zr_choose::Chooser;
 use zr_model::Pool;
 use zr_script::MAX_LINE;
 use zr_shelf::{Desk, DeskErr};
@@ -40,16 +42,18 @@ impl Script {
         &mut self,
         alloc: Global,
         part: &[u8],
+        pick: &Chooser,
         pool: &mut P,
         desk: &mut D,
     ) -> Result<(), End>
         requires lines { self.old.lines + 1 < 2 ^ 64 }
-        requires slots { length (D.sizes desk.old) ≡ length (P.paths pool.old) }
-        ensures answered { D.tells desk.old → (D.world desk.old).now.paths ≡ P.paths pool.old → OnOk result (AnswersLine (self.old.line.items ++ part.now) (P.state pool.old) (P.state pool.new) (D.world desk.old).now (D.world desk.new).now) }
-        ensures stopped { D.tells desk.old → (D.world desk.old).now.paths ≡ P.paths pool.old → IfErr result (StopsAtLine (self.old.line.items ++ part.now) (self.old.lines + 1) (P.state pool.old) (D.world desk.old).now (D.world desk.new).now) }
+        requires fits { P.fits pool.old (D.sizes desk.old) }
+        ensures answered { D.tells desk.old → (D.world desk.old).now.paths ≡ P.paths pool.old → OnOk result (AnswersLine P.meaning (self.old.line.items ++ part.now) (P.state pool.old) (P.state pool.new) (D.world desk.old).now (D.world desk.new).now) }
+        ensures stopped { D.tells desk.old → (D.world desk.old).now.paths ≡ P.paths pool.old → IfErr result (StopsAtLine P.meaning (self.old.line.items ++ part.now) (self.old.lines + 1) (P.state pool.old) (D.world desk.old).now (D.world desk.new).now) }
         ensures line { OnOk result (self.new.line.items ≡ []) }
         ensures lines { OnOk result (self.new.lines ≡ self.old.lines + 1) }
-        ensures cause { IfErr result (HasCause (D.counts desk.old) (D.counts desk.new)) }
+        ensures cause { IfErr result (HasCause (MayBeDamaged P.meaning) (D.counts desk.old) (D.counts desk.new)) }
+        ensures fits { P.fits pool.new (D.sizes desk.new) }
         ensures paths { P.paths pool.new ≡ P.paths pool.old }
         ensures sizes { D.sizes desk.new ≡ D.sizes desk.old }
         ensures none_fell { NoneFell (D.counts desk.old) (D.counts desk.new) }
@@ -57,10 +61,10 @@ impl Script {
     {
         self.lines += 1;
         if self.line.is_empty() {
-            return answer_line(alloc, part, self.lines, pool, desk);
+            return answer_line(alloc, part, self.lines, pick, pool, desk);
         }
         self.line.extend_from_slice(part).map_err(AllocError::from)?;
-        answer_line(alloc, self.line.as_slice(), self.lines, pool, desk)?;
+        answer_line(alloc, self.line.as_slice(), self.lines, pick, pool, desk)?;
         self.line.clear();
         Ok(())
     }
@@ -74,7 +78,7 @@ impl Script {
         ensures stopped { D.tells desk.old → IfErr result (StopsAtRest (self.old.line.items ++ rest.now) (self.old.lines + 1) (D.world desk.old).now (D.world desk.new).now) }
         ensures lines { self.new.lines ≡ self.old.lines }
         ensures same { OnOk result (desk.new ≡ desk.old) }
-        ensures cause { IfErr result (HasCause (D.counts desk.old) (D.counts desk.new)) }
+        ensures cause { IfErr result (HasCause ⊥ (D.counts desk.old) (D.counts desk.new)) }
         ensures sizes { D.sizes desk.new ≡ D.sizes desk.old }
         ensures none_fell { NoneFell (D.counts desk.old) (D.counts desk.new) }
         ensures told { D.tells desk.old → D.tells desk.new }
@@ -91,22 +95,24 @@ impl Script {
         &mut self,
         alloc: Global,
         piece: &[u8],
+        pick: &Chooser,
         pool: &mut P,
         desk: &mut D,
     ) -> Result<(), End>
         requires lines { self.old.lines + length piece.now + 1 < 2 ^ 64 }
         requires short { length self.old.line.items ≤ 16384 }
-        requires slots { length (D.sizes desk.old) ≡ length (P.paths pool.old) }
+        requires fits { P.fits pool.old (D.sizes desk.old) }
         ensures at { D.tells desk.old → (D.world desk.old).now.paths ≡ P.paths pool.old → OnOk result ((opening : Stand) (taken : ℕ)
-            → IsAt opening (D.world desk.old).now (P.state pool.old) piece.now self.old.line.items self.old.lines taken
-            → IsAt opening (D.world desk.new).now (P.state pool.new) [] self.new.line.items self.new.lines taken) }
+            → IsAt P.meaning opening (D.world desk.old).now (P.state pool.old) piece.now self.old.line.items self.old.lines taken
+            → IsAt P.meaning opening (D.world desk.new).now (P.state pool.new) [] self.new.line.items self.new.lines taken) }
         ensures ends { D.tells desk.old → (D.world desk.old).now.paths ≡ P.paths pool.old → IfErr result (λ end. (opening : Stand) (taken : ℕ)
-            → IsAt opening (D.world desk.old).now (P.state pool.old) piece.now self.old.line.items self.old.lines taken
-            → EndsAs end opening (D.world desk.new).now) }
+            → IsAt P.meaning opening (D.world desk.old).now (P.state pool.old) piece.now self.old.line.items self.old.lines taken
+            → EndsAs P.meaning end opening (D.world desk.new).now) }
         ensures named { D.tells desk.old → (D.world desk.old).now.paths ≡ P.paths pool.old → OnOk result ((D.world desk.new).now.paths ≡ P.paths pool.new) }
         ensures lines { OnOk result (self.new.lines ≤ self.old.lines + length piece.now) }
         ensures short { OnOk result (length self.new.line.items ≤ 16384) }
-        ensures cause { IfErr result (HasCause (D.counts desk.old) (D.counts desk.new)) }
+        ensures cause { IfErr result (HasCause (MayBeDamaged P.meaning) (D.counts desk.old) (D.counts desk.new)) }
+        ensures fits { P.fits pool.new (D.sizes desk.new) }
         ensures paths { P.paths pool.new ≡ P.paths pool.old }
         ensures sizes { D.sizes desk.new ≡ D.sizes desk.old }
         ensures none_fell { NoneFell (D.counts desk.old) (D.counts desk.new) }
@@ -114,20 +120,27 @@ impl Script {
     {
         let mut rest = piece;
         while let Some((part, more)) = split_line(rest) {
-            self.end_line(alloc, part, pool, desk)?;
+            self.end_line(alloc, part, pick, pool, desk)?;
             rest = more;
         }
         self.carry_over(alloc, rest, desk)
     }
 
     /// Answers a last line that no line feed ends, where the input has ended.
-    pub fn finish<P: Pool, D: Desk>(&self, alloc: Global, pool: &mut P, desk: &mut D) -> End
+    pub fn finish<P: Pool, D: Desk>(
+        &self,
+        alloc: Global,
+        pick: &Chooser,
+        pool: &mut P,
+        desk: &mut D,
+    ) -> End
         requires lines { self.now.lines + 1 < 2 ^ 64 }
-        requires slots { length (D.sizes desk.old) ≡ length (P.paths pool.old) }
+        requires fits { P.fits pool.old (D.sizes desk.old) }
         ensures ends { D.tells desk.old → (D.world desk.old).now.paths ≡ P.paths pool.old → (D.world desk.old).now.left ≡ [] → (opening : Stand) (taken : ℕ) → taken < 2 ^ 32
-            → IsAt opening (D.world desk.old).now (P.state pool.old) [] self.now.line.items self.now.lines taken
-            → EndsAs result opening (D.world desk.new).now }
-        ensures cause { HasCause (D.counts desk.old) (D.counts desk.new) result }
+            → IsAt P.meaning opening (D.world desk.old).now (P.state pool.old) [] self.now.line.items self.now.lines taken
+            → EndsAs P.meaning result opening (D.world desk.new).now }
+        ensures cause { HasCause (MayBeDamaged P.meaning) (D.counts desk.old) (D.counts desk.new) result }
+        ensures fits { P.fits pool.new (D.sizes desk.new) }
         ensures paths { P.paths pool.new ≡ P.paths pool.old }
         ensures sizes { D.sizes desk.new ≡ D.sizes desk.old }
         ensures none_fell { NoneFell (D.counts desk.old) (D.counts desk.new) }
@@ -137,7 +150,7 @@ impl Script {
         if line.is_empty() {
             return End::Answered;
         }
-        match answer_line(alloc, line, self.lines + 1, pool, desk) {
+        match answer_line(alloc, line, self.lines + 1, pick, pool, desk) {
             Ok(()) => End::Answered,
             Err(end) => end,
         }

@@ -2,11 +2,13 @@ ghost use Rattle.std.specs.Prelude.{◌≡◌, ◌<◌, []};
 ghost use Rattle.zr_base.specs.declared.space.Policy.{Policy};
 ghost use Rattle.zr_rules.specs.Choices.{AreRuns, IsPick};
 
-use crate::run;
+use crate::{run_in_memory, run_on};
 use std::alloc::Global;
 use std::test::Fail;
-use zr_base::{Extent, Policy};
+use zr_base::{Blob, Dva, Extent, Items, NoMemory, Policy};
 use zr_choose::{Chooser, pick_first};
+use zr_model::{Pool, Stop};
+use zr_script::{Command, Reply};
 use zr_shelf::{Desk, DeskErr, MemDesk, Shelf};
 
 // A desk in memory whose input comes byte by byte. It tells nothing.
@@ -67,8 +69,54 @@ impl Desk for SlowDesk {
     }
 }
 
-// The status that the words and the desk come to, with one chooser.
-fn status<D: Desk>(alloc: Global, words: &[&str], desk: &mut D) -> Result<u8, Fail> {
+// A pool that meets damage at each command.
+#[derive(Drop)]
+struct DamagedPool {
+    paths: Items<Blob>,
+}
+
+impl Pool for DamagedPool {
+    ghost use Rattle.std.specs.Prelude.{◌≡◌, length};
+    ghost use Rattle.zr_model.specs.State.{no_pool};
+
+    ghost paths = { λ p. p.paths };
+
+    ghost state = { λ p. no_pool };
+
+    ghost fits = { λ p sizes. length sizes ≡ length p.paths };
+
+    ghost meaning = { record { takes = λ p t. ⊥; serves = λ paths state command. Unit {0}; damages = λ paths state command found. Unit {0} } };
+
+    fn closed(_alloc: Global, devs: Items<Blob>) -> Result<DamagedPool, NoMemory> {
+        Ok(DamagedPool { paths: devs })
+    }
+
+    fn command<S: Shelf>(
+        &mut self,
+        _alloc: Global,
+        _shelf: &mut S,
+        _pick: &Chooser,
+        _command: &Command,
+    ) -> Result<Option<Reply>, Stop> {
+        Err(Stop::Damaged {
+            at: Dva {
+                dev: 3,
+                start: 70,
+                len: 2,
+            },
+            expected: [1; 32],
+            found: [254; 32],
+        })
+    }
+}
+
+// The status that the words and the desk come to, with one chooser, over a pool in memory or a damaged one.
+fn status_over<D: Desk>(
+    alloc: Global,
+    words: &[&str],
+    desk: &mut D,
+    damaged: bool,
+) -> Result<u8, Fail> {
     let first = Chooser::new(
         String::from_str(alloc, "first")?,
         Policy::First,
@@ -87,10 +135,18 @@ fn status<D: Desk>(alloc: Global, words: &[&str], desk: &mut D) -> Result<u8, Fa
     if desk.slots() != 0 {
         return Ok(255);
     }
-    Ok(run(alloc, strings.as_slice(), desk, &[first]))
+    let choosers = [first];
+    if damaged {
+        return Ok(run_on::<DamagedPool, D>(alloc, strings.as_slice(), desk, &choosers));
+    }
+    Ok(run_in_memory(alloc, strings.as_slice(), desk, &choosers))
 }
 
-const WORDS: [&str; 1] = ["a:8388608"];
+fn status<D: Desk>(alloc: Global, words: &[&str], desk: &mut D) -> Result<u8, Fail> {
+    status_over(alloc, words, desk, false)
+}
+
+const WORDS: [&str; 1] = ["a:4096"];
 
 const MADE: &str = "create p 1 a\nmake 1 1\nwrite 1 0 616263\n";
 
@@ -160,6 +216,35 @@ fn scripts_are_answered(rt: HostRuntime) -> Result<(), Fail> {
     }
     assert!(rt; is_answered(rt.alloc(), &[], "", "", 1)?);
     assert!(rt; is_answered(rt.alloc(), &["a", "a"], "create p 1 a\n", "", 1)?);
+    assert!(rt; is_answered(rt.alloc(), &["a", "b:8388608:1"], "create p 1 a\n", "", 1)?);
+    let two = ["a:4096", "b:4096"];
+    assert!(rt; is_answered(rt.alloc(), &two, "create p 1 a b\n", "ok\n", 0)?);
+    assert!(rt; is_answered(rt.alloc(), &two, "create p 1 a\n", "bad line 1\n", 5)?);
+    Ok(())
+}
+
+#[test]
+fn a_device_that_fails_leaves_those_before_it(rt: HostRuntime) -> Result<(), Fail> {
+    let input = Vec::from_slice(rt.alloc(), b"create p 1 a b\n")?;
+    let mut desk = MemDesk::new(rt.alloc(), input, Vec::from_slice(rt.alloc(), &[2])?);
+    let words = ["a:4096", "b:4096"];
+    assert!(rt; status(rt.alloc(), &words, &mut desk)? == 7);
+    assert!(rt; desk.slots() == 1);
+    assert!(rt; desk.sent().is_empty());
+    Ok(())
+}
+
+#[test]
+fn damage_is_told_with_both_sums(rt: HostRuntime) -> Result<(), Fail> {
+    let input = Vec::from_slice(rt.alloc(), b"sync\nquit\n")?;
+    let mut desk = MemDesk::new(rt.alloc(), input, Vec::new(rt.alloc()));
+    assert!(rt; status_over(rt.alloc(), &WORDS, &mut desk, true)? == 6);
+    let expected = "0101010101010101010101010101010101010101010101010101010101010101";
+    let found = "fefefefefefefefefefefefefefefefefefefefefefefefefefefefefefefefe";
+    let text = format!(in rt.alloc();
+        "stopped damaged device 3 unit 70 expected {expected} found {found}\n"
+    )?;
+    assert!(rt; desk.sent() == text.as_bytes());
     Ok(())
 }
 

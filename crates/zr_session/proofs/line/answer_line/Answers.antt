@@ -11,6 +11,7 @@ returns g c =
       answered = λ t n. on_ok_weaker c.do_command.result (λ d. record { command = c.in-Some.command; asks = asks; does = d }) (c.do_command.ensures.done t n);
       stopped = λ t n. IfErr-weaker c.do_command.result _ _ (λ end h. command c.in-Some.command asks h) (c.do_command.ensures.stopped t n);
       cause = c.do_command.ensures.cause;
+      fits = c.do_command.ensures.fits;
       paths = c.do_command.ensures.paths;
       sizes = c.do_command.ensures.sizes;
       none_fell = c.do_command.ensures.none_fell;

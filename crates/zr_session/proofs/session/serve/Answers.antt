@@ -7,12 +7,13 @@ pub loop-taken-init : goal.loop-taken-init
 loop-taken-init g c =
     let s = c.new-script.ensures in
     record {
-      at = λ t n. start_as _ _ _ _ c.requires.closed s.line s.lines;
+      at = λ t n. start_as _ _ _ _ _ c.requires.closed s.line s.lines;
       named = λ t n. n;
       told = λ t. t;
       lines = let l = s.lines in omega arith;
       most = omega arith;
       short = let l = ap length s.line in omega arith;
+      fits = c.requires.fits;
       paths = refl;
       sizes = refl;
       none_fell = record { disk = omega arith; attach = omega arith; input = omega arith; output = omega arith };
@@ -21,4 +22,4 @@ loop-taken-init g c =
 pub returns-clause-ends : goal.returns-clause-ends
 returns-clause-ends g c = λ t n.
     let i = c.loop-taken.invariant in
-    ends_limit _ _ _ _ _ _ _ c.tell.result (i.at t n) (let m = i.most in let f = c.loop-taken-test.false in omega arith) (c.tell.ensures.told_it (i.told t))
+    ends_limit _ _ _ _ _ _ _ _ c.tell.result (i.at t n) (let m = i.most in let f = c.loop-taken-test.false in omega arith) (c.tell.ensures.told_it (i.told t))

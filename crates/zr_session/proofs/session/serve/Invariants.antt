@@ -9,12 +9,13 @@ invariant-loop-taken g l =
     let pool = g.P.Pool in
     record {
       at : desk.tells l.fn.desk → (desk.world l.fn.desk).now.paths ≡ pool.paths l.fn.pool
-          → IsAt (desk.world l.fn.desk).now (desk.world l.desk).now (pool.state l.pool) [] l.script.line.items l.script.lines l.taken;
+          → IsAt pool.meaning (desk.world l.fn.desk).now (desk.world l.desk).now (pool.state l.pool) [] l.script.line.items l.script.lines l.taken;
       named : desk.tells l.fn.desk → (desk.world l.fn.desk).now.paths ≡ pool.paths l.fn.pool → (desk.world l.desk).now.paths ≡ pool.paths l.pool;
       told : desk.tells l.fn.desk → desk.tells l.desk;
       lines : l.script.lines ≤ l.taken;
       most : l.taken ≤ 2 ^ 32;
       short : length l.script.line.items ≤ 16384;
+      fits : pool.fits l.pool (desk.sizes l.desk);
       paths : pool.paths l.pool ≡ pool.paths l.fn.pool;
       sizes : desk.sizes l.desk ≡ desk.sizes l.fn.desk;
       none_fell : NoneFell (desk.counts l.fn.desk) (desk.counts l.desk);

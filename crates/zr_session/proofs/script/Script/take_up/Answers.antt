@@ -11,10 +11,10 @@ returns-in_err-end_line-clause-ends g c = λ t n.
     let i = c.loop-part.invariant in
     let p = err_from_is_err_and c.from_residual.result c.from_residual.ensures.1 in
     rw p.1 (λ opening taken a.
-    let ended : EndsAs c.in_err-end_line.field-0.0 opening (g.D.Shelf.world c.end_line.new.desk).now =
-    ends_part opening _ _ _ _ _ c.in-Some.part.now c.in-Some.more.now _ taken _ (i.at t n opening taken a) c.in-Some.ensures.some.0 c.in-Some.ensures.some.1
+    let ended : EndsAs g.P.Pool.meaning c.in_err-end_line.field-0.0 opening (g.D.Shelf.world c.end_line.new.desk).now =
+    ends_part _ opening _ _ _ _ _ c.in-Some.part.now c.in-Some.more.now _ taken _ (i.at t n opening taken a) c.in-Some.ensures.some.0 c.in-Some.ensures.some.1
     (c.in_err-end_line.ensures.stopped (i.told t) (i.named t n)) in
-    subst (λ e. EndsAs e opening (g.D.Shelf.world c.end_line.new.desk).now) (sym p.2) ended)
+    subst (λ e. EndsAs g.P.Pool.meaning e opening (g.D.Shelf.world c.end_line.new.desk).now) (sym p.2) ended)
 
 pub loop-part-preserved : goal.loop-part-preserved
 loop-part-preserved g c =
@@ -23,11 +23,12 @@ loop-part-preserved g c =
     let o = c.in_ok-end_line.ensures in
     let parts = ap length s.0 ∙ length-append c.in-Some.part.now _ in
     record {
-      at = λ t n opening taken a. at_line_as opening _ _ _ _ _ _ c.in-Some.part.now _ _ taken _ _ (i.at t n opening taken a) s.0 s.1 (o.answered (i.told t) (i.named t n)) o.line o.lines;
-      named = λ t n. paths_kept _ _ _ _ _ (o.answered (i.told t) (i.named t n)) ∙ (i.named t n ∙ sym o.paths);
+      at = λ t n opening taken a. at_line_as _ opening _ _ _ _ _ _ c.in-Some.part.now _ _ taken _ _ (i.at t n opening taken a) s.0 s.1 (o.answered (i.told t) (i.named t n)) o.line o.lines;
+      named = λ t n. paths_kept _ _ _ _ _ _ (o.answered (i.told t) (i.named t n)) ∙ (i.named t n ∙ sym o.paths);
       told = λ t. o.told (i.told t);
       lines = let l = i.lines in let e = o.lines in omega arith;
       short = let e = ap length o.line in omega arith;
+      fits = o.fits;
       paths = o.paths ∙ i.paths;
       sizes = o.sizes ∙ i.sizes;
       none_fell = fell_more _ _ _ i.none_fell o.none_fell;
@@ -38,12 +39,12 @@ returns-clause-at g c = λ t n.
     let i = c.loop-part.invariant in
     from_three c.carry_over.result _ _ _ _ c.carry_over.ensures.same c.carry_over.ensures.line c.carry_over.ensures.short
     (λ same line short opening taken a.
-    at_kept_as opening _ _ _ _ _ _ _ _ taken (i.at t n opening taken a) c.in_default.ensures.none (ap (λ d. (g.D.Shelf.world d).now) same) line short c.carry_over.ensures.lines)
+    at_kept_as _ opening _ _ _ _ _ _ _ _ taken (i.at t n opening taken a) c.in_default.ensures.none (ap (λ d. (g.D.Shelf.world d).now) same) line short c.carry_over.ensures.lines)
 
 pub returns-clause-ends : goal.returns-clause-ends
 returns-clause-ends g c = λ t n.
     let i = c.loop-part.invariant in
-    IfErr-weaker c.carry_over.result _ _ (λ end h opening taken a. ends_rest opening _ _ _ _ _ _ taken end (i.at t n opening taken a) c.in_default.ensures.none h) (c.carry_over.ensures.stopped (i.told t))
+    IfErr-weaker c.carry_over.result _ _ (λ end h opening taken a. ends_rest _ opening _ _ _ _ _ _ taken end (i.at t n opening taken a) c.in_default.ensures.none h) (c.carry_over.ensures.stopped (i.told t))
 
 pub returns-clause-named : goal.returns-clause-named
 returns-clause-named g c = λ t n.

@@ -10,12 +10,13 @@ invariant-loop-part g l =
     let pool = g.P.Pool in
     record {
       at : desk.tells l.fn.desk → (desk.world l.fn.desk).now.paths ≡ pool.paths l.fn.pool → (opening : Stand) (taken : ℕ)
-          → IsAt opening (desk.world l.fn.desk).now (pool.state l.fn.pool) l.piece l.fn.self.line.items l.fn.self.lines taken
-          → IsAt opening (desk.world l.desk).now (pool.state l.pool) l.rest l.self.line.items l.self.lines taken;
+          → IsAt pool.meaning opening (desk.world l.fn.desk).now (pool.state l.fn.pool) l.piece l.fn.self.line.items l.fn.self.lines taken
+          → IsAt pool.meaning opening (desk.world l.desk).now (pool.state l.pool) l.rest l.self.line.items l.self.lines taken;
       named : desk.tells l.fn.desk → (desk.world l.fn.desk).now.paths ≡ pool.paths l.fn.pool → (desk.world l.desk).now.paths ≡ pool.paths l.pool;
       told : desk.tells l.fn.desk → desk.tells l.desk;
       lines : l.self.lines + length l.rest ≤ l.fn.self.lines + length l.piece;
       short : length l.self.line.items ≤ 16384;
+      fits : pool.fits l.pool (desk.sizes l.desk);
       paths : pool.paths l.pool ≡ pool.paths l.fn.pool;
       sizes : desk.sizes l.desk ≡ desk.sizes l.fn.desk;
       none_fell : NoneFell (desk.counts l.fn.desk) (desk.counts l.desk);

@@ -1,0 +1,172 @@
+//! The program: words, devices, the run, a status.
+//!
+//! `run_on` is the program over a pool of any kind, and says what such a pool says of its commands. `run_in_memory` is the
+//! program over the pool in memory, whose commands mean what they mean to plain objects.
+ghost use Rattle.std.specs.Prelude.{◌≡◌, ◌≢◌, ◌⊎◌, [], ◌+◌, ◌≤◌, ℕ, length, map, IfOk, OnOk, IfErr, IsErrOf};
+ghost use Rattle.std.specs.String.{string_bytes};
+ghost use Rattle.zr_base.specs.Counts.{HasRisen};
+ghost use Rattle.zr_shelf.specs.Counts.{NoneFell};
+ghost use Rattle.zr_shelf.specs.declared.desk.DeskErr.TheVariants.{Failed};
+ghost use Rattle.zr_model.specs.Runs.{MayBeDamaged, plain};
+ghost use Rattle.zr_model.specs.Answers.{IsAttached, IsPartlyAttached, RunsTo, StopsAtDevice, IsDone, TellsBadLine, TellsLimit, TellsFault, TellsDamage, AnswersTaken, AnswersFront, AnswersPartly};
+ghost use Rattle.zr_session.specs.Ends.{HasCause, IsOpenedTo};
+ghost use Rattle.zr_session.specs.Headline.{NoneRose, IsNoCommandLine, path_of};
+
+use crate::device::{Device, parse_devices};
+use crate::end::End;
+use crate::memory::MemoryPool;
+use crate::session::serve;
+use std::alloc::Global;
+use zr_base::{Blob, Items, NoMemory};
+use zr_choose::Chooser;
+use zr_model::Pool;
+use zr_shelf::{Desk, DeskErr};
+
+/// The paths of the devices.
+fn paths_of(alloc: Global, devices: &[Device]) -> Result<Items<Blob>, NoMemory>
+    ensures { IfOk result (λ paths. paths ≡ map path_of devices.now) }
+{
+    let mut paths = Items::new(alloc);
+    for device in devices {
+        paths.push(Blob::copy_of(alloc, device.path.as_bytes())?)?;
+    }
+    Ok(paths)
+}
+
+/// Attaches the devices in order. Those before one that was not attached stay.
+fn attach_all<D: Desk>(devices: &[Device], desk: &mut D) -> Result<(), DeskErr>
+    ensures done { D.tells desk.old → OnOk result (IsAttached (map path_of devices.now) (D.world desk.old).now (D.world desk.new).now) }
+    ensures partly { D.tells desk.old → IfErr result (λ e. IsPartlyAttached (map path_of devices.now) (D.world desk.old).now (D.world desk.new).now) }
+    ensures sizes { OnOk result (length (D.sizes desk.new) ≡ length (D.sizes desk.old) + length devices.now) }
+    ensures failed { IsErrOf result Failed → HasRisen (D.counts desk.old).attach (D.counts desk.new).attach }
+    ensures none_fell { NoneFell (D.counts desk.old) (D.counts desk.new) }
+    ensures told { D.tells desk.old → D.tells desk.new }
+{
+    for device in devices {
+        desk.attach(device.path, device.make)?;
+    }
+    Ok(())
+}
+
+/// Attaches the devices and answers the input.
+fn open_session<P: Pool + Drop, D: Desk>(
+    alloc: Global,
+    devices: &[Device],
+    pick: &Chooser,
+    desk: &mut D,
+) -> End
+    requires none { D.sizes desk.old ≡ [] }
+    requires few { length devices.now ≤ 32 }
+    ensures ends { D.tells desk.old → IsOpenedTo P.meaning result (map path_of devices.now) (D.world desk.old).now (D.world desk.new).now }
+    ensures cause { HasCause (MayBeDamaged P.meaning) (D.counts desk.old) (D.counts desk.new) result }
+    ensures told { D.tells desk.old → D.tells desk.new }
+{
+    let Ok(paths) = paths_of(alloc, devices) else {
+        return End::NoMemory;
+    };
+    let Ok(mut pool) = P::closed(alloc, paths) else {
+        return End::NoMemory;
+    };
+    match attach_all(devices, desk) {
+        Ok(()) => serve(alloc, pick, &mut pool, desk),
+        Err(DeskErr::Failed) => End::AttachFault,
+        Err(DeskErr::NoMemory) => End::NoMemory,
+    }
+}
+
+/// Runs the program over a pool of the kind `P`: reads the words, attaches the devices in order and answers the input
+/// line by line. It answers the status.
+///
+/// The words are 1 to 32 devices, of which no path stands twice, and the first chooser is the pool's. Input is taken in
+/// pieces of at most 65,536 bytes.
+pub fn run_on<P: Pool + Drop, D: Desk>(
+    alloc: Global,
+    words: &[String],
+    desk: &mut D,
+    choosers: &[Chooser],
+) -> u8
+    requires { D.sizes desk.old ≡ [] }
+    // The program ends with one of these statuses.
+    ensures known { result ≤ 9 }
+    // At status 0 what was sent are the answers of such a pool to all lines, or to those before a `quit`.
+    ensures done { D.tells desk.old → result ≡ 0 → RunsTo (IsDone P.meaning) (length choosers.now) (map string_bytes words.now) (D.world desk.old).now (D.world desk.new).now }
+    // At status 1 the words are no command line, and nothing was done at all.
+    ensures bad_words { result ≡ 1 → IsNoCommandLine (length choosers.now) (map string_bytes words.now) × (desk.new ≡ desk.old) }
+    // Where the words are no command line, no other status comes, unless memory ran out.
+    ensures words { IsNoCommandLine (length choosers.now) (map string_bytes words.now) → (result ≡ 1) ⊎ (result ≡ 9) }
+    // At status 2 a call that takes of the input failed. All lines that were taken whole are answered.
+    ensures input_fault { result ≡ 2 → HasRisen (D.counts desk.old).input (D.counts desk.new).input }
+    ensures taken { D.tells desk.old → result ≡ 2 → RunsTo (AnswersTaken P.meaning) (length choosers.now) (map string_bytes words.now) (D.world desk.old).now (D.world desk.new).now }
+    // At status 3 a call that sends failed. A front of the answers was sent.
+    ensures output_fault { result ≡ 3 → HasRisen (D.counts desk.old).output (D.counts desk.new).output }
+    ensures partly { D.tells desk.old → result ≡ 3 → RunsTo (AnswersPartly P.meaning) (length choosers.now) (map string_bytes words.now) (D.world desk.old).now (D.world desk.new).now }
+    // At status 4 a device failed within a command, and that is told.
+    ensures disk_fault { result ≡ 4 → HasRisen (D.counts desk.old).disk (D.counts desk.new).disk }
+    ensures stopped { D.tells desk.old → result ≡ 4 → RunsTo (TellsFault P.meaning) (length choosers.now) (map string_bytes words.now) (D.world desk.old).now (D.world desk.new).now }
+    // At status 5 all lines before a bad one are answered, and that one is told with its number.
+    ensures bad_line { D.tells desk.old → result ≡ 5 → RunsTo (TellsBadLine P.meaning) (length choosers.now) (map string_bytes words.now) (D.world desk.old).now (D.world desk.new).now }
+    // At status 6 a command met damage, and that is told.
+    ensures may_be { result ≡ 6 → MayBeDamaged P.meaning }
+    ensures damaged { D.tells desk.old → result ≡ 6 → RunsTo (TellsDamage P.meaning) (length choosers.now) (map string_bytes words.now) (D.world desk.old).now (D.world desk.new).now }
+    // At status 7 a device was not attached, those before it are, and nothing else was done.
+    ensures attach_fault { result ≡ 7 → HasRisen (D.counts desk.old).attach (D.counts desk.new).attach }
+    ensures unattached { D.tells desk.old → result ≡ 7 → StopsAtDevice (length choosers.now) (map string_bytes words.now) (D.world desk.old).now (D.world desk.new).now }
+    // At status 8 2^32 bytes were taken and no end came, all their whole lines are answered, and that is told.
+    ensures limit { D.tells desk.old → result ≡ 8 → RunsTo (TellsLimit P.meaning) (length choosers.now) (map string_bytes words.now) (D.world desk.old).now (D.world desk.new).now }
+    // At status 9 memory ran out. All that was sent are the answers to first lines.
+    ensures memory { D.tells desk.old → result ≡ 9 → ((D.world desk.new).now ≡ (D.world desk.old).now) ⊎ StopsAtDevice (length choosers.now) (map string_bytes words.now) (D.world desk.old).now (D.world desk.new).now ⊎ RunsTo (AnswersFront P.meaning) (length choosers.now) (map string_bytes words.now) (D.world desk.old).now (D.world desk.new).now }
+    // Where no call failed, no damage was met and no line is a bad one, the whole input is answered, unless it is too long or memory ran out.
+    ensures complete { NoneRose (D.counts desk.old) (D.counts desk.new) → (result ≡ 0) ⊎ (result ≡ 1) ⊎ (result ≡ 5) ⊎ (result ≡ 6) ⊎ (result ≡ 8) ⊎ (result ≡ 9) }
+{
+    let Some(pick) = choosers.first() else {
+        return End::BadWords.status();
+    };
+    match parse_devices(alloc, words) {
+        Ok(Some(devices)) => open_session::<P, D>(alloc, devices.as_slice(), pick, desk).status(),
+        Ok(None) => End::BadWords.status(),
+        Err(NoMemory) => End::NoMemory.status(),
+    }
+}
+
+/// Runs the program over a pool in memory.
+///
+/// The words are 1 to 32 devices, of which no path stands twice, and there is at least one chooser. Input is taken in
+/// pieces of at most 65,536 bytes.
+pub fn run_in_memory<D: Desk>(
+    alloc: Global,
+    words: &[String],
+    desk: &mut D,
+    choosers: &[Chooser],
+) -> u8
+    requires { D.sizes desk.old ≡ [] }
+    // The program ends with one of these statuses: damage is met by no pool in memory.
+    ensures known { (result ≤ 9) × (result ≢ 6) }
+    // At status 0 what was sent are the answers of a pool of plain objects to all lines, or to those before a `quit`.
+    ensures done { D.tells desk.old → result ≡ 0 → RunsTo (IsDone plain) (length choosers.now) (map string_bytes words.now) (D.world desk.old).now (D.world desk.new).now }
+    // At status 1 the words are no command line, and nothing was done at all.
+    ensures bad_words { result ≡ 1 → IsNoCommandLine (length choosers.now) (map string_bytes words.now) × (desk.new ≡ desk.old) }
+    // Where the words are no command line, no other status comes, unless memory ran out.
+    ensures words { IsNoCommandLine (length choosers.now) (map string_bytes words.now) → (result ≡ 1) ⊎ (result ≡ 9) }
+    // At status 2 a call that takes of the input failed. All lines that were taken whole are answered.
+    ensures input_fault { result ≡ 2 → HasRisen (D.counts desk.old).input (D.counts desk.new).input }
+    ensures taken { D.tells desk.old → result ≡ 2 → RunsTo (AnswersTaken plain) (length choosers.now) (map string_bytes words.now) (D.world desk.old).now (D.world desk.new).now }
+    // At status 3 a call that sends failed. A front of the answers was sent.
+    ensures output_fault { result ≡ 3 → HasRisen (D.counts desk.old).output (D.counts desk.new).output }
+    ensures partly { D.tells desk.old → result ≡ 3 → RunsTo (AnswersPartly plain) (length choosers.now) (map string_bytes words.now) (D.world desk.old).now (D.world desk.new).now }
+    // At status 4 a device failed within a command, and that is told.
+    ensures disk_fault { result ≡ 4 → HasRisen (D.counts desk.old).disk (D.counts desk.new).disk }
+    ensures stopped { D.tells desk.old → result ≡ 4 → RunsTo (TellsFault plain) (length choosers.now) (map string_bytes words.now) (D.world desk.old).now (D.world desk.new).now }
+    // At status 5 all lines before a bad one are answered, and that one is told with its number.
+    ensures bad_line { D.tells desk.old → result ≡ 5 → RunsTo (TellsBadLine plain) (length choosers.now) (map string_bytes words.now) (D.world desk.old).now (D.world desk.new).now }
+    // At status 7 a device was not attached, those before it are, and nothing else was done.
+    ensures attach_fault { result ≡ 7 → HasRisen (D.counts desk.old).attach (D.counts desk.new).attach }
+    ensures unattached { D.tells desk.old → result ≡ 7 → StopsAtDevice (length choosers.now) (map string_bytes words.now) (D.world desk.old).now (D.world desk.new).now }
+    // At status 8 2^32 bytes were taken and no end came, all their whole lines are answered, and that is told.
+    ensures limit { D.tells desk.old → result ≡ 8 → RunsTo (TellsLimit plain) (length choosers.now) (map string_bytes words.now) (D.world desk.old).now (D.world desk.new).now }
+    // At status 9 memory ran out. All that was sent are the answers to first lines.
+    ensures memory { D.tells desk.old → result ≡ 9 → ((D.world desk.new).now ≡ (D.world desk.old).now) ⊎ StopsAtDevice (length choosers.now) (map string_bytes words.now) (D.world desk.old).now (D.world desk.new).now ⊎ RunsTo (AnswersFront plain) (length choosers.now) (map string_bytes words.now) (D.world desk.old).now (D.world desk.new).now }
+    // Where no call failed and no line is a bad one, the whole input is answered, unless it is too long or memory ran out.
+    ensures complete { NoneRose (D.counts desk.old) (D.counts desk.new) → (result ≡ 0) ⊎ (result ≡ 1) ⊎ (result ≡ 5) ⊎ (result ≡ 8) ⊎ (result ≡ 9) }
+{
+    run_on::<MemoryPool, D>(alloc, words, desk, choosers)
+}
