@@ -1,2 +1,6 @@
 pub mod Runs
+pub mod Rows
+pub mod Publishing
+pub mod Groups
 pub mod Pools
+pub mod Disks

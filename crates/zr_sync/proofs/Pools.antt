@@ -1,21 +1,41 @@
 -- An open pool through the steps of a commit.
-use Rattle.std.proofs.Common.{◌≡◌, ℕ, ◌≤◌, ◌<◌, ◌^◌, List, Option, refl, sym, ◌∙◌, ap, subst, arith}
-use Rattle.std.specs.Prelude.{IsTrue, slice_index, All}
+use Rattle.std.proofs.Common.{◌≡◌, ℕ, ◌≤◌, ◌<◌, ◌^◌, List, length, get_or, Option, refl, sym, ◌∙◌, ap, subst, arith}
+use Rattle.std.specs.Prelude.{IsTrue, slice_index, slice_set, All}
+use Rattle.std.proofs.lemmas.List.Elements.{All-set}
 use Rattle.std.proofs.lemmas.Bool.Decides.{nat_tests}
 use Rattle.zr_base.specs.Counts.{HasRisen}
 use Rattle.zr_label.specs.Geometry.{is_disk_size, unit_at}
 use Rattle.zr_rules.specs.Equation.{devices_in}
 use Rattle.zr_rules.specs.Places.{units_of_dev}
-use Rattle.zr_shelf.specs.Counts.{Counts}
+use Rattle.zr_shelf.specs.Counts.{Counts, NoneFell}
 use Rattle.zr_shelf.specs.Moments.{World}
 use Rattle.zr_view.specs.Runs.{HasDisk}
 use Rattle.zr_vdev.specs.Stores.{Continues}
 use Rattle.zr_vdev.specs.declared.kind.Kind.TheVariants.{Meta}
-use Rattle.zr_vdev.proofs.Follows.{continues_itself, continues_more}
+use Rattle.zr_vdev.proofs.Follows.{continues_itself, continues_more, others_itself}
 use Rattle.zr_vdev.proofs.Frames.{continues_mounted, continues_service}
+use Rattle.zr_sync.specs.declared.open.DeviceStreams.{DeviceStreams}
 use Rattle.zr_sync.specs.declared.open.OpenPool.{OpenPool}
-use Rattle.zr_sync.specs.Pools.{AreStreams, IsOpen}
-use Rattle.zr_sync.specs.Writes.{WritesMetadata}
+use Rattle.zr_lookup.specs.Groups.{IsLawfulGroup}
+use Rattle.zr_sync.specs.Pools.{AreStreams, IsOpen, IsInLimits, AreRows, IsAfter, IsDirectory}
+use Rattle.zr_sync.specs.Writes.{WritesMetadata, WritesTrees, WritesBlocks, WritesAll}
+use Rattle.zr_sync.proofs.Disks.{works_more, works_trees, works_metadata}
+
+-- ---- faults
+
+pub risen_later : (a b c : ℕ) → a ≤ b → HasRisen b c → HasRisen a c
+risen_later a b c le risen = omega (arith, le, risen)
+
+pub risen_before : (a b c : ℕ) → HasRisen a b → b ≤ c → HasRisen a c
+risen_before a b c risen le = omega (arith, le, risen)
+
+pub falls_more : (a b c : Counts) → NoneFell a b → NoneFell b c → NoneFell a c
+falls_more a b c p q =
+    let d = p.disk in let e = q.disk in
+    let f = p.attach in let g = q.attach in
+    let h = p.input in let i = q.input in
+    let j = p.output in let k = q.output in
+    record { disk = omega (arith, d, e); attach = omega (arith, f, g); input = omega (arith, h, i); output = omega (arith, j, k) }
 
 -- ---- what a step leaves alone
 
@@ -44,10 +64,11 @@ metadata_open n1 n2 c1 c2 t1 t2 w1 w2 x y o p streams =
       some = o.some;
       few = o.few;
       table = o.table;
-      on = o.on;
+      slots = o.slots;
       first = o.first;
       after = o.after;
       group = o.group;
+      limits = o.limits;
       dir = o.dir;
       head = o.head;
       streams = streams;
@@ -61,13 +82,126 @@ metadata_open n1 n2 c1 c2 t1 t2 w1 w2 x y o p streams =
       disks = λ d slot lt is. subst (λ (n : List ℕ). IsTrue (is_disk_size 2 (slice_index n slot))) (sym p.goes.sizes) (o.disks d slot lt is);
     })
 
--- ---- faults
+-- a step that leaves all but the space, the cache and the streams
+pub step_open : {n1 n2 : List ℕ} {c1 c2 : Counts} {t1 t2 : Type 0} {w1 w2 : World} (x y : OpenPool)
+    → IsOpen n1 x → Continues Meta x.table.slots n1 n2 c1 c2 t1 t2 w1 w2 x.space y.space x.cache y.cache → y ≡ record x { space = y.space; cache = y.cache; streams = y.streams } → length y.streams.items ≡ length x.streams.items
+    → All AreStreams y.streams.items → IsOpen n2 y
+step_open {n1} {n2} {c1} {c2} {t1} {t2} {w1} {w2} x y o goes rest count streams =
+    metadata_open n1 n2 c1 c2 t1 t2 w1 w2 x y o (record { goes = goes; rest = rest; count = count }) streams
 
-pub risen_later : (a b c : ℕ) → a ≤ b → HasRisen b c → HasRisen a c
-risen_later a b c le risen = omega (arith, le, risen)
+-- a step that leaves all but the streams
+pub streams_step : (n : List ℕ) (c : Counts) (t : Type 0) (w : World) (x y : OpenPool) → y ≡ record x { streams = y.streams } → length y.streams.items ≡ length x.streams.items → WritesMetadata n n c c t t w w x y
+streams_step n c t w x y rest count =
+    subst (WritesMetadata n n c c t t w w x) (sym rest) (record { goes = continues_itself Meta x.table.slots n c t w x.space x.cache; rest = refl; count = count })
 
-pub risen_before : (a b c : ℕ) → HasRisen a b → b ≤ c → HasRisen a c
-risen_before a b c risen le = omega (arith, le, risen)
+pub streams_open : (n : List ℕ) (c : Counts) (t : Type 0) (w : World) (x y : OpenPool) → IsOpen n x → y ≡ record x { streams = y.streams } → length y.streams.items ≡ length x.streams.items → All AreStreams y.streams.items → IsOpen n y
+streams_open n c t w x y o rest count streams = metadata_open n n c c t t w w x y o (streams_step n c t w x y rest count) streams
+
+-- the streams of a device
+pub streams_at : (xs : List DeviceStreams) (i : ℕ) (a : DeviceStreams) → i < length xs → a ≡ get_or xs i a → All AreStreams xs → AreStreams a
+streams_at xs i a lt is all = subst AreStreams (sym is) (all i a lt)
+
+pub streams_set : (xs : List DeviceStreams) (i : ℕ) (a : DeviceStreams) → AreStreams a → All AreStreams xs → All AreStreams (slice_set xs i a)
+streams_set xs i a new all = All-set AreStreams xs i a new all
+
+pub blocks_open : (n1 n2 : List ℕ) (c1 c2 : Counts) (t1 t2 : Type 0) (w1 w2 : World) (x y : OpenPool)
+    → IsOpen n1 x → WritesBlocks n1 n2 c1 c2 t1 t2 w1 w2 x y → IsLawfulGroup y.group → IsInLimits y.group → IsOpen n2 y
+blocks_open n1 n2 c1 c2 t1 t2 w1 w2 x y o p lawful limits =
+    let rows = p.goes.space.rows in
+    let txg = p.txg in
+    subst (IsOpen n2) (sym p.rest) (record {
+      version = o.version;
+      guid = o.guid;
+      name = o.name;
+      some = o.some;
+      few = o.few;
+      table = subst (λ (t : ℕ). AreRows x.version t x.table.count x.table.rows) (sym txg) o.table;
+      slots = o.slots;
+      first = subst (λ (t : ℕ). 1 ≤ t) (sym txg) o.first;
+      after = subst (λ (t : ℕ). IsAfter x.last t) (sym txg) o.after;
+      group = lawful;
+      limits = limits;
+      dir = o.dir;
+      head = o.head;
+      streams = o.streams;
+      count = o.count;
+      spelled = rows.version ∙ o.spelled;
+      devices = rows.devices ∙ o.devices;
+      rows = λ d lt. (rows.each d).row ∙ o.rows d lt;
+      lawful = rows.lawful o.lawful;
+      mounted = continues_mounted x.space y.space p.goes o.mounted;
+      service = continues_service x.space y.space p.goes o.service;
+      disks = λ d slot lt is. subst (λ (n : List ℕ). IsTrue (is_disk_size 2 (slice_index n slot))) (sym p.goes.sizes) (o.disks d slot lt is);
+    })
+
+pub trees_open : (n1 n2 : List ℕ) (c1 c2 : Counts) (t1 t2 : Type 0) (w1 w2 : World) (x y : OpenPool)
+    → IsOpen n1 x → WritesTrees n1 n2 c1 c2 t1 t2 w1 w2 x y → IsDirectory y.dir → IsOpen n2 y
+trees_open n1 n2 c1 c2 t1 t2 w1 w2 x y o p dir =
+    let rows = p.goes.space.rows in
+    subst (IsOpen n2) (sym p.rest) (record {
+      version = o.version;
+      guid = o.guid;
+      name = o.name;
+      some = o.some;
+      few = o.few;
+      table = o.table;
+      slots = o.slots;
+      first = o.first;
+      after = o.after;
+      group = o.group;
+      limits = o.limits;
+      dir = dir;
+      head = o.head;
+      streams = o.streams;
+      count = o.count;
+      spelled = rows.version ∙ o.spelled;
+      devices = rows.devices ∙ o.devices;
+      rows = λ d lt. (rows.each d).row ∙ o.rows d lt;
+      lawful = rows.lawful o.lawful;
+      mounted = continues_mounted x.space y.space p.goes o.mounted;
+      service = continues_service x.space y.space p.goes o.service;
+      disks = λ d slot lt is. subst (λ (n : List ℕ). IsTrue (is_disk_size 2 (slice_index n slot))) (sym p.goes.sizes) (o.disks d slot lt is);
+    })
+
+-- one step after another
+pub metadata_then : {n1 n2 n3 : List ℕ} {c1 c2 c3 : Counts} {t1 t2 t3 : Type 0} {w1 w2 w3 : World} {x y z : OpenPool}
+    → WritesMetadata n1 n2 c1 c2 t1 t2 w1 w2 x y → WritesMetadata n2 n3 c2 c3 t2 t3 w2 w3 y z → WritesMetadata n1 n3 c1 c3 t1 t3 w1 w3 x z
+metadata_then {n1} {n2} {n3} {c1} {c2} {c3} {t1} {t2} {t3} {w1} {w2} {w3} {x} {y} {z} p q =
+    metadata_more n1 n2 n3 c1 c2 c3 t1 t2 t3 w1 w2 w3 x y z p q
+
+pub metadata_table : {n1 n2 : List ℕ} {c1 c2 : Counts} {t1 t2 : Type 0} {w1 w2 : World} {x y : OpenPool}
+    → WritesMetadata n1 n2 c1 c2 t1 t2 w1 w2 x y → y.table ≡ x.table
+metadata_table p = ap (λ (o : OpenPool). o.table) p.rest
+
+-- the trees, and then the metadata
+pub all_written : {n1 n2 n3 : List ℕ} {c1 c2 c3 : Counts} {t1 t2 t3 : Type 0} {w1 w2 w3 : World} {x y z : OpenPool}
+    → WritesTrees n1 n2 c1 c2 t1 t2 w1 w2 x y → WritesMetadata n2 n3 c2 c3 t2 t3 w2 w3 y z → WritesAll n1 n3 c1 c3 t1 t3 w1 w3 x z
+all_written {n1} {n2} {n3} {c1} {c2} {c3} {t1} {t2} {t3} {w1} {w2} {w3} {x} {y} {z} p q = record {
+  sizes = q.goes.sizes ∙ p.goes.sizes;
+  none_fell = falls_more c1 c2 c3 p.goes.none_fell q.goes.none_fell;
+  told = λ t. q.goes.told (p.goes.told t);
+  disks = λ t. works_more w1 w2 w3 (works_trees n1 n2 c1 c2 t1 t2 w1 w2 x y t p) (works_metadata n2 n3 c2 c3 t2 t3 w2 w3 y z (p.goes.told t) q);
+  mid = y.space;
+  blocks = p.goes.space;
+  metadata = q.goes.space;
+  rest =
+      q.rest
+      ∙ (ap (λ (o : OpenPool). record o { space = z.space; cache = z.cache; streams = z.streams }) p.rest
+      ∙ ap (λ (o : OpenPool). record x { space = z.space; cache = z.cache; dir = o.dir; streams = z.streams }) (sym q.rest));
+}
+
+pub trees_written : {n1 n2 : List ℕ} {c1 c2 : Counts} {t1 t2 : Type 0} {w1 w2 : World} {x y : OpenPool}
+    → WritesTrees n1 n2 c1 c2 t1 t2 w1 w2 x y → WritesAll n1 n2 c1 c2 t1 t2 w1 w2 x y
+trees_written {n1} {n2} {c1} {c2} {t1} {t2} {w1} {w2} {x} {y} p = record {
+  sizes = p.goes.sizes;
+  none_fell = p.goes.none_fell;
+  told = p.goes.told;
+  disks = λ t. works_trees n1 n2 c1 c2 t1 t2 w1 w2 x y t p;
+  mid = y.space;
+  blocks = p.goes.space;
+  metadata = others_itself Meta y.space;
+  rest = p.rest ∙ ap (λ (o : OpenPool). record x { space = y.space; cache = y.cache; dir = y.dir; streams = o.streams }) (sym p.rest);
+}
 
 -- ---- devices
 

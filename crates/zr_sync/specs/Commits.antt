@@ -1,7 +1,11 @@
 -- The root that a commit leaves.
 use Rattle.std.specs.Prelude.{◌≡◌, ℕ, ◌==◌, Bool, List, Option, Some, None, Contains, unwrap_or, if◌then◌else◌}
 use Rattle.zr_label.specs.declared.root.Uber.{Uber}
+use Rattle.zr_rules.specs.Space.{Space}
+use Rattle.zr_rules.specs.Steps.{Commits}
 use Rattle.zr_shelf.specs.Moments.{World}
+use Rattle.zr_vdev.specs.Stores.{KeepsOthers}
+use Rattle.zr_vdev.specs.declared.kind.Kind.TheVariants.{Block, Meta}
 use Rattle.zr_slots.specs.Tables.{IsSlotInBoth}
 use Rattle.zr_slots.specs.Phases.{IsPublished}
 use Rattle.zr_sync.specs.declared.open.OpenPool.{OpenPool}
@@ -30,3 +34,11 @@ pub record IsShownFrom (sizes : List ℕ) (pool : OpenPool) (u : Uber) (before n
   pub in_all : (slot : ℕ) → Contains all slot → IsSlotInBoth u u pool.table.slots slot
   pub all_all : (slot : ℕ) → IsSlotInBoth u u pool.table.slots slot → Contains all slot
   pub published : IsPublished sizes both all u before now
+
+-- The space through a commit: the blocks of trees are put and given back, then those of metadata, and the group ends.
+pub record EndsGroup (reset : Bool) (old new : Space) : Type 0 where
+  pub trees : Space
+  pub all : Space
+  pub blocks : KeepsOthers Block old trees
+  pub metadata : KeepsOthers Meta trees all
+  pub ended : Commits reset all new

@@ -1,9 +1,10 @@
 -- An open pool, as each call needs it and leaves it.
-use Rattle.std.specs.Prelude.{◌≡◌, ℕ, ◌+◌, ◌≤◌, ◌<◌, ◌⊎◌, List, All, length, take, slice_index, slice_index_or, IsTrue, Option, Some, None}
+use Rattle.std.specs.Prelude.{◌≡◌, ℕ, ◌+◌, ◌≤◌, ◌<◌, ◌⊎◌, List, All, length, take, drop, slice_index, slice_index_or, IsTrue, Option, Some, None}
 use Rattle.std.specs.List.{list_all}
 use Rattle.zr_bptr.specs.declared.Tree.{Tree}
 use Rattle.zr_bptr.specs.Spelling.{IsTree}
-use Rattle.zr_label.specs.Blocks.{IsTable, IsName, IsUber, no_row}
+use Rattle.zr_base.specs.declared.space.DevRow.{DevRow}
+use Rattle.zr_label.specs.Blocks.{IsName, IsUber, is_row, is_no_row, no_row}
 use Rattle.zr_label.specs.Geometry.{is_disk_size}
 use Rattle.zr_label.specs.declared.root.Uber.{Uber}
 use Rattle.zr_lookup.specs.Groups.{IsLawfulGroup}
@@ -11,6 +12,7 @@ use Rattle.zr_meta.specs.Heads.{IsStream, IsRootOf}
 use Rattle.zr_rules.specs.Equation.{devices_in}
 use Rattle.zr_rules.specs.Places.{is_on, part_of}
 use Rattle.zr_rules.specs.Space.{IsLawful}
+use Rattle.zr_txg.specs.Changes.{Changes, block_count}
 use Rattle.zr_space.specs.Paths.{AreInService}
 use Rattle.zr_view.specs.Views.{slot_of}
 use Rattle.zr_vdev.specs.Mounts.{AreMounted}
@@ -34,18 +36,31 @@ pub record IsDirectory (t : Tree) : Type 0 where
   pub low : t.height ≤ 3
   pub unit : IsRootOf t.height t.root
 
--- A pool of one device to 32, all in service, that is open on disks of these sizes.
-pub record IsOpen (sizes : List ℕ) (pool : OpenPool) : Type 0 where
+-- The rows of so many devices, all in service, and then rows of zeros: what a root of this version and group may have as its table.
+pub record AreRows (version txg count : ℕ) (rows : List DevRow) : Type 0 where
+  pub size : length rows ≡ 32
+  pub devices : IsTrue (list_all (is_row version txg) (take count rows))
+  pub on : IsTrue (list_all (λ r. is_on r.state) (take count rows))
+  pub rest : IsTrue (list_all is_no_row (drop count rows))
+
+-- the open group has at most 64 changed blocks and 64 changed objects
+pub record IsInLimits (g : Changes) : Type 0 where
+  pub blocks : block_count g.objects ≤ 64
+  pub objects : length g.objects ≤ 64
+
+-- A pool of so many devices at least and of 32 at most, all in service, whose disks have these sizes.
+pub record IsPool (least : ℕ) (sizes : List ℕ) (pool : OpenPool) : Type 0 where
   pub version : (pool.version ≡ 1) ⊎ (pool.version ≡ 2)
   pub guid : 0 < pool.guid
   pub name : IsName pool.name
-  pub some : 1 ≤ pool.table.count
+  pub some : least ≤ pool.table.count
   pub few : pool.table.count ≤ 32
-  pub table : IsTable pool.version pool.group.txg pool.table.count pool.table.rows
-  pub on : IsTrue (list_all (λ r. is_on r.state) (take pool.table.count pool.table.rows))
+  pub table : AreRows pool.version pool.group.txg pool.table.count pool.table.rows
+  pub slots : length pool.table.slots ≡ 32
   pub first : 1 ≤ pool.group.txg
   pub after : IsAfter pool.last pool.group.txg
   pub group : IsLawfulGroup pool.group
+  pub limits : IsInLimits pool.group
   pub dir : IsDirectory pool.dir
   pub head : IsTree pool.head
   pub streams : All AreStreams pool.streams.items
@@ -57,3 +72,14 @@ pub record IsOpen (sizes : List ℕ) (pool : OpenPool) : Type 0 where
   pub mounted : AreMounted sizes pool.table.slots (devices_in pool.space)
   pub service : AreInService (devices_in pool.space)
   pub disks : (d slot : ℕ) → d < pool.table.count → slot_of pool.table.slots d ≡ Some slot → IsTrue (is_disk_size 2 (slice_index sizes slot))
+
+-- a pool that is open on disks of these sizes
+abbrev pub IsOpen : List ℕ → OpenPool → Type 0
+IsOpen sizes pool = IsPool 1 sizes pool
+
+-- the two pools have the same name, identity and devices
+pub record IsSamePool (old new : OpenPool) : Type 0 where
+  pub name : new.name ≡ old.name
+  pub guid : new.guid ≡ old.guid
+  pub version : new.version ≡ old.version
+  pub table : new.table ≡ old.table

@@ -1,16 +1,26 @@
-//! An open pool on devices, and the steps of the commit that ends its group.
+//! An open pool on devices, and the commit that ends its group.
 //!
 //! A commit writes the trees of the changed objects, then what changed of the metadata, and at last a root that leads to
-//! all of it. Here are the words that it writes and its calls on the devices. Each of these is a store of blocks of its
-//! own over the space, the disks and the cache of the pool, and says what it left alone, so that the next one may follow.
+//! all of it. Each of its calls on the devices is a store of blocks of its own over the space, the disks and the cache of
+//! the pool, and says what it left alone, so that the next one may follow.
 #![tactic(auto)]
 
+mod commits;
+mod ends;
+mod fault;
+mod heads;
+mod late;
+mod logs;
 mod open;
+mod roots;
 mod stop;
 mod stores;
+mod trees;
 mod words;
 
-pub use open::{DeviceStreams, OpenPool, Table};
+pub use commits::commit;
+pub use fault::Fault;
+pub use open::{DeviceStreams, EMPTY, OpenPool, Table};
 pub use stop::Stop;
 pub use stores::{give_streams, give_tree, put_group, put_head, put_log, put_words};
 pub use words::{LogWords, first_late_words, log_words, second_late_words};

@@ -42,7 +42,7 @@ pub struct OpenPool {
 }
 
 /// A stream without words.
-pub(crate) const EMPTY: Stream = Stream {
+pub const EMPTY: Stream = Stream {
     words: 0,
     tree: Tree {
         root: Ptr::Hole,

@@ -1,0 +1,42 @@
+use Rattle.std.proofs.Common.{◌≡◌, List, ℕ, Option, sym, subst}
+use Rattle.std.specs.Prelude.{IfSome}
+use Rattle.zr_label.specs.declared.root.Uber.{Uber}
+use Rattle.zr_shelf.specs.Moments.{World}
+use Rattle.zr_sync.specs.Commits.{IsShownFrom}
+use Rattle.zr_sync.specs.Pools.{IsOpen}
+use Rattle.zr_sync.proofs.Disks.{works_more}
+use Rattle.zr_sync.proofs.Groups.{shown_before}
+use Rattle.zr_sync.proofs.commits.commit.Goals as goal
+
+pub returns-in_err-publish_root-clause-disks : goal.returns-in_err-publish_root-clause-disks
+returns-in_err-publish_root-clause-disks g c = λ t.
+    works_more (g.S.Shelf.world c.args.shelf.now) (g.S.Shelf.world c.write_all.new.shelf) (g.S.Shelf.world c.publish_root.new.shelf) (c.write_all.ensures.wrote.disks t) (c.publish_root.ensures.disks (c.write_all.ensures.wrote.told t))
+
+pub returns-clause-disks : goal.returns-clause-disks
+returns-clause-disks g c = λ t.
+    works_more (g.S.Shelf.world c.args.shelf.now) (g.S.Shelf.world c.write_all.new.shelf) (g.S.Shelf.world c.publish_root.new.shelf) (c.write_all.ensures.wrote.disks t) (c.publish_root.ensures.disks (c.write_all.ensures.wrote.told t))
+
+pub returns-clause-pool : goal.returns-clause-pool
+returns-clause-pool g c =
+    c.end_group.ensures.pool (g.S.Shelf.sizes c.publish_root.new.shelf) (subst (λ (n : List ℕ). IsOpen n c.write_all.new.pool) (sym c.publish_root.ensures.sizes) c.in_ok-root.ensures.pool)
+
+pub returns-clause-shown : goal.returns-clause-shown
+returns-clause-shown g c = λ t.
+    let sizes = g.S.Shelf.sizes c.args.shelf.now in
+    let now = g.S.Shelf.world c.publish_root.new.shelf in
+    let before = g.S.Shelf.world c.write_all.new.shelf in
+    subst (λ (o : Option Uber). IfSome o (λ (u : Uber). (w : World) × IsShownFrom sizes c.args.pool.now u w now)) (sym c.end_group.ensures.last)
+    (before, shown_before c.write_all.ensures.wrote c.next_root-next.result before now (c.in_ok-publish_root.ensures.shown (c.write_all.ensures.wrote.told t)))
+
+pub returns-clause-head : goal.returns-clause-head
+returns-clause-head g c =
+    subst (λ (o : Option Uber). IfSome o (λ (u : Uber). c.end_group.new.pool.head.root ≡ u.root)) (sym c.end_group.ensures.last) c.end_group.ensures.head
+
+pub returns-clause-ends : goal.returns-clause-ends
+returns-clause-ends g c = record {
+  trees = c.write_all.ensures.wrote.mid;
+  all = c.write_all.new.pool.space;
+  blocks = c.write_all.ensures.wrote.blocks;
+  metadata = c.write_all.ensures.wrote.metadata;
+  ended = c.end_group.ensures.space;
+}

@@ -1,0 +1,13 @@
+use Rattle.std.proofs.Common.{ℕ, ◌+◌, ◌∙◌, refl, ap, subst}
+use Rattle.zr_base.specs.Trees.{IsHeight}
+use Rattle.zr_sync.proofs.Groups.{ended}
+use Rattle.zr_sync.proofs.ends.end_group.Goals as goal
+
+pub returns-clause-pool : goal.returns-clause-pool
+returns-clause-pool c = λ sizes o.
+    ended sizes c.args.reset c.args.pool.now _ c.args.root c.height.result o c.requires.next c.requires.lawful
+    (subst (λ (n : ℕ). IsHeight n c.height.result) c.div_ceil.ensures c.height.ensures.height)
+    c.commit_done.ensures.commits
+    (c.new.ensures.txg ∙ ap (λ (n : ℕ). n + 1) c.txg-txg.ensures)
+    c.new.ensures.empty
+    refl

@@ -1,0 +1,9 @@
+use Rattle.zr_sync.specs.Pools.{IsOpen}
+use Rattle.zr_sync.specs.Writes.{WritesMetadata}
+use Rattle.zr_sync.proofs.logs.write_logs.Given as goal
+
+abbrev pub invariant-loop-dev : goal.invariant-loop-dev
+invariant-loop-dev g l = record {
+  wrote : WritesMetadata (g.S.Shelf.sizes l.fn.shelf) (g.S.Shelf.sizes l.shelf) (g.S.Shelf.counts l.fn.shelf) (g.S.Shelf.counts l.shelf) (g.S.Shelf.tells l.fn.shelf) (g.S.Shelf.tells l.shelf) (g.S.Shelf.world l.fn.shelf) (g.S.Shelf.world l.shelf) l.fn.pool l.pool;
+  pool : IsOpen (g.S.Shelf.sizes l.shelf) l.pool;
+}

@@ -1,0 +1,30 @@
+use Rattle.std.proofs.Common.{sym, subst}
+use Rattle.zr_slots.specs.Phases.{AreDisks}
+use Rattle.zr_sync.proofs.Disks.{works_published}
+use Rattle.zr_sync.proofs.Publishing.{slots_disks, shown}
+use Rattle.zr_sync.proofs.roots.publish_root.Goals as goal
+
+pub publish-requires-clause-both : goal.publish-requires-clause-both
+publish-requires-clause-both g c =
+    subst (AreDisks (g.S.Shelf.sizes c.args.shelf.now)) (sym c.as_slice.ensures)
+    (slots_disks (g.S.Shelf.sizes c.args.shelf.now) c.args.pool.now c.unwrap_or-last.result c.args.root.now c.in_ok-both.both c.requires.pool c.requires.next.1.count c.in_ok-both.ensures.each)
+
+pub publish-requires-clause-all : goal.publish-requires-clause-all
+publish-requires-clause-all g c =
+    subst (AreDisks (g.S.Shelf.sizes c.args.shelf.now)) (sym c.as_slice-2.ensures)
+    (slots_disks (g.S.Shelf.sizes c.args.shelf.now) c.args.pool.now c.args.root.now c.args.root.now c.in_ok-all.all c.requires.pool c.requires.next.1.count c.in_ok-all.ensures.each)
+
+pub returns-in_err-publish-clause-disks : goal.returns-in_err-publish-clause-disks
+returns-in_err-publish-clause-disks g c = λ t.
+    works_published (g.S.Shelf.sizes c.args.shelf.now) c.as_slice.result.now c.as_slice-2.result.now c.args.root.now c.publish.result (g.S.Shelf.world c.args.shelf.now) (g.S.Shelf.world c.publish.new.shelf) (c.publish.ensures.order t)
+
+pub returns-clause-disks : goal.returns-clause-disks
+returns-clause-disks g c = λ t.
+    works_published (g.S.Shelf.sizes c.args.shelf.now) c.as_slice.result.now c.as_slice-2.result.now c.args.root.now c.publish.result (g.S.Shelf.world c.args.shelf.now) (g.S.Shelf.world c.publish.new.shelf) (c.publish.ensures.order t)
+
+pub returns-clause-shown : goal.returns-clause-shown
+returns-clause-shown g c = λ t.
+    shown (g.S.Shelf.sizes c.args.shelf.now) c.args.pool.now c.unwrap_or-last.result c.args.root.now c.in_ok-both.both c.in_ok-all.all c.as_slice.result.now c.as_slice-2.result.now (g.S.Shelf.world c.args.shelf.now) (g.S.Shelf.world c.publish.new.shelf)
+    c.unwrap_or-last.ensures c.as_slice.ensures c.as_slice-2.ensures
+    c.in_ok-both.ensures.each c.in_ok-both.ensures.all c.in_ok-all.ensures.each c.in_ok-all.ensures.all
+    (c.in_ok-publish.ensures.order t)

@@ -1,0 +1,146 @@
+//! A commit: the trees, the metadata, and the root that leads to them.
+//!
+//! Nothing that the last root leads to is written over, so until the new root is durable a crash finds the last one whole.
+//! What the metadata says of the space is said behind the last block that is given back, so the old head and the old late
+//! sets go before the new ones are written.
+ghost use Rattle.std.specs.Prelude.{◌≡◌, ◌≤◌, ◌+◌, ◌%◌, ℕ, [], IfSome, IsErrOf, IfOk, OnOk};
+ghost use Rattle.zr_base.specs.Counts.{HasRisen};
+ghost use Rattle.zr_label.specs.Blocks.{IsMetaRoot};
+ghost use Rattle.zr_rules.specs.Space.{Space};
+ghost use Rattle.zr_rules.specs.Steps.{Commits};
+ghost use Rattle.zr_shelf.specs.Counts.{NoneFell};
+ghost use Rattle.zr_shelf.specs.Moments.{World};
+ghost use Rattle.zr_sync.specs.Commits.{EndsGroup, IsNextRoot, IsShownFrom};
+ghost use Rattle.zr_sync.specs.Pools.{IsOpen, IsSamePool};
+ghost use Rattle.zr_sync.specs.Writes.{WorksOnDisks, WritesAll, WritesMetadata};
+ghost use Rattle.zr_sync.specs.declared.stop.Stop.TheVariants.{DiskFault};
+
+use crate::ends::end_group;
+use crate::heads::write_head;
+use crate::late::{give_head, give_lates, write_lates};
+use crate::logs::write_logs;
+use crate::open::OpenPool;
+use crate::roots::{next_root, publish_root};
+use crate::stop::Stop;
+use crate::trees::write_trees;
+use std::alloc::Global;
+use zr_bptr::Ptr;
+use zr_shelf::Shelf;
+use zr_vdev::Place;
+
+// Writes the late sets, which a reset has none of.
+fn write_late_sets<S: Shelf, P: Place>(
+    alloc: Global,
+    pool: &mut OpenPool,
+    shelf: &mut S,
+    pick: &P,
+    reset: bool,
+) -> Result<(), Stop>
+    requires pool { IsOpen (S.sizes shelf.old) pool.old }
+    ensures wrote { WritesMetadata (S.sizes shelf.old) (S.sizes shelf.new) (S.counts shelf.old) (S.counts shelf.new) (S.tells shelf.old) (S.tells shelf.new) (S.world shelf.old) (S.world shelf.new) pool.old pool.new }
+    ensures pool { OnOk result (IsOpen (S.sizes shelf.new) pool.new) }
+    ensures fault { IsErrOf result DiskFault → HasRisen (S.counts shelf.old).disk (S.counts shelf.new).disk }
+{
+    if reset {
+        return Ok(());
+    }
+    write_lates(alloc, pool, shelf, pick)
+}
+
+// Writes the logs and gives back the old head and late sets.
+fn turn_metadata<S: Shelf, P: Place>(
+    alloc: Global,
+    pool: &mut OpenPool,
+    shelf: &mut S,
+    pick: &P,
+) -> Result<(), Stop>
+    requires pool { IsOpen (S.sizes shelf.old) pool.old }
+    ensures wrote { WritesMetadata (S.sizes shelf.old) (S.sizes shelf.new) (S.counts shelf.old) (S.counts shelf.new) (S.tells shelf.old) (S.tells shelf.new) (S.world shelf.old) (S.world shelf.new) pool.old pool.new }
+    ensures pool { OnOk result (IsOpen (S.sizes shelf.new) pool.new) }
+    ensures fault { IsErrOf result DiskFault → HasRisen (S.counts shelf.old).disk (S.counts shelf.new).disk }
+{
+    write_logs(alloc, pool, shelf, pick)?;
+    give_head(alloc, pool, shelf, pick)?;
+    give_lates(alloc, pool, shelf, pick)
+}
+
+// Writes the metadata of the next root, and answers the root of its head and the head's bytes.
+fn write_metadata<S: Shelf, P: Place>(
+    alloc: Global,
+    pool: &mut OpenPool,
+    shelf: &mut S,
+    pick: &P,
+    reset: bool,
+) -> Result<(Ptr, u64), Stop>
+    requires pool { IsOpen (S.sizes shelf.old) pool.old }
+    ensures wrote { WritesMetadata (S.sizes shelf.old) (S.sizes shelf.new) (S.counts shelf.old) (S.counts shelf.new) (S.tells shelf.old) (S.tells shelf.new) (S.world shelf.old) (S.world shelf.new) pool.old pool.new }
+    ensures pool { OnOk result (IsOpen (S.sizes shelf.new) pool.new) }
+    ensures fault { IsErrOf result DiskFault → HasRisen (S.counts shelf.old).disk (S.counts shelf.new).disk }
+    ensures root { IfOk result (λ head. IsMetaRoot head.0 head.1) }
+    ensures whole { IfOk result (λ head. head.1 % 8 ≡ 0) }
+    ensures least { IfOk result (λ head. 8 ≤ head.1) }
+    ensures short { IfOk result (λ head. head.1 ≤ 35016) }
+{
+    turn_metadata(alloc, pool, shelf, pick)?;
+    write_late_sets(alloc, pool, shelf, pick, reset)?;
+    write_head(alloc, pool, shelf, pick)
+}
+
+// Writes all blocks of the next root, and answers the root of its head and the head's bytes.
+fn write_all<S: Shelf, P: Place>(
+    alloc: Global,
+    pool: &mut OpenPool,
+    shelf: &mut S,
+    pick: &P,
+    reset: bool,
+) -> Result<(Ptr, u64), Stop>
+    requires pool { IsOpen (S.sizes shelf.old) pool.old }
+    ensures wrote { WritesAll (S.sizes shelf.old) (S.sizes shelf.new) (S.counts shelf.old) (S.counts shelf.new) (S.tells shelf.old) (S.tells shelf.new) (S.world shelf.old) (S.world shelf.new) pool.old pool.new }
+    ensures pool { OnOk result (IsOpen (S.sizes shelf.new) pool.new) }
+    ensures fault { IsErrOf result DiskFault → HasRisen (S.counts shelf.old).disk (S.counts shelf.new).disk }
+    ensures root { IfOk result (λ head. IsMetaRoot head.0 head.1) }
+    ensures whole { IfOk result (λ head. head.1 % 8 ≡ 0) }
+    ensures least { IfOk result (λ head. 8 ≤ head.1) }
+    ensures short { IfOk result (λ head. head.1 ≤ 35016) }
+{
+    write_trees(alloc, pool, shelf, pick)?;
+    write_metadata(alloc, pool, shelf, pick, reset)
+}
+
+/// Ends the open group: all that it changed is in the root that the shelf has from now on. A reset has no late sets, and
+/// all that was freed is free behind it.
+///
+/// Want of memory is also the answer where a run of free units is missing within the commit, and at the last group of all.
+/// After an error the pool is not to be used.
+pub fn commit<S: Shelf, P: Place>(
+    alloc: Global,
+    pool: &mut OpenPool,
+    shelf: &mut S,
+    pick: &P,
+    reset: bool,
+) -> Result<(), Stop>
+    requires pool { IsOpen (S.sizes shelf.old) pool.old }
+    ensures sizes { S.sizes shelf.new ≡ S.sizes shelf.old }
+    ensures none_fell { NoneFell (S.counts shelf.old) (S.counts shelf.new) }
+    ensures told { S.tells shelf.old → S.tells shelf.new }
+    ensures disks { S.tells shelf.old → WorksOnDisks (S.world shelf.old) (S.world shelf.new) }
+    ensures fault { IsErrOf result DiskFault → HasRisen (S.counts shelf.old).disk (S.counts shelf.new).disk }
+    ensures pool { OnOk result (IsOpen (S.sizes shelf.new) pool.new) }
+    ensures same { OnOk result (IsSamePool pool.old pool.new) }
+    ensures last { OnOk result (IfSome pool.new.last (IsNextRoot pool.old reset)) }
+    ensures head { OnOk result (IfSome pool.new.last (λ u. pool.new.head.root ≡ u.root)) }
+    ensures shown { S.tells shelf.old → OnOk result (IfSome pool.new.last (λ u. (before : World) × IsShownFrom (S.sizes shelf.old) pool.old u before (S.world shelf.new))) }
+    ensures space { OnOk result ((before : Space) × Commits reset before pool.new.space) }
+    ensures ends { OnOk result (EndsGroup reset pool.old.space pool.new.space) }
+    ensures empty { OnOk result (pool.new.group.objects ≡ []) }
+    ensures txg { OnOk result (pool.new.group.txg ≡ pool.old.group.txg + 1) }
+{
+    if pool.group.txg() == u64::MAX {
+        return Err(Stop::NoMemory);
+    }
+    let (root, len) = write_all(alloc, pool, shelf, pick, reset)?;
+    let next = next_root(pool, root, len, reset);
+    publish_root(alloc, pool, shelf, &next)?;
+    end_group(alloc, pool, next, reset);
+    Ok(())
+}

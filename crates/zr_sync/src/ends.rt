@@ -1,0 +1,36 @@
+//! The end of a group in an open pool: its root is the last one, and the next group is open.
+ghost use Rattle.std.specs.Prelude.{◌≡◌, ◌+◌, ◌<◌, ◌≤◌, ◌^◌, ℕ, List, [], Some};
+ghost use Rattle.zr_label.specs.Blocks.{IsUber};
+ghost use Rattle.zr_rules.specs.Steps.{Commits};
+ghost use Rattle.zr_sync.specs.Commits.{IsNextRoot};
+ghost use Rattle.zr_sync.specs.Pools.{IsOpen, IsSamePool};
+
+use crate::open::OpenPool;
+use std::alloc::Global;
+use zr_bptr::Tree;
+use zr_label::Uber;
+use zr_owed::height;
+use zr_txg::Group;
+
+/// Ends the group whose root this is, and opens the next one.
+pub fn end_group(alloc: Global, pool: &mut OpenPool, root: Uber, reset: bool)
+    requires next { IsNextRoot pool.old reset root }
+    requires lawful { IsUber root }
+    requires more { pool.old.group.txg + 1 < 2 ^ 64 }
+    ensures pool { (sizes : List ℕ) → IsOpen sizes pool.old → IsOpen sizes pool.new }
+    ensures same { IsSamePool pool.old pool.new }
+    ensures last { pool.new.last ≡ Some root }
+    ensures head { pool.new.head.root ≡ root.root }
+    ensures space { Commits reset pool.old.space pool.new.space }
+    ensures empty { pool.new.group.objects ≡ [] }
+    ensures txg { pool.new.group.txg ≡ pool.old.group.txg + 1 }
+{
+    let txg = pool.group.txg();
+    pool.space.commit_done(reset);
+    pool.head = Tree {
+        root: root.root,
+        height: height(root.len.div_ceil(4096)),
+    };
+    pool.last = Some(root);
+    pool.group = Group::new(alloc, txg + 1);
+}

@@ -1,0 +1,85 @@
+//! The head of the next root in a commit.
+ghost use Rattle.std.specs.Prelude.{ℕ, List, ◌≡◌, ◌<◌, ◌≤◌, ◌+◌, ◌*◌, ◌%◌, length, take, IsErrOf, IfOk, OnOk};
+ghost use Rattle.std.specs.List.{AllByRecursion};
+ghost use Rattle.zr_base.specs.Counts.{HasRisen};
+ghost use Rattle.zr_label.specs.Blocks.{IsMetaRoot};
+ghost use Rattle.zr_meta.specs.Heads.{IsHead, IsStream, head_words};
+ghost use Rattle.zr_sync.specs.Pools.{AreStreams, IsOpen};
+ghost use Rattle.zr_sync.specs.Writes.{WritesMetadata};
+ghost use Rattle.zr_sync.specs.declared.stop.Stop.TheVariants.{DiskFault};
+
+use crate::open::{DeviceStreams, OpenPool};
+use crate::stop::Stop;
+use crate::stores::put_head;
+use std::alloc::Global;
+use zr_base::{CkptPart, Items, NoMemory};
+use zr_bptr::Ptr;
+use zr_meta::{Head, Stream};
+use zr_shelf::Shelf;
+use zr_vdev::{Kind, Mount, Place};
+
+// Adds the streams of a device in their order.
+fn add_streams(streams: &mut Items<Stream>, device: &DeviceStreams) -> Result<(), NoMemory>
+    requires lawful { AllByRecursion IsStream streams.old }
+    requires device { AreStreams device.now }
+    ensures lawful { OnOk result (AllByRecursion IsStream streams.new) }
+    ensures count { OnOk result (length streams.new ≡ length streams.old + 4) }
+{
+    streams.push(device.held)?;
+    streams.push(device.kept)?;
+    streams.push(device.late1)?;
+    streams.push(device.late2)
+}
+
+// The head of the next root.
+fn head_of(alloc: Global, pool: &OpenPool) -> Result<Head, NoMemory>
+    requires { (sizes : List ℕ) × IsOpen sizes pool.now }
+    ensures { IfOk result (IsHead (take pool.now.table.count pool.now.table.rows)) }
+{
+    let mut streams = Items::new(alloc);
+    for device in pool.streams.as_slice() {
+        add_streams(&mut streams, device)?;
+    }
+    Ok(Head {
+        form: 2,
+        dir: pool.dir,
+        saved: None,
+        ckpt: CkptPart::Clear,
+        cond: None,
+        streams,
+    })
+}
+
+/// Writes the head. The answer is the root of its tree and its bytes.
+pub fn write_head<S: Shelf, P: Place>(
+    alloc: Global,
+    pool: &mut OpenPool,
+    shelf: &mut S,
+    pick: &P,
+) -> Result<(Ptr, u64), Stop>
+    requires pool { IsOpen (S.sizes shelf.old) pool.old }
+    ensures wrote { WritesMetadata (S.sizes shelf.old) (S.sizes shelf.new) (S.counts shelf.old) (S.counts shelf.new) (S.tells shelf.old) (S.tells shelf.new) (S.world shelf.old) (S.world shelf.new) pool.old pool.new }
+    ensures pool { OnOk result (IsOpen (S.sizes shelf.new) pool.new) }
+    ensures fault { IsErrOf result DiskFault → HasRisen (S.counts shelf.old).disk (S.counts shelf.new).disk }
+    ensures root { IfOk result (λ head. IsMetaRoot head.0 head.1) }
+    ensures whole { IfOk result (λ head. head.1 % 8 ≡ 0) }
+    ensures least { IfOk result (λ head. 8 ≤ head.1) }
+    ensures short { IfOk result (λ head. head.1 ≤ 35016) }
+{
+    let head = head_of(alloc, pool)?;
+    let mount = Mount {
+        slots: &pool.table.slots,
+        pick,
+        txg: pool.group.txg(),
+        kind: Kind::Meta,
+    };
+    put_head(
+        alloc,
+        &mut pool.space,
+        shelf,
+        &mut pool.cache,
+        mount,
+        &head,
+        &pool.table.rows[..pool.table.count as usize],
+    )
+}

@@ -1,0 +1,66 @@
+//! The trees in a commit.
+ghost use Rattle.std.specs.Prelude.{◌≡◌, ◌≤◌, IsErrOf, IfOk, OnOk};
+ghost use Rattle.zr_base.specs.Counts.{HasRisen};
+ghost use Rattle.zr_bptr.specs.Spelling.{IsTree};
+ghost use Rattle.zr_sync.specs.Pools.{IsDirectory, IsOpen};
+ghost use Rattle.zr_sync.specs.Writes.{WritesTrees};
+ghost use Rattle.zr_sync.specs.declared.stop.Stop.TheVariants.{DiskFault};
+
+use crate::open::OpenPool;
+use crate::stop::Stop;
+use crate::stores::put_group;
+use std::alloc::Global;
+use zr_bptr::{Ptr, Tree};
+use zr_shelf::Shelf;
+use zr_vdev::{Kind, Mount, Place};
+
+// A directory has leaves of one unit. A tree with a longer leaf alone is told as a block that is no spelling of one.
+fn directory(t: Tree) -> Result<Tree, Stop>
+    requires tree { IsTree t }
+    requires low { t.height ≤ 3 }
+    ensures directory { IfOk result IsDirectory }
+    ensures fault { ¬ IsErrOf result DiskFault }
+{
+    match t.root {
+        Ptr::At(b) if b.at.len != 1 => {
+            let sum = b.sum;
+            Err(Stop::Damaged {
+                at: b.at,
+                expected: sum,
+                found: sum,
+            })
+        }
+        _ => Ok(t),
+    }
+}
+
+/// Writes the trees of the changed objects, and then the directory.
+pub fn write_trees<S: Shelf, P: Place>(
+    alloc: Global,
+    pool: &mut OpenPool,
+    shelf: &mut S,
+    pick: &P,
+) -> Result<(), Stop>
+    requires pool { IsOpen (S.sizes shelf.old) pool.old }
+    ensures wrote { WritesTrees (S.sizes shelf.old) (S.sizes shelf.new) (S.counts shelf.old) (S.counts shelf.new) (S.tells shelf.old) (S.tells shelf.new) (S.world shelf.old) (S.world shelf.new) pool.old pool.new }
+    ensures pool { OnOk result (IsOpen (S.sizes shelf.new) pool.new) }
+    ensures fault { IsErrOf result DiskFault → HasRisen (S.counts shelf.old).disk (S.counts shelf.new).disk }
+{
+    let mount = Mount {
+        slots: &pool.table.slots,
+        pick,
+        txg: pool.group.txg(),
+        kind: Kind::Block,
+    };
+    let tree = put_group(
+        alloc,
+        &mut pool.space,
+        shelf,
+        &mut pool.cache,
+        mount,
+        &pool.dir,
+        &pool.group,
+    )?;
+    pool.dir = directory(tree)?;
+    Ok(())
+}
