@@ -1,0 +1,5 @@
+pub mod Places
+pub mod Pools
+pub mod Done
+pub mod Needs
+pub mod Finding
