@@ -1,0 +1,6 @@
+pub mod Finding
+pub mod Blanks
+pub mod Rows
+pub mod Taken
+pub mod Going
+pub mod Checking

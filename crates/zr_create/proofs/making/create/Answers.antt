@@ -1,0 +1,48 @@
+use Rattle.std.proofs.Common.{ℕ, List, subst, sym}
+use Rattle.zr_create.specs.Devices.{HaveDisks}
+use Rattle.zr_sync.proofs.Disks.{works_more, works_still}
+use Rattle.zr_create.proofs.Checking.{new_disks}
+use Rattle.zr_create.proofs.making.create.Goals as goal
+
+pub returns-in_err-check_new-clause-disks : goal.returns-in_err-check_new-clause-disks
+returns-in_err-check_new-clause-disks g c = λ t. works_still (g.S.Shelf.world c.args.shelf.now) (g.S.Shelf.world c.check_new.new.shelf) (c.check_new.ensures.still t)
+
+pub returns-in_err-pool-clause-disks : goal.returns-in_err-pool-clause-disks
+returns-in_err-pool-clause-disks g c = λ t. works_still (g.S.Shelf.world c.args.shelf.now) (g.S.Shelf.world c.check_new.new.shelf) (c.check_new.ensures.still t)
+
+pub take_all-requires-clause-pool : goal.take_all-requires-clause-pool
+take_all-requires-clause-pool g c = c.in_ok-pool.ensures.pool (g.S.Shelf.sizes c.check_new.new.shelf)
+
+pub take_all-requires-clause-sized : goal.take_all-requires-clause-sized
+take_all-requires-clause-sized g c =
+    subst (λ (v : ℕ). HaveDisks (g.S.Shelf.sizes c.check_new.new.shelf) v c.args.named.now) (sym c.in_ok-pool.ensures.named.version_is)
+    (subst (λ (n : List ℕ). HaveDisks n c.args.version c.args.named.now) (sym c.check_new.ensures.sizes)
+    (new_disks (g.S.Shelf.sizes c.args.shelf.now) (g.S.Shelf.tells c.args.shelf.now) (g.S.Shelf.world c.args.shelf.now).now.seen c.args.version c.args.guid c.args.named.now c.in_ok-check_new.ensures.allowed))
+
+pub returns-in_err-take_all-clause-disks : goal.returns-in_err-take_all-clause-disks
+returns-in_err-take_all-clause-disks g c = λ t.
+    let told = c.check_new.ensures.told t in
+    let w0 = g.S.Shelf.world c.args.shelf.now in
+    let w1 = g.S.Shelf.world c.check_new.new.shelf in
+    let w2 = g.S.Shelf.world c.take_all.new.shelf in
+    works_more w0 w1 w2 (works_still w0 w1 (c.check_new.ensures.still t)) (c.take_all.ensures.disks told)
+
+pub returns-in_err-commit-clause-disks : goal.returns-in_err-commit-clause-disks
+returns-in_err-commit-clause-disks g c = λ t.
+    let told = c.check_new.ensures.told t in
+    let told2 = c.take_all.ensures.told told in
+    let w0 = g.S.Shelf.world c.args.shelf.now in
+    let w1 = g.S.Shelf.world c.check_new.new.shelf in
+    let w2 = g.S.Shelf.world c.take_all.new.shelf in
+    let w3 = g.S.Shelf.world c.commit.new.shelf in
+    works_more w0 w1 w3 (works_still w0 w1 (c.check_new.ensures.still t)) (works_more w1 w2 w3 (c.take_all.ensures.disks told) (c.commit.ensures.disks told2))
+
+pub returns-clause-disks : goal.returns-clause-disks
+returns-clause-disks g c = λ t.
+    let told = c.check_new.ensures.told t in
+    let told2 = c.take_all.ensures.told told in
+    let w0 = g.S.Shelf.world c.args.shelf.now in
+    let w1 = g.S.Shelf.world c.check_new.new.shelf in
+    let w2 = g.S.Shelf.world c.take_all.new.shelf in
+    let w3 = g.S.Shelf.world c.commit.new.shelf in
+    works_more w0 w1 w3 (works_still w0 w1 (c.check_new.ensures.still t)) (works_more w1 w2 w3 (c.take_all.ensures.disks told) (c.commit.ensures.disks told2))

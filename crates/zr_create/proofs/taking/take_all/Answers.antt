@@ -1,0 +1,36 @@
+use Rattle.std.proofs.Common.{ℕ, List, Some, refl, sym, ◌≡◌, ◌<◌, ◌∙◌, ap, subst, get_or, arith}
+use Rattle.std.specs.Prelude.{slice_index}
+use Rattle.zr_label.specs.Geometry.{units_of_size}
+use Rattle.zr_sync.specs.Pools.{IsPool}
+use Rattle.zr_sync.proofs.Disks.{works_more}
+use Rattle.zr_create.proofs.Going.{with_any, same_more, count_more, only_more, each_more}
+use Rattle.zr_create.proofs.taking.take_all.Goals as goal
+
+pub returns-in_err-take_on-clause-disks : goal.returns-in_err-take_on-clause-disks
+returns-in_err-take_on-clause-disks g c = λ t.
+    works_more (g.S.Shelf.world c.args.shelf.now) (g.S.Shelf.world c.loop-i.shelf) (g.S.Shelf.world c.take_on.new.shelf) (c.loop-i.invariant.disks t) (c.take_on.ensures.disks (c.loop-i.invariant.told t))
+
+pub loop-i-preserved : goal.loop-i-preserved
+loop-i-preserved g c =
+    let sizes = g.S.Shelf.sizes c.args.shelf.now in
+    let slot = get_or c.args.named.now c.loop-i.i 0 in
+    let inside = c.loop-i-test.true in
+    let most = c.requires.few in
+    let count = c.loop-i.invariant.count in
+    let few : c.loop-i.pool.table.count < 32 = omega (arith, inside, most, count) in
+    let pool = subst (λ (n : List ℕ). IsPool 0 n c.loop-i.pool) c.loop-i.invariant.sizes c.loop-i.invariant.pool in
+    let units : units_of_size (slice_index sizes slot) c.loop-i.pool.version ≡ Some c.in-Some.units =
+    subst (λ (n : List ℕ). units_of_size (slice_index n slot) c.loop-i.pool.version ≡ Some c.in-Some.units) c.loop-i.invariant.sizes
+    (ap (λ (s : ℕ). units_of_size s c.loop-i.pool.version) (sym c.size.ensures) ∙ sym c.in-Some.ensures) in
+    record {
+      sizes = c.take_on.ensures.sizes ∙ c.loop-i.invariant.sizes;
+      none_fell = let a = c.loop-i.invariant.none_fell in let b = c.take_on.ensures.none_fell in record { disk = omega arith; attach = omega arith; input = omega arith; output = omega arith };
+      told = λ t. c.take_on.ensures.told (c.loop-i.invariant.told t);
+      disks = λ t.
+          works_more (g.S.Shelf.world c.args.shelf.now) (g.S.Shelf.world c.loop-i.shelf) (g.S.Shelf.world c.take_on.new.shelf) (c.loop-i.invariant.disks t) (c.take_on.ensures.disks (c.loop-i.invariant.told t));
+      pool = with_any (g.S.Shelf.sizes c.take_on.new.shelf) c.take_on.new.pool c.in_ok-take_on.ensures.pool;
+      same = same_more sizes c.args.named.now c.loop-i.i slot c.in-Some.units c.args.pool.now c.loop-i.pool c.take_on.new.pool pool few count refl units c.loop-i.invariant.same c.in_ok-take_on.ensures.taken;
+      count = count_more sizes c.args.named.now c.loop-i.i slot c.in-Some.units c.args.pool.now c.loop-i.pool c.take_on.new.pool pool few count refl units c.loop-i.invariant.same c.in_ok-take_on.ensures.taken;
+      each = each_more sizes c.args.named.now c.loop-i.i slot c.in-Some.units c.args.pool.now c.loop-i.pool c.take_on.new.pool pool few count refl units c.loop-i.invariant.same c.in_ok-take_on.ensures.taken c.loop-i.invariant.each;
+      only = only_more sizes c.args.named.now c.loop-i.i slot c.in-Some.units c.args.pool.now c.loop-i.pool c.take_on.new.pool pool few count refl units c.loop-i.invariant.same c.in_ok-take_on.ensures.taken c.loop-i.invariant.only;
+    }

@@ -1,0 +1,21 @@
+use Rattle.std.proofs.Common.{◌≡◌, ℕ, ◌<◌, Some}
+use Rattle.std.specs.Prelude.{slice_index}
+use Rattle.zr_shelf.specs.Counts.{NoneFell}
+use Rattle.zr_view.specs.Views.{slot_of}
+use Rattle.zr_sync.specs.Pools.{IsPool}
+use Rattle.zr_sync.specs.Writes.{WorksOnDisks}
+use Rattle.zr_create.specs.Devices.{IsDeviceIn, KeepsIdentity}
+use Rattle.zr_create.proofs.taking.take_all.Given as goal
+
+abbrev pub invariant-loop-i : goal.invariant-loop-i
+invariant-loop-i g l = record {
+  sizes : g.S.Shelf.sizes l.shelf ≡ g.S.Shelf.sizes l.fn.shelf;
+  none_fell : NoneFell (g.S.Shelf.counts l.fn.shelf) (g.S.Shelf.counts l.shelf);
+  told : g.S.Shelf.tells l.fn.shelf → g.S.Shelf.tells l.shelf;
+  disks : g.S.Shelf.tells l.fn.shelf → WorksOnDisks (g.S.Shelf.world l.fn.shelf) (g.S.Shelf.world l.shelf);
+  pool : IsPool 0 (g.S.Shelf.sizes l.shelf) l.pool;
+  same : KeepsIdentity l.fn.pool l.pool;
+  count : l.pool.table.count ≡ l.i;
+  each : (k : ℕ) → k < l.i → IsDeviceIn (g.S.Shelf.sizes l.fn.shelf) l.fn.pool.group.txg l.pool k (slice_index l.named k);
+  only : (d slot : ℕ) → slot_of l.pool.table.slots d ≡ Some slot → (k : ℕ) × (k < l.i) × (slice_index l.named k ≡ slot);
+}

@@ -1,0 +1,22 @@
+use Rattle.std.specs.Prelude.{slice_index}
+use Rattle.zr_sync.proofs.Disks.{works_prepared}
+use Rattle.zr_create.proofs.Rows.{sized}
+use Rattle.zr_create.proofs.Taken.{taken}
+use Rattle.zr_create.proofs.taking.take_on.Goals as goal
+
+pub returns-in_err-prepare_device-clause-disks : goal.returns-in_err-prepare_device-clause-disks
+returns-in_err-prepare_device-clause-disks g c = λ t. works_prepared (slice_index (g.S.Shelf.sizes c.args.shelf.now) c.args.slot) c.args.slot _ c.prepare_device.result (g.S.Shelf.world c.args.shelf.now) (g.S.Shelf.world c.prepare_device.new.shelf) (c.prepare_device.ensures.order t)
+
+pub returns-in_err-push_streams-clause-disks : goal.returns-in_err-push_streams-clause-disks
+returns-in_err-push_streams-clause-disks g c = λ t. works_prepared (slice_index (g.S.Shelf.sizes c.args.shelf.now) c.args.slot) c.args.slot _ c.prepare_device.result (g.S.Shelf.world c.args.shelf.now) (g.S.Shelf.world c.prepare_device.new.shelf) (c.prepare_device.ensures.order t)
+
+pub returns-in_err-add_dev-clause-disks : goal.returns-in_err-add_dev-clause-disks
+returns-in_err-add_dev-clause-disks g c = λ t. works_prepared (slice_index (g.S.Shelf.sizes c.args.shelf.now) c.args.slot) c.args.slot _ c.prepare_device.result (g.S.Shelf.world c.args.shelf.now) (g.S.Shelf.world c.prepare_device.new.shelf) (c.prepare_device.ensures.order t)
+
+pub returns-clause-disks : goal.returns-clause-disks
+returns-clause-disks g c = λ t. works_prepared (slice_index (g.S.Shelf.sizes c.args.shelf.now) c.args.slot) c.args.slot _ c.prepare_device.result (g.S.Shelf.world c.args.shelf.now) (g.S.Shelf.world c.prepare_device.new.shelf) (c.prepare_device.ensures.order t)
+
+pub returns-clause-pool : goal.returns-clause-pool
+returns-clause-pool g c =
+    taken (g.S.Shelf.sizes c.args.shelf.now) c.args.pool.now c.args.slot c.args.units c.requires.pool c.requires.few c.requires.exists (sized _ c.args.pool.now.version c.args.units c.requires.pool.version c.requires.units) c.requires.free
+    (g.S.Shelf.sizes c.prepare_device.new.shelf) c.txg-txg.result c.enter.new.table c.add_dev.new.self c.push_streams.new.streams c.prepare_device.ensures.sizes c.txg-txg.ensures c.enter.ensures c.in_ok-add_dev.ensures.ok c.in_ok-push_streams.ensures.lawful c.in_ok-push_streams.ensures.count

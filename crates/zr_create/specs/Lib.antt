@@ -1,0 +1,4 @@
+pub mod Names
+pub mod Blank
+pub mod Devices
+pub mod Refusals

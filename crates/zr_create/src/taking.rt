@@ -1,0 +1,137 @@
+//! Taking slots on as devices of the open group.
+//!
+//! A slot loses its old roots before it gets a label, and the pool has the device only once its labels are durable.
+ghost use Rattle.std.specs.Prelude.{◌≡◌, ◌≢◌, ◌<◌, ◌≤◌, ◌⊎◌, ◌+◌, ℕ, All, Option, Some, IsErrOf, OnOk, length, slice_index};
+ghost use Rattle.zr_base.specs.Counts.{HasRisen};
+ghost use Rattle.zr_label.specs.Blocks.{IsLabel, IsName};
+ghost use Rattle.zr_label.specs.Geometry.{units_of_size};
+ghost use Rattle.zr_shelf.specs.Counts.{NoneFell};
+ghost use Rattle.zr_slots.specs.Checks.{AreNamed};
+ghost use Rattle.zr_slots.specs.Phases.{IsPrepared};
+ghost use Rattle.zr_sync.specs.Pools.{AreStreams, IsPool, IsOpen};
+ghost use Rattle.zr_sync.specs.Writes.{WorksOnDisks};
+ghost use Rattle.zr_sync.specs.declared.stop.Stop.TheVariants.{DiskFault};
+ghost use Rattle.zr_view.specs.Views.{slot_of};
+ghost use Rattle.zr_create.specs.Blank.{IsBlank};
+ghost use Rattle.zr_create.specs.Devices.{TakesOn, HasDevicesIn, HaveDisks, KeepsIdentity, next_label, with_device};
+ghost use Rattle.zr_create.specs.Names.{AreApart};
+
+use std::alloc::Global;
+use zr_base::{DevRow, DevState, NoMemory};
+use zr_label::{Label, Name, units_of_size};
+use zr_shelf::Shelf;
+use zr_slots::prepare_device;
+use zr_sync::{DeviceStreams, EMPTY, OpenPool, Stop, Table};
+
+// Puts a device behind the last one.
+fn enter(table: &mut Table, slot: u32, row: DevRow)
+    requires { table.old.count < 32 }
+    ensures { table.new ≡ with_device table.old slot row }
+{
+    let index = table.count as usize;
+    table.rows[index] = row;
+    table.slots[index] = Some(slot);
+    table.count += 1;
+}
+
+// Adds the streams of a device of which nothing is used.
+fn push_streams(streams: &mut Vec<DeviceStreams>) -> Result<(), NoMemory>
+    requires { All AreStreams streams.old.items }
+    ensures lawful { OnOk result (All AreStreams streams.new.items) }
+    ensures count { OnOk result (length streams.new.items ≡ length streams.old.items + 1) }
+{
+    streams.push(DeviceStreams {
+        held: EMPTY,
+        kept: EMPTY,
+        late1: EMPTY,
+        late2: EMPTY,
+    })?;
+    Ok(())
+}
+
+// The label of a device.
+fn label_of(guid: u64, index: u32, added: u64, units: u64, name: Name) -> Label
+    requires guid { 0 < guid }
+    requires index { index < 32 }
+    requires added { 0 < added }
+    requires name { IsName name }
+    ensures value { result ≡ record { guid = guid; index = index; added = added; units = units; name = name } }
+    ensures lawful { IsLabel result }
+{
+    Label {
+        guid,
+        index,
+        added,
+        units,
+        name,
+    }
+}
+
+/// Takes a slot on as the next device, which the open group adds. After an error the pool is not to be used.
+pub fn take_on<S: Shelf>(
+    alloc: Global,
+    pool: &mut OpenPool,
+    shelf: &mut S,
+    slot: u32,
+    units: u64,
+) -> Result<(), Stop>
+    requires pool { IsPool 0 (S.sizes shelf.old) pool.old }
+    requires few { pool.old.table.count < 32 }
+    requires exists { slot < length (S.sizes shelf.old) }
+    requires units { units_of_size (slice_index (S.sizes shelf.old) slot) pool.old.version ≡ Some units }
+    requires free { (d : ℕ) → slot_of pool.old.table.slots d ≢ Some slot }
+    ensures sizes { S.sizes shelf.new ≡ S.sizes shelf.old }
+    ensures none_fell { NoneFell (S.counts shelf.old) (S.counts shelf.new) }
+    ensures told { S.tells shelf.old → S.tells shelf.new }
+    ensures disks { S.tells shelf.old → WorksOnDisks (S.world shelf.old) (S.world shelf.new) }
+    ensures fault { IsErrOf result DiskFault → HasRisen (S.counts shelf.old).disk (S.counts shelf.new).disk }
+    ensures prepared { S.tells shelf.old → OnOk result (IsPrepared (slice_index (S.sizes shelf.old) slot) slot (next_label pool.old units) (S.world shelf.old) (S.world shelf.new)) }
+    ensures pool { OnOk result (IsOpen (S.sizes shelf.new) pool.new) }
+    ensures taken { OnOk result (TakesOn slot units pool.old pool.new) }
+{
+    let txg = pool.group.txg();
+    let label = label_of(pool.guid, pool.table.count, txg, units, pool.name);
+    prepare_device(alloc, shelf, slot, &label)?;
+    push_streams(&mut pool.streams)?;
+    pool.space.add_dev(units, txg)?;
+    let row = DevRow {
+        state: DevState::On,
+        added: txg,
+        units,
+        gone: 0,
+    };
+    enter(&mut pool.table, slot, row);
+    Ok(())
+}
+
+/// Takes these slots on as the first devices of a pool. After an error the pool is not to be used.
+pub fn take_all<S: Shelf>(
+    alloc: Global,
+    pool: &mut OpenPool,
+    shelf: &mut S,
+    named: &[u32],
+) -> Result<(), Stop>
+    requires pool { IsPool 0 (S.sizes shelf.old) pool.old }
+    requires blank { IsBlank pool.old }
+    requires few { length named.now ≤ 32 }
+    requires named { AreNamed (length (S.sizes shelf.old)) named.now }
+    requires sized { HaveDisks (S.sizes shelf.old) pool.old.version named.now }
+    requires apart { AreApart named.now }
+    ensures sizes { S.sizes shelf.new ≡ S.sizes shelf.old }
+    ensures none_fell { NoneFell (S.counts shelf.old) (S.counts shelf.new) }
+    ensures told { S.tells shelf.old → S.tells shelf.new }
+    ensures disks { S.tells shelf.old → WorksOnDisks (S.world shelf.old) (S.world shelf.new) }
+    ensures fault { IsErrOf result DiskFault → HasRisen (S.counts shelf.old).disk (S.counts shelf.new).disk }
+    ensures pool { OnOk result (IsPool 0 (S.sizes shelf.new) pool.new) }
+    ensures devices { OnOk result (HasDevicesIn (S.sizes shelf.old) pool.old.group.txg named.now pool.new) }
+    ensures same { OnOk result (KeepsIdentity pool.old pool.new) }
+{
+    for i in 0..named.len() {
+        let slot = named[i];
+        let Some(units) = units_of_size(shelf.size(slot), pool.version) else {
+            unreachable!()
+        };
+        take_on(alloc, pool, shelf, slot, units)?;
+    }
+    Ok(())
+}

@@ -1,0 +1,5 @@
+pub mod Slots
+pub mod Rows
+pub mod Units
+pub mod Opening
+pub mod Views

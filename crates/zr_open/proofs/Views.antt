@@ -1,0 +1,57 @@
+-- Blocks as they stand on the disks, by the slots of the devices.
+use Rattle.std.proofs.Common.{◌≡◌, ℕ, List, [], ◌∷◌, ◌++◌, Option, Some, None, refl, ◌∙◌, ap, subst, arith}
+use Rattle.std.specs.List.{flat_map}
+use Rattle.std.proofs.Math.Path.{fun_ext}
+use Rattle.zr_bptr.specs.declared.Bptr.{Bptr}
+use Rattle.zr_cache.specs.Entries.{entries}
+use Rattle.zr_cache.specs.declared.table.Cache.{Cache}
+use Rattle.zr_cache.specs.Sums.{Entry}
+use Rattle.zr_label.specs.declared.root.Uber.{Uber}
+use Rattle.zr_image.specs.Reading.{bare_devices, store_of}
+use Rattle.std.specs.Prelude.{Contains}
+use Rattle.zr_rules.specs.Devices.{Devices}
+use Rattle.zr_rules.specs.Equation.{devices_in}
+use Rattle.zr_rules.specs.Places.{Place}
+use Rattle.zr_rules.specs.Resolve.{resolved_units}
+use Rattle.zr_rules.specs.Space.{Space}
+use Rattle.zr_store.specs.Store.{Stored}
+use Rattle.zr_vdev.specs.Runs.{view_of}
+use Rattle.zr_vdev.specs.Stores.{HoldsRead}
+use Rattle.zr_view.specs.Views.{place_bytes, unit_bytes}
+use Rattle.zr_open.specs.Found.{HasSlots}
+use Rattle.zr_open.specs.Roots.{Stands, image_of}
+use Rattle.zr_import.specs.declared.roots.Root.{Root}
+
+-- ---- the same slots
+
+module _ (disks : List (List ℕ)) (these slots : List (Option ℕ)) (ds : Devices) (same : HasSlots these slots) where
+  places_same : (ps : List (Option Place)) → flat_map (place_bytes (record { disks = disks; slots = slots; devices = ds })) ps ≡ flat_map (place_bytes (record { disks = disks; slots = these; devices = ds })) ps
+  places_same [] = refl
+  places_same (None ∷ ps) = places_same ps
+  places_same (Some p ∷ ps) =
+      ap (λ (o : Option ℕ). unit_bytes disks o p.1 ++ flat_map (place_bytes (record { disks = disks; slots = slots; devices = ds })) ps) (same p.0)
+      ∙ ap (λ (xs : List ℕ). place_bytes (record { disks = disks; slots = these; devices = ds }) (Some p) ++ xs) (places_same ps)
+
+  store_same : store_of (record { disks = disks; slots = slots; devices = ds }) ≡ store_of (record { disks = disks; slots = these; devices = ds })
+  store_same = ap with_bytes (fun_ext (λ b. places_same (resolved_units ds b.at)))
+    where
+      with_bytes : (Bptr → List ℕ) → Stored
+      with_bytes f = record { pointers = []; bytes = f }
+
+pub stands_same : (disks : List (List ℕ)) (these slots : List (Option ℕ)) (u : Uber) (r : Root) → HasSlots these slots → Stands (image_of disks slots u) u r → Stands (image_of disks these u) u r
+stands_same disks these slots u r same has = subst (λ (s : Stored). Stands s u r) (store_same disks these slots (bare_devices u) same) has
+
+-- ---- what a reader holds of an image, of which it has cached nothing
+
+pub holds_image : (slots : List (Option ℕ)) (tells : Type 0) (disks : List (List ℕ)) (space : Space) (cache : Cache) → entries cache ≡ [] → tells → HoldsRead slots tells disks space cache (store_of (view_of disks slots space))
+holds_image slots tells disks space cache none told = record {
+  told = told;
+  read = λ e has. absurd (let h = subst (λ (es : List Entry). Contains es e) none has in let lt = h.1 in omega (arith, lt));
+  alone = λ at. omega arith;
+  resolves = λ at some. absurd (omega (arith, some));
+  bytes = λ b. refl;
+}
+
+-- the store of a space with the devices of the root is the image by the root
+pub bare_stands : (disks : List (List ℕ)) (slots : List (Option ℕ)) (u : Uber) (s : Space) (r : Root) → devices_in s ≡ bare_devices u → Stands (store_of (view_of disks slots s)) u r → Stands (image_of disks slots u) u r
+bare_stands disks slots u s r same has = subst (λ (ds : Devices). Stands (store_of (record { disks = disks; slots = slots; devices = ds })) u r) same has

@@ -1,0 +1,85 @@
+-- A pool as it is opened, and why a root is not.
+use Rattle.std.specs.Prelude.{◌≡◌, ◌≢◌, ◌⊎◌, ℕ, ◌+◌, ◌<◌, ◌≤◌, List, [], length, Option, Some, IsTrue}
+use Rattle.std.specs.List.{list_all}
+use Rattle.zr_base.specs.declared.space.DevPart.{DevPart}
+use Rattle.zr_base.specs.declared.space.CkptPart.TheVariants.{Clear}
+use Rattle.zr_base.specs.declared.refusal.Refusal.{Refusal}
+use Rattle.zr_base.specs.declared.refusal.Refusal.TheVariants.{BadRoot, Damaged}
+use Rattle.zr_base.specs.declared.space.Dva.{Dva}
+use Rattle.zr_label.specs.declared.root.Uber.{Uber}
+use Rattle.zr_cache.specs.Entries.{entries}
+use Rattle.zr_image.specs.Current.{row_at}
+use Rattle.zr_image.specs.Reading.{bare_devices, store_of}
+use Rattle.zr_image.specs.Roots.{head_tree, rows_of}
+use Rattle.zr_import.specs.Causes.{IsRule}
+use Rattle.zr_import.specs.declared.errors.ImportErr.{ImportErr}
+use Rattle.zr_import.specs.declared.errors.ImportErr.TheVariants as error
+use Rattle.zr_meta.specs.Heads.{IsHead, head_bytes}
+use Rattle.zr_meta.specs.declared.Head.{Head}
+use Rattle.zr_rules.specs.Columns.{free_units, sizes}
+use Rattle.zr_rules.specs.Owed.{owed}
+use Rattle.zr_root.specs.Streams.{HasBytes}
+use Rattle.zr_rules.specs.Equation.{devices_in}
+use Rattle.zr_rules.specs.Places.{is_on, part_of}
+use Rattle.zr_rules.specs.Space.{Space, IsLawful}
+use Rattle.zr_space.specs.Paths.{AreInService}
+use Rattle.zr_sync.specs.declared.fault.Fault.{Fault}
+use Rattle.zr_sync.specs.declared.fault.Fault.TheVariants.{No, Stops}
+use Rattle.zr_sync.specs.declared.open.OpenPool.{OpenPool}
+use Rattle.zr_sync.specs.declared.stop.Stop.TheVariants as stop
+
+-- there are as many parts as devices of the root, each with its row
+pub record HasRows (u : Uber) (devs : List DevPart) : Type 0 where
+  pub count : length devs ≡ u.count
+  pub each : (d : ℕ) → d < u.count → (part_of devs d).row ≡ row_at u d
+
+-- all devices of the root are in service
+abbrev pub AreOn : Uber → Type 0
+AreOn u = IsTrue (list_all (λ r. is_on r.state) (rows_of u))
+
+-- a lawful space of the devices of the root, which are in service
+pub record IsSpaceOf (u : Uber) (s : Space) : Type 0 where
+  pub version : s.parts.version ≡ u.version
+  pub rows : HasRows u s.parts.devs
+  pub lawful : IsLawful s
+  pub service : AreInService (devices_in s)
+
+-- the head stands in the tree of the root
+pub record IsHeadOn (disks : List (List ℕ)) (slots : List (Option ℕ)) (u : Uber) (h : Head) : Type 0 where
+  pub lawful : IsHead (rows_of u) h
+  pub stands : HasBytes (store_of (record { disks = disks; slots = slots; devices = bare_devices u })) (head_tree u) (head_bytes h)
+
+-- the late sets of the head count, and no checkpoint is held or being discarded
+abbrev pub IsServed : Head → Type 0
+IsServed h = (h.form ≡ 2) × (h.ckpt ≡ Clear)
+
+-- a device of the root is leaving or gone, or the head that stands there is not served
+abbrev pub IsNotServed : Type 0 → List (List ℕ) → List (Option ℕ) → Uber → Type 0
+IsNotServed tells disks slots u = (¬ AreOn u) ⊎ ((h : Head) × (tells → IsHeadOn disks slots u h) × ¬ IsServed h)
+
+-- the free units cover what is owed
+abbrev pub CoversOwed : Space → Type 0
+CoversOwed s = owed (sizes s 0 0) ≤ free_units s
+
+-- the pool is that of the root, and nothing has changed since
+pub record IsFresh (u : Uber) (pool : OpenPool) : Type 0 where
+  pub last : pool.last ≡ Some u
+  pub name : pool.name ≡ u.name
+  pub guid : pool.guid ≡ u.guid
+  pub version : pool.version ≡ u.version
+  pub count : pool.table.count ≡ u.count
+  pub rows : pool.table.rows ≡ u.rows
+  pub txg : pool.group.txg ≡ u.txg + 1
+  pub empty : pool.group.objects ≡ []
+  pub cache : entries pool.cache ≡ []
+
+-- a root is refused for a rule that it breaks, or for a block whose bytes have another sum than its pointer says
+abbrev pub IsRefusedRoot : Refusal → Type 0
+IsRefusedRoot r = ((n : ℕ) × (IsRule n ⊎ (n ≡ 9)) × (r ≡ BadRoot n)) ⊎ ((at : Dva) × (expected : List ℕ) × (found : List ℕ) × (expected ≢ found) × (r ≡ Damaged at expected found))
+
+-- what a root that is not read means for an import
+abbrev pub fault_of : ImportErr → Fault
+fault_of (error.Rule n) = No (BadRoot n)
+fault_of (error.Damaged at expected found) = No (Damaged at expected found)
+fault_of error.Failed = Stops stop.DiskFault
+fault_of error.NoMemory = Stops stop.NoMemory

@@ -1,0 +1,54 @@
+//! An import.
+ghost use Rattle.std.specs.Prelude.{◌≡◌, ◌⊎◌, ◌≤◌, ◌^◌, ◌+◌, length, Ok, Err, IfOk, IfSome, IfNone, IsErrOf};
+ghost use Rattle.zr_base.specs.Counts.{HasRisen};
+ghost use Rattle.zr_base.specs.declared.refusal.Refusal.{Refusal};
+ghost use Rattle.zr_image.specs.Current.{slots_of};
+ghost use Rattle.zr_label.specs.declared.root.Uber.{Uber};
+ghost use Rattle.zr_shelf.specs.Counts.{NoneFell};
+ghost use Rattle.zr_shelf.specs.Moments.{IsStill};
+ghost use Rattle.zr_sync.specs.Pools.{IsOpen};
+ghost use Rattle.zr_sync.specs.declared.fault.Fault.TheVariants.{No, Stops};
+ghost use Rattle.zr_sync.specs.declared.stop.Stop.TheVariants.{DiskFault};
+ghost use Rattle.zr_open.specs.Found.{FindsOn};
+ghost use Rattle.zr_open.specs.Opened.{CoversOwed, IsFresh, IsNotServed, IsRefusedRoot};
+ghost use Rattle.zr_open.specs.Roots.{IsOfRoot};
+
+use crate::find::find;
+use crate::pool::{is_served, open};
+use crate::read::read;
+use std::alloc::Global;
+use zr_import::are_on;
+use zr_shelf::Shelf;
+use zr_sync::{Fault, OpenPool};
+
+/// Opens the pool that the slots show. The answer is None where its devices are not all in service, where it has no late
+/// sets that count, and where a checkpoint is held or being discarded.
+///
+/// It makes a call on a disk for each ring and each run of a block that it reads, and its time and memory are linear in
+/// what it reads; the slots are compared in pairs.
+pub fn import<S: Shelf>(alloc: Global, shelf: &mut S) -> Result<Option<OpenPool>, Fault>
+    requires slots { length (S.sizes shelf.old) ≤ 32 }
+    ensures sizes { S.sizes shelf.new ≡ S.sizes shelf.old }
+    ensures none_fell { NoneFell (S.counts shelf.old) (S.counts shelf.new) }
+    ensures told { S.tells shelf.old → S.tells shelf.new }
+    ensures still { S.tells shelf.old → IsStill (S.world shelf.old) (S.world shelf.new) }
+    ensures fault { IsErrOf result (Stops DiskFault) → HasRisen (S.counts shelf.old).disk (S.counts shelf.new).disk }
+    ensures pool { IfOk result (λ o. IfSome o (IsOpen (S.sizes shelf.new))) }
+    ensures fresh { IfOk result (λ o. IfSome o (λ pool. (u : Uber) × FindsOn (S.sizes shelf.old) (S.tells shelf.old) (S.world shelf.old).now.seen (Ok u) × IsFresh u pool)) }
+    ensures opened { IfOk result (λ o. IfSome o (λ pool. (u : Uber) × (at : FindsOn (S.sizes shelf.old) (S.tells shelf.old) (S.world shelf.old).now.seen (Ok u)) × IsOfRoot (S.tells shelf.old) (S.world shelf.old).now.seen (slots_of u at.seen) u pool)) }
+    ensures room { IfOk result (λ o. IfSome o (λ pool. CoversOwed pool.space)) }
+    ensures groups { IfOk result (λ o. IfSome o (λ pool. pool.group.txg ≤ 2 ^ 63 + 1)) }
+    ensures refused { (r : Refusal) → IsErrOf result (No r) → FindsOn (S.sizes shelf.old) (S.tells shelf.old) (S.world shelf.old).now.seen (Err r) ⊎ IsRefusedRoot r }
+    ensures none { IfOk result (λ o. IfNone o ((u : Uber) × (at : FindsOn (S.sizes shelf.old) (S.tells shelf.old) (S.world shelf.old).now.seen (Ok u)) × IsNotServed (S.tells shelf.old) (S.world shelf.old).now.seen (slots_of u at.seen) u)) }
+{
+    let found = find(alloc, shelf)?;
+    if !are_on(&found.root) {
+        return Ok(None);
+    }
+    let root = read(alloc, shelf, &found)?;
+    if !is_served(&root.head) {
+        return Ok(None);
+    }
+    let pool = open(alloc, &found, &root)?;
+    Ok(Some(pool))
+}

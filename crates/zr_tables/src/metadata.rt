@@ -1,0 +1,81 @@
+//! The addresses of a pool's metadata, met by a walk: its head and the streams that the head leads to.
+ghost use Rattle.std.specs.Prelude.{◌≡◌, ◌++◌, All, OnOk, IfOk};
+ghost use Rattle.zr_bptr.specs.Spelling.{IsTree};
+ghost use Rattle.zr_store.specs.Causes.{Costs, HasCause};
+ghost use Rattle.zr_store.specs.Store.{Stored};
+ghost use Rattle.zr_tree.specs.Trees.{tree_reach};
+ghost use Rattle.zr_vdev.specs.Stores.{addresses_of};
+ghost use Rattle.zr_sync.specs.Pools.{AreStreams};
+ghost use Rattle.zr_tables.specs.Walks.{streams_reach, metadata_reach};
+
+use crate::live::put_addresses;
+use std::alloc::Global;
+use zr_base::Dva;
+use zr_bptr::Tree;
+use zr_store::{Blocks, StoreErr};
+use zr_sync::DeviceStreams;
+use zr_tree::walk;
+
+// Puts the addresses of a tree's blocks behind others.
+fn put_tree<B: Blocks>(
+    alloc: Global,
+    store: &mut B,
+    tree: &Tree,
+    out: &mut Vec<Dva>,
+) -> Result<(), StoreErr>
+    requires tree { IsTree tree.now }
+    ensures follows { (start : B) → B.follows start store.old → B.follows start store.new }
+    ensures costs { Costs 0 0 (B.account store.old) (B.account store.new) }
+    ensures cause { HasCause 0 (B.account store.old) (B.account store.new) result }
+    ensures same { (s : Stored) → B.holds store.old s → B.holds store.new s }
+    ensures blocks { (s : Stored) → B.holds store.old s → OnOk result (out.new.items ≡ out.old.items ++ addresses_of (tree_reach s tree.now)) }
+{
+    let blocks = walk(alloc, store, tree)?;
+    put_addresses(out, blocks.as_slice())?;
+    Ok(())
+}
+
+// Puts the addresses of a device's streams behind others.
+fn put_streams<B: Blocks>(
+    alloc: Global,
+    store: &mut B,
+    streams: &DeviceStreams,
+    out: &mut Vec<Dva>,
+) -> Result<(), StoreErr>
+    requires streams { AreStreams streams.now }
+    ensures follows { (start : B) → B.follows start store.old → B.follows start store.new }
+    ensures costs { Costs 0 0 (B.account store.old) (B.account store.new) }
+    ensures cause { HasCause 0 (B.account store.old) (B.account store.new) result }
+    ensures same { (s : Stored) → B.holds store.old s → B.holds store.new s }
+    ensures blocks { (s : Stored) → B.holds store.old s → OnOk result (out.new.items ≡ out.old.items ++ addresses_of (streams_reach s streams.now)) }
+{
+    put_tree(alloc, store, &streams.held.tree, out)?;
+    put_tree(alloc, store, &streams.kept.tree, out)?;
+    put_tree(alloc, store, &streams.late1.tree, out)?;
+    put_tree(alloc, store, &streams.late2.tree, out)?;
+    Ok(())
+}
+
+/// The addresses of the blocks of the head and then those of each device's streams, each block before what lies below it.
+/// It reads each tree block once.
+pub fn metadata_addresses<B: Blocks>(
+    alloc: Global,
+    store: &mut B,
+    head: &Tree,
+    streams: &[DeviceStreams],
+) -> Result<Vec<Dva>, StoreErr>
+    requires head { IsTree head.now }
+    requires streams { All AreStreams streams.now }
+    ensures follows { (start : B) → B.follows start store.old → B.follows start store.new }
+    ensures costs { Costs 0 0 (B.account store.old) (B.account store.new) }
+    ensures cause { HasCause 0 (B.account store.old) (B.account store.new) result }
+    ensures same { (s : Stored) → B.holds store.old s → B.holds store.new s }
+    ensures metadata { (s : Stored) → B.holds store.old s → IfOk result (λ ats. ats.items ≡ addresses_of (metadata_reach s head.now streams.now)) }
+{
+    let mut out = Vec::new(alloc);
+    put_tree(alloc, store, head, &mut out)?;
+    for device in streams {
+        put_streams(alloc, store, device, &mut out)?;
+    }
+    Ok(out)
+}
