@@ -1,0 +1,4 @@
+pub mod Views
+pub mod Reading
+pub mod Choosing
+pub mod Fronts
