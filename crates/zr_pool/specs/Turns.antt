@@ -1,0 +1,118 @@
+-- What the pool on devices says of its answers so far: each is one to its line, and the pool is open where it should be.
+use Rattle.std.specs.Prelude.{◌≡◌, ◌⊎◌, ℕ, Bool, true, false, List, length}
+use Rattle.zr_base.specs.declared.refusal.Refusal.{Refusal}
+use Rattle.zr_base.specs.declared.refusal.Refusal.TheVariants as refusal
+use Rattle.zr_script.specs.declared.command.Command.{Command}
+use Rattle.zr_script.specs.declared.command.Command.TheVariants as cmd
+use Rattle.zr_script.specs.declared.reply.Reply.{Reply}
+use Rattle.zr_script.specs.declared.reply.Reply.TheVariants as reply
+use Rattle.zr_line.specs.Answers.{IsDamaged}
+use Rattle.zr_objects.specs.Answers.{IsNoRoom, IsSumRefusal, IsReadRefusal, IsMakeRefusal, IsDropRefusal}
+use Rattle.zr_model.specs.Runs.{Point, Turn, Meaning}
+
+-- the lines on objects
+abbrev pub is_on_objects : Command → Bool
+is_on_objects (cmd.Make id units) = true
+is_on_objects (cmd.Drop id) = true
+is_on_objects (cmd.Write id off bytes) = true
+is_on_objects (cmd.Fill id off len byte) = true
+is_on_objects (cmd.Punch id off len) = true
+is_on_objects (cmd.Read id off len) = true
+is_on_objects (cmd.Sum id) = true
+is_on_objects _ = false
+
+-- the lines on a whole pool that is open
+abbrev pub is_on_pool : Command → Bool
+is_on_pool cmd.Sync = true
+is_on_pool cmd.Export = true
+is_on_pool (cmd.Add dev) = true
+is_on_pool cmd.List = true
+is_on_pool cmd.Status = true
+is_on_pool cmd.Audit = true
+is_on_pool _ = false
+
+-- the lines that make a pool or open one
+abbrev pub is_opener : Command → Bool
+is_opener (cmd.Create name guid devs) = true
+is_opener cmd.Import = true
+is_opener _ = false
+
+-- The lines that are always served. An import is not where the pool on the devices has one that is leaving or gone, or a checkpoint.
+abbrev pub IsServed : Command → Type 0
+IsServed (cmd.Create name guid devs) = Unit {0}
+IsServed command = (is_on_objects command ≡ true) ⊎ (is_on_pool command ≡ true)
+
+-- there is no room, or no run
+abbrev pub IsFull : Refusal → Type 0
+IsFull r = IsNoRoom r ⊎ ((needed longest : ℕ) × (r ≡ refusal.NoRun needed longest))
+
+-- what a line that puts bytes may be refused for
+abbrev pub IsChangeRefusal : Refusal → Type 0
+IsChangeRefusal r = IsReadRefusal r ⊎ IsFull r
+
+-- what a line to an open pool may be refused for
+abbrev pub IsOpenRefusal : Command → Refusal → Type 0
+IsOpenRefusal (cmd.Create name guid devs) r = r ≡ refusal.PoolIsOpen
+IsOpenRefusal cmd.Import r = r ≡ refusal.PoolIsOpen
+IsOpenRefusal (cmd.Make id units) r = IsMakeRefusal r
+IsOpenRefusal (cmd.Drop id) r = IsDropRefusal r
+IsOpenRefusal (cmd.Write id off bytes) r = IsChangeRefusal r
+IsOpenRefusal (cmd.Fill id off len byte) r = IsChangeRefusal r
+IsOpenRefusal (cmd.Punch id off len) r = IsChangeRefusal r
+IsOpenRefusal (cmd.Read id off len) r = IsReadRefusal r
+IsOpenRefusal (cmd.Sum id) r = IsSumRefusal r
+IsOpenRefusal (cmd.Add dev) r = Unit {0}
+IsOpenRefusal cmd.Audit r = IsDamaged r
+IsOpenRefusal _ r = ⊥
+
+-- what a line to an open pool is answered when it is done
+abbrev pub IsOpenAnswer : Command → Reply → Type 0
+IsOpenAnswer command (reply.No r) = IsOpenRefusal command r
+IsOpenAnswer (cmd.Make id units) reply.Done = Unit {0}
+IsOpenAnswer (cmd.Drop id) reply.Done = Unit {0}
+IsOpenAnswer (cmd.Write id off bytes) reply.Done = Unit {0}
+IsOpenAnswer (cmd.Fill id off len byte) reply.Done = Unit {0}
+IsOpenAnswer (cmd.Punch id off len) reply.Done = Unit {0}
+IsOpenAnswer (cmd.Read id off len) (reply.Data bytes) = length bytes ≡ len
+IsOpenAnswer (cmd.Sum id) (reply.Sum sum) = Unit {0}
+IsOpenAnswer cmd.Sync (reply.Synced txg) = Unit {0}
+IsOpenAnswer cmd.Export reply.Done = Unit {0}
+IsOpenAnswer (cmd.Add dev) reply.Done = Unit {0}
+IsOpenAnswer cmd.List (reply.List lines) = Unit {0}
+IsOpenAnswer cmd.Status (reply.Status lines) = Unit {0}
+IsOpenAnswer cmd.Audit (reply.Audit lines) = Unit {0}
+IsOpenAnswer _ _ = ⊥
+
+-- what a line is refused for while no pool is open
+abbrev pub IsClosedRefusal : Command → Refusal → Type 0
+IsClosedRefusal (cmd.Create name guid devs) r = Unit {0}
+IsClosedRefusal cmd.Import r = Unit {0}
+IsClosedRefusal _ r = r ≡ refusal.NoPoolOpen
+
+abbrev pub IsClosedAnswer : Command → Reply → Type 0
+IsClosedAnswer command (reply.No r) = IsClosedRefusal command r
+IsClosedAnswer command reply.Done = is_opener command ≡ true
+IsClosedAnswer _ _ = ⊥
+
+-- whether a pool is open after a line to one that is
+abbrev pub stays_open : Command → Reply → Bool
+stays_open cmd.Export reply.Done = false
+stays_open _ _ = true
+
+-- whether one is open after a line where none was
+abbrev pub is_opened : Reply → Bool
+is_opened reply.Done = true
+is_opened _ = false
+
+-- the answer is one to the line, and the pool is open after it where it should be
+abbrev pub IsTurn : Bool → Command → Reply → Bool → Type 0
+IsTurn true command answer after = IsOpenAnswer command answer × (after ≡ stays_open command answer)
+IsTurn false command answer after = IsClosedAnswer command answer × (after ≡ is_opened answer)
+
+-- What commands mean to the pool on devices, so far as it is claimed. Of damage that ends a run nothing is said yet.
+abbrev pub on_devices : Meaning
+on_devices = record {
+  takes = λ p t. IsTurn p.state.is_open t.command t.answer t.point.state.is_open;
+  serves = λ paths state command. IsServed command;
+  damages = λ paths state command found. Unit {0};
+}

@@ -1,0 +1,59 @@
+//! The lines that make or open a pool.
+ghost use Rattle.std.specs.Prelude.{◌≡◌, ◌≤◌, ℕ, List, true, IfOk, IfSome, IfNone, IsErrOf, length};
+ghost use Rattle.zr_base.specs.Counts.{HasRisen};
+ghost use Rattle.zr_base.specs.declared.refusal.Refusal.{Refusal};
+ghost use Rattle.zr_script.specs.Grammar.{IsLine};
+ghost use Rattle.zr_shelf.specs.Counts.{NoneFell};
+ghost use Rattle.zr_sync.specs.Pools.{IsOpen};
+ghost use Rattle.zr_sync.specs.Writes.{WorksOnDisks};
+ghost use Rattle.zr_sync.specs.declared.fault.Fault.TheVariants.{No, Stops};
+ghost use Rattle.zr_sync.specs.declared.stop.Stop.TheVariants.{DiskFault};
+ghost use Rattle.zr_pool.specs.Turns.{IsServed, IsClosedRefusal, is_opener};
+
+use crate::lines::{is_on_objects, is_on_pool};
+use crate::names::name_of;
+use std::alloc::Global;
+use zr_base::{Blob, Refusal};
+use zr_choose::Chooser;
+use zr_create::{create, slots_named};
+use zr_open::import;
+use zr_script::Command;
+use zr_shelf::Shelf;
+use zr_sync::{Fault, OpenPool};
+
+/// The version of a pool that is made.
+const VERSION: u64 = 2;
+
+/// Does a command where no pool is open, and answers the pool that it makes or opens. None where the command is not served.
+pub fn begin<S: Shelf>(
+    alloc: Global,
+    paths: &[Blob],
+    shelf: &mut S,
+    pick: &Chooser,
+    command: &Command,
+) -> Result<Option<OpenPool>, Fault>
+    requires slots { length (S.sizes shelf.old) ≡ length paths.now }
+    requires few { length paths.now ≤ 32 }
+    requires grammar { (line : List ℕ) × IsLine line command.now }
+    ensures sizes { S.sizes shelf.new ≡ S.sizes shelf.old }
+    ensures none_fell { NoneFell (S.counts shelf.old) (S.counts shelf.new) }
+    ensures told { S.tells shelf.old → S.tells shelf.new }
+    ensures disks { S.tells shelf.old → WorksOnDisks (S.world shelf.old) (S.world shelf.new) }
+    ensures fault { IsErrOf result (Stops DiskFault) → HasRisen (S.counts shelf.old).disk (S.counts shelf.new).disk }
+    ensures pool { IfOk result (λ found. IfSome found (IsOpen (S.sizes shelf.new))) }
+    ensures opens { IfOk result (λ found. IfSome found (λ pool. is_opener command.now ≡ true)) }
+    ensures refused { (r : Refusal) → IsErrOf result (No r) → IsClosedRefusal command.now r }
+    ensures none { IfOk result (λ found. IfNone found (IsServed command.now → ⊥)) }
+{
+    match command {
+        Command::Create { name, guid, devs } => {
+            let named = slots_named(alloc, paths, devs.as_slice())?;
+            let name = name_of(name.as_slice());
+            let made = create(alloc, shelf, pick, name, *guid, named.as_slice(), VERSION)?;
+            Ok(Some(made))
+        }
+        Command::Import => import(alloc, shelf),
+        _ if is_on_objects(command) || is_on_pool(command) => Err(Fault::No(Refusal::NoPoolOpen)),
+        _ => Ok(None),
+    }
+}

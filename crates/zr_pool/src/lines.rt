@@ -1,0 +1,179 @@
+//! The lines of an open pool, each with its call.
+ghost use Rattle.std.specs.Prelude.{◌≡◌, ◌≤◌, ℕ, List, true, false, IfOk, IsErrOf, OnOk, length};
+ghost use Rattle.zr_base.specs.Counts.{HasRisen};
+ghost use Rattle.zr_base.specs.declared.refusal.Refusal.{Refusal};
+ghost use Rattle.zr_change.specs.Edits.{HasLength};
+ghost use Rattle.zr_script.specs.Grammar.{IsLine};
+ghost use Rattle.zr_shelf.specs.Counts.{NoneFell};
+ghost use Rattle.zr_sync.specs.Pools.{IsOpen};
+ghost use Rattle.zr_sync.specs.Writes.{WorksOnDisks};
+ghost use Rattle.zr_sync.specs.declared.fault.Fault.TheVariants.{No, Stops};
+ghost use Rattle.zr_sync.specs.declared.stop.Stop.TheVariants.{DiskFault};
+ghost use Rattle.zr_pool.specs.Turns.{IsOpenAnswer, IsOpenRefusal, is_on_objects, is_on_pool};
+
+use std::alloc::Global;
+use zr_base::{Blob, Refusal};
+use zr_change::{Bytes, Edit};
+use zr_choose::Chooser;
+use zr_create::{add, slot_of};
+use zr_edit::{Reach, change};
+use zr_objects::{drop, make, read, sum};
+use zr_script::{Command, Reply};
+use zr_shelf::Shelf;
+use zr_sync::{Fault, OpenPool, commit};
+use zr_tables::{audit, list, status};
+
+/// Whether a line is on an object.
+pub fn is_on_objects(command: &Command) -> bool
+    ensures { result ≡ is_on_objects command.now }
+{
+    matches!(
+        command,
+        Command::Make { .. }
+            | Command::Drop { .. }
+            | Command::Write { .. }
+            | Command::Fill { .. }
+            | Command::Punch { .. }
+            | Command::Read { .. }
+            | Command::Sum { .. }
+    )
+}
+
+/// Whether a line is on a whole pool that is open.
+pub fn is_on_pool(command: &Command) -> bool
+    ensures { result ≡ is_on_pool command.now }
+{
+    matches!(
+        command,
+        Command::Sync
+            | Command::Export
+            | Command::Add { .. }
+            | Command::List
+            | Command::Status
+            | Command::Audit
+    )
+}
+
+/// A line on an object of an open pool.
+pub fn object_line<S: Shelf>(
+    alloc: Global,
+    pool: &mut OpenPool,
+    shelf: &mut S,
+    pick: &Chooser,
+    command: &Command,
+) -> Result<Reply, Fault>
+    requires pool { IsOpen (S.sizes shelf.old) pool.old }
+    requires line { is_on_objects command.now ≡ true }
+    requires grammar { (line : List ℕ) × IsLine line command.now }
+    ensures sizes { S.sizes shelf.new ≡ S.sizes shelf.old }
+    ensures none_fell { NoneFell (S.counts shelf.old) (S.counts shelf.new) }
+    ensures told { S.tells shelf.old → S.tells shelf.new }
+    ensures disks { S.tells shelf.old → WorksOnDisks (S.world shelf.old) (S.world shelf.new) }
+    ensures fault { IsErrOf result (Stops DiskFault) → HasRisen (S.counts shelf.old).disk (S.counts shelf.new).disk }
+    ensures pool { OnOk result (IsOpen (S.sizes shelf.new) pool.new) }
+    ensures pool_no { (r : Refusal) → IsErrOf result (No r) → IsOpen (S.sizes shelf.new) pool.new }
+    ensures answer { IfOk result (IsOpenAnswer command.now) }
+    ensures refused { (r : Refusal) → IsErrOf result (No r) → IsOpenRefusal command.now r }
+{
+    match command {
+        Command::Make { id, units } => {
+            make(alloc, pool, shelf, pick, *id, *units)?;
+            Ok(Reply::Done)
+        }
+        Command::Drop { id } => {
+            drop(alloc, pool, shelf, pick, *id)?;
+            Ok(Reply::Done)
+        }
+        Command::Read { id, off, len } => {
+            let bytes = read(alloc, pool, shelf, pick, *id, *off, *len)?;
+            Ok(Reply::Data(Blob::from_vec(bytes)))
+        }
+        Command::Sum { id } => Ok(Reply::Sum(sum(alloc, pool, shelf, pick, *id)?)),
+        Command::Write { id, off, bytes } => {
+            let edit = given(*off, bytes.as_slice());
+            change(alloc, pool, shelf, pick, *id, &edit, Reach::Write)?;
+            Ok(Reply::Done)
+        }
+        Command::Fill { id, off, len, byte } => {
+            let edit = filled(*off, *len, *byte);
+            change(alloc, pool, shelf, pick, *id, &edit, Reach::Fill)?;
+            Ok(Reply::Done)
+        }
+        Command::Punch { id, off, len } => {
+            let edit = filled(*off, *len, 0);
+            change(alloc, pool, shelf, pick, *id, &edit, Reach::Punch)?;
+            Ok(Reply::Done)
+        }
+        _ => unreachable!(),
+    }
+}
+
+// These bytes from an offset on.
+fn given(off: u64, bytes: &[u8]) -> Edit<'_>
+    ensures given { HasLength result.len result.bytes }
+    ensures len { result.len ≡ length bytes.now }
+{
+    Edit {
+        off,
+        len: bytes.len() as u64,
+        bytes: Bytes::Given(bytes),
+    }
+}
+
+// Copies of one byte.
+fn filled(off: u64, len: u64, byte: u8) -> Edit<'static>
+    ensures { HasLength result.len result.bytes }
+{
+    Edit {
+        off,
+        len,
+        bytes: Bytes::Filled(byte),
+    }
+}
+
+/// A line on a whole pool that is open. The pool is to be closed after an `export` that is done.
+pub fn pool_line<S: Shelf>(
+    alloc: Global,
+    paths: &[Blob],
+    pool: &mut OpenPool,
+    shelf: &mut S,
+    pick: &Chooser,
+    command: &Command,
+) -> Result<Reply, Fault>
+    requires pool { IsOpen (S.sizes shelf.old) pool.old }
+    requires slots { length (S.sizes shelf.old) ≡ length paths.now }
+    requires few { length paths.now ≤ 32 }
+    requires line { is_on_pool command.now ≡ true }
+    ensures sizes { S.sizes shelf.new ≡ S.sizes shelf.old }
+    ensures none_fell { NoneFell (S.counts shelf.old) (S.counts shelf.new) }
+    ensures told { S.tells shelf.old → S.tells shelf.new }
+    ensures disks { S.tells shelf.old → WorksOnDisks (S.world shelf.old) (S.world shelf.new) }
+    ensures fault { IsErrOf result (Stops DiskFault) → HasRisen (S.counts shelf.old).disk (S.counts shelf.new).disk }
+    ensures pool { OnOk result (IsOpen (S.sizes shelf.new) pool.new) }
+    ensures pool_no { (r : Refusal) → IsErrOf result (No r) → IsOpen (S.sizes shelf.new) pool.new }
+    ensures answer { IfOk result (IsOpenAnswer command.now) }
+    ensures refused { (r : Refusal) → IsErrOf result (No r) → IsOpenRefusal command.now r }
+{
+    match command {
+        Command::Sync => {
+            let txg = pool.group.txg();
+            commit(alloc, pool, shelf, pick, false)?;
+            Ok(Reply::Synced(txg))
+        }
+        Command::Export => {
+            commit(alloc, pool, shelf, pick, false)?;
+            Ok(Reply::Done)
+        }
+        Command::Add { dev } => {
+            let Some(slot) = slot_of(paths, dev) else {
+                return Err(Fault::No(Refusal::NoSuchDevice));
+            };
+            add(alloc, pool, shelf, pick, slot)?;
+            Ok(Reply::Done)
+        }
+        Command::List => Ok(Reply::List(list(alloc, pool, paths)?)),
+        Command::Status => Ok(Reply::Status(status(alloc, pool)?)),
+        Command::Audit => Ok(Reply::Audit(audit(alloc, pool, shelf)?)),
+        _ => unreachable!(),
+    }
+}

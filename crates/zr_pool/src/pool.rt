@@ -1,0 +1,157 @@
+//! The pool on the devices of the words, as a run over lines knows it.
+ghost use Rattle.std.specs.Prelude.{◌≡◌, ◌≤◌, ◌⊎◌, ◌&&◌, ℕ, List, Bool, Option, None, true, false, is_some, IsTrue, IfOk, IfErr, IfSome, IfNone, IsErrOf, OnOk, OnErr, length};
+ghost use Rattle.zr_base.specs.Counts.{HasRisen};
+ghost use Rattle.zr_base.specs.declared.refusal.Refusal.{Refusal};
+ghost use Rattle.zr_script.specs.Grammar.{IsLine};
+ghost use Rattle.zr_shelf.specs.Counts.{NoneFell};
+ghost use Rattle.zr_sync.specs.Pools.{IsOpen};
+ghost use Rattle.zr_sync.specs.Writes.{WorksOnDisks};
+ghost use Rattle.zr_sync.specs.declared.fault.Fault.TheVariants.{No, Stops};
+ghost use Rattle.zr_sync.specs.declared.stop.Stop.TheVariants.{DiskFault};
+ghost use Rattle.zr_pool.specs.Pools.{IsOnShelf};
+ghost use Rattle.zr_pool.specs.Ends.{is_closing};
+ghost use Rattle.zr_pool.specs.Turns.{IsServed, IsTurn, IsClosedRefusal, IsOpenRefusal, IsOpenAnswer, is_opener};
+
+use crate::begin::begin;
+use crate::lines::{is_on_objects, is_on_pool, object_line, pool_line};
+use crate::replies::answer_of;
+use std::alloc::Global;
+use zr_base::{Blob, Items, NoMemory, Refusal};
+use zr_choose::Chooser;
+use zr_model::{Pool, Stop};
+use zr_script::{Command, Reply};
+use zr_shelf::Shelf;
+use zr_sync::{Fault, OpenPool};
+
+/// The paths of the words, and the pool that is open on their devices.
+#[derive(Drop)]
+pub struct DevicePool {
+    paths: Items<Blob>,
+    pool: Option<OpenPool>,
+}
+
+/// Whether a line makes a pool or opens one.
+fn is_opener(command: &Command) -> bool
+    ensures { result ≡ is_opener command.now }
+{
+    matches!(command, Command::Create { .. } | Command::Import)
+}
+
+/// Whether the pool is not open any more: it was exported, or the run stops.
+fn is_closing(command: &Command, done: &Result<Option<Reply>, Fault>) -> bool
+    ensures { result ≡ is_closing command.now done.now }
+{
+    match done {
+        Ok(_) => matches!(command, Command::Export),
+        Err(Fault::Stops(_)) => true,
+        Err(Fault::No(_)) => false,
+    }
+}
+
+// A command to a pool that is open. None where it is not served.
+fn open_line<S: Shelf>(
+    alloc: Global,
+    paths: &[Blob],
+    pool: &mut OpenPool,
+    shelf: &mut S,
+    pick: &Chooser,
+    command: &Command,
+) -> Result<Option<Reply>, Fault>
+    requires pool { IsOpen (S.sizes shelf.old) pool.old }
+    requires slots { length (S.sizes shelf.old) ≡ length paths.now }
+    requires few { length paths.now ≤ 32 }
+    requires grammar { (line : List ℕ) × IsLine line command.now }
+    ensures sizes { S.sizes shelf.new ≡ S.sizes shelf.old }
+    ensures none_fell { NoneFell (S.counts shelf.old) (S.counts shelf.new) }
+    ensures told { S.tells shelf.old → S.tells shelf.new }
+    ensures disks { S.tells shelf.old → WorksOnDisks (S.world shelf.old) (S.world shelf.new) }
+    ensures fault { IsErrOf result (Stops DiskFault) → HasRisen (S.counts shelf.old).disk (S.counts shelf.new).disk }
+    ensures pool { OnOk result (IsOpen (S.sizes shelf.new) pool.new) }
+    ensures pool_no { (r : Refusal) → IsErrOf result (No r) → IsOpen (S.sizes shelf.new) pool.new }
+    ensures answer { IfOk result (λ found. IfSome found (IsOpenAnswer command.now)) }
+    ensures refused { (r : Refusal) → IsErrOf result (No r) → IsOpenRefusal command.now r }
+    ensures none { IfOk result (λ found. IfNone found (IsServed command.now → ⊥)) }
+{
+    if is_on_objects(command) {
+        return Ok(Some(object_line(alloc, pool, shelf, pick, command)?));
+    }
+    if is_on_pool(command) {
+        return Ok(Some(pool_line(alloc, paths, pool, shelf, pick, command)?));
+    }
+    if is_opener(command) {
+        return Err(Fault::No(Refusal::PoolIsOpen));
+    }
+    Ok(None)
+}
+
+impl DevicePool {
+    // A command where no pool is open.
+    fn closed_line<S: Shelf>(
+        &mut self,
+        alloc: Global,
+        shelf: &mut S,
+        pick: &Chooser,
+        command: &Command,
+    ) -> Result<Option<Reply>, Fault>
+        requires closed { self.old.pool ≡ None }
+        requires slots { length (S.sizes shelf.old) ≡ length self.old.paths }
+        requires few { length self.old.paths ≤ 32 }
+        requires grammar { (line : List ℕ) × IsLine line command.now }
+        ensures sizes { S.sizes shelf.new ≡ S.sizes shelf.old }
+        ensures none_fell { NoneFell (S.counts shelf.old) (S.counts shelf.new) }
+        ensures told { S.tells shelf.old → S.tells shelf.new }
+        ensures disks { S.tells shelf.old → WorksOnDisks (S.world shelf.old) (S.world shelf.new) }
+        ensures fault { IsErrOf result (Stops DiskFault) → HasRisen (S.counts shelf.old).disk (S.counts shelf.new).disk }
+        ensures paths { self.new.paths ≡ self.old.paths }
+        ensures pool { IfSome self.new.pool (IsOpen (S.sizes shelf.new)) }
+        ensures turn { IfOk result (λ found. IfSome found (λ reply. IsTurn false command.now reply (is_some self.new.pool))) }
+        ensures refused { (r : Refusal) → IsErrOf result (No r) → IsClosedRefusal command.now r }
+        ensures closed { OnErr result (self.new.pool ≡ None) }
+        ensures none { IfOk result (λ found. IfNone found (IsServed command.now → ⊥)) }
+    {
+        match begin(alloc, self.paths.as_slice(), shelf, pick, command)? {
+            Some(pool) => {
+                self.pool = Some(pool);
+                Ok(Some(Reply::Done))
+            }
+            None => Ok(None),
+        }
+    }
+}
+
+impl Pool for DevicePool {
+    ghost use Rattle.zr_pool.specs.Pools.{state_of, IsOnShelf};
+    ghost use Rattle.zr_pool.specs.Turns.{on_devices};
+
+    ghost paths = { λ p. p.paths };
+
+    ghost state = { λ p. state_of p.paths p.pool };
+
+    ghost meaning = { on_devices };
+
+    ghost fits = { λ p sizes. IsOnShelf p.paths p.pool sizes };
+
+    fn closed(_alloc: Global, devs: Items<Blob>) -> Result<Self, NoMemory> {
+        Ok(DevicePool {
+            paths: devs,
+            pool: None,
+        })
+    }
+
+    fn command<S: Shelf>(
+        &mut self,
+        alloc: Global,
+        shelf: &mut S,
+        pick: &Chooser,
+        command: &Command,
+    ) -> Result<Option<Reply>, Stop> {
+        let Some(pool) = &mut self.pool else {
+            return answer_of(self.closed_line(alloc, shelf, pick, command));
+        };
+        let done = open_line(alloc, self.paths.as_slice(), pool, shelf, pick, command);
+        if is_closing(command, &done) {
+            self.pool = None;
+        }
+        answer_of(done)
+    }
+}
