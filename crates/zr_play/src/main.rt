@@ -20,21 +20,6 @@ use zr_shelf::{DiskFile, MemDesk};
 /// More than the writes that may be pending at the end of a script.
 const PENDING: usize = 65536;
 
-// The chooser of the first run that fits.
-fn first(alloc: Global) -> anyhow::Result<Chooser> {
-    Ok(Chooser::new(
-        String::from_str(alloc, "first")?,
-        Policy::First,
-        Box::new(
-            alloc,
-            |want: u64, runs: &[Extent]| -> Option<usize>
-                requires { (0 < want) × AreRuns runs.now }
-                ensures { IsPick Policy.First want runs.entry.now result }
-            { pick_first(want, runs) },
-        )?,
-    ))
-}
-
 // The words of a line.
 fn words_of(alloc: Global, line: &[u8]) -> anyhow::Result<Vec<String>> {
     let mut words = Vec::new(alloc);
@@ -58,8 +43,19 @@ fn print_sums(rt: &HostRuntime, files: &[DiskFile]) -> anyhow::Result<()> {
 }
 
 // Runs a script, and prints what it is answered, its status and how its devices are left.
-fn play(rt: &HostRuntime, pick: Chooser, words: &[String], script: Vec<u8>) -> anyhow::Result<()> {
+fn play(rt: &HostRuntime, words: &[String], script: Vec<u8>) -> anyhow::Result<()> {
     let alloc = rt.alloc();
+    let pick = Chooser::new(
+        String::from_str(alloc, "first")?,
+        Policy::First,
+        Box::new(
+            alloc,
+            |want: u64, runs: &[Extent]| -> Option<usize>
+                requires { (0 < want) × AreRuns runs.now }
+                ensures { IsPick Policy.First want runs.entry.now result }
+            { pick_first(want, runs) },
+        )?,
+    );
     let mut desk = MemDesk::new(alloc, script, Vec::new(alloc));
     let status = run(alloc, words, &mut desk, &[pick]);
     print!(rt; "{}", std::str::from_utf8(desk.sent())?)?;
@@ -83,7 +79,7 @@ fn main(rt: HostRuntime) -> anyhow::Result<()> {
     let mut begun = false;
     for line in text.as_slice().split(|b| *b == b'\n') {
         if line == b"====".as_slice() {
-            play(&rt, first(alloc)?, words.as_slice(), script)?;
+            play(&rt, words.as_slice(), script)?;
             script = Vec::new(alloc);
             begun = false;
         } else if begun {
