@@ -56,6 +56,12 @@ pub record Meaning : Type 1 where
 abbrev pub plain : Meaning
 plain = record { takes = Takes; serves = IsServed; damages = λ paths state command found. ⊥ }
 
+-- A command was answered and led to some state, for which the pool then stands.
+pub record TurnsTo (m : Meaning) (stands : List (List ℕ) → State → Type 0) (before : State) (old : Stand) (command : Command) (answer : Reply) (new : Stand) : Type 0 where
+  pub after : State
+  pub stands_for : stands new.seen after
+  pub takes : m.takes (point old before) (turn command answer new after)
+
 -- one command after another
 abbrev pub Run : Meaning → Point → List Turn → Type 0
 Run m p [] = Unit {0}
