@@ -1,0 +1,10 @@
+pub mod Frames
+pub mod Below
+pub mod One
+pub mod Same
+pub mod Bytes
+pub mod Making
+pub mod Dropping
+pub mod Reading
+pub mod Committing
+pub mod Groups

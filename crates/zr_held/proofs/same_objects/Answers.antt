@@ -1,0 +1,5 @@
+use Rattle.zr_held.proofs.Same.{same}
+use Rattle.zr_held.proofs.same_objects.Goals as goal
+
+pub returns : goal.returns
+returns c = λ s n a objects swap has. same s n a objects swap has
