@@ -1,25 +1,24 @@
 -- An object that is dropped, whose blocks all went.
-use Rattle.std.proofs.Common.{◌≡◌, ◌≢◌, ◌∙◌, ◌<◌, ◌≤◌, ◌+◌, ℕ, zero, suc, List, [], ◌∷◌, ◌++◌, map, Option, Some, None, refl, sym, ap, subst, arith, ⊎_elim}
-use Rattle.std.specs.Prelude.{unwrap_or, is_some, not, ◌&&◌, ◌==◌, if◌then◌else◌}
+use Rattle.std.proofs.Common.{◌≡◌, ◌∙◌, ◌<◌, ◌≤◌, ℕ, suc, List, [], ◌∷◌, ◌++◌, map, Option, Some, None, refl, sym, ap, subst, arith, ⊎_elim}
 use Rattle.std.specs.List.{sum_by}
 use Rattle.std.specs.FinMap as fin
 use Rattle.std.proofs.lemmas.Bool.{eq-eqb, ne_eqb, cases_lt}
 use Rattle.std.proofs.lemmas.List.Sums.{sum_by-append}
 use Rattle.zr_bptr.specs.declared.Bptr.{Bptr}
 use Rattle.zr_bptr.specs.declared.ObjRec.{ObjRec}
-use Rattle.zr_store.specs.Store.{Stored, Swaps, IsOnce, hits}
-use Rattle.zr_tree.specs.Trees.{tree_blocks}
-use Rattle.zr_txg.specs.Tables.{IsRising, IsRisingFrom, value_at}
-use Rattle.zr_txg.proofs.Keyed.{by_key, value_at-low}
-use Rattle.zr_txg.specs.Changes.{Changes, object_in, change_in}
-use Rattle.zr_lookup.specs.Objects.{record_now, pointer_now, block_in, HasLeaves, AreObjectBlocks}
+use Rattle.zr_store.specs.Store.{Stored, Swaps, AreStored, IsOnce}
+use Rattle.zr_tree.specs.Trees.{tree_blocks, tree_reach}
+use Rattle.zr_txg.specs.Tables.{IsRisingFrom, value_at}
+use Rattle.zr_txg.proofs.Keyed.{value_at-low}
+use Rattle.zr_txg.specs.Changes.{Changes}
+use Rattle.zr_lookup.specs.Objects.{record_now, AreObjectBlocks}
 use Rattle.zr_change.specs.Changes.{SetsObject}
-use Rattle.zr_model.specs.Objects.{Object, Objects}
+use Rattle.zr_model.specs.Objects.{Objects}
 use Rattle.zr_moves.specs.Account.{Account, IsObjectAt}
-use Rattle.zr_held.specs.Held.{AreBlocksNow, HasAllBlocks, HasObjects}
-use Rattle.zr_held.specs.Steps.{IsOtherGroup, ChangesBlocks}
+use Rattle.zr_held.specs.Held.{AreBlocksNow, HasObjects}
+use Rattle.zr_held.specs.Steps.{ChangesBlocks}
 use Rattle.zr_held.proofs.Frames.{leaf_of}
-use Rattle.zr_held.proofs.One.{objects_then}
+use Rattle.zr_held.proofs.One.{objects_then, object_stored}
 use Rattle.zr_held.proofs.Making.{group_of, record_set}
 use Rattle.zr_held.proofs.Bytes.{taken_here, taken_there}
 
@@ -91,3 +90,11 @@ module _ (s n : Stored) (a b : Account) (objects : Objects) (id : ℕ) (r : ObjR
   dropped = objects_then s n a b id blocks [] [] has.blocks (group_of id None a b dir sets) changes_all objects (fin.remove objects id) has.each
       (λ i apart. taken_there objects id i (λ e. apart (sym e)))
       (subst (λ (x : Option ObjRec). IsObjectAt n b id x (fin.get (fin.remove objects id) id)) (sym gone) (taken_here objects id))
+
+-- its blocks are stored
+pub drop_stored : (s : Stored) (a : Account) (objects : Objects) (id : ℕ) (r : ObjRec) (blocks : List Bptr) → HasObjects s a objects → record_now s a.dir a.changes id ≡ Some r → AreObjectBlocks s a.changes id r blocks → AreStored blocks s
+drop_stored s a objects id r blocks has found are weight =
+    let mine = subst (λ (x : Option ObjRec). AreBlocksNow s a.changes id x (has.blocks.blocks id)) found (has.blocks.each id) in
+    let e = ap (sum_by weight) (one_blocks s a.changes id r (has.blocks.blocks id) blocks mine are) in
+    let all = object_stored s a.dir a.changes has.blocks id weight in
+    omega (arith, e, all, sum_by-append weight (tree_reach s a.dir) (has.blocks.blocks id))

@@ -1,30 +1,26 @@
 -- An object whose blocks keep their bytes is the same object.
-use Rattle.std.proofs.Common.{◌≡◌, ◌≢◌, ◌∙◌, ◌<◌, ◌≤◌, ◌+◌, ◌*◌, ◌↔◌, ℕ, zero, suc, inl, inr, List, [], ◌∷◌, ◌++◌, map, replicate, Option, Some, None, refl, sym, ap, subst, arith}
+use Rattle.std.proofs.Common.{◌≡◌, ◌≢◌, ◌∙◌, ◌<◌, ◌*◌, ℕ, List, [], ◌∷◌, ◌++◌, map, replicate, Option, Some, None, refl, sym, ap, subst, arith}
 use Rattle.std.specs.Prelude.{unwrap_or, Bool, true, false, nat_lt, if◌then◌else◌}
-use Rattle.std.specs.List.{sum_by}
-use Rattle.std.specs.FinMap as fin
 use Rattle.std.proofs.lemmas.Bool.{eq-eqb, ne_eqb}
-use Rattle.std.proofs.lemmas.List.Sums.{sum_by-append, sum_by-cons}
+use Rattle.std.proofs.lemmas.List.Sums.{sum_by-cons}
 use Rattle.sha2.specs.Sha256.{sha256}
 use Rattle.zr_bptr.specs.declared.Bptr.{Bptr}
 use Rattle.zr_bptr.specs.declared.Ptr.{Ptr}
 use Rattle.zr_bptr.specs.declared.Ptr.TheVariants.{Hole, At}
 use Rattle.zr_bptr.specs.declared.ObjRec.{ObjRec}
-use Rattle.zr_bptr.specs.declared.Tree.{Tree}
-use Rattle.zr_store.specs.Store.{Stored, Swaps, AreStored, IsOnce, hits, one_at}
-use Rattle.zr_tree.specs.Trees.{tree_at, tree_blocks, tree_reach}
+use Rattle.zr_store.specs.Store.{Stored, hits, one_at}
+use Rattle.zr_tree.specs.Trees.{tree_at, tree_blocks}
 use Rattle.zr_tree.proofs.Frames.{Agree, first_of, agree_front, agree_back}
 use Rattle.zr_tree.proofs.Others.{keeps}
 use Rattle.zr_objset.specs.Records.{record_of, bytes_of}
-use Rattle.zr_objset.proofs.Keeping.{same_record, beside}
 use Rattle.zr_txg.specs.Tables.{value_at}
 use Rattle.zr_txg.proofs.Keyed.{by_key}
 use Rattle.zr_txg.specs.Changes.{Changes, object_in, change_in}
-use Rattle.zr_lookup.specs.Objects.{record_now, pointer_now, block_in, HasLeaves, AreObjectBlocks}
-use Rattle.zr_model.specs.Objects.{Object, Objects, bytes_at}
+use Rattle.zr_lookup.specs.Objects.{record_now, pointer_now, block_in, AreObjectBlocks}
+use Rattle.zr_model.specs.Objects.{Object, bytes_at}
 use Rattle.zr_image.specs.StateOf.{IsLost}
 use Rattle.zr_moves.specs.Account.{Account, leaf_in, leaf_now, IsObjectNow, IsObjectAt}
-use Rattle.zr_held.specs.Held.{AreBlocksNow, blocks_below, HasAllBlocks, HasObjects}
+use Rattle.zr_held.specs.Held.{AreBlocksNow}
 
 abbrev pub leaf_of : ℕ × Bptr → Bptr
 leaf_of leaf = leaf.1
@@ -91,6 +87,7 @@ module _ (s n : Stored) (a b : Account) (id : ℕ) (r q : ObjRec) (units : q.uni
     where
       IsBytesAt : ℕ → ℕ → Type 0
       IsBytesAt u i = bytes_at o.bytes (4096 * u * i) (4096 * u) ≡ bytes_of n u (leaf_now n b id i)
+
       IsZerosAt : ℕ → ℕ → Type 0
       IsZerosAt u i = bytes_at o.bytes (4096 * u * i) (4096 * u) ≡ replicate (4096 * u) 0
 

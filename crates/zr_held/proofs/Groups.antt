@@ -1,29 +1,29 @@
 -- What a commit makes of each object of the group, and of all others.
-use Rattle.std.proofs.Common.{◌≡◌, ◌≢◌, ◌∙◌, ◌<◌, ◌≤◌, ◌+◌, ℕ, zero, suc, List, [], ◌∷◌, ◌++◌, map, Option, Some, None, Bool, true, false, refl, sym, ap, subst, arith, nat_lt, lt-ltb, le-ltb, ⊎_elim}
+use Rattle.std.proofs.Common.{◌≡◌, ◌∙◌, ◌<◌, ◌≤◌, ◌+◌, ℕ, suc, List, [], ◌∷◌, ◌++◌, map, Option, Some, None, refl, sym, ap, subst, arith, nat_lt, lt-ltb}
 use Rattle.std.specs.Prelude.{unwrap_or, option_map, if◌then◌else◌}
-use Rattle.std.specs.List.{sum_by, flat_map, AllByRecursion}
+use Rattle.std.specs.List.{sum_by, AllByRecursion}
 use Rattle.std.specs.FinMap as fin
-use Rattle.std.proofs.lemmas.Bool.{eq-eqb, ne_eqb, cases_lt}
-use Rattle.std.proofs.lemmas.List.Sums.{sum_by-append, sum_by-cons}
+use Rattle.std.proofs.lemmas.Bool.{eq-eqb, ne_eqb}
+use Rattle.std.proofs.lemmas.List.Sums.{sum_by-append}
 use Rattle.zr_bptr.specs.declared.Bptr.{Bptr}
 use Rattle.zr_bptr.specs.declared.Ptr.{Ptr}
-use Rattle.zr_bptr.specs.declared.Ptr.TheVariants.{Hole, At}
+use Rattle.zr_bptr.specs.declared.Ptr.TheVariants.{At}
 use Rattle.zr_bptr.specs.declared.ObjRec.{ObjRec}
-use Rattle.zr_store.specs.Store.{Stored, Swaps, AreStored, IsOnce, hits, one_at}
+use Rattle.zr_store.specs.Store.{Stored, AreStored, IsOnce}
 use Rattle.zr_tree.specs.Trees.{tree_at, tree_blocks, tree_reach, updated}
-use Rattle.zr_tree.proofs.Frames.{Agree, agree_front, agree_back}
+use Rattle.zr_tree.proofs.Frames.{Agree, agree_back}
 use Rattle.zr_tree.proofs.Others.{keeps}
 use Rattle.zr_objset.specs.Records.{record_of}
 use Rattle.zr_objset.proofs.Keeping.{beside}
 use Rattle.zr_txg.specs.Tables.{IsRising, IsRisingFrom, value_at}
 use Rattle.zr_txg.proofs.Keyed.{by_key, value_at-low}
-use Rattle.zr_txg.specs.Changes.{blocks_of as blocks_of_change, ObjectChange, Changes, object_in, change_in, changes_in, IsChange, IsGroup}
+use Rattle.zr_txg.specs.Changes.{blocks_of as blocks_of_change, ObjectChange, object_in, change_in, IsChange, IsGroup}
 use Rattle.zr_lookup.specs.Groups.{IsLawfulGroup, IsChangeOf}
 use Rattle.zr_lookup.specs.Objects.{record_now, pointer_now, block_in, AreObjectBlocks}
 use Rattle.zr_lookup.proofs.Groups.{each_value}
-use Rattle.zr_commit.specs.Objects.{object_blocks, blocks_of, blocks_now, IsWritten, IsObjectWritten, WritesGroup}
+use Rattle.zr_commit.specs.Objects.{object_blocks, blocks_of, blocks_now, IsObjectWritten, WritesGroup}
 use Rattle.zr_model.specs.Objects.{Object, Objects}
-use Rattle.zr_moves.specs.Account.{Account, leaf_now, IsObjectNow, IsObjectAt}
+use Rattle.zr_moves.specs.Account.{Account, IsObjectAt}
 use Rattle.zr_held.specs.Held.{AreBlocksNow, blocks_below, HasAllBlocks, HasObjects}
 use Rattle.zr_held.proofs.Frames.{leaf_of, leaf_is, listed, same_object}
 use Rattle.zr_held.proofs.Below.{with_blocks, more_below, changed_below}
@@ -38,6 +38,37 @@ over_tree low index (e ∷ es) p up =
     let none = value_at-low (suc e.0) index es up.1 (omega (arith, same)) in
     rw (eq-eqb e.0 index same) (over_tree (suc e.0) index es e.1 up.1 ∙ ap (λ (o : Option Ptr). unwrap_or o e.1) none))
     (λ other. rw (ne_eqb e.0 index other) (over_tree (suc e.0) index es p up.1))
+
+-- ---- the objects of a group
+
+-- what the tree blocks of a changed object weigh, as its record leads to them
+abbrev pub weight_of_tree : Stored → (Bptr → ℕ) → ℕ × ObjectChange → ℕ
+weight_of_tree s weight e = sum_by weight (object_blocks s e.1.object)
+
+low_ids : (m : ℕ) (xs : List (ℕ × ObjectChange)) → 65536 ≤ m → AllByRecursion IsChangeOf xs → AllByRecursion (λ e. e.0 < m) xs
+low_ids m [] le all = tt
+low_ids m (x ∷ xs) le all = (let l = all.0.id in omega (arith, l, le), low_ids m xs le all.1)
+
+module _ (s : Stored) (a : Account) (lawful : IsLawfulGroup a.changes) where
+  trees_weigh : (weight : Bptr → ℕ) (m : ℕ) → 65536 ≤ m → part (weight_of_tree s weight) a.changes.objects m ≡ sum_by weight (blocks_of s a.changes.objects)
+  trees_weigh weight m le = part_all (weight_of_tree s weight) m a.changes.objects (low_ids m a.changes.objects le lawful) ∙ sym (sum_flat weight (λ e. object_blocks s e.1.object) a.changes.objects)
+
+  entry_record : (id : ℕ) (c : ObjectChange) → value_at a.changes.objects id ≡ Some c → record_now s a.dir a.changes id ≡ c.object
+  entry_record id c is =
+      let low = (each_value IsChangeOf id c a.changes.objects lawful is).id in
+      let here : object_in a.changes id ≡ Some c.object = ap (option_map (λ (x : ObjectChange). x.object)) is in
+      rw (lt-ltb id 65536 low) (ap (λ (x : Option (Option ObjRec)). unwrap_or x (record_of s a.dir id)) here)
+
+  -- of an object's blocks the tree is a part
+  tree_among : (id : ℕ) (x : Option ObjRec) (bs : List Bptr) → AreBlocksNow s a.changes id x bs → (weight : Bptr → ℕ) → sum_by weight (object_blocks s x) ≤ sum_by weight bs
+  tree_among id None bs is weight = omega arith
+  tree_among id (Some r) bs is weight = let e = ap (sum_by weight) is.all in omega (arith, e, sum_by-append weight (map leaf_of is.leaves) (tree_blocks s r.tree))
+
+  entry_among : (h : HasAllBlocks s a.dir a.changes) (weight : Bptr → ℕ) (k : ℕ) (c : ObjectChange) → value_at a.changes.objects k ≡ Some c → weight_of_tree s weight (k, c) ≤ sum_by weight (h.blocks k)
+  entry_among h weight k c is =
+      let e = ap (λ (x : Option ObjRec). sum_by weight (object_blocks s x)) (entry_record k c is) in
+      let l = tree_among k (record_now s a.dir a.changes k) (h.blocks k) (h.each k) weight in
+      omega (arith, e, l)
 
 module _ (s n : Stored) (a b : Account) (count : ℕ) (group : IsGroup a.changes.objects count) (lawful : IsLawfulGroup a.changes)
     (writes : WritesGroup s n a.changes a.dir b.dir) (empty : b.changes.objects ≡ []) (h : HasAllBlocks s a.dir a.changes) where
@@ -64,31 +95,16 @@ module _ (s n : Stored) (a b : Account) (count : ℕ) (group : IsGroup a.changes
   gone = blocks_of s es ++ tree_reach s a.dir
 
   abbrev tree_weight : (weight : Bptr → ℕ) → ℕ × ObjectChange → ℕ
-  tree_weight weight e = sum_by weight (object_blocks s e.1.object)
-
-  each_low : (m : ℕ) (xs : List (ℕ × ObjectChange)) → 65536 ≤ m → AllByRecursion IsChangeOf xs → AllByRecursion (λ e. e.0 < m) xs
-  each_low m [] le all = tt
-  each_low m (x ∷ xs) le all = (let l = all.0.id in omega (arith, l, le), each_low m xs le all.1)
+  tree_weight weight = weight_of_tree s weight
 
   group_weight : (weight : Bptr → ℕ) (m : ℕ) → 65536 ≤ m → part (tree_weight weight) es m ≡ sum_by weight (blocks_of s es)
-  group_weight weight m le = part_all (tree_weight weight) m es (each_low m es le lawful) ∙ sym (sum_flat weight (λ e. object_blocks s e.1.object) es)
+  group_weight weight m le = trees_weigh s a lawful weight m le
 
   record_in_group : (id : ℕ) (c : ObjectChange) → value_at es id ≡ Some c → before id ≡ c.object
-  record_in_group id c is =
-      let low = (each_value IsChangeOf id c es lawful is).id in
-      let here : object_in a.changes id ≡ Some c.object = ap (option_map (λ (x : ObjectChange). x.object)) is in
-      rw (lt-ltb id 65536 low) (ap (λ (x : Option (Option ObjRec)). unwrap_or x (record_of s a.dir id)) here)
-
-  -- of an object's blocks the tree is a part
-  tree_less : (id : ℕ) (x : Option ObjRec) (bs : List Bptr) → AreBlocksNow s a.changes id x bs → (weight : Bptr → ℕ) → sum_by weight (object_blocks s x) ≤ sum_by weight bs
-  tree_less id None bs is weight = omega arith
-  tree_less id (Some r) bs is weight = let e = ap (sum_by weight) is.all in omega (arith, e, sum_by-append weight (map leaf_of is.leaves) (tree_blocks s r.tree))
+  record_in_group id c is = entry_record s a lawful id c is
 
   entry_less : (weight : Bptr → ℕ) (k : ℕ) (c : ObjectChange) → value_at es k ≡ Some c → tree_weight weight (k, c) ≤ sum_by weight (h.blocks k)
-  entry_less weight k c is =
-      let e = ap (λ (x : Option ObjRec). sum_by weight (object_blocks s x)) (record_in_group k c is) in
-      let l = tree_less k (before k) (h.blocks k) (h.each k) weight in
-      omega (arith, e, l)
+  entry_less weight k c is = entry_among s a lawful h weight k c is
 
   within_rest : (weight : Bptr → ℕ) (id : ℕ) (rest : List Bptr) → ((c : ObjectChange) → value_at es id ≡ Some c → sum_by weight (object_blocks s c.object) ≤ sum_by weight rest)
       → (k : ℕ) (c : ObjectChange) → value_at es k ≡ Some c → tree_weight weight (k, c) ≤ sum_by weight (with_blocks h.blocks id rest k)
@@ -142,12 +158,12 @@ module _ (s n : Stored) (a b : Account) (count : ℕ) (group : IsGroup a.changes
   carried_in id c is rising None (Some q) w = absurd w
   carried_in id c is rising (Some r) None w = absurd w
   carried_in id c is rising (Some r) (Some q) w = (
-      w.size,
-      λ i.
-      let now = ap (λ (o : Option Ptr). unwrap_or o (tree_at n q.tree i)) (no_change id i) in
-      let change : value_at c.blocks i ≡ change_in a.changes id i = sym (ap (λ (v : Option ObjectChange). value_at (blocks_of_change v) i) is) in
-      now ∙ (w.leaves i ∙ (over_tree 0 i c.blocks (tree_at s r.tree i) rising ∙ ap (λ (o : Option Ptr). unwrap_or o (tree_at s r.tree i)) change)),
-    )
+    w.size,
+    λ i.
+        let now = ap (λ (o : Option Ptr). unwrap_or o (tree_at n q.tree i)) (no_change id i) in
+        let change : value_at c.blocks i ≡ change_in a.changes id i = sym (ap (λ (v : Option ObjectChange). value_at (blocks_of_change v) i) is) in
+        now ∙ (w.leaves i ∙ (over_tree 0 i c.blocks (tree_at s r.tree i) rising ∙ ap (λ (o : Option Ptr). unwrap_or o (tree_at s r.tree i)) change)),
+  )
 
   tree_agree : (id : ℕ) (r : ObjRec) → Agree s n (h.blocks id) → AreObjectBlocks s a.changes id r (h.blocks id) → Agree s n (tree_blocks s r.tree)
   tree_agree id r agree is = agree_back s n (map leaf_of is.leaves) (tree_blocks s r.tree) (subst (λ (xs : List Bptr). Agree s n xs) is.all agree)
@@ -155,14 +171,13 @@ module _ (s n : Stored) (a b : Account) (count : ℕ) (group : IsGroup a.changes
   carried_out : (id : ℕ) → value_at es id ≡ None → (x : Option ObjRec) → AreBlocksNow s a.changes id x (h.blocks id) → Carries id x x
   carried_out id none None is = tt
   carried_out id none (Some r) is =
-      let agree = tree_agree id r (all_agree id none) is in
-      (
+      let agree = tree_agree id r (all_agree id none) is in (
         refl,
         λ i.
-        let now = ap (λ (o : Option Ptr). unwrap_or o (tree_at n r.tree i)) (no_change id i) in
-        let same = (keeps s n r.tree (λ q met. agree.same q met)).leaves i in
-        let change : change_in a.changes id i ≡ None = ap (λ (v : Option ObjectChange). value_at (blocks_of_change v) i) none in
-        now ∙ (same ∙ sym (ap (λ (o : Option Ptr). unwrap_or o (tree_at s r.tree i)) change)),
+            let now = ap (λ (o : Option Ptr). unwrap_or o (tree_at n r.tree i)) (no_change id i) in
+            let same = (keeps s n r.tree (λ q met. agree.same q met)).leaves i in
+            let change : change_in a.changes id i ≡ None = ap (λ (v : Option ObjectChange). value_at (blocks_of_change v) i) none in
+            now ∙ (same ∙ sym (ap (λ (o : Option Ptr). unwrap_or o (tree_at s r.tree i)) change)),
       )
 
   after_in : (id : ℕ) (c : ObjectChange) → value_at es id ≡ Some c → after id ≡ record_of n b.dir id
@@ -245,11 +260,21 @@ module _ (s n : Stored) (a b : Account) (count : ℕ) (group : IsGroup a.changes
       let more = more_below news weight m top (omega arith) in
       let swap = parts_swap weight h.blocks news (tree_weight weight) (new_weight weight) es group.rising (changed_weight weight) (kept_weight weight) top in
       let out = group_weight weight top (omega arith) in
-      let into = part_all (new_weight weight) top es (each_low top es (omega arith) lawful) ∙ sym (sum_flat weight (λ e. object_blocks n (record_of n b.dir e.0)) es) in
+      let into = part_all (new_weight weight) top es (low_ids top es (omega arith) lawful) ∙ sym (sum_flat weight (λ e. object_blocks n (record_of n b.dir e.0)) es) in
       let w = writes.swaps.stored weight in
-      omega (arith, all, more, swap, out, into, w,
-        sum_by-append weight (tree_reach s a.dir) (blocks_below h.blocks top), sum_by-append weight (tree_reach n b.dir) (blocks_below news m),
-        sum_by-append weight (blocks_of s es) (tree_reach s a.dir), sum_by-append weight (blocks_now n b.dir es) (tree_reach n b.dir))
+      omega (
+        arith,
+        all,
+        more,
+        swap,
+        out,
+        into,
+        w,
+        sum_by-append weight (tree_reach s a.dir) (blocks_below h.blocks top),
+        sum_by-append weight (tree_reach n b.dir) (blocks_below news m),
+        sum_by-append weight (blocks_of s es) (tree_reach s a.dir),
+        sum_by-append weight (blocks_now n b.dir es) (tree_reach n b.dir),
+      )
 
   pub blocks_then : IsOnce n → HasAllBlocks n b.dir b.changes
   blocks_then once = record { blocks = news; each = λ id. are_after id (before id) (after id) (h.blocks id) (h.each id) (carries id); stored = stored_after; once = once }
@@ -279,3 +304,15 @@ committed s n a b objects count group lawful writes empty once has = record {
   blocks = blocks_then s n a b count group lawful writes empty has.blocks once;
   each = λ id. object_then s n a b count group lawful writes empty has.blocks id (fin.get objects id) (has.each id);
 }
+
+commit_below : (s : Stored) (a : Account) (count : ℕ) (group : IsGroup a.changes.objects count) (lawful : IsLawfulGroup a.changes) (h : HasAllBlocks s a.dir a.changes) (weight : Bptr → ℕ) (top : ℕ) → 65536 ≤ top
+    → sum_by weight (blocks_of s a.changes.objects ++ tree_reach s a.dir) ≤ sum_by weight s.pointers
+commit_below s a count group lawful h weight top le =
+    let all = h.stored top weight in
+    let within = part_within weight h.blocks (weight_of_tree s weight) a.changes.objects group.rising (entry_among s a lawful h weight) top in
+    let total = trees_weigh s a lawful weight top le in
+    omega (arith, all, within, total, sum_by-append weight (tree_reach s a.dir) (blocks_below h.blocks top), sum_by-append weight (blocks_of s a.changes.objects) (tree_reach s a.dir))
+
+-- all that a commit gives back is stored
+pub commit_stored : (s : Stored) (a : Account) (objects : Objects) (count : ℕ) → IsGroup a.changes.objects count → IsLawfulGroup a.changes → HasObjects s a objects → AreStored (blocks_of s a.changes.objects ++ tree_reach s a.dir) s
+commit_stored s a objects count group lawful has weight = commit_below s a count group lawful has.blocks weight (count + 65536) (omega arith)

@@ -3,8 +3,13 @@ pub mod Below
 pub mod One
 pub mod Same
 pub mod Bytes
+pub mod Lost
 pub mod Making
 pub mod Dropping
 pub mod Reading
 pub mod Committing
 pub mod Groups
+pub mod Leaves
+pub mod Edits
+pub mod Contents
+pub mod Empty

@@ -1,29 +1,26 @@
 -- A new object, which has no blocks.
-use Rattle.std.proofs.Common.{◌≡◌, ◌≢◌, ◌∙◌, ◌<◌, ◌≤◌, ◌+◌, ◌*◌, ◌^◌, ℕ, zero, suc, List, [], ◌∷◌, ◌++◌, map, replicate, Bool, true, false, Option, Some, None, refl, sym, ap, subst, arith, nat_lt, lt-ltb}
-use Rattle.std.specs.Prelude.{unwrap_or, is_some, not, ◌&&◌, ◌==◌, if◌then◌else◌}
+use Rattle.std.proofs.Common.{◌≡◌, ◌∙◌, ◌<◌, ◌+◌, ◌*◌, ℕ, [], Bool, true, false, Option, Some, None, refl, sym, ap, subst, arith, nat_lt, lt-ltb}
+use Rattle.std.specs.Prelude.{unwrap_or, if◌then◌else◌}
 use Rattle.std.specs.List.{sum_by}
 use Rattle.std.specs.FinMap as fin
 use Rattle.std.specs.FinSet as set
 use Rattle.std.specs.Ordering.{nat_cmp}
 use Rattle.std.proofs.lemmas.Bool.{eq-eqb, ne_eqb}
-use Rattle.zr_bptr.specs.declared.Bptr.{Bptr}
 use Rattle.zr_bptr.specs.declared.Ptr.{Ptr}
-use Rattle.zr_bptr.specs.declared.Ptr.TheVariants.{Hole, At}
+use Rattle.zr_bptr.specs.declared.Ptr.TheVariants.{Hole}
 use Rattle.zr_bptr.specs.declared.ObjRec.{ObjRec}
-use Rattle.zr_store.specs.Store.{Stored, Swaps, hits}
+use Rattle.zr_store.specs.Store.{Stored}
 use Rattle.zr_tree.specs.Trees.{tree_at}
 use Rattle.zr_objset.specs.Records.{bytes_of, record_of}
-use Rattle.zr_txg.specs.Tables.{value_at}
-use Rattle.zr_txg.proofs.Keyed.{by_key}
-use Rattle.zr_txg.specs.Changes.{Changes, object_in, change_in}
-use Rattle.zr_lookup.specs.Objects.{record_now, pointer_now, block_in, HasLeaves, AreObjectBlocks}
+use Rattle.zr_txg.specs.Changes.{object_in, change_in}
+use Rattle.zr_lookup.specs.Objects.{record_now, pointer_now, block_in, AreObjectBlocks}
 use Rattle.zr_change.specs.Changes.{SetsObject}
 use Rattle.zr_model.specs.Objects as model
 use Rattle.zr_model.specs.Objects.{Object, Objects}
 use Rattle.zr_image.specs.StateOf.{IsLost}
 use Rattle.zr_moves.specs.Account.{Account, leaf_now, IsObjectNow, IsObjectAt}
 use Rattle.zr_moves.specs.Changes.{new_record}
-use Rattle.zr_held.specs.Held.{AreBlocksNow, HasAllBlocks, HasObjects}
+use Rattle.zr_held.specs.Held.{AreBlocksNow, HasObjects}
 use Rattle.zr_held.specs.Steps.{IsOtherGroup, ChangesBlocks}
 use Rattle.zr_held.proofs.Frames.{leaf_is}
 use Rattle.zr_held.proofs.One.{objects_then, same_swaps}

@@ -1,5 +1,5 @@
 -- The blocks of one object change, and all others stay.
-use Rattle.std.proofs.Common.{◌≡◌, ◌≢◌, ◌∙◌, ◌<◌, ◌≤◌, ◌+◌, ℕ, suc, List, [], ◌∷◌, ◌++◌, Option, Some, None, refl, sym, ap, subst, arith}
+use Rattle.std.proofs.Common.{◌≡◌, ◌≢◌, ◌∙◌, ◌≤◌, ◌+◌, ℕ, suc, List, [], ◌++◌, Option, None, refl, sym, ap, subst, arith}
 use Rattle.std.specs.Prelude.{unwrap_or, nat_lt, if◌then◌else◌}
 use Rattle.std.specs.List.{sum_by}
 use Rattle.std.specs.FinMap as fin
@@ -8,13 +8,13 @@ use Rattle.std.proofs.lemmas.List.Sums.{sum_by-append}
 use Rattle.zr_bptr.specs.declared.Bptr.{Bptr}
 use Rattle.zr_bptr.specs.declared.ObjRec.{ObjRec}
 use Rattle.zr_bptr.specs.declared.Tree.{Tree}
-use Rattle.zr_store.specs.Store.{Stored, Swaps, AreStored, IsOnce, hits, one_at}
-use Rattle.zr_tree.specs.Trees.{tree_reach, KeepsTree}
-use Rattle.zr_tree.proofs.Frames.{Agree, agree_front, agree_back}
+use Rattle.zr_store.specs.Store.{Stored, Swaps, AreStored}
+use Rattle.zr_tree.specs.Trees.{tree_reach}
+use Rattle.zr_tree.proofs.Frames.{Agree, agree_back}
 use Rattle.zr_objset.specs.Records.{record_of}
 use Rattle.zr_objset.proofs.Keeping.{same_record, tree_same, beside}
 use Rattle.zr_txg.proofs.Keyed.{by_key}
-use Rattle.zr_txg.specs.Changes.{Changes, object_in, change_in}
+use Rattle.zr_txg.specs.Changes.{Changes, object_in}
 use Rattle.zr_lookup.specs.Objects.{record_now}
 use Rattle.zr_model.specs.Objects.{Object, Objects}
 use Rattle.zr_moves.specs.Account.{Account, IsObjectAt}
@@ -111,7 +111,7 @@ module _ (s n : Stored) (a b : Account) (id : ℕ) (out into bs : List Bptr) (h 
   objects_then old new are same here = record {
     blocks = blocks_then;
     each = λ i. by_key i id
-      (λ is. subst (λ (k : ℕ). IsObjectAt n b k (record_now n b.dir b.changes k) (fin.get new k)) (sym is) here)
-      (λ other. let apart : id ≢ i = λ e. other (sym e) in
-      subst (λ (found : Option Object). IsObjectAt n b i (record_now n b.dir b.changes i) found) (sym (same i apart)) (other_object i (fin.get old i) apart (are i)));
+        (λ is. subst (λ (k : ℕ). IsObjectAt n b k (record_now n b.dir b.changes k) (fin.get new k)) (sym is) here)
+        (λ other. let apart : id ≢ i = λ e. other (sym e) in
+        subst (λ (found : Option Object). IsObjectAt n b i (record_now n b.dir b.changes i) found) (sym (same i apart)) (other_object i (fin.get old i) apart (are i)));
   }

@@ -1,20 +1,21 @@
 -- What is read of an object.
-use Rattle.std.proofs.Common.{◌≡◌, ◌≢◌, ◌∙◌, ◌<◌, ◌≤◌, ◌+◌, ◌*◌, ◌/◌, ◌%◌, ℕ, zero, suc, List, [], length, Option, Some, None, refl, sym, ap, subst, arith}
-use Rattle.std.specs.Prelude.{slice_index}
+use Rattle.std.proofs.Common.{◌≡◌, ◌∙◌, ◌<◌, ◌+◌, ◌*◌, ◌/◌, ◌%◌, ℕ, List, length, Option, Some, None, refl, sym, ap, subst, arith}
+use Rattle.std.specs.Prelude.{slice_index, ◌&&◌, nat_lt, Bool, true, false}
+use Rattle.std.specs.FinSet as set
+use Rattle.std.proofs.lemmas.Bool.{ltb-true}
+use Rattle.zr_held.proofs.Lost.{none_met, none_lost}
 use Rattle.std.specs.FinMap as fin
 use Rattle.std.proofs.Math.Nat.{div-add-mod, mod-lt}
-use Rattle.zr_bptr.specs.declared.Bptr.{Bptr}
 use Rattle.zr_bptr.specs.declared.Ptr.{Ptr}
 use Rattle.zr_bptr.specs.declared.Ptr.TheVariants.{Hole, At}
 use Rattle.zr_bptr.specs.declared.ObjRec.{ObjRec}
 use Rattle.zr_store.specs.Store.{Stored}
 use Rattle.zr_objset.specs.Records.{bytes_of}
-use Rattle.zr_txg.specs.Changes.{Changes}
 use Rattle.zr_lookup.specs.Objects.{record_now, pointer_now, block_now, byte_now, IsTouched}
 use Rattle.zr_lookup.specs.Errors.{IsSoundPointer}
-use Rattle.zr_model.specs.Objects.{Object, Objects, byte_at, bytes_at}
+use Rattle.zr_model.specs.Objects.{Object, Objects, byte_at, bytes_at, meets_block, reads_lost, has_lost}
 use Rattle.zr_image.specs.StateOf.{IsLost}
-use Rattle.zr_moves.specs.Account.{Account, leaf_now, IsObjectNow, IsObjectAt}
+use Rattle.zr_moves.specs.Account.{Account, IsObjectNow, IsObjectAt}
 use Rattle.zr_held.specs.Held.{HasObjects}
 use Rattle.zr_held.proofs.Frames.{leaf_is}
 use Rattle.zr_held.proofs.Bytes.{byte_in, bytes_are}
@@ -63,3 +64,18 @@ module _ (s : Stored) (a : Account) (id : ℕ) (r : ObjRec) (o : Object) (found 
       let up : 4096 * r.units * (index + 1) ≡ 4096 * r.units * index + 4096 * r.units = omega arith in
       let touched : IsTouched r.units off len index = record { begins = omega (arith, less, whole, up); ends = omega (arith, whole, lt) } in
       sym (byte_is at some (not_lost s r.units (pointer_now s a.changes id r index) (sound index touched))) ∙ sym (each k lt))
+
+  -- no lost block is read
+  pub none_read : (off len : ℕ) → ((index : ℕ) → IsTouched r.units off len index → IsSoundPointer s r.units (pointer_now s a.changes id r index)) → reads_lost o off len ≡ false
+  none_read off len sound = none_met (meets_block o off len) o.lost (λ i among. by_meeting i among (nat_lt off (4096 * r.units * (i + 1))) (nat_lt (4096 * r.units * i) (off + len)) refl refl)
+    where
+      by_meeting : (i : ℕ) → set.contains o.lost i ≡ true → (x y : Bool) → nat_lt off (4096 * r.units * (i + 1)) ≡ x → nat_lt (4096 * r.units * i) (off + len) ≡ y → meets_block o off len i ≡ false
+      by_meeting i among true true begins ends =
+          let touched : IsTouched r.units off len i = record { begins = ltb-true off (4096 * r.units * (i + 1)) begins; ends = ltb-true (4096 * r.units * i) (off + len) ends } in
+          absurd (not_lost s r.units (pointer_now s a.changes id r i) (sound i touched) (subst (λ (p : Ptr). IsLost s p) (leaf_is s a id r found i) ((is.lost_are i).0 among)))
+      by_meeting i among true false begins ends = subst (λ (u : ℕ). (nat_lt off (4096 * u * (i + 1)) && nat_lt (4096 * u * i) (off + len)) ≡ false) (sym is.units) (rw (begins, ends) refl)
+      by_meeting i among false y begins ends = subst (λ (u : ℕ). (nat_lt off (4096 * u * (i + 1)) && nat_lt (4096 * u * i) (off + len)) ≡ false) (sym is.units) (rw begins refl)
+
+  -- nor is any, where each block has its sum
+  pub none_at_all : ((index : ℕ) → IsSoundPointer s r.units (pointer_now s a.changes id r index)) → has_lost o ≡ false
+  none_at_all sound = none_lost o (λ i among. not_lost s r.units (pointer_now s a.changes id r i) (sound i) (subst (λ (p : Ptr). IsLost s p) (leaf_is s a id r found i) ((is.lost_are i).0 among)))

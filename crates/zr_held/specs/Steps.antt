@@ -1,7 +1,11 @@
 -- What a line does to the blocks of one object and to the open group.
-use Rattle.std.specs.Prelude.{◌≡◌, ◌≢◌, ℕ, ◌+◌, ◌≤◌, List, Option}
+use Rattle.std.specs.Prelude.{◌≡◌, ◌≢◌, ℕ, ◌+◌, ◌≤◌, List, Some}
+use Rattle.std.specs.FinMap as map
+use Rattle.zr_model.specs.Objects.{Object, Objects}
 use Rattle.std.specs.List.{sum_by}
 use Rattle.zr_bptr.specs.declared.Bptr.{Bptr}
+use Rattle.zr_bptr.specs.declared.Ptr.TheVariants.{Hole}
+use Rattle.zr_bptr.specs.declared.Tree.{Tree}
 use Rattle.zr_store.specs.Store.{Stored, Swaps, IsOnce}
 use Rattle.zr_txg.specs.Changes.{object_in, change_in}
 use Rattle.zr_lookup.specs.Objects.{record_now}
@@ -21,3 +25,11 @@ pub record ChangesBlocks (s n : Stored) (new : Account) (id : ℕ) (had has out 
   pub balance : (weight : Bptr → ℕ) → sum_by weight has + sum_by weight out ≡ sum_by weight had + sum_by weight into
   pub now : AreBlocksNow n new.changes id (record_now n new.dir new.changes id) has
   pub once : IsOnce n
+
+-- the object is there, and this holds of it
+abbrev pub IsObjectOf : Objects → ℕ → (Object → Type 0) → Type 0
+IsObjectOf objects id Is = (o : Object) × (map.get objects id ≡ Some o) × Is o
+
+-- a tree without blocks
+abbrev pub no_tree : Tree
+no_tree = record { root = Hole; height = 0 }
