@@ -4,3 +4,5 @@ pub mod Publishing
 pub mod Groups
 pub mod Pools
 pub mod Disks
+pub mod Objects
+pub mod Holding

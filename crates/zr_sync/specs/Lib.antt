@@ -3,3 +3,4 @@ pub mod Pools
 pub mod Writes
 pub mod Words
 pub mod Commits
+pub mod Holds

@@ -10,7 +10,9 @@ ghost use Rattle.zr_rules.specs.Space.{Space};
 ghost use Rattle.zr_rules.specs.Steps.{Commits};
 ghost use Rattle.zr_shelf.specs.Counts.{NoneFell};
 ghost use Rattle.zr_shelf.specs.Moments.{World};
+ghost use Rattle.zr_store.specs.Store.{Stored};
 ghost use Rattle.zr_sync.specs.Commits.{EndsGroup, IsNextRoot, IsShownFrom};
+ghost use Rattle.zr_sync.specs.Holds.{AreTreesStored, HasBlocks, HasWritten};
 ghost use Rattle.zr_sync.specs.Pools.{IsOpen, IsSamePool};
 ghost use Rattle.zr_sync.specs.Writes.{WorksOnDisks, WritesAll, WritesMetadata};
 ghost use Rattle.zr_sync.specs.declared.stop.Stop.TheVariants.{DiskFault};
@@ -102,6 +104,7 @@ fn write_all<S: Shelf, P: Place>(
     ensures whole { IfOk result (λ head. head.1 % 8 ≡ 0) }
     ensures least { IfOk result (λ head. 8 ≤ head.1) }
     ensures short { IfOk result (λ head. head.1 ≤ 35016) }
+    ensures objects { (s : Stored) → HasBlocks (S.tells shelf.old) (S.world shelf.old).now.seen pool.old s → AreTreesStored pool.old s → OnOk result (HasWritten (S.tells shelf.new) (S.world shelf.new).now.seen pool.old pool.new s) }
 {
     write_trees(alloc, pool, shelf, pick)?;
     write_metadata(alloc, pool, shelf, pick, reset)

@@ -1,7 +1,9 @@
 //! The end of a group in an open pool: its root is the last one, and the next group is open.
 ghost use Rattle.std.specs.Prelude.{◌≡◌, ◌+◌, ◌<◌, ◌≤◌, ◌^◌, ℕ, List, [], Some};
+ghost use Rattle.zr_base.specs.declared.space.Dva.{Dva};
 ghost use Rattle.zr_label.specs.Blocks.{IsUber};
 ghost use Rattle.zr_rules.specs.Steps.{Commits};
+ghost use Rattle.zr_space.specs.Live.{IsLive};
 ghost use Rattle.zr_sync.specs.Commits.{IsNextRoot};
 ghost use Rattle.zr_sync.specs.Pools.{IsOpen, IsSamePool};
 
@@ -21,6 +23,10 @@ pub fn end_group(alloc: Global, pool: &mut OpenPool, root: Uber, reset: bool)
     ensures same { IsSamePool pool.old pool.new }
     ensures last { pool.new.last ≡ Some root }
     ensures head { pool.new.head.root ≡ root.root }
+    ensures table { pool.new.table ≡ pool.old.table }
+    ensures cache { pool.new.cache ≡ pool.old.cache }
+    ensures dir { pool.new.dir ≡ pool.old.dir }
+    ensures live { (a : Dva) → IsLive pool.old.space a → IsLive pool.new.space a }
     ensures space { Commits reset pool.old.space pool.new.space }
     ensures empty { pool.new.group.objects ≡ [] }
     ensures txg { pool.new.group.txg ≡ pool.old.group.txg + 1 }

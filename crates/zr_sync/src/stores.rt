@@ -1,17 +1,20 @@
 //! The device calls of a commit, each with a store of its own.
 //!
 //! A store borrows the space, the disks and the cache. With its end they go on, and what it left alone is said of them.
-ghost use Rattle.std.specs.Prelude.{◌≡◌, ◌≤◌, ◌*◌, ◌^◌, All, length, IfOk, IsErrOf};
+ghost use Rattle.std.specs.Prelude.{◌≡◌, ◌≤◌, ◌*◌, ◌^◌, ◌++◌, All, length, None, IfOk, IsErrOf};
 ghost use Rattle.zr_base.specs.Counts.{HasRisen};
 ghost use Rattle.zr_bptr.specs.Spelling.{IsTree};
+ghost use Rattle.zr_commit.specs.Objects.{blocks_of, WritesGroup};
 ghost use Rattle.zr_label.specs.Blocks.{IsMetaRoot};
 ghost use Rattle.zr_lookup.specs.Groups.{IsLawfulGroup};
 ghost use Rattle.zr_meta.specs.Heads.{IsStream, IsHead, head_words};
 ghost use Rattle.zr_rules.specs.Equation.{devices_in};
 ghost use Rattle.zr_space.specs.Paths.{AreInService};
+ghost use Rattle.zr_store.specs.Store.{AreStored, Now, Stored};
 ghost use Rattle.zr_store.specs.declared.StoreErr.TheVariants.{Failed};
+ghost use Rattle.zr_tree.specs.Trees.{tree_reach};
 ghost use Rattle.zr_vdev.specs.Mounts.{AreMounted};
-ghost use Rattle.zr_vdev.specs.Stores.{Continues};
+ghost use Rattle.zr_vdev.specs.Stores.{Continues, HoldsBlocks};
 ghost use Rattle.zr_sync.specs.Words.{HasRoomFor};
 ghost use Rattle.zr_sync.specs.declared.stop.Stop.TheVariants.{DiskFault};
 
@@ -50,6 +53,7 @@ pub fn put_group<S: Shelf, P: Place>(
     ensures fault { IsErrOf result DiskFault → HasRisen (S.counts shelf.old).disk (S.counts shelf.new).disk }
     ensures tree { IfOk result IsTree }
     ensures low { IfOk result (λ t. t.height ≤ 3) }
+    ensures writes { (s : Stored) → HoldsBlocks mount.entry.kind mount.entry.slots.now (S.tells shelf.old) (S.world shelf.old).now.seen space.old None cache.old s → AreStored (blocks_of s changed.now.objects ++ tree_reach s dir.now) s → IfOk result (λ u. Now (HoldsBlocks mount.entry.kind mount.entry.slots.now (S.tells shelf.new) (S.world shelf.new).now.seen space.new None cache.new) (λ n. WritesGroup s n changed.now dir.now u)) }
 {
     let mut store = Vdev::new(space, shelf, cache, mount);
     Ok(write_group(alloc, &mut store, dir, changed)?)

@@ -2,6 +2,8 @@
 ghost use Rattle.std.specs.Prelude.{◌≡◌, ◌≤◌, IsErrOf, IfOk, OnOk};
 ghost use Rattle.zr_base.specs.Counts.{HasRisen};
 ghost use Rattle.zr_bptr.specs.Spelling.{IsTree};
+ghost use Rattle.zr_store.specs.Store.{Stored};
+ghost use Rattle.zr_sync.specs.Holds.{AreTreesStored, HasBlocks, HasWritten};
 ghost use Rattle.zr_sync.specs.Pools.{IsDirectory, IsOpen};
 ghost use Rattle.zr_sync.specs.Writes.{WritesTrees};
 ghost use Rattle.zr_sync.specs.declared.stop.Stop.TheVariants.{DiskFault};
@@ -19,6 +21,7 @@ fn directory(t: Tree) -> Result<Tree, Stop>
     requires tree { IsTree t }
     requires low { t.height ≤ 3 }
     ensures directory { IfOk result IsDirectory }
+    ensures same { IfOk result (λ u. u ≡ t) }
     ensures fault { ¬ IsErrOf result DiskFault }
 {
     match t.root {
@@ -45,6 +48,7 @@ pub fn write_trees<S: Shelf, P: Place>(
     ensures wrote { WritesTrees (S.sizes shelf.old) (S.sizes shelf.new) (S.counts shelf.old) (S.counts shelf.new) (S.tells shelf.old) (S.tells shelf.new) (S.world shelf.old) (S.world shelf.new) pool.old pool.new }
     ensures pool { OnOk result (IsOpen (S.sizes shelf.new) pool.new) }
     ensures fault { IsErrOf result DiskFault → HasRisen (S.counts shelf.old).disk (S.counts shelf.new).disk }
+    ensures objects { (s : Stored) → HasBlocks (S.tells shelf.old) (S.world shelf.old).now.seen pool.old s → AreTreesStored pool.old s → OnOk result (HasWritten (S.tells shelf.new) (S.world shelf.new).now.seen pool.old pool.new s) }
 {
     let mount = Mount {
         slots: &pool.table.slots,

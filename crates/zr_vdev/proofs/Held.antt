@@ -1,6 +1,6 @@
 -- What a store of blocks on a shelf holds after a call.
 use Rattle.std.proofs.Common.{◌≡◌, ◌⊎◌, inl, inr, ℕ, zero, suc, ◌+◌, ◌<◌, ◌≤◌, Bool, true, false, List, [], ◌∷◌, length, get_or, Option, Some, None, refl, sym, ◌∙◌, ap, subst, arith}
-use Rattle.std.specs.Prelude.{is_some}
+use Rattle.std.specs.Prelude.{◌||◌, is_some}
 use Rattle.std.specs.List.{list_any}
 use Rattle.std.proofs.lemmas.Bool.Decides.{nat_tests}
 use Rattle.zr_base.specs.declared.space.Dva.{Dva}
@@ -8,9 +8,9 @@ use Rattle.zr_base.specs.declared.space.Policy.{Policy}
 use Rattle.zr_shelf.specs.Moments.{World}
 use Rattle.zr_shelf.specs.Doings.{WritesOnly}
 use Rattle.zr_chain.specs.Visits.{as_part}
-use Rattle.zr_rules.specs.Places.{Place, in_address, units_of_dev}
+use Rattle.zr_rules.specs.Places.{Place, in_address, is_place, units_of_dev}
 use Rattle.zr_rules.specs.Devices.{Devices}
-use Rattle.zr_rules.specs.Resolve.{is_resolved, resolved}
+use Rattle.zr_rules.specs.Resolve.{is_at, is_resolved, resolved, resolved_units}
 use Rattle.zr_rules.specs.Roles.{Role, is_live_role}
 use Rattle.zr_rules.specs.Roles.Role.{Free, Meta, SavedMeta}
 use Rattle.zr_rules.specs.Space.{Space, role_at}
@@ -32,7 +32,7 @@ use Rattle.zr_vdev.proofs.Reading.{have_the_bytes, all-led, first-target}
 use Rattle.zr_vdev.proofs.Taking.{takes_place, takes_frame}
 use Rattle.zr_vdev.proofs.Overwriting.{same_devices, runs_kept}
 use Rattle.zr_vdev.proofs.Apart.{apart_unless, not_apart, parts_apart}
-use Rattle.zr_vdev.proofs.Uses.{is_of, itself, leads_inside, use_known, use_some, use_within, use_roles, use_along, taken_was_free, take_keeps, taken_in_use, give_keeps, give_ends}
+use Rattle.zr_vdev.proofs.Uses.{is_of, itself, use_known, use_some, use_within, use_roles, use_along, taken_was_free, take_keeps, taken_in_use, give_keeps, give_ends}
 
 -- ---- the bytes of an address in use
 
@@ -93,9 +93,6 @@ inside a u le lt = grind (arith, nat_tests, le, lt)
 from_inside : (a : Dva) (u : ℕ) → in_address a a.dev u ≡ true → (a.start ≤ u) × (u < a.start + a.len)
 from_inside a u is = (grind (arith, nat_tests, is), grind (arith, nat_tests, is))
 
-own_dev : (a : Dva) (d u : ℕ) → in_address a d u ≡ true → (d ≡ a.dev) × (in_address a a.dev u ≡ true)
-own_dev a d u is = (grind (arith, nat_tests, is), grind (arith, nat_tests, is))
-
 false_true : false ≡ true → ⊥
 false_true e = cc
 
@@ -123,19 +120,39 @@ meta_saved : is_saved SavedMeta ≡ true
 unfolding is_saved
 meta_saved = refl
 
-module _ (s : Space) (a : Dva) (on : AreInService (devices_in s)) (known : a.dev < length s.parts.devs) (some : 0 < a.len) (within : a.start + a.len ≤ units_of_dev s.parts.devs a.dev) where
+-- each place to which the units lead is in use by a block, or there is one that is not
+live_at_each : (s : Space) (ps : List (Option Place))
+    → ((d u : ℕ) → list_any (λ p. is_at p d u) ps ≡ true → is_live_role (role_at s d u) ≡ true) ⊎ ((d : ℕ) × (u : ℕ) × (list_any (λ p. is_at p d u) ps ≡ true) × (is_live_role (role_at s d u) ≡ false))
+live_at_each s [] = inl (λ d u is. absurd (false_true is))
+live_at_each s (None ∷ ps) = live_at_each s ps
+live_at_each s (Some p ∷ ps) = (elim (is_live_role (role_at s p.0 p.1)) as (λ (b : Bool). is_live_role (role_at s p.0 p.1) ≡ b → ((d u : ℕ) → list_any (λ q. is_at q d u) (Some p ∷ ps) ≡ true → is_live_role (role_at s d u) ≡ true) ⊎ ((d : ℕ) × (u : ℕ) × (list_any (λ q. is_at q d u) (Some p ∷ ps) ≡ true) × (is_live_role (role_at s d u) ≡ false))) [
+  | false ↦ λ is. inr (p.0, p.1, here p.0 p.1 (list_any (λ q. is_at q p.0 p.1) ps), is)
+  | true ↦ λ is. elim (live_at_each s ps) [
+    | inr f ↦ inr (f.0, f.1, or_more (is_place p f.0 f.1) (list_any (λ q. is_at q f.0 f.1) ps) f.2, f.3)
+    | inl all ↦ inl (λ d u led. (elim (is_place p d u) as (λ (b : Bool). is_place p d u ≡ b → is_live_role (role_at s d u) ≡ true) [
+      | true ↦ λ at.
+          let dev : d ≡ p.0 = grind (arith, nat_tests, at) in
+          let unit : u ≡ p.1 = grind (arith, nat_tests, at) in
+          ap (λ (e : ℕ). is_live_role (role_at s e u)) dev ∙ (ap (λ (v : ℕ). is_live_role (role_at s p.0 v)) unit ∙ is)
+      | false ↦ λ out. all d u (or_rest (is_place p d u) (list_any (λ q. is_at q d u) ps) out led)
+    ]) refl)
+  ]
+]) refl
+  where
+    here : (d u : ℕ) (b : Bool) → (is_place (d, u) d u || b) ≡ true
+    here d u b = grind (arith, nat_tests)
+
+    or_more : (a b : Bool) → b ≡ true → (a || b) ≡ true
+    or_more a b is = grind (arith, nat_tests, is)
+
+    or_rest : (a b : Bool) → a ≡ false → (a || b) ≡ true → b ≡ true
+    or_rest a b out is = grind (arith, nat_tests, out, is)
+
+module _ (s : Space) (a : Dva) (known : a.dev < length s.parts.devs) (some : 0 < a.len) (within : a.start + a.len ≤ units_of_dev s.parts.devs a.dev) where
   live_or : IsLive s a ⊎ ¬ IsLive s a
-  live_or = elim (all_or a.len a.start (λ u. is_live_role (role_at s a.dev u))) [
-    | inl all ↦ inl (record {
-      known = known;
-      some = some;
-      within = within;
-      used = λ d u leads.
-          let at = own_dev a d u (leads_inside (devices_in s) on a d u leads) in
-          let range = from_inside a u at.1 in
-          ap (λ (e : ℕ). is_live_role (role_at s e u)) at.0 ∙ all u range.0 range.1;
-    })
-    | inr f ↦ inr (λ live. false_true (sym f.is ∙ use_roles kinds.Block s a on live a.dev f.at (inside a f.at f.low f.high)))
+  live_or = elim (live_at_each s (resolved_units (devices_in s) a)) [
+    | inl all ↦ inl (record { known = known; some = some; within = within; used = all })
+    | inr f ↦ inr (λ live. false_true (sym f.3 ∙ live.used f.0 f.1 f.2))
   ]
 
   role_or : (test : Role → Bool) (r : Role) → ((q : Role) → test q ≡ true → q ≡ r) → test r ≡ true → HasRole s a r ⊎ ¬ HasRole s a r
@@ -161,14 +178,14 @@ module _ (s : Space) (a : Dva) (on : AreInService (devices_in s)) (known : a.dev
   use_or_within kinds.Block = live_or
   use_or_within kinds.Meta = meta_or
 
-use_or : (kind : Kind) (s : Space) (a : Dva) → AreInService (devices_in s) → IsInUse kind s a ⊎ ¬ IsInUse kind s a
-use_or kind s a on = elim (lt_or a.dev (length s.parts.devs)) [
+use_or : (kind : Kind) (s : Space) (a : Dva) → IsInUse kind s a ⊎ ¬ IsInUse kind s a
+use_or kind s a = elim (lt_or a.dev (length s.parts.devs)) [
   | inr past ↦ inr (λ h. let k = use_known kind s a h in absurd (omega (arith, past, k)))
   | inl known ↦ elim (lt_or 0 a.len) [
     | inr none ↦ inr (λ h. let k = use_some kind s a h in absurd (omega (arith, none, k)))
     | inl some ↦ elim (lt_or (units_of_dev s.parts.devs a.dev) (a.start + a.len)) [
       | inl past ↦ inr (λ h. let k = use_within kind s a h in absurd (omega (arith, past, k)))
-      | inr within ↦ use_or_within s a on known some within kind
+      | inr within ↦ use_or_within s a known some within kind
     ]
   ]
 ]
@@ -180,8 +197,8 @@ apart_or (Some l) a = (elim (shares l a) as (λ (b : Bool). shares l a ≡ b →
   | false ↦ λ is. inl (λ d u at. apart_unless l a d u is at)
 ]) refl
 
-pub stored_or : (kind : Kind) (s : Space) (lost : Option Dva) (a : Dva) → AreInService (devices_in s) → IsStoredAt kind s lost a ⊎ ¬ IsStoredAt kind s lost a
-stored_or kind s lost a on = elim (use_or kind s a on) [
+pub stored_or : (kind : Kind) (s : Space) (lost : Option Dva) (a : Dva) → IsStoredAt kind s lost a ⊎ ¬ IsStoredAt kind s lost a
+stored_or kind s lost a = elim (use_or kind s a) [
   | inr never ↦ inr (λ h. never h.used)
   | inl used ↦ elim (apart_or lost a) [
     | inl whole ↦ inl (record { used = used; whole = whole })

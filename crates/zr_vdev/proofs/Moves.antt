@@ -75,16 +75,16 @@ module _ (kind : Kind) (s : Space) (lost : Option Dva) where
   ]) refl
 
 -- the bytes of a pointer, none where no block is stored
-pub bytes_now : (kind : Kind) (slots : List (Option ℕ)) (disks : List (List ℕ)) (s : Space) (lost : Option Dva) → AreInService (devices_in s) → Bptr → List ℕ
-bytes_now kind slots disks s lost on b = pick (stored_or kind s lost b.at on) (address_bytes (view_of disks slots s) b.at)
+pub bytes_now : (kind : Kind) (slots : List (Option ℕ)) (disks : List (List ℕ)) (s : Space) (lost : Option Dva) → Bptr → List ℕ
+bytes_now kind slots disks s lost b = pick (stored_or kind s lost b.at) (address_bytes (view_of disks slots s) b.at)
 
-bytes_there : (kind : Kind) (slots : List (Option ℕ)) (disks : List (List ℕ)) (s : Space) (lost : Option Dva) (on : AreInService (devices_in s)) (b : Bptr) → IsStoredAt kind s lost b.at → bytes_now kind slots disks s lost on b ≡ address_bytes (view_of disks slots s) b.at
+bytes_there : (kind : Kind) (slots : List (Option ℕ)) (disks : List (List ℕ)) (s : Space) (lost : Option Dva) (b : Bptr) → IsStoredAt kind s lost b.at → bytes_now kind slots disks s lost b ≡ address_bytes (view_of disks slots s) b.at
 unfolding bytes_now
-bytes_there kind slots disks s lost on b h = pick_yes (stored_or kind s lost b.at on) (address_bytes (view_of disks slots s) b.at) h
+bytes_there kind slots disks s lost b h = pick_yes (stored_or kind s lost b.at) (address_bytes (view_of disks slots s) b.at) h
 
-bytes_none : (kind : Kind) (slots : List (Option ℕ)) (disks : List (List ℕ)) (s : Space) (lost : Option Dva) (on : AreInService (devices_in s)) (b : Bptr) → ¬ IsStoredAt kind s lost b.at → bytes_now kind slots disks s lost on b ≡ []
+bytes_none : (kind : Kind) (slots : List (Option ℕ)) (disks : List (List ℕ)) (s : Space) (lost : Option Dva) (b : Bptr) → ¬ IsStoredAt kind s lost b.at → bytes_now kind slots disks s lost b ≡ []
 unfolding bytes_now
-bytes_none kind slots disks s lost on b h = pick_no (stored_or kind s lost b.at on) (address_bytes (view_of disks slots s) b.at) h
+bytes_none kind slots disks s lost b h = pick_no (stored_or kind s lost b.at) (address_bytes (view_of disks slots s) b.at) h
 
 zero_or : (n : ℕ) → (n ≡ 0) ⊎ (0 < n)
 zero_or zero = inl refl
@@ -93,17 +93,17 @@ zero_or (suc n) = inr (omega arith)
 -- what is stored at these addresses, told by its pointers
 pub holds_these : (kind : Kind) (slots : List (Option ℕ)) (told : Type 0) (disks : List (List ℕ)) (s : Space) (lost : Option Dva) (c : Cache) (on : AreInService (devices_in s)) (ps : List Bptr)
     → told → AreRead disks slots s c → ((at : Dva) → lost ≡ Some at → IsInUse kind s at) → All (λ (b : Bptr). IsStoredAt kind s lost b.at) ps → ((d u : ℕ) → address_hits (addresses_of ps) d u ≤ 1)
-    → HoldsBlocks kind slots told disks s lost c (record { pointers = ps; bytes = bytes_now kind slots disks s lost on })
+    → HoldsBlocks kind slots told disks s lost c (record { pointers = ps; bytes = bytes_now kind slots disks s lost })
 holds_these kind slots told disks s lost c on ps is_told read taken all once = record {
   told = is_told;
   read = read;
   taken = taken;
   stored = all;
   once = once;
-  alone = alone_of kind s lost (record { pointers = ps; bytes = bytes_now kind slots disks s lost on }) all once;
+  alone = alone_of kind s lost (record { pointers = ps; bytes = bytes_now kind slots disks s lost }) all once;
   resolves = resolves_of kind s lost ps on all;
-  there = bytes_there kind slots disks s lost on;
-  nothing = bytes_none kind slots disks s lost on;
+  there = bytes_there kind slots disks s lost;
+  nothing = bytes_none kind slots disks s lost;
 }
 
 -- ---- a block is put
@@ -134,7 +134,7 @@ put_held kind policy want slots apart told_old told_new old new before now c d b
       | false ↦ λ is. let h = held.once e u in let o = ap one_if is in omega (arith, h, o, sum_by-cons (λ (a : Dva). one_if (in_address a e u)) b.at (addresses_of st.pointers))
     ]) refl in
     record {
-      stored = record { pointers = b ∷ st.pointers; bytes = bytes_now kind slots now.now.seen new None now_on };
+      stored = record { pointers = b ∷ st.pointers; bytes = bytes_now kind slots now.now.seen new None };
       held = holds_these kind slots told_new now.now.seen new None d now_on (b ∷ st.pointers) told read (λ at is. absurd (none_some at is)) all once;
       is = record {
         fresh = elim (zero_or (hits st.pointers b.at)) [
@@ -144,12 +144,12 @@ put_held kind policy want slots apart told_old told_new old new before now c d b
               let first : in_address b.at b.at.dev b.at.start ≡ true = grind (arith, nat_tests, has) in
               absurd (true_is_false (in_address b.at b.at.dev b.at.start) first (clear_of_taken kind policy want old new b.at takes on b.at was.used b.at.dev b.at.start first))
         ];
-        given = bytes_there kind slots now.now.seen new None now_on b own ∙ given;
+        given = bytes_there kind slots now.now.seen new None b own ∙ given;
         swaps = record {
           stored = λ weight. omega (arith, sum_by-cons weight b st.pointers, sum_by-cons weight b []);
           kept = λ q none met.
               let was = at_each (IsStoredAt kind old None) st.pointers q.at held.stored met in
-              bytes_there kind slots now.now.seen new None now_on q (there q.at was)
+              bytes_there kind slots now.now.seen new None q (there q.at was)
               ∙ bytes_apart kind slots b.at apart before now writes old new devices on q.at was.used has (clear_of_taken kind policy want old new b.at takes on q.at was.used)
               ∙ sym (held.there q was);
         };
@@ -279,7 +279,7 @@ free_held kind slots told disks old new lost c d b birth st on devices gives rea
     omega (arith, f, o, once, hits_are st.pointers e u) in
     let all = rest_there kind old new b.at birth on devices own.used gives lost st.pointers (All_without (λ (p : Bptr). IsStoredAt kind old lost p.at) b.at st.pointers held.stored) clear in
     record {
-      stored = record { pointers = left; bytes = bytes_now kind slots disks new lost now_on };
+      stored = record { pointers = left; bytes = bytes_now kind slots disks new lost };
       held = holds_these kind slots told disks new lost d now_on left held.told read
           (λ at is. use_along kind old new at devices on (λ e u in_it. give_keeps kind old new b.at birth on gives e u (lost_clear at e u (subst (λ (o : Option Dva). IsApart o b.at) is own.whole) in_it)) (held.taken at is))
           all
@@ -290,7 +290,7 @@ free_held kind slots told disks old new lost c d b birth st on devices gives rea
             let f = fewer (one_at q.at) in
             let still : 0 < hits left q.at = omega (arith, f, free, met, sum_by-cons (one_at q.at) b []) in
             let was = at_each (IsStoredAt kind old lost) st.pointers q.at held.stored met in
-            bytes_there kind slots disks new lost now_on q (at_each (IsStoredAt kind new lost) left q.at all still)
+            bytes_there kind slots disks new lost q (at_each (IsStoredAt kind new lost) left q.at all still)
             ∙ ap (λ (ds : Devices). address_bytes (record { disks = disks; slots = slots; devices = ds }) q.at) devices
             ∙ sym (held.there q was);
       };
@@ -313,21 +313,54 @@ pub held_anew : (kind : Kind) (slots : List (Option ℕ)) (told_old told_new : T
 held_anew kind slots told_old told_new disks_old disks_new s t lost c d st on told read there bytes held =
     let all : All (λ (p : Bptr). IsStoredAt kind t None p.at) st.pointers = λ i e lt. there _ (held.stored i e lt) in
     record {
-      stored = record { pointers = st.pointers; bytes = bytes_now kind slots disks_new t None on };
+      stored = record { pointers = st.pointers; bytes = bytes_now kind slots disks_new t None };
       held = holds_these kind slots told_new disks_new t None d on st.pointers told read (λ at is. absurd (none_some at is)) all held.once;
       is = record {
         stored = λ weight. refl;
         kept = λ q free met.
             let was = at_each (IsStoredAt kind s lost) st.pointers q.at held.stored met in
-            bytes_there kind slots disks_new t None on q (there q.at was) ∙ bytes q.at was ∙ sym (held.there q was);
+            bytes_there kind slots disks_new t None q (there q.at was) ∙ bytes q.at was ∙ sym (held.there q was);
       };
     }
 
 -- a store that begins holds what the one before it held
-pub begins_held : (kind : Kind) (slots : List (Option ℕ)) (told : Type 0) (disks : List (List ℕ)) (s : Space) (lost : Option Dva) (c : Cache) (st : Stored) → AreInService (devices_in s)
+pub begins_held : (kind : Kind) (slots : List (Option ℕ)) (told : Type 0) (disks : List (List ℕ)) (s : Space) (lost : Option Dva) (c : Cache) (st : Stored)
     → HoldsBlocks kind slots told disks s lost c st → Now (HoldsBlocks kind slots told disks s None c) (λ n. Swaps st n [] [])
-begins_held kind slots told disks s lost c st on held =
-    held_anew kind slots told told disks disks s s lost c c st on held.told held.read (λ x h. record { used = h.used; whole = tt }) (λ x h. refl) held
+begins_held kind slots told disks s lost c st held = record {
+  stored = record { pointers = st.pointers; bytes = bytes_now kind slots disks s None };
+  held = record {
+    told = held.told;
+    taken = λ at is. absurd (none_some at is);
+    read = held.read;
+    stored = λ i e lt. record { used = (held.stored i e lt).used; whole = tt };
+    once = held.once;
+    alone = held.alone;
+    resolves = held.resolves;
+    there = bytes_there kind slots disks s None;
+    nothing = bytes_none kind slots disks s None;
+  };
+  is = record {
+    stored = λ weight. refl;
+    kept = λ q free met.
+        let was = at_each (IsStoredAt kind s lost) st.pointers q.at held.stored met in
+        bytes_there kind slots disks s None q (record { used = was.used; whole = tt }) ∙ sym (held.there q was);
+  };
+}
+
+-- what the devices hold is so whatever is told of them
+pub retold : (kind : Kind) (slots : List (Option ℕ)) (told other : Type 0) (disks : List (List ℕ)) (s : Space) (lost : Option Dva) (c : Cache) (st : Stored)
+    → other → HoldsBlocks kind slots told disks s lost c st → HoldsBlocks kind slots other disks s lost c st
+retold kind slots told other disks s lost c st is_told held = record {
+  told = is_told;
+  taken = held.taken;
+  read = held.read;
+  stored = held.stored;
+  once = held.once;
+  alone = held.alone;
+  resolves = held.resolves;
+  there = held.there;
+  nothing = held.nothing;
+}
 
 -- ---- a store that is only read
 

@@ -10,6 +10,7 @@
 
 mod cached;
 mod kind;
+mod laws;
 mod nothing;
 mod reader;
 mod reads;
@@ -19,6 +20,7 @@ mod writes;
 
 pub use cached::{get_block, put_block};
 pub use kind::{Kind, Mount, Place};
+pub use laws::held_by_the_next;
 pub use reader::Reader;
 pub use reads::read_block;
 pub use runs::resolve;

@@ -1,3 +1,4 @@
+use Rattle.zr_sync.proofs.Holding.{metadata_written, on_ok_of}
 use Rattle.zr_sync.proofs.Pools.{all_written, trees_written}
 use Rattle.zr_sync.proofs.commits.write_all.Goals as goal
 
@@ -6,3 +7,12 @@ returns-in_err-write_trees-clause-wrote g c = trees_written c.write_trees.ensure
 
 pub returns-clause-wrote : goal.returns-clause-wrote
 returns-clause-wrote g c = all_written c.write_trees.ensures.wrote c.write_metadata.ensures.wrote
+
+pub returns-clause-objects : goal.returns-clause-objects
+returns-clause-objects g c = λ s held stored.
+    let first = c.args.shelf.now in
+    let mid = c.write_trees.new.shelf in
+    let last = c.write_metadata.new.shelf in
+    on_ok_of c.write_metadata.result
+    (metadata_written (g.S.Shelf.sizes mid) (g.S.Shelf.sizes last) (g.S.Shelf.counts mid) (g.S.Shelf.counts last) (g.S.Shelf.tells mid) (g.S.Shelf.tells last) (g.S.Shelf.world mid) (g.S.Shelf.world last)
+    c.args.pool.now c.write_trees.new.pool c.write_metadata.new.pool s c.in_ok-write_trees.ensures.pool c.write_metadata.ensures.wrote (g.S.Shelf.tells first) (g.S.Shelf.world first).now.seen held stored (c.in_ok-write_trees.ensures.objects s held stored))
