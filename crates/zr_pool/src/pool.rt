@@ -125,7 +125,7 @@ impl Pool for DevicePool {
 
     ghost paths = { λ p. p.paths };
 
-    ghost state = { λ p. state_of p.paths p.pool };
+    ghost stands = { λ p disks state. state ≡ state_of p.paths p.pool };
 
     ghost meaning = { on_devices };
 

@@ -10,8 +10,8 @@ use Rattle.zr_script.specs.ReplyText.{reply_text}
 use Rattle.zr_model.specs.State.{State, no_pool}
 use Rattle.zr_model.specs.Runs.{Meaning, Point, Turn, point, turn, Run, end_of, texts, Asks}
 use Rattle.zr_model.specs.Answers.{IsOpenLine, bytes_to}
-use Rattle.zr_session.specs.Lines.{AnswersLine}
-use Rattle.zr_session.specs.Progress.{HasAnswered, IsAt, IsDue}
+use Rattle.zr_session.specs.Lines.{StandsForOne, AnswersLine}
+use Rattle.zr_session.specs.Progress.{HasAnswered, IsAt, IsDue, StandsAt}
 
 -- a run goes on by one command
 run_more : (meaning : Meaning) (p : Point) (turns : List Turn) (t : Turn) → Run meaning p turns → meaning.takes (end_of p turns) t → Run meaning p (turns ++ t ∷ [])
@@ -268,19 +268,15 @@ pub due_long : (meaning : Meaning) (opening now : Stand) (state : State) (rest l
 due_long meaning opening now state rest line count taken a k l =
     long_due meaning opening now state rest line count taken a l (begins_all (line ++ rest) now.left l (open_both line rest a.is_open k))
 
--- the devices stay
-pub paths_kept : (meaning : Meaning) (line : List ℕ) (before after : State) (old new : Stand) → AnswersLine meaning line before after old new → new.paths ≡ old.paths
-paths_kept meaning line before after old new a = a.does.paths
-
 -- the same, with the line and the count as they are kept
-pub at_line_as : (meaning : Meaning) (opening old new : Stand) (before after : State) (rest line part more : List ℕ) (count taken : ℕ) (left : List ℕ) (number : ℕ)
+at_line_as : (meaning : Meaning) (opening old new : Stand) (before after : State) (rest line part more : List ℕ) (count taken : ℕ) (left : List ℕ) (number : ℕ)
     → IsAt meaning opening old before rest line count taken → rest ≡ part ++ 10 ∷ more → IsOpenLine part → AnswersLine meaning (line ++ part) before after old new → left ≡ [] → number ≡ count + 1
     → IsAt meaning opening new after more left number taken
 at_line_as meaning opening old new before after rest line part more count taken left number a e k l empty is =
     subst (λ x. IsAt meaning opening new after more x number taken) (sym empty)
     (subst (λ x. IsAt meaning opening new after more [] x taken) (sym is) (at_line meaning opening old new before after rest line part more count taken a e k l))
 
-pub at_kept_as : (meaning : Meaning) (opening now new : Stand) (state : State) (rest line kept : List ℕ) (count number taken : ℕ)
+at_kept_as : (meaning : Meaning) (opening now new : Stand) (state : State) (rest line kept : List ℕ) (count number taken : ℕ)
     → IsAt meaning opening now state rest line count taken → IsOpenLine rest → new ≡ now → kept ≡ line ++ rest → length kept ≤ 16384 → number ≡ count → IsAt meaning opening new state [] kept number taken
 at_kept_as meaning opening now new state rest line kept count number taken a k same e s is =
     subst (λ x. IsAt meaning opening x state [] kept number taken) (sym same)
@@ -290,13 +286,13 @@ at_kept_as meaning opening now new state rest line kept count number taken a k s
 abbrev pub TookPiece : ℕ → List ℕ → Stand → Stand → Type 0
 TookPiece n out old new = (left : List ℕ) × (old.left ≡ take n out ++ left) × (new ≡ taken_to old left)
 
-pub at_piece : (meaning : Meaning) (opening old new : Stand) (state : State) (out line : List ℕ) (n count taken : ℕ)
+at_piece : (meaning : Meaning) (opening old new : Stand) (state : State) (out line : List ℕ) (n count taken : ℕ)
     → IsAt meaning opening old state [] line count taken → TookPiece n out old new → n ≤ length out → taken + length out ≤ 2 ^ 32 → length out ≤ 65536 → IsAt meaning opening new state (take n out) line count (taken + n)
 at_piece meaning opening old new state out line n count taken a t l m f =
     let e : length (take n out) ≡ n = length-take-le n out l in
     subst (λ x. IsAt meaning opening new state (take n out) line count (taken + x)) e (at_taken meaning opening old new state (take n out) t.0 line count taken a t.1 t.2 (let k = e in omega arith) (let k = e in omega arith))
 
-pub at_end : (meaning : Meaning) (opening old new : Stand) (state : State) (out line : List ℕ) (n count taken : ℕ)
+at_end : (meaning : Meaning) (opening old new : Stand) (state : State) (out line : List ℕ) (n count taken : ℕ)
     → IsAt meaning opening old state [] line count taken → TookPiece n out old new → n ≡ 0 → taken ≤ 2 ^ 32 → IsAt meaning opening new state [] line count taken
 at_end meaning opening old new state out line n count taken a t z m =
     let p : take n out ≡ [] = ap (λ k. take k out) z in
@@ -306,6 +302,43 @@ at_end meaning opening old new state out line n count taken a t z m =
 pub left_end : (old new : Stand) (out : List ℕ) (n : ℕ) → TookPiece n out old new → n ≡ 0 → old.left ≡ [] → new.left ≡ []
 left_end old new out n t z e = ap (λ s. s.left) t.2 ∙ (sym (t.1 ∙ ap (λ k. take k out ++ t.0) z) ∙ e)
 
-pub start_as : (meaning : Meaning) (opening : Stand) (state : State) (line : List ℕ) (count : ℕ) → state ≡ no_pool → line ≡ [] → count ≡ 0 → IsAt meaning opening opening state [] line count 0
-start_as meaning opening state line count s l n =
-    subst (λ x. IsAt meaning opening opening x [] line count 0) (sym s) (subst (λ x. IsAt meaning opening opening no_pool [] x count 0) (sym l) (subst (λ x. IsAt meaning opening opening no_pool [] [] x 0) (sym n) (at_start meaning opening)))
+pub start_as : (meaning : Meaning) (stands : List (List ℕ) → State → Type 0) (opening : Stand) (line : List ℕ) (count : ℕ) → ((disks : List (List ℕ)) → stands disks no_pool) → line ≡ [] → count ≡ 0
+    → StandsAt meaning stands opening opening [] line count 0
+start_as meaning stands opening line count closed l n = record {
+  state = no_pool;
+  stands_for = closed opening.seen;
+  holds = subst (λ x. IsAt meaning opening opening no_pool [] x count 0) (sym l) (subst (λ x. IsAt meaning opening opening no_pool [] [] x 0) (sym n) (at_start meaning opening));
+}
+
+-- the same of the state for which the pool stands
+pub stands_line : (meaning : Meaning) (was stands : List (List ℕ) → State → Type 0) (opening old new : Stand) (rest line part more : List ℕ) (count taken : ℕ) (left : List ℕ) (number : ℕ)
+    → StandsAt meaning was opening old rest line count taken → rest ≡ part ++ 10 ∷ more → IsOpenLine part
+    → ((before : State) → was old.seen before → StandsForOne stands new (λ after. AnswersLine meaning (line ++ part) before after old new)) → left ≡ [] → number ≡ count + 1
+    → StandsAt meaning stands opening new more left number taken
+stands_line meaning was stands opening old new rest line part more count taken left number a e k f empty is =
+    let l = f a.state a.stands_for in
+    record { state = l.state; stands_for = l.stands_for; holds = at_line_as meaning opening old new a.state l.state rest line part more count taken left number a.holds e k l.holds empty is }
+
+pub stands_kept : (meaning : Meaning) (stands : List (List ℕ) → State → Type 0) (opening now new : Stand) (rest line kept : List ℕ) (count number taken : ℕ)
+    → StandsAt meaning stands opening now rest line count taken → IsOpenLine rest → new ≡ now → kept ≡ line ++ rest → length kept ≤ 16384 → number ≡ count → StandsAt meaning stands opening new [] kept number taken
+stands_kept meaning stands opening now new rest line kept count number taken a k same e s is = record {
+  state = a.state;
+  stands_for = subst (λ (n : Stand). stands n.seen a.state) (sym same) a.stands_for;
+  holds = at_kept_as meaning opening now new a.state rest line kept count number taken a.holds k same e s is;
+}
+
+pub stands_piece : (meaning : Meaning) (stands : List (List ℕ) → State → Type 0) (opening old new : Stand) (out line : List ℕ) (n count taken : ℕ)
+    → StandsAt meaning stands opening old [] line count taken → TookPiece n out old new → n ≤ length out → taken + length out ≤ 2 ^ 32 → length out ≤ 65536 → StandsAt meaning stands opening new (take n out) line count (taken + n)
+stands_piece meaning stands opening old new out line n count taken a t l m f = record {
+  state = a.state;
+  stands_for = subst (λ (s : Stand). stands s.seen a.state) (sym t.2) a.stands_for;
+  holds = at_piece meaning opening old new a.state out line n count taken a.holds t l m f;
+}
+
+pub stands_end : (meaning : Meaning) (stands : List (List ℕ) → State → Type 0) (opening old new : Stand) (out line : List ℕ) (n count taken : ℕ)
+    → StandsAt meaning stands opening old [] line count taken → TookPiece n out old new → n ≡ 0 → taken ≤ 2 ^ 32 → StandsAt meaning stands opening new [] line count taken
+stands_end meaning stands opening old new out line n count taken a t z m = record {
+  state = a.state;
+  stands_for = subst (λ (s : Stand). stands s.seen a.state) (sym t.2) a.stands_for;
+  holds = at_end meaning opening old new a.state out line n count taken a.holds t z m;
+}

@@ -10,11 +10,11 @@ use Rattle.zr_script.specs.declared.reply.Reply.{Reply}
 use Rattle.zr_script.specs.ReplyText as text
 use Rattle.zr_script.specs.ReplyText.{reply_text, last_line}
 use Rattle.zr_model.specs.State.{State}
-use Rattle.zr_model.specs.Runs.{Meaning, point, turn, IsOutside}
+use Rattle.zr_model.specs.Runs.{Meaning, point, turn, TurnsTo, IsOutside}
 use Rattle.zr_session.specs.declared.end.End.{End}
 use Rattle.zr_session.specs.declared.end.End.TheVariants.{Answered, BadWords, InputFault, OutputFault, DiskFault, BadLine, Damaged, AttachFault, InputLimit, NoMemory}
 use Rattle.zr_session.specs.Ends.{HasCause}
-use Rattle.zr_session.specs.Lines.{Sends, SendsPartly, Tells, wholly, partly, IsTextFor, reply, bad_line, fault, damage, StopsAtCommand}
+use Rattle.zr_session.specs.Lines.{StandsForOne, DoesCommand, Sends, SendsPartly, Tells, wholly, partly, IsTextFor, reply, bad_line, fault, damage, StopsAtCommand}
 
 pub sends_nothing : (old new : Stand) → new ≡ old → Sends old new []
 sends_nothing old new e = record { left = ap (λ s. s.left) e; sent = ap (λ s. s.sent) e ∙ sym (append-nil old.sent) }
@@ -25,6 +25,24 @@ sends_from old mid new bytes o s = record { left = s.left ∙ o.left; sent = s.s
 
 pub sends_all : (old mid new : Stand) (bytes : List ℕ) → IsOutside old mid → new ≡ sent_more mid bytes → Sends old new bytes
 sends_all old mid new bytes o e = sends_from old mid new bytes o (record { left = ap (λ s. s.left) e; sent = ap (λ s. s.sent) e })
+
+-- a command was answered, and the answer sent
+pub does_by : (meaning : Meaning) (stands : List (List ℕ) → State → Type 0) (command : Command) (before : State) (old mid new : Stand) (answer : Reply) (bytes : List ℕ)
+    → IsOutside old mid → TurnsTo meaning stands before old command answer mid → bytes ≡ reply_text answer → new ≡ sent_more mid bytes
+    → StandsForOne stands new (λ after. DoesCommand meaning command before after old new)
+does_by meaning stands command before old mid new answer bytes o t e s = record {
+  state = t.after;
+  stands_for = subst (λ (n : Stand). stands n.seen t.after) (sym s) t.stands_for;
+  holds = record {
+    answer = answer;
+    takes = subst (λ n. meaning.takes (point old before) (turn command answer n t.after)) (sym s) t.takes;
+    sends = subst (λ b. Sends old new b) e (sends_all old mid new bytes o s);
+  };
+}
+
+-- what follows of the state that it stands for
+pub for_one : (stands : List (List ℕ) → State → Type 0) (now : Stand) (A B : State → Type 0) → ((state : State) → A state → B state) → StandsForOne stands now A → StandsForOne stands now B
+for_one stands now A B f h = record { state = h.state; stands_for = h.stands_for; holds = f h.state h.holds }
 
 pub fell_more : (a b c : Counts) → NoneFell a b → NoneFell b c → NoneFell a c
 fell_more a b c h k = record { disk = omega (arith, h.disk, k.disk); attach = omega (arith, h.attach, k.attach); input = omega (arith, h.input, k.input); output = omega (arith, h.output, k.output) }

@@ -29,11 +29,16 @@ pub data Tells (end : End) (bytes : List ℕ) (result : End) (old new : Stand) :
   wholly : result ≡ end → Sends old new bytes → Tells end bytes result old new
   partly : SendsPartly bytes old new result → Tells end bytes result old new
 
+-- The pool stands for some state of which this holds.
+pub record StandsForOne (stands : List (List ℕ) → State → Type 0) (now : Stand) (Holds : State → Type 0) : Type 0 where
+  pub state : State
+  pub stands_for : stands now.seen state
+  pub holds : Holds state
+
 -- the command is done, and its answer sent
 pub record DoesCommand (m : Meaning) (command : Command) (before after : State) (old new : Stand) : Type 0 where
   pub answer : Reply
   pub takes : m.takes (point old before) (turn command answer new after)
-  pub paths : new.paths ≡ old.paths
   pub sends : Sends old new (reply_text answer)
 
 -- what is to be sent for a command

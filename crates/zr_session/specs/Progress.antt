@@ -6,6 +6,7 @@ use Rattle.zr_script.specs.Lines.{lines_of}
 use Rattle.zr_model.specs.State.{State, no_pool}
 use Rattle.zr_model.specs.Runs.{Meaning, Turn, point, Run, end_of, texts, Asks}
 use Rattle.zr_model.specs.Answers.{IsOpenLine, bytes_to}
+use Rattle.zr_session.specs.Lines.{StandsForOne}
 
 -- first lines are answered, and this was sent for them
 pub record HasAnswered (m : Meaning) (opening now : Stand) (state : State) (lines : List (List ℕ)) (turns : List Turn) : Type 0 where
@@ -29,6 +30,10 @@ pub record IsAt (m : Meaning) (opening now : Stand) (state : State) (rest line :
   pub taken_is : length bytes + length rest ≡ taken
   pub piece : length rest ≤ 65536
   pub most : taken ≤ 2 ^ 32
+
+-- the pool stands for a state to which the answered lines lead
+abbrev pub StandsAt : Meaning → (List (List ℕ) → State → Type 0) → Stand → Stand → List ℕ → List ℕ → ℕ → ℕ → Type 0
+StandsAt m stands opening now rest line count taken = StandsForOne stands now (λ state. IsAt m opening now state rest line count taken)
 
 -- this line is the next
 pub record IsDue (m : Meaning) (opening now : Stand) (state : State) (line : List ℕ) (number : ℕ) : Type 0 where

@@ -7,9 +7,10 @@ ghost use Rattle.zr_model.specs.Answers.{IsOpenLine};
 ghost use Rattle.zr_base.specs.declared.refusal.Refusal.TheVariants as refusal;
 ghost use Rattle.zr_script.specs.Grammar.{IsLine};
 ghost use Rattle.zr_script.specs.ReplyText.{last_line, BadLine, InputLimit, DiskFault, Damage};
+ghost use Rattle.zr_model.specs.State.{State};
 ghost use Rattle.zr_model.specs.Runs.{MayBeDamaged};
 ghost use Rattle.zr_session.specs.Ends.{HasCause};
-ghost use Rattle.zr_session.specs.Lines.{AnswersLine, StopsAtLine, DoesCommand, StopsAtCommand, SendsPartly, Tells};
+ghost use Rattle.zr_session.specs.Lines.{StandsForOne, AnswersLine, StopsAtLine, DoesCommand, StopsAtCommand, SendsPartly, Tells};
 ghost use Rattle.zr_session.specs.declared.end.End.TheVariants as is_end;
 
 use crate::end::End;
@@ -137,8 +138,9 @@ fn do_command<P: Pool, D: Desk>(
 ) -> Result<(), End>
     requires fits { P.fits pool.old (D.sizes desk.old) }
     requires grammar { (line : List ℕ) × IsLine line command.now }
-    ensures done { D.tells desk.old → (D.world desk.old).now.paths ≡ P.paths pool.old → OnOk result (DoesCommand P.meaning command.now (P.state pool.old) (P.state pool.new) (D.world desk.old).now (D.world desk.new).now) }
-    ensures stopped { D.tells desk.old → (D.world desk.old).now.paths ≡ P.paths pool.old → IfErr result (StopsAtCommand P.meaning command.now number (P.state pool.old) (D.world desk.old).now (D.world desk.new).now) }
+    ensures done { D.tells desk.old → (D.world desk.old).now.paths ≡ P.paths pool.old → (before : State) → P.stands pool.old (D.world desk.old).now.seen before → OnOk result (StandsForOne (P.stands pool.new) (D.world desk.new).now (λ after. DoesCommand P.meaning command.now before after (D.world desk.old).now (D.world desk.new).now)) }
+    ensures stopped { D.tells desk.old → (D.world desk.old).now.paths ≡ P.paths pool.old → (before : State) → P.stands pool.old (D.world desk.old).now.seen before → IfErr result (StopsAtCommand P.meaning command.now number before (D.world desk.old).now (D.world desk.new).now) }
+    ensures named { D.tells desk.old → OnOk result ((D.world desk.new).now.paths ≡ (D.world desk.old).now.paths) }
     ensures cause { IfErr result (HasCause (MayBeDamaged P.meaning) (D.counts desk.old) (D.counts desk.new)) }
     ensures fits { P.fits pool.new (D.sizes desk.new) }
     ensures paths { P.paths pool.new ≡ P.paths pool.old }
@@ -174,8 +176,9 @@ pub fn answer_line<P: Pool, D: Desk>(
     desk: &mut D,
 ) -> Result<(), End>
     requires fits { P.fits pool.old (D.sizes desk.old) }
-    ensures answered { D.tells desk.old → (D.world desk.old).now.paths ≡ P.paths pool.old → OnOk result (AnswersLine P.meaning line.now (P.state pool.old) (P.state pool.new) (D.world desk.old).now (D.world desk.new).now) }
-    ensures stopped { D.tells desk.old → (D.world desk.old).now.paths ≡ P.paths pool.old → IfErr result (StopsAtLine P.meaning line.now number (P.state pool.old) (D.world desk.old).now (D.world desk.new).now) }
+    ensures answered { D.tells desk.old → (D.world desk.old).now.paths ≡ P.paths pool.old → (before : State) → P.stands pool.old (D.world desk.old).now.seen before → OnOk result (StandsForOne (P.stands pool.new) (D.world desk.new).now (λ after. AnswersLine P.meaning line.now before after (D.world desk.old).now (D.world desk.new).now)) }
+    ensures stopped { D.tells desk.old → (D.world desk.old).now.paths ≡ P.paths pool.old → (before : State) → P.stands pool.old (D.world desk.old).now.seen before → IfErr result (StopsAtLine P.meaning line.now number before (D.world desk.old).now (D.world desk.new).now) }
+    ensures named { D.tells desk.old → OnOk result ((D.world desk.new).now.paths ≡ (D.world desk.old).now.paths) }
     ensures cause { IfErr result (HasCause (MayBeDamaged P.meaning) (D.counts desk.old) (D.counts desk.new)) }
     ensures fits { P.fits pool.new (D.sizes desk.new) }
     ensures paths { P.paths pool.new ≡ P.paths pool.old }

@@ -109,12 +109,13 @@ impl MemoryPool {
 }
 
 impl Pool for MemoryPool {
+    ghost use Rattle.std.specs.Prelude.{◌≡◌, length};
     ghost use Rattle.zr_model.specs.Runs.{plain};
     ghost use Rattle.zr_session.specs.Memory.{state_in};
 
     ghost paths = { λ p. p.paths };
 
-    ghost state = { λ p. state_in p.paths p.pool };
+    ghost stands = { λ p disks state. state ≡ state_in p.paths p.pool };
 
     ghost fits = { λ p sizes. length sizes ≡ length p.paths };
 

@@ -6,10 +6,11 @@ ghost use Rattle.std.specs.Prelude.{◌≡◌, ◌≢◌, ◌∷◌, ◌++◌, [
 ghost use Rattle.zr_shelf.specs.Counts.{NoneFell};
 ghost use Rattle.zr_shelf.specs.Disks.{Stand};
 ghost use Rattle.zr_model.specs.Answers.{IsOpenLine};
+ghost use Rattle.zr_model.specs.State.{State};
 ghost use Rattle.zr_model.specs.Runs.{MayBeDamaged};
 ghost use Rattle.zr_session.specs.Ends.{HasCause, EndsAs};
-ghost use Rattle.zr_session.specs.Lines.{AnswersLine, StopsAtLine, StopsAtRest};
-ghost use Rattle.zr_session.specs.Progress.{IsAt};
+ghost use Rattle.zr_session.specs.Lines.{StandsForOne, AnswersLine, StopsAtLine, StopsAtRest};
+ghost use Rattle.zr_session.specs.Progress.{StandsAt};
 
 use crate::end::End;
 use crate::line::{answer_line, refuse_line, split_line};
@@ -48,8 +49,9 @@ impl Script {
     ) -> Result<(), End>
         requires lines { self.old.lines + 1 < 2 ^ 64 }
         requires fits { P.fits pool.old (D.sizes desk.old) }
-        ensures answered { D.tells desk.old → (D.world desk.old).now.paths ≡ P.paths pool.old → OnOk result (AnswersLine P.meaning (self.old.line.items ++ part.now) (P.state pool.old) (P.state pool.new) (D.world desk.old).now (D.world desk.new).now) }
-        ensures stopped { D.tells desk.old → (D.world desk.old).now.paths ≡ P.paths pool.old → IfErr result (StopsAtLine P.meaning (self.old.line.items ++ part.now) (self.old.lines + 1) (P.state pool.old) (D.world desk.old).now (D.world desk.new).now) }
+        ensures answered { D.tells desk.old → (D.world desk.old).now.paths ≡ P.paths pool.old → (before : State) → P.stands pool.old (D.world desk.old).now.seen before → OnOk result (StandsForOne (P.stands pool.new) (D.world desk.new).now (λ after. AnswersLine P.meaning (self.old.line.items ++ part.now) before after (D.world desk.old).now (D.world desk.new).now)) }
+        ensures stopped { D.tells desk.old → (D.world desk.old).now.paths ≡ P.paths pool.old → (before : State) → P.stands pool.old (D.world desk.old).now.seen before → IfErr result (StopsAtLine P.meaning (self.old.line.items ++ part.now) (self.old.lines + 1) before (D.world desk.old).now (D.world desk.new).now) }
+        ensures named { D.tells desk.old → OnOk result ((D.world desk.new).now.paths ≡ (D.world desk.old).now.paths) }
         ensures line { OnOk result (self.new.line.items ≡ []) }
         ensures lines { OnOk result (self.new.lines ≡ self.old.lines + 1) }
         ensures cause { IfErr result (HasCause (MayBeDamaged P.meaning) (D.counts desk.old) (D.counts desk.new)) }
@@ -103,12 +105,12 @@ impl Script {
         requires short { length self.old.line.items ≤ 16384 }
         requires fits { P.fits pool.old (D.sizes desk.old) }
         ensures at { D.tells desk.old → (D.world desk.old).now.paths ≡ P.paths pool.old → OnOk result ((opening : Stand) (taken : ℕ)
-            → IsAt P.meaning opening (D.world desk.old).now (P.state pool.old) piece.now self.old.line.items self.old.lines taken
-            → IsAt P.meaning opening (D.world desk.new).now (P.state pool.new) [] self.new.line.items self.new.lines taken) }
+            → StandsAt P.meaning (P.stands pool.old) opening (D.world desk.old).now piece.now self.old.line.items self.old.lines taken
+            → StandsAt P.meaning (P.stands pool.new) opening (D.world desk.new).now [] self.new.line.items self.new.lines taken) }
         ensures ends { D.tells desk.old → (D.world desk.old).now.paths ≡ P.paths pool.old → IfErr result (λ end. (opening : Stand) (taken : ℕ)
-            → IsAt P.meaning opening (D.world desk.old).now (P.state pool.old) piece.now self.old.line.items self.old.lines taken
+            → StandsAt P.meaning (P.stands pool.old) opening (D.world desk.old).now piece.now self.old.line.items self.old.lines taken
             → EndsAs P.meaning end opening (D.world desk.new).now) }
-        ensures named { D.tells desk.old → (D.world desk.old).now.paths ≡ P.paths pool.old → OnOk result ((D.world desk.new).now.paths ≡ P.paths pool.new) }
+        ensures named { D.tells desk.old → OnOk result ((D.world desk.new).now.paths ≡ (D.world desk.old).now.paths) }
         ensures lines { OnOk result (self.new.lines ≤ self.old.lines + length piece.now) }
         ensures short { OnOk result (length self.new.line.items ≤ 16384) }
         ensures cause { IfErr result (HasCause (MayBeDamaged P.meaning) (D.counts desk.old) (D.counts desk.new)) }
@@ -137,7 +139,7 @@ impl Script {
         requires lines { self.now.lines + 1 < 2 ^ 64 }
         requires fits { P.fits pool.old (D.sizes desk.old) }
         ensures ends { D.tells desk.old → (D.world desk.old).now.paths ≡ P.paths pool.old → (D.world desk.old).now.left ≡ [] → (opening : Stand) (taken : ℕ) → taken < 2 ^ 32
-            → IsAt P.meaning opening (D.world desk.old).now (P.state pool.old) [] self.now.line.items self.now.lines taken
+            → StandsAt P.meaning (P.stands pool.old) opening (D.world desk.old).now [] self.now.line.items self.now.lines taken
             → EndsAs P.meaning result opening (D.world desk.new).now }
         ensures cause { HasCause (MayBeDamaged P.meaning) (D.counts desk.old) (D.counts desk.new) result }
         ensures fits { P.fits pool.new (D.sizes desk.new) }

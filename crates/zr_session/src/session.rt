@@ -2,13 +2,13 @@
 //!
 //! A run takes at most 2^32 bytes. It ends by itself where the input does, at a `quit`, or at the first line or call
 //! that does not let it go on.
-ghost use Rattle.std.specs.Prelude.{◌≡◌, [], ◌+◌, ◌<◌, ◌≤◌, ◌^◌, ℕ, length, IfOk, IfErr, OnOk};
+ghost use Rattle.std.specs.Prelude.{◌≡◌, [], ◌+◌, ◌<◌, ◌≤◌, ◌^◌, ℕ, List, length, IfOk, IfErr, OnOk};
 ghost use Rattle.zr_shelf.specs.Counts.{NoneFell};
 ghost use Rattle.zr_shelf.specs.Disks.{Stand};
 ghost use Rattle.zr_model.specs.State.{no_pool};
 ghost use Rattle.zr_model.specs.Runs.{MayBeDamaged};
 ghost use Rattle.zr_session.specs.Ends.{HasCause, EndsAs};
-ghost use Rattle.zr_session.specs.Progress.{IsAt};
+ghost use Rattle.zr_session.specs.Progress.{StandsAt};
 
 use crate::end::End;
 use crate::line::tell;
@@ -40,12 +40,12 @@ fn take_piece<P: Pool, D: Desk>(
     requires fits { P.fits pool.old (D.sizes desk.old) }
     ensures count { IfOk result (λ n. (0 < n) × (n ≤ length room.old)) }
     ensures at { D.tells desk.old → (D.world desk.old).now.paths ≡ P.paths pool.old → IfOk result (λ n. (opening : Stand) (taken : ℕ) → taken + length room.old ≤ 2 ^ 32
-        → IsAt P.meaning opening (D.world desk.old).now (P.state pool.old) [] script.old.line.items script.old.lines taken
-        → IsAt P.meaning opening (D.world desk.new).now (P.state pool.new) [] script.new.line.items script.new.lines (taken + n)) }
+        → StandsAt P.meaning (P.stands pool.old) opening (D.world desk.old).now [] script.old.line.items script.old.lines taken
+        → StandsAt P.meaning (P.stands pool.new) opening (D.world desk.new).now [] script.new.line.items script.new.lines (taken + n)) }
     ensures ends { D.tells desk.old → (D.world desk.old).now.paths ≡ P.paths pool.old → IfErr result (λ end. (opening : Stand) (taken : ℕ) → taken + length room.old ≤ 2 ^ 32
-        → IsAt P.meaning opening (D.world desk.old).now (P.state pool.old) [] script.old.line.items script.old.lines taken
+        → StandsAt P.meaning (P.stands pool.old) opening (D.world desk.old).now [] script.old.line.items script.old.lines taken
         → EndsAs P.meaning end opening (D.world desk.new).now) }
-    ensures named { D.tells desk.old → (D.world desk.old).now.paths ≡ P.paths pool.old → OnOk result ((D.world desk.new).now.paths ≡ P.paths pool.new) }
+    ensures named { D.tells desk.old → OnOk result ((D.world desk.new).now.paths ≡ (D.world desk.old).now.paths) }
     ensures lines { IfOk result (λ n. script.new.lines ≤ script.old.lines + n) }
     ensures short { OnOk result (length script.new.line.items ≤ 16384) }
     ensures cause { IfErr result (HasCause (MayBeDamaged P.meaning) (D.counts desk.old) (D.counts desk.new)) }
@@ -70,7 +70,7 @@ fn take_piece<P: Pool, D: Desk>(
 /// Answers the whole input.
 pub fn serve<P: Pool, D: Desk>(alloc: Global, pick: &Chooser, pool: &mut P, desk: &mut D) -> End
     requires fits { P.fits pool.old (D.sizes desk.old) }
-    requires closed { P.state pool.old ≡ no_pool }
+    requires closed { (disks : List (List ℕ)) → P.stands pool.old disks no_pool }
     ensures ends { D.tells desk.old → (D.world desk.old).now.paths ≡ P.paths pool.old → EndsAs P.meaning result (D.world desk.old).now (D.world desk.new).now }
     ensures cause { HasCause (MayBeDamaged P.meaning) (D.counts desk.old) (D.counts desk.new) result }
     ensures none_fell { NoneFell (D.counts desk.old) (D.counts desk.new) }

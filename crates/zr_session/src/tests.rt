@@ -81,7 +81,7 @@ impl Pool for DamagedPool {
 
     ghost paths = { λ p. p.paths };
 
-    ghost state = { λ p. no_pool };
+    ghost stands = { λ p disks state. state ≡ no_pool };
 
     ghost fits = { λ p sizes. length sizes ≡ length p.paths };
 

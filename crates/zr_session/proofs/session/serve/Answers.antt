@@ -8,7 +8,7 @@ loop-taken-init g c =
     let s = c.new-script.ensures in
     record {
       at = λ t n. start_as _ _ _ _ _ c.requires.closed s.line s.lines;
-      named = λ t n. n;
+      named = λ t. refl;
       told = λ t. t;
       lines = let l = s.lines in omega arith;
       most = omega arith;
@@ -22,4 +22,5 @@ loop-taken-init g c =
 pub returns-clause-ends : goal.returns-clause-ends
 returns-clause-ends g c = λ t n.
     let i = c.loop-taken.invariant in
-    ends_limit _ _ _ _ _ _ _ _ c.tell.result (i.at t n) (let m = i.most in let f = c.loop-taken-test.false in omega arith) (c.tell.ensures.told_it (i.told t))
+    let a = i.at t n in
+    ends_limit _ _ _ _ a.state _ _ _ c.tell.result a.holds (let m = i.most in let f = c.loop-taken-test.false in omega arith) (c.tell.ensures.told_it (i.told t))

@@ -1,6 +1,6 @@
 use Rattle.std.proofs.Common.{◌≡◌, ◌≤◌, ◌-◌, ◌^◌, [], length}
 use Rattle.zr_shelf.specs.Counts.{NoneFell}
-use Rattle.zr_session.specs.Progress.{IsAt}
+use Rattle.zr_session.specs.Progress.{StandsAt}
 use Rattle.zr_session.proofs.session.serve.Given as goal
 
 abbrev pub invariant-loop-taken : goal.invariant-loop-taken
@@ -9,8 +9,8 @@ invariant-loop-taken g l =
     let pool = g.P.Pool in
     record {
       at : desk.tells l.fn.desk → (desk.world l.fn.desk).now.paths ≡ pool.paths l.fn.pool
-          → IsAt pool.meaning (desk.world l.fn.desk).now (desk.world l.desk).now (pool.state l.pool) [] l.script.line.items l.script.lines l.taken;
-      named : desk.tells l.fn.desk → (desk.world l.fn.desk).now.paths ≡ pool.paths l.fn.pool → (desk.world l.desk).now.paths ≡ pool.paths l.pool;
+          → StandsAt pool.meaning (pool.stands l.pool) (desk.world l.fn.desk).now (desk.world l.desk).now [] l.script.line.items l.script.lines l.taken;
+      named : desk.tells l.fn.desk → (desk.world l.desk).now.paths ≡ (desk.world l.fn.desk).now.paths;
       told : desk.tells l.fn.desk → desk.tells l.desk;
       lines : l.script.lines ≤ l.taken;
       most : l.taken ≤ 2 ^ 32;

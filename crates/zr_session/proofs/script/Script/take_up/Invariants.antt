@@ -1,7 +1,7 @@
 use Rattle.std.proofs.Common.{◌≡◌, ◌≤◌, ◌+◌, ℕ, length}
 use Rattle.zr_shelf.specs.Counts.{NoneFell}
 use Rattle.zr_shelf.specs.Disks.{Stand}
-use Rattle.zr_session.specs.Progress.{IsAt}
+use Rattle.zr_session.specs.Progress.{StandsAt}
 use Rattle.zr_session.proofs.script.Script.take_up.Given as goal
 
 abbrev pub invariant-loop-part : goal.invariant-loop-part
@@ -10,9 +10,9 @@ invariant-loop-part g l =
     let pool = g.P.Pool in
     record {
       at : desk.tells l.fn.desk → (desk.world l.fn.desk).now.paths ≡ pool.paths l.fn.pool → (opening : Stand) (taken : ℕ)
-          → IsAt pool.meaning opening (desk.world l.fn.desk).now (pool.state l.fn.pool) l.piece l.fn.self.line.items l.fn.self.lines taken
-          → IsAt pool.meaning opening (desk.world l.desk).now (pool.state l.pool) l.rest l.self.line.items l.self.lines taken;
-      named : desk.tells l.fn.desk → (desk.world l.fn.desk).now.paths ≡ pool.paths l.fn.pool → (desk.world l.desk).now.paths ≡ pool.paths l.pool;
+          → StandsAt pool.meaning (pool.stands l.fn.pool) opening (desk.world l.fn.desk).now l.piece l.fn.self.line.items l.fn.self.lines taken
+          → StandsAt pool.meaning (pool.stands l.pool) opening (desk.world l.desk).now l.rest l.self.line.items l.self.lines taken;
+      named : desk.tells l.fn.desk → (desk.world l.desk).now.paths ≡ (desk.world l.fn.desk).now.paths;
       told : desk.tells l.fn.desk → desk.tells l.desk;
       lines : l.self.lines + length l.rest ≤ l.fn.self.lines + length l.piece;
       short : length l.self.line.items ≤ 16384;
