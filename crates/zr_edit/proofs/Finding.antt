@@ -4,7 +4,7 @@ use Rattle.zr_base.specs.declared.refusal.Refusal.TheVariants.{NoSuchObject, Out
 use Rattle.std.specs.Prelude.{OnOk}
 use Rattle.zr_change.specs.Plans.{IsChanged, olds_of}
 use Rattle.zr_change.specs.declared.ranges.Edit.{Edit}
-use Rattle.zr_line.specs.Holds.{HasBlocks}
+use Rattle.zr_sync.specs.Holds.{HasBlocks}
 use Rattle.zr_lookup.specs.Objects.{record_now}
 use Rattle.zr_rules.specs.Space.{Space}
 use Rattle.zr_store.specs.Store.{AreStored, Now, Stored}

@@ -4,7 +4,7 @@ use Rattle.zr_base.specs.declared.refusal.Refusal.{Refusal}
 use Rattle.zr_base.specs.declared.refusal.Refusal.TheVariants.{NoSuchObject, OutOfRange, NoRoom, NoRun}
 use Rattle.zr_change.specs.declared.ranges.Edit.{Edit}
 use Rattle.zr_line.specs.Answers.{IsDamaged}
-use Rattle.zr_line.specs.Holds.{HasBlocks}
+use Rattle.zr_sync.specs.Holds.{HasBlocks}
 use Rattle.zr_lookup.specs.Objects.{record_now}
 use Rattle.zr_rules.specs.Columns.{free_units}
 use Rattle.zr_rules.specs.Space.{Space}

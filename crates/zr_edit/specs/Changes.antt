@@ -4,7 +4,7 @@ use Rattle.zr_base.specs.declared.space.Dva.{Dva}
 use Rattle.zr_cache.specs.declared.table.Cache.{Cache}
 use Rattle.zr_change.specs.Plans.{HasRecorded, IsChanged, olds_of}
 use Rattle.zr_change.specs.declared.ranges.Edit.{Edit}
-use Rattle.zr_line.specs.Holds.{HasBlocks}
+use Rattle.zr_sync.specs.Holds.{HasBlocks}
 use Rattle.zr_rules.specs.Columns.{free_units}
 use Rattle.zr_rules.specs.Space.{Space}
 use Rattle.zr_store.specs.Store.{AreStored, Now, Stored}

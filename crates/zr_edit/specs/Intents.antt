@@ -10,7 +10,7 @@ use Rattle.zr_change.specs.Edits.{touched}
 use Rattle.zr_change.specs.Plans.{AreNew, IsPlannedFor}
 use Rattle.zr_change.specs.declared.ranges.Edit.{Edit}
 use Rattle.zr_line.specs.Answers.{CanTake}
-use Rattle.zr_line.specs.Holds.{HasBlocks}
+use Rattle.zr_sync.specs.Holds.{HasBlocks}
 use Rattle.zr_lookup.specs.Objects.{record_now}
 use Rattle.zr_objects.specs.Counts.{new_object}
 use Rattle.zr_store.specs.Store.{Stored}

@@ -5,7 +5,7 @@ ghost use Rattle.zr_base.specs.declared.refusal.Refusal.{Refusal};
 ghost use Rattle.zr_base.specs.declared.refusal.Refusal.TheVariants.{NoSuchObject, OutOfRange};
 ghost use Rattle.zr_change.specs.Edits.{HasLength};
 ghost use Rattle.zr_change.specs.Plans.{IsChanged, olds_of};
-ghost use Rattle.zr_line.specs.Holds.{HasBlocks};
+ghost use Rattle.zr_sync.specs.Holds.{HasBlocks};
 ghost use Rattle.zr_lookup.specs.Objects.{record_now};
 ghost use Rattle.zr_store.specs.Store.{AreStored, Now, Stored};
 ghost use Rattle.zr_sync.specs.Pools.{IsOpen};

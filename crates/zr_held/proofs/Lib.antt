@@ -13,3 +13,4 @@ pub mod Leaves
 pub mod Edits
 pub mod Contents
 pub mod Empty
+pub mod Again

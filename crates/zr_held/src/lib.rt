@@ -45,6 +45,14 @@ pub fn object_found()
     ensures missing { (s : Stored) (a : Account) (objects : Objects) (id : ℕ) → HasObjects s a objects → record_now s a.dir a.changes id ≡ None → fin.get objects id ≡ None }
 {}
 
+/// What was found of an object is found again in a store that holds the same pointers: its record, its blocks, and what is
+/// planned for them.
+pub fn found_again()
+    ensures record_is { (s n : Stored) (a : Account) (objects : Objects) (id : ℕ) (r : ObjRec) → Swaps s n [] [] → HasObjects s a objects → record_now s a.dir a.changes id ≡ Some r → record_now n a.dir a.changes id ≡ Some r }
+    ensures blocks { (s n : Stored) (a : Account) (objects : Objects) (id : ℕ) (r : ObjRec) (blocks : List Bptr) → Swaps s n [] [] → HasObjects s a objects → record_now s a.dir a.changes id ≡ Some r → AreObjectBlocks s a.changes id r blocks → AreObjectBlocks n a.changes id r blocks }
+    ensures plan { (s n : Stored) (a : Account) (objects : Objects) (id : ℕ) (r : ObjRec) (e : Edit) (plan : List Planned) → Swaps s n [] [] → HasObjects s a objects → record_now s a.dir a.changes id ≡ Some r → All (IsPlannedFor s a.changes id r e) plan → All (IsPlannedFor n a.changes id r e) plan }
+{}
+
 /// Bytes that were read of whole blocks are the object's, and the sum of each block that was read is right.
 pub fn bytes_read()
     ensures { (s : Stored) (a : Account) (objects : Objects) (id : ℕ) (r : ObjRec) (off len : ℕ) (bytes : List ℕ) → HasObjects s a objects → record_now s a.dir a.changes id ≡ Some r → 0 < r.units

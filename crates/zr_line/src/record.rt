@@ -1,5 +1,5 @@
 //! Objects of an open pool, as the open group has them.
-ghost use Rattle.std.specs.Prelude.{◌≡◌, ◌<◌, ◌≤◌, ◌⊎◌, IfOk, IfSome, IsErrOf, Option, Some, None};
+ghost use Rattle.std.specs.Prelude.{◌≡◌, ◌<◌, ◌≤◌, ◌⊎◌, IfOk, IfSome, IsErrOf, Option, Some, None, []};
 ghost use Rattle.zr_base.specs.Counts.{HasRisen};
 ghost use Rattle.zr_base.specs.declared.refusal.Refusal.{Refusal};
 ghost use Rattle.zr_base.specs.declared.refusal.Refusal.TheVariants.{NoSuchObject};
@@ -9,7 +9,7 @@ ghost use Rattle.zr_lookup.specs.Groups.{IsLawfulGroup};
 ghost use Rattle.zr_lookup.specs.Objects.{record_now};
 ghost use Rattle.zr_rules.specs.Equation.{devices_in};
 ghost use Rattle.zr_space.specs.Paths.{AreInService};
-ghost use Rattle.zr_store.specs.Store.{Stored};
+ghost use Rattle.zr_store.specs.Store.{Stored, Now, Swaps};
 ghost use Rattle.zr_sync.specs.Pools.{IsOpen};
 ghost use Rattle.zr_sync.specs.Writes.{WritesBlocks};
 ghost use Rattle.zr_sync.specs.declared.fault.Fault.TheVariants.{No, Stops};
@@ -17,8 +17,12 @@ ghost use Rattle.zr_sync.specs.declared.stop.Stop.TheVariants.{DiskFault};
 ghost use Rattle.zr_txg.specs.Changes.{object_in};
 ghost use Rattle.zr_vdev.specs.Mounts.{AreMounted};
 ghost use Rattle.zr_vdev.specs.Stores.{Continues, HoldsBlocks};
-ghost use Rattle.zr_line.specs.Answers.{IsDamaged};
-ghost use Rattle.zr_line.specs.Holds.{HasBlocks};
+ghost use Rattle.std.specs.FinMap as map;
+ghost use Rattle.zr_held.specs.Steps.{IsObjectOf};
+ghost use Rattle.zr_model.specs.Objects.{Objects};
+ghost use Rattle.zr_sync.specs.Objects.{HoldsObjects};
+ghost use Rattle.zr_line.specs.Answers.{IsDamaged, IsRecordIn};
+ghost use Rattle.zr_sync.specs.Holds.{HasBlocks};
 
 use std::alloc::Global;
 use zr_base::Refusal;
@@ -54,6 +58,7 @@ fn read_record<S: Shelf, P: Place>(
     ensures lawful { IfOk result (λ r. IfSome r IsObject) }
     ensures few { IfOk result (λ found. IfSome found (λ r. id < 65536)) }
     ensures changed { (r : Option ObjRec) → id < 65536 → object_in group.now id ≡ Some r → IfOk result (λ found. found ≡ r) }
+    ensures held { (s : Stored) → HoldsBlocks mount.entry.kind mount.entry.slots.now (S.tells shelf.old) (S.world shelf.old).now.seen space.old None cache.old s → Now (HoldsBlocks mount.entry.kind mount.entry.slots.now (S.tells shelf.new) (S.world shelf.new).now.seen space.new None cache.new) (λ n. Swaps s n [] []) }
     ensures record { (s : Stored) → HoldsBlocks mount.entry.kind mount.entry.slots.now (S.tells shelf.old) (S.world shelf.old).now.seen space.old None cache.old s → IfOk result (λ r. r ≡ record_now s dir.now group.now id) }
 {
     let mut store = Vdev::new(space, shelf, cache, mount);
@@ -78,6 +83,9 @@ pub fn find<S: Shelf, P: Place>(
     ensures few { IfOk result (λ found. IfSome found (λ r. id < 65536)) }
     ensures changed { (r : Option ObjRec) → id < 65536 → object_in pool.old.group id ≡ Some r → IfOk result (λ found. found ≡ r) }
     ensures record { (s : Stored) → HasBlocks (S.tells shelf.old) (S.world shelf.old).now.seen pool.old s → IfOk result (λ r. r ≡ record_now s pool.old.dir pool.old.group id) }
+    ensures held { (s : Stored) → HasBlocks (S.tells shelf.old) (S.world shelf.old).now.seen pool.old s → Now (HasBlocks (S.tells shelf.new) (S.world shelf.new).now.seen pool.new) (λ n. Swaps s n [] []) }
+    ensures stays { (objects : Objects) → HoldsObjects (S.tells shelf.old) (S.world shelf.old).now.seen pool.old objects → HoldsObjects (S.tells shelf.new) (S.world shelf.new).now.seen pool.new objects }
+    ensures object { (objects : Objects) → HoldsObjects (S.tells shelf.old) (S.world shelf.old).now.seen pool.old objects → IfOk result (IsRecordIn objects id) }
 {
     let mount = Mount {
         slots: &pool.table.slots,
@@ -116,6 +124,10 @@ pub fn need<S: Shelf, P: Place>(
     ensures changed { (r : ObjRec) → id < 65536 → object_in pool.old.group id ≡ Some (Some r) → IfOk result (λ found. found ≡ r) }
     ensures record { (s : Stored) → HasBlocks (S.tells shelf.old) (S.world shelf.old).now.seen pool.old s → IfOk result (λ r. record_now s pool.old.dir pool.old.group id ≡ Some r) }
     ensures none { (s : Stored) → HasBlocks (S.tells shelf.old) (S.world shelf.old).now.seen pool.old s → IsErrOf result (No NoSuchObject) → record_now s pool.old.dir pool.old.group id ≡ None }
+    ensures held { (s : Stored) → HasBlocks (S.tells shelf.old) (S.world shelf.old).now.seen pool.old s → Now (HasBlocks (S.tells shelf.new) (S.world shelf.new).now.seen pool.new) (λ n. Swaps s n [] []) }
+    ensures stays { (objects : Objects) → HoldsObjects (S.tells shelf.old) (S.world shelf.old).now.seen pool.old objects → HoldsObjects (S.tells shelf.new) (S.world shelf.new).now.seen pool.new objects }
+    ensures object { (objects : Objects) → HoldsObjects (S.tells shelf.old) (S.world shelf.old).now.seen pool.old objects → IfOk result (λ r. IsObjectOf objects id (λ o. o.units ≡ r.units)) }
+    ensures missing { (objects : Objects) → HoldsObjects (S.tells shelf.old) (S.world shelf.old).now.seen pool.old objects → IsErrOf result (No NoSuchObject) → map.get objects id ≡ None }
 {
     match find(alloc, pool, shelf, pick, id)? {
         Some(rec) => Ok(rec),

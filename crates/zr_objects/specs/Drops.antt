@@ -5,7 +5,7 @@ use Rattle.zr_bptr.specs.declared.Bptr.{Bptr}
 use Rattle.zr_bptr.specs.declared.ObjRec.{ObjRec}
 use Rattle.zr_bptr.specs.declared.Tree.{Tree}
 use Rattle.zr_line.specs.Answers.{CanTake}
-use Rattle.zr_line.specs.Holds.{HasBlocks}
+use Rattle.zr_sync.specs.Holds.{HasBlocks}
 use Rattle.zr_lookup.specs.Objects.{record_now, AreObjectBlocks}
 use Rattle.zr_objects.specs.Counts.{new_object}
 use Rattle.zr_store.specs.Store.{Stored, AreStored, Now, Swaps}

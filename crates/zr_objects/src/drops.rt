@@ -11,7 +11,7 @@ ghost use Rattle.zr_bptr.specs.Spelling.{IsTree};
 ghost use Rattle.zr_bptr.specs.declared.Bptr.{Bptr};
 ghost use Rattle.zr_change.specs.Changes.{SetsObject};
 ghost use Rattle.zr_line.specs.Answers.{CanTake};
-ghost use Rattle.zr_line.specs.Holds.{HasBlocks};
+ghost use Rattle.zr_sync.specs.Holds.{HasBlocks};
 ghost use Rattle.zr_lookup.specs.Groups.{IsLawfulGroup};
 ghost use Rattle.zr_lookup.specs.Objects.{record_now};
 ghost use Rattle.zr_rules.specs.Columns.{free_units};

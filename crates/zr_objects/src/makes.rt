@@ -6,7 +6,7 @@ ghost use Rattle.zr_base.specs.declared.refusal.Refusal.{Refusal};
 ghost use Rattle.zr_base.specs.declared.refusal.Refusal.TheVariants.{NoRoom, ObjectExists, OutOfRange};
 ghost use Rattle.zr_bptr.specs.declared.ObjRec.{ObjRec};
 ghost use Rattle.zr_change.specs.Changes.{SetsObject};
-ghost use Rattle.zr_line.specs.Holds.{HasBlocks};
+ghost use Rattle.zr_sync.specs.Holds.{HasBlocks};
 ghost use Rattle.zr_lookup.specs.Groups.{IsLawfulGroup};
 ghost use Rattle.zr_lookup.specs.Objects.{record_now};
 ghost use Rattle.zr_rules.specs.Columns.{free_units};

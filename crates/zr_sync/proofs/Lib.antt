@@ -6,3 +6,4 @@ pub mod Pools
 pub mod Disks
 pub mod Objects
 pub mod Holding
+pub mod Stays

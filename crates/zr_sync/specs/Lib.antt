@@ -4,3 +4,4 @@ pub mod Writes
 pub mod Words
 pub mod Commits
 pub mod Holds
+pub mod Objects

@@ -1,0 +1,17 @@
+-- Objects stay where the same pointers are stored, and where a group is written.
+use Rattle.std.proofs.Common.{◌≡◌, ℕ, List, []}
+use Rattle.zr_store.specs.Store.{Stored, Swaps, Now}
+use Rattle.zr_model.specs.Objects.{Objects}
+use Rattle.zr_held.proofs.Same.{same}
+use Rattle.zr_sync.specs.Holds.{HasBlocks}
+use Rattle.zr_sync.specs.Objects.{account_of, HoldsObjects}
+use Rattle.zr_sync.specs.declared.open.OpenPool.{OpenPool}
+
+-- the pool behind a look at its disks
+pub objects_stay : {told_old told_new : Type 0} {disks_old disks_new : List (List ℕ)} (x y : OpenPool) (objects : Objects) → y.dir ≡ x.dir → y.group ≡ x.group → (h : HoldsObjects told_old disks_old x objects)
+    → Now (HasBlocks told_new disks_new y) (λ n. Swaps h.stored n [] []) → HoldsObjects told_new disks_new y objects
+objects_stay x y objects dir group h now = record {
+  stored = now.stored;
+  held = now.held;
+  has = same h.stored now.stored (account_of x) (account_of y) objects now.is dir group h.has;
+}
