@@ -6,3 +6,5 @@ pub mod Pools
 pub mod Disks
 pub mod Objects
 pub mod Holding
+pub mod Rings
+pub mod Sizes
