@@ -1,18 +1,41 @@
 -- What the disks hold of the objects, through the steps of a commit.
-use Rattle.std.proofs.Common.{◌≡◌, ℕ, List, [], Option, None, Result, Ok, Err, sym, ap, subst}
-use Rattle.std.specs.Prelude.{OnOk}
+use Rattle.std.proofs.Common.{◌≡◌, ◌∙◌, ℕ, ◌<◌, ◌≤◌, Bool, List, [], Option, None, Result, Ok, Err, sym, ap, subst, arith}
+use Rattle.std.specs.Prelude.{OnOk, slice_index}
+use Rattle.zr_base.specs.declared.space.DevRow.{DevRow}
+use Rattle.zr_base.specs.declared.space.Dva.{Dva}
+use Rattle.zr_bptr.specs.declared.Tree.{Tree}
+use Rattle.zr_cache.specs.declared.table.Cache.{Cache}
+use Rattle.zr_label.specs.Blocks.{IsUber}
+use Rattle.zr_label.specs.Geometry.{label_at, unit_at}
+use Rattle.zr_label.specs.declared.root.Uber.{Uber}
+use Rattle.zr_rules.specs.Devices.{Devices}
+use Rattle.zr_rules.specs.Equation.{devices_in}
+use Rattle.zr_rules.specs.Space.{Space}
+use Rattle.zr_rules.specs.Steps.{Commits}
+use Rattle.zr_scan.specs.declared.error.ScanErr.{ScanErr}
 use Rattle.zr_shelf.specs.Counts.{Counts}
 use Rattle.zr_shelf.specs.Moments.{World}
+use Rattle.zr_slots.specs.Phases.{Publishes}
+use Rattle.zr_space.specs.Live.{IsLive}
+use Rattle.zr_space.specs.Paths.{AreInService}
 use Rattle.zr_store.specs.Store.{Stored, Swaps, Now}
+use Rattle.zr_vdev.specs.Runs.{view_of}
 use Rattle.zr_vdev.specs.Stores.{HoldsBlocks}
 use Rattle.zr_vdev.specs.declared.kind.Kind.TheVariants.{Block}
 use Rattle.zr_vdev.proofs.Frames.{held_over}
+use Rattle.zr_vdev.proofs.Held.{read_same}
+use Rattle.zr_vdev.proofs.Moves.{held_anew}
+use Rattle.zr_view.specs.Views.{address_bytes}
 use Rattle.zr_commit.specs.Objects.{WritesGroup}
 use Rattle.zr_sync.specs.Holds.{HasBlocks, HasWritten, AreTreesStored}
 use Rattle.zr_sync.specs.Pools.{IsOpen}
 use Rattle.zr_sync.specs.Writes.{WritesMetadata}
 use Rattle.zr_sync.specs.declared.open.OpenPool.{OpenPool}
+use Rattle.zr_sync.specs.declared.open.Table.{Table}
+use Rattle.zr_sync.proofs.Groups.{commits_devices}
 use Rattle.zr_sync.proofs.Objects.{now_still}
+use Rattle.zr_sync.proofs.Rings.{EndBelowLabels, published_keeps}
+use Rattle.zr_sync.proofs.Sizes.{units_below}
 
 -- ---- metadata
 
@@ -29,8 +52,59 @@ pub metadata_written : (n1 n2 : List ℕ) (c1 c2 : Counts) (t1 t2 : Type 0) (w1 
     → (t : Type 0) (disks : List (List ℕ)) → HasBlocks t disks x s → AreTreesStored x s → HasWritten t1 w1.now.seen x y s → HasWritten t2 w2.now.seen x z s
 metadata_written n1 n2 c1 c2 t1 t2 w1 w2 x y z s o wrote t disks held stored written =
     let dir : z.dir ≡ y.dir = ap (λ (p : OpenPool). p.dir) wrote.rest in
-    subst (λ d. Now (HasBlocks t2 w2.now.seen z) (λ n. WritesGroup s n x.group x.dir d)) (sym dir)
+    subst (λ (d : Tree). Now (HasBlocks t2 w2.now.seen z) (λ n. WritesGroup s n x.group x.dir d)) (sym dir)
     (now_still (HasBlocks t1 w1.now.seen y) (HasBlocks t2 w2.now.seen z) s x.group x.dir y.dir held.alone stored (λ m h. metadata_holds n1 n2 c1 c2 t1 t2 w1 w2 y z m o wrote h) written)
+
+-- ---- a root
+
+-- the units of an open pool's devices end before the last two labels of their disks
+below_labels : (sizes : List ℕ) (pool : OpenPool) → IsOpen sizes pool → EndBelowLabels sizes pool.table.slots (devices_in pool.space)
+below_labels sizes pool o d slot lt is =
+    let inside : d < pool.table.count = let n = o.devices in omega (arith, lt, n) in
+    subst (λ (r : DevRow). unit_at r.units ≤ label_at (slice_index sizes slot) 2) (sym (o.rows d inside)) (units_below (slice_index sizes slot) _ (o.disks d slot inside is))
+
+-- what is held where each address has its bytes
+same_holds : (slots : List (Option ℕ)) (t1 t2 : Type 0) (before now : List (List ℕ)) (x : Space) (c : Cache) (s : Stored) → t2 → ((a : Dva) → address_bytes (view_of now slots x) a ≡ address_bytes (view_of before slots x) a)
+    → HoldsBlocks Block slots t1 before x None c s → HoldsBlocks Block slots t2 now x None c s
+same_holds slots t1 t2 before now x c s told same held = record {
+  told = told;
+  taken = held.taken;
+  read = λ e among. let was = held.read e among in record { runs_of = was.runs_of; same = was.same ∙ sym (same e.0.pointer.at) };
+  stored = held.stored;
+  once = held.once;
+  alone = held.alone;
+  resolves = held.resolves;
+  there = λ b h. held.there b h ∙ sym (same b.at);
+  nothing = held.nothing;
+}
+
+-- a root that is published leaves the blocks of objects
+pub published_holds : (sizes both all : List ℕ) (u : Uber) (r : Result (Unit {0}) ScanErr) (a b : World) (pool : OpenPool) (t1 t2 : Type 0) (s : Stored) → IsOpen sizes pool → IsUber u → Publishes sizes both all u r a b → t2
+    → HasBlocks t1 a.now.seen pool s → HasBlocks t2 b.now.seen pool s
+published_holds sizes both all u r a b pool t1 t2 s o lawful published told held =
+    same_holds pool.table.slots t1 t2 a.now.seen b.now.seen pool.space pool.cache s told
+    (published_keeps sizes pool.table.slots (devices_in pool.space) (below_labels sizes pool o) u lawful both all r a b published) held
+
+-- ---- the end of a group
+
+-- a group that ends leaves the blocks of objects
+ended_holds : (reset : Bool) (t : Type 0) (disks : List (List ℕ)) (x y : OpenPool) (s : Stored) → AreInService (devices_in x.space) → y.table ≡ x.table → y.cache ≡ x.cache → ((a : Dva) → IsLive x.space a → IsLive y.space a) → Commits reset x.space y.space
+    → HasBlocks t disks x s → Now (HasBlocks t disks y) (λ n. Swaps s n [] [])
+ended_holds reset t disks x y s on table cache live commits held =
+    let devices = commits_devices reset x.space y.space commits in
+    subst (λ (w : Table). Now (HoldsBlocks Block w.slots t disks y.space None y.cache) (λ n. Swaps s n [] [])) (sym table)
+    (subst (λ (k : Cache). Now (HoldsBlocks Block x.table.slots t disks y.space None k) (λ n. Swaps s n [] [])) (sym cache)
+    (held_anew Block x.table.slots t t disks disks x.space y.space None x.cache x.cache s (subst AreInService (sym devices) on) held.told (read_same disks x.table.slots x.space y.space x.cache devices held.read)
+    (λ a h. record { used = live a h.used; whole = tt })
+    (λ a h. ap (λ (ds : Devices). address_bytes (record { disks = disks; slots = x.table.slots; devices = ds }) a) devices)
+    held))
+
+-- so a group that was written is written once it ended
+pub ended_written : (reset : Bool) (t0 t : Type 0) (disks0 disks : List (List ℕ)) (x y z : OpenPool) (s : Stored) → AreInService (devices_in y.space) → z.table ≡ y.table → z.cache ≡ y.cache → z.dir ≡ y.dir → ((a : Dva) → IsLive y.space a → IsLive z.space a) → Commits reset y.space z.space
+    → HasBlocks t0 disks0 x s → AreTreesStored x s → HasWritten t disks x y s → HasWritten t disks x z s
+ended_written reset t0 t disks0 disks x y z s on table cache dir live commits held stored written =
+    subst (λ (d : Tree). Now (HasBlocks t disks z) (λ n. WritesGroup s n x.group x.dir d)) (sym dir)
+    (now_still (HasBlocks t disks y) (HasBlocks t disks z) s x.group x.dir y.dir held.alone stored (λ m h. ended_holds reset t disks y z m on table cache live commits h) written)
 
 -- what holds in any case holds where the answer is Ok
 pub on_ok_of : {T E : Type 0} (r : Result T E) {P : Type 0} → P → OnOk r P

@@ -6,4 +6,6 @@ pub mod Pools
 pub mod Disks
 pub mod Objects
 pub mod Holding
+pub mod Rings
+pub mod Sizes
 pub mod Stays

@@ -33,7 +33,7 @@ module _ (s m n : Stored) (g : Changes) (dir u : Tree) (once : IsOnce s) (held :
   each_written [] a all = tt
   each_written (e ∷ es) a all = (
     subst (λ (x : Option ObjRec). IsObjectWritten e.1.blocks s n e.1.object x) (sym (records e.0))
-    (written_to e.1.blocks s m n e.1.object (record_of m u e.0) (agree_front m n (object_blocks m (record_of m u e.0)) (blocks_now m u es) a) all.0),
+        (written_to e.1.blocks s m n e.1.object (record_of m u e.0) (agree_front m n (object_blocks m (record_of m u e.0)) (blocks_now m u es) a) all.0),
     each_written es (agree_back m n (object_blocks m (record_of m u e.0)) (blocks_now m u es) a) all.1,
   )
 

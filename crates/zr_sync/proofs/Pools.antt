@@ -1,10 +1,11 @@
 -- An open pool through the steps of a commit.
-use Rattle.std.proofs.Common.{◌≡◌, ℕ, ◌≤◌, ◌<◌, ◌^◌, List, length, get_or, Option, refl, sym, ◌∙◌, ap, subst, arith}
-use Rattle.std.specs.Prelude.{IsTrue, slice_index, slice_set, All}
+use Rattle.std.proofs.Common.{◌≡◌, ℕ, ◌≤◌, ◌<◌, ◌^◌, List, length, get_or, Option, Some, refl, sym, ◌∙◌, ap, subst, arith}
+use Rattle.std.specs.Prelude.{IsTrue, slice_index, slice_index_or, slice_set, All}
 use Rattle.std.proofs.lemmas.List.Elements.{All-set}
 use Rattle.std.proofs.lemmas.Bool.Decides.{nat_tests}
 use Rattle.zr_base.specs.Counts.{HasRisen}
-use Rattle.zr_label.specs.Geometry.{is_disk_size, unit_at}
+use Rattle.zr_label.specs.Blocks.{no_row}
+use Rattle.zr_label.specs.Geometry.{is_disk_size, units_of_size, unit_at}
 use Rattle.zr_rules.specs.Equation.{devices_in}
 use Rattle.zr_rules.specs.Places.{units_of_dev}
 use Rattle.zr_shelf.specs.Counts.{Counts, NoneFell}
@@ -19,6 +20,7 @@ use Rattle.zr_sync.specs.declared.open.OpenPool.{OpenPool}
 use Rattle.zr_lookup.specs.Groups.{IsLawfulGroup}
 use Rattle.zr_sync.specs.Pools.{AreStreams, IsOpen, IsInLimits, AreRows, IsAfter, IsDirectory}
 use Rattle.zr_sync.specs.Writes.{WritesMetadata, WritesTrees, WritesBlocks, WritesAll}
+use Rattle.zr_sync.proofs.Sizes.{disk_used}
 use Rattle.zr_sync.proofs.Disks.{works_more, works_trees, works_metadata}
 
 -- ---- faults
@@ -79,7 +81,7 @@ metadata_open n1 n2 c1 c2 t1 t2 w1 w2 x y o p streams =
       lawful = rows.lawful o.lawful;
       mounted = continues_mounted x.space y.space p.goes o.mounted;
       service = continues_service x.space y.space p.goes o.service;
-      disks = λ d slot lt is. subst (λ (n : List ℕ). IsTrue (is_disk_size 2 (slice_index n slot))) (sym p.goes.sizes) (o.disks d slot lt is);
+      disks = λ d slot lt is. subst (λ (n : List ℕ). units_of_size (slice_index n slot) 2 ≡ Some (slice_index_or x.table.rows d no_row).units) (sym p.goes.sizes) (o.disks d slot lt is);
     })
 
 -- a step that leaves all but the space, the cache and the streams
@@ -131,7 +133,7 @@ blocks_open n1 n2 c1 c2 t1 t2 w1 w2 x y o p lawful limits =
       lawful = rows.lawful o.lawful;
       mounted = continues_mounted x.space y.space p.goes o.mounted;
       service = continues_service x.space y.space p.goes o.service;
-      disks = λ d slot lt is. subst (λ (n : List ℕ). IsTrue (is_disk_size 2 (slice_index n slot))) (sym p.goes.sizes) (o.disks d slot lt is);
+      disks = λ d slot lt is. subst (λ (n : List ℕ). units_of_size (slice_index n slot) 2 ≡ Some (slice_index_or x.table.rows d no_row).units) (sym p.goes.sizes) (o.disks d slot lt is);
     })
 
 pub trees_open : (n1 n2 : List ℕ) (c1 c2 : Counts) (t1 t2 : Type 0) (w1 w2 : World) (x y : OpenPool)
@@ -160,7 +162,7 @@ trees_open n1 n2 c1 c2 t1 t2 w1 w2 x y o p dir =
       lawful = rows.lawful o.lawful;
       mounted = continues_mounted x.space y.space p.goes o.mounted;
       service = continues_service x.space y.space p.goes o.service;
-      disks = λ d slot lt is. subst (λ (n : List ℕ). IsTrue (is_disk_size 2 (slice_index n slot))) (sym p.goes.sizes) (o.disks d slot lt is);
+      disks = λ d slot lt is. subst (λ (n : List ℕ). units_of_size (slice_index n slot) 2 ≡ Some (slice_index_or x.table.rows d no_row).units) (sym p.goes.sizes) (o.disks d slot lt is);
     })
 
 -- one step after another
@@ -211,4 +213,4 @@ size_bound size units is fits = grind (arith, nat_tests, is, fits)
 pub small_device : (n : List ℕ) (x : OpenPool) (d : ℕ) → IsOpen n x → d < x.table.count → units_of_dev x.space.parts.devs d ≤ 2 ^ 26
 small_device n x d o lt =
     let has : HasDisk n x.table.slots d ((devices_in x.space).row d).units = o.mounted.disks d (omega (arith, lt, o.devices)) (o.service.there d) in
-    size_bound (slice_index n has.slot) (units_of_dev x.space.parts.devs d) (o.disks d has.slot lt has.is) has.fits
+    size_bound (slice_index n has.slot) (units_of_dev x.space.parts.devs d) (disk_used (slice_index n has.slot) _ (o.disks d has.slot lt has.is)) has.fits

@@ -17,6 +17,7 @@ use Rattle.zr_sync.specs.Commits.{IsNextRoot, IsShownFrom, last_reset}
 use Rattle.zr_sync.specs.Pools.{IsOpen, IsAfter}
 use Rattle.zr_sync.specs.declared.open.OpenPool.{OpenPool}
 use Rattle.zr_sync.proofs.Rows.{rows_table}
+use Rattle.zr_sync.proofs.Sizes.{disk_used}
 
 -- ---- the root
 
@@ -89,7 +90,7 @@ slots_disks sizes pool last u found o count each = λ k lt.
     let is = each (slice_index found k) (Contains-get_or found k 0 lt) in
     let below : is.index < pool.table.count = let h = index_below u is.index is.at_index.in_root in omega (arith, h, count) in
     let has : HasDisk sizes pool.table.slots is.index ((devices_in pool.space).row is.index).units = o.mounted.disks is.index (let n = o.devices in omega (arith, below, n)) (o.service.there is.index) in
-    (subst (λ (s : ℕ). s < length sizes) (same_slot _ has.slot (slice_index found k) has.is is.at_index.here) has.exists, o.disks is.index (slice_index found k) below is.at_index.here)
+    (subst (λ (s : ℕ). s < length sizes) (same_slot _ has.slot (slice_index found k) has.is is.at_index.here) has.exists, disk_used (slice_index sizes (slice_index found k)) _ (o.disks is.index (slice_index found k) below is.at_index.here))
 
 -- a root that is published in the slots that were found is shown
 pub shown : (sizes : List ℕ) (pool : OpenPool) (last u : Uber) (both all firsts rest : List ℕ) (before now : World) → last ≡ unwrap_or pool.last u → firsts ≡ both → rest ≡ all

@@ -5,7 +5,7 @@ use Rattle.zr_bptr.specs.declared.Tree.{Tree}
 use Rattle.zr_bptr.specs.Spelling.{IsTree}
 use Rattle.zr_base.specs.declared.space.DevRow.{DevRow}
 use Rattle.zr_label.specs.Blocks.{IsName, IsUber, is_row, is_no_row, no_row}
-use Rattle.zr_label.specs.Geometry.{is_disk_size}
+use Rattle.zr_label.specs.Geometry.{units_of_size}
 use Rattle.zr_label.specs.declared.root.Uber.{Uber}
 use Rattle.zr_lookup.specs.Groups.{IsLawfulGroup}
 use Rattle.zr_meta.specs.Heads.{IsStream, IsRootOf}
@@ -48,7 +48,7 @@ pub record IsInLimits (g : Changes) : Type 0 where
   pub blocks : block_count g.objects ≤ 64
   pub objects : length g.objects ≤ 64
 
--- A pool of so many devices at least and of 32 at most, all in service, whose disks have these sizes.
+-- A pool of so many devices at least and of 32 at most, all in service, whose disks have these sizes. Each device has the units of its disk, so none lies in a label.
 pub record IsPool (least : ℕ) (sizes : List ℕ) (pool : OpenPool) : Type 0 where
   pub version : (pool.version ≡ 1) ⊎ (pool.version ≡ 2)
   pub guid : 0 < pool.guid
@@ -71,7 +71,7 @@ pub record IsPool (least : ℕ) (sizes : List ℕ) (pool : OpenPool) : Type 0 wh
   pub lawful : IsLawful pool.space
   pub mounted : AreMounted sizes pool.table.slots (devices_in pool.space)
   pub service : AreInService (devices_in pool.space)
-  pub disks : (d slot : ℕ) → d < pool.table.count → slot_of pool.table.slots d ≡ Some slot → IsTrue (is_disk_size 2 (slice_index sizes slot))
+  pub disks : (d slot : ℕ) → d < pool.table.count → slot_of pool.table.slots d ≡ Some slot → units_of_size (slice_index sizes slot) 2 ≡ Some (slice_index_or pool.table.rows d no_row).units
 
 -- a pool that is open on disks of these sizes
 abbrev pub IsOpen : List ℕ → OpenPool → Type 0

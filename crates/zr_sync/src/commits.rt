@@ -137,6 +137,7 @@ pub fn commit<S: Shelf, P: Place>(
     ensures ends { OnOk result (EndsGroup reset pool.old.space pool.new.space) }
     ensures empty { OnOk result (pool.new.group.objects ≡ []) }
     ensures txg { OnOk result (pool.new.group.txg ≡ pool.old.group.txg + 1) }
+    ensures objects { (s : Stored) → HasBlocks (S.tells shelf.old) (S.world shelf.old).now.seen pool.old s → AreTreesStored pool.old s → OnOk result (HasWritten (S.tells shelf.new) (S.world shelf.new).now.seen pool.old pool.new s) }
 {
     if pool.group.txg() == u64::MAX {
         return Err(Stop::NoMemory);

@@ -6,6 +6,8 @@ use Rattle.zr_sync.specs.Commits.{IsShownFrom}
 use Rattle.zr_sync.specs.Pools.{IsOpen}
 use Rattle.zr_sync.proofs.Disks.{works_more}
 use Rattle.zr_sync.proofs.Groups.{shown_before}
+use Rattle.zr_sync.proofs.Holding.{ended_written}
+use Rattle.zr_sync.proofs.Objects.{now_held}
 use Rattle.zr_sync.proofs.commits.commit.Goals as goal
 
 pub returns-in_err-publish_root-clause-disks : goal.returns-in_err-publish_root-clause-disks
@@ -40,3 +42,11 @@ returns-clause-ends g c = record {
   metadata = c.write_all.ensures.wrote.metadata;
   ended = c.end_group.ensures.space;
 }
+
+pub returns-clause-objects : goal.returns-clause-objects
+returns-clause-objects g c = λ s held stored.
+    let first = c.args.shelf.now in
+    let last = c.publish_root.new.shelf in
+    ended_written c.args.reset (g.S.Shelf.tells first) (g.S.Shelf.tells last) (g.S.Shelf.world first).now.seen (g.S.Shelf.world last).now.seen c.args.pool.now c.write_all.new.pool c.end_group.new.pool s
+    c.in_ok-root.ensures.pool.service c.end_group.ensures.table c.end_group.ensures.cache c.end_group.ensures.dir c.end_group.ensures.live c.end_group.ensures.space held stored
+    (now_held (λ m h. c.publish_root.ensures.blocks m h) (c.in_ok-root.ensures.objects s held stored))
