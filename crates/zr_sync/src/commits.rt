@@ -12,6 +12,8 @@ ghost use Rattle.zr_shelf.specs.Counts.{NoneFell};
 ghost use Rattle.zr_shelf.specs.Moments.{World};
 ghost use Rattle.zr_store.specs.Store.{Stored};
 ghost use Rattle.zr_sync.specs.Commits.{EndsGroup, IsNextRoot, IsShownFrom};
+ghost use Rattle.zr_model.specs.Objects.{Objects};
+ghost use Rattle.zr_sync.specs.Objects.{HoldsObjects};
 ghost use Rattle.zr_sync.specs.Holds.{AreTreesStored, HasBlocks, HasWritten};
 ghost use Rattle.zr_sync.specs.Pools.{IsOpen, IsSamePool};
 ghost use Rattle.zr_sync.specs.Writes.{WorksOnDisks, WritesAll, WritesMetadata};
@@ -138,10 +140,12 @@ pub fn commit<S: Shelf, P: Place>(
     ensures empty { OnOk result (pool.new.group.objects ≡ []) }
     ensures txg { OnOk result (pool.new.group.txg ≡ pool.old.group.txg + 1) }
     ensures objects { (s : Stored) → HasBlocks (S.tells shelf.old) (S.world shelf.old).now.seen pool.old s → AreTreesStored pool.old s → OnOk result (HasWritten (S.tells shelf.new) (S.world shelf.new).now.seen pool.old pool.new s) }
+    ensures stays { (objects : Objects) → HoldsObjects (S.tells shelf.old) (S.world shelf.old).now.seen pool.old objects → OnOk result (HoldsObjects (S.tells shelf.new) (S.world shelf.new).now.seen pool.new objects) }
 {
     if pool.group.txg() == u64::MAX {
         return Err(Stop::NoMemory);
     }
+    pool.group.is_in_order();
     let (root, len) = write_all(alloc, pool, shelf, pick, reset)?;
     let next = next_root(pool, root, len, reset);
     publish_root(alloc, pool, shelf, &next)?;

@@ -2,7 +2,7 @@
 ghost use Rattle.std.specs.Prelude.{◌≡◌, ℕ, ◌+◌, ◌<◌, ◌≤◌, ◌↔◌, ◌==◌, ◌&&◌, [], length, is_some, not, if◌then◌else◌, slice_index_or, IsTrue, IsOk, IfOk, OnOk, OnErr, Some, None};
 ghost use Rattle.std.specs.List.{AllByRecursion};
 ghost use Rattle.zr_txg.specs.Tables.{IsRising, value_at, count_below, put_value};
-ghost use Rattle.zr_txg.specs.Changes.{ObjectChange, IsChange, IsRecorded, object_in, changes_in, change_in, block_count, blocks_of, with_block, with_record};
+ghost use Rattle.zr_txg.specs.Changes.{IsGroup, ObjectChange, IsChange, IsRecorded, object_in, changes_in, change_in, block_count, blocks_of, with_block, with_record};
 
 use crate::changed::{Changed, place_of_block, place_of_object};
 use std::alloc::Global;
@@ -138,6 +138,14 @@ impl Group {
         ensures rising { IsRising self.now.objects }
     {
         self.objects.len() as u64
+    }
+
+    /// The changed IDs rise, and so do the changed blocks of each object, of which a dropped one has none. It does nothing but
+    /// to say so to a proof.
+    pub fn is_in_order(&self)
+        ensures { IsGroup self.now.objects (block_count self.now.objects) }
+    {
+        let _ = &self.objects;
     }
 
     /// The changed ID that has `i` lower ones, where `i` is below `objects()`. Constant.
