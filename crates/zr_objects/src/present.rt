@@ -72,6 +72,7 @@ pub(crate) fn bytes_present<B: Blocks>(
     requires low { dir.now.height ≤ 3 }
     requires group { IsLawfulGroup group.now }
     ensures follows { (start : B) → B.follows start store.old → B.follows start store.new }
+    ensures same { (s : Stored) → B.holds store.old s → B.holds store.new s }
     ensures fault { IsErrOf result (Stops DiskFault) → HasRisen (B.account store.old).faults (B.account store.new).faults }
     ensures refused { (r : Refusal) → IsErrOf result (No r) → IsReadRefusal r }
     ensures none { (s : Stored) → B.holds store.old s → IsErrOf result (No NoSuchObject) → record_now s dir.now group.now id ≡ None }
@@ -99,6 +100,7 @@ pub(crate) fn sum_present<B: Blocks>(
     requires low { dir.now.height ≤ 3 }
     requires group { IsLawfulGroup group.now }
     ensures follows { (start : B) → B.follows start store.old → B.follows start store.new }
+    ensures same { (s : Stored) → B.holds store.old s → B.holds store.new s }
     ensures fault { IsErrOf result (Stops DiskFault) → HasRisen (B.account store.old).faults (B.account store.new).faults }
     ensures refused { (r : Refusal) → IsErrOf result (No r) → IsSumRefusal r }
     ensures none { (s : Stored) → B.holds store.old s → IsErrOf result (No NoSuchObject) → record_now s dir.now group.now id ≡ None }
@@ -120,6 +122,7 @@ pub(crate) fn blocks_present<B: Blocks>(
     requires low { dir.now.height ≤ 3 }
     requires group { IsLawfulGroup group.now }
     ensures follows { (start : B) → B.follows start store.old → B.follows start store.new }
+    ensures same { (s : Stored) → B.holds store.old s → B.holds store.new s }
     ensures fault { IsErrOf result (Stops DiskFault) → HasRisen (B.account store.old).faults (B.account store.new).faults }
     ensures refused { (r : Refusal) → IsErrOf result (No r) → IsSumRefusal r }
     ensures none { (s : Stored) → B.holds store.old s → IsErrOf result (No NoSuchObject) → record_now s dir.now group.now id ≡ None }

@@ -1,5 +1,5 @@
 //! Reading an object, and its sum.
-ghost use Rattle.std.specs.Prelude.{◌≡◌, ◌≤◌, IfOk, IsErrOf, None, length};
+ghost use Rattle.std.specs.Prelude.{◌≡◌, ◌≤◌, IfOk, IsErrOf, None, [], false, length};
 ghost use Rattle.zr_base.specs.Counts.{HasRisen};
 ghost use Rattle.zr_base.specs.declared.refusal.Refusal.{Refusal};
 ghost use Rattle.zr_base.specs.declared.refusal.Refusal.TheVariants.{NoSuchObject, OutOfRange};
@@ -9,7 +9,7 @@ ghost use Rattle.zr_lookup.specs.Groups.{IsLawfulGroup};
 ghost use Rattle.zr_lookup.specs.Objects.{record_now};
 ghost use Rattle.zr_rules.specs.Equation.{devices_in};
 ghost use Rattle.zr_space.specs.Paths.{AreInService};
-ghost use Rattle.zr_store.specs.Store.{Stored};
+ghost use Rattle.zr_store.specs.Store.{Stored, Now, Swaps};
 ghost use Rattle.zr_sync.specs.Pools.{IsOpen, IsSamePool};
 ghost use Rattle.zr_sync.specs.Writes.{WorksOnDisks, WritesBlocks};
 ghost use Rattle.zr_sync.specs.declared.fault.Fault.TheVariants.{No, Stops};
@@ -17,7 +17,11 @@ ghost use Rattle.zr_sync.specs.declared.stop.Stop.TheVariants.{DiskFault};
 ghost use Rattle.zr_vdev.specs.Mounts.{AreMounted};
 ghost use Rattle.zr_vdev.specs.Stores.{Continues, HoldsBlocks};
 ghost use Rattle.zr_objects.specs.Answers.{IsReadRefusal, IsSumRefusal};
-ghost use Rattle.zr_objects.specs.Reads.{AreBytesOf, IsOutside, IsSumOf};
+ghost use Rattle.std.specs.FinMap as map;
+ghost use Rattle.zr_held.specs.Steps.{IsObjectOf};
+ghost use Rattle.zr_model.specs.Objects.{Objects, has_lost};
+ghost use Rattle.zr_sync.specs.Objects.{HoldsObjects};
+ghost use Rattle.zr_objects.specs.Reads.{AreBytesOf, IsOutside, IsSumOf, IsReadOf, can_read};
 
 use crate::present::{bytes_present, sum_present};
 use std::alloc::Global;
@@ -51,6 +55,7 @@ fn read_bytes<S: Shelf, P: Place>(
     ensures continues { Continues mount.entry.kind mount.entry.slots.now (S.sizes shelf.old) (S.sizes shelf.new) (S.counts shelf.old) (S.counts shelf.new) (S.tells shelf.old) (S.tells shelf.new) (S.world shelf.old) (S.world shelf.new) space.old space.new cache.old cache.new }
     ensures fault { IsErrOf result (Stops DiskFault) → HasRisen (S.counts shelf.old).disk (S.counts shelf.new).disk }
     ensures refused { (r : Refusal) → IsErrOf result (No r) → IsReadRefusal r }
+    ensures held { (s : Stored) → HoldsBlocks mount.entry.kind mount.entry.slots.now (S.tells shelf.old) (S.world shelf.old).now.seen space.old None cache.old s → Now (HoldsBlocks mount.entry.kind mount.entry.slots.now (S.tells shelf.new) (S.world shelf.new).now.seen space.new None cache.new) (λ n. Swaps s n [] []) }
     ensures none { (s : Stored) → HoldsBlocks mount.entry.kind mount.entry.slots.now (S.tells shelf.old) (S.world shelf.old).now.seen space.old None cache.old s → IsErrOf result (No NoSuchObject) → record_now s dir.now group.now id ≡ None }
     ensures outside { (s : Stored) → HoldsBlocks mount.entry.kind mount.entry.slots.now (S.tells shelf.old) (S.world shelf.old).now.seen space.old None cache.old s → IsErrOf result (No OutOfRange) → IsOutside s dir.now group.now id off len }
     ensures size { IfOk result (λ bytes. length bytes.items ≡ len) }
@@ -80,6 +85,10 @@ pub fn read<S: Shelf, P: Place>(
     ensures pool { IsOpen (S.sizes shelf.new) pool.new }
     ensures same { IsSamePool pool.old pool.new }
     ensures refused { (r : Refusal) → IsErrOf result (No r) → IsReadRefusal r }
+    ensures stays { (objects : Objects) → HoldsObjects (S.tells shelf.old) (S.world shelf.old).now.seen pool.old objects → HoldsObjects (S.tells shelf.new) (S.world shelf.new).now.seen pool.new objects }
+    ensures missing { (objects : Objects) → HoldsObjects (S.tells shelf.old) (S.world shelf.old).now.seen pool.old objects → IsErrOf result (No NoSuchObject) → map.get objects id ≡ None }
+    ensures beyond { (objects : Objects) → HoldsObjects (S.tells shelf.old) (S.world shelf.old).now.seen pool.old objects → IsErrOf result (No OutOfRange) → IsObjectOf objects id (λ o. can_read o.units off len ≡ false) }
+    ensures object { (objects : Objects) → HoldsObjects (S.tells shelf.old) (S.world shelf.old).now.seen pool.old objects → IfOk result (λ bytes. IsObjectOf objects id (IsReadOf off len bytes.items)) }
     ensures none { (s : Stored) → HasBlocks (S.tells shelf.old) (S.world shelf.old).now.seen pool.old s → IsErrOf result (No NoSuchObject) → record_now s pool.old.dir pool.old.group id ≡ None }
     ensures outside { (s : Stored) → HasBlocks (S.tells shelf.old) (S.world shelf.old).now.seen pool.old s → IsErrOf result (No OutOfRange) → IsOutside s pool.old.dir pool.old.group id off len }
     ensures size { IfOk result (λ bytes. length bytes.items ≡ len) }
@@ -126,6 +135,7 @@ fn read_sum<S: Shelf, P: Place>(
     ensures continues { Continues mount.entry.kind mount.entry.slots.now (S.sizes shelf.old) (S.sizes shelf.new) (S.counts shelf.old) (S.counts shelf.new) (S.tells shelf.old) (S.tells shelf.new) (S.world shelf.old) (S.world shelf.new) space.old space.new cache.old cache.new }
     ensures fault { IsErrOf result (Stops DiskFault) → HasRisen (S.counts shelf.old).disk (S.counts shelf.new).disk }
     ensures refused { (r : Refusal) → IsErrOf result (No r) → IsSumRefusal r }
+    ensures held { (s : Stored) → HoldsBlocks mount.entry.kind mount.entry.slots.now (S.tells shelf.old) (S.world shelf.old).now.seen space.old None cache.old s → Now (HoldsBlocks mount.entry.kind mount.entry.slots.now (S.tells shelf.new) (S.world shelf.new).now.seen space.new None cache.new) (λ n. Swaps s n [] []) }
     ensures none { (s : Stored) → HoldsBlocks mount.entry.kind mount.entry.slots.now (S.tells shelf.old) (S.world shelf.old).now.seen space.old None cache.old s → IsErrOf result (No NoSuchObject) → record_now s dir.now group.now id ≡ None }
     ensures sum { (s : Stored) → HoldsBlocks mount.entry.kind mount.entry.slots.now (S.tells shelf.old) (S.world shelf.old).now.seen space.old None cache.old s → IfOk result (λ sum. IsSumOf s dir.now group.now id sum) }
 {
@@ -150,6 +160,9 @@ pub fn sum<S: Shelf, P: Place>(
     ensures pool { IsOpen (S.sizes shelf.new) pool.new }
     ensures same { IsSamePool pool.old pool.new }
     ensures refused { (r : Refusal) → IsErrOf result (No r) → IsSumRefusal r }
+    ensures stays { (objects : Objects) → HoldsObjects (S.tells shelf.old) (S.world shelf.old).now.seen pool.old objects → HoldsObjects (S.tells shelf.new) (S.world shelf.new).now.seen pool.new objects }
+    ensures missing { (objects : Objects) → HoldsObjects (S.tells shelf.old) (S.world shelf.old).now.seen pool.old objects → IsErrOf result (No NoSuchObject) → map.get objects id ≡ None }
+    ensures object { (objects : Objects) → HoldsObjects (S.tells shelf.old) (S.world shelf.old).now.seen pool.old objects → IfOk result (λ sum. IsObjectOf objects id (λ o. has_lost o ≡ false)) }
     ensures none { (s : Stored) → HasBlocks (S.tells shelf.old) (S.world shelf.old).now.seen pool.old s → IsErrOf result (No NoSuchObject) → record_now s pool.old.dir pool.old.group id ≡ None }
     ensures sum { (s : Stored) → HasBlocks (S.tells shelf.old) (S.world shelf.old).now.seen pool.old s → IfOk result (λ sum. IsSumOf s pool.old.dir pool.old.group id sum) }
 {
