@@ -32,15 +32,15 @@ on_ok_map (Err e) p f = tt
 -- what the store says of each list of blocks that is held, the pool says
 pub gives_up : (blocks : List Bptr) (t1 t2 : Type 0) (d1 d2 : List (List ℕ)) (x y : OpenPool) (r : Result (Unit {0}) Fault)
     → y.table ≡ x.table
-    → ((s : Stored) → HoldsBlocks Block x.table.slots t1 d1 x.space None x.cache s → AreStored blocks s → OnOk r ((lost : Option Dva) × Now (HoldsBlocks Block x.table.slots t2 d2 y.space lost y.cache) (λ n. Swaps s n blocks [])))
+    → ((s : Stored) → HoldsBlocks Block x.table.slots t1 d1 x.space None x.cache s → AreStored blocks s → OnOk r (Now (HoldsBlocks Block x.table.slots t2 d2 y.space None y.cache) (λ n. Swaps s n blocks [])))
     → OnOk r (GivesUp blocks t1 d1 x t2 d2 y)
 gives_up blocks t1 t2 d1 d2 x y (Err e) same swaps = tt
 gives_up blocks t1 t2 d1 d2 x y (Ok done) same swaps = λ s has stored.
     let got = swaps s has stored in
     record {
-      stored = got.1.stored;
-      held = record { lost = got.0; holds = subst (λ (slots : List (Option ℕ)). HoldsBlocks Block slots t2 d2 y.space got.0 y.cache got.1.stored) (sym (ap (λ t. t.slots) same)) got.1.held };
-      is = got.1.is;
+      stored = got.stored;
+      held = subst (λ (slots : List (Option ℕ)). HoldsBlocks Block slots t2 d2 y.space None y.cache got.stored) (sym (ap (λ t. t.slots) same)) got.held;
+      is = got.is;
     }
 
 -- the same is held where all that it depends on is the same

@@ -1,3 +1,5 @@
 pub mod Steps
 pub mod Giving
 pub mod Reading
+pub mod Gone
+pub mod Coming

@@ -24,11 +24,6 @@ pub record AreBlocksOf (s : Stored) (dir : Tree) (g : Changes) (id : ℕ) (block
 abbrev pub AreFoundIn : Type 0 → List (List ℕ) → OpenPool → ℕ → List Bptr → Type 0
 AreFoundIn tells disks pool id blocks = CanTake 0 (new_object pool.group id) pool.group → (s : Stored) → HasBlocks tells disks pool s → AreBlocksOf s pool.dir pool.group id blocks
 
--- The disks hold these blocks. Where a put failed and took units, none is held there.
-pub record HasBlocksBut (tells : Type 0) (disks : List (List ℕ)) (pool : OpenPool) (s : Stored) : Type 0 where
-  pub lost : Option Dva
-  pub holds : HoldsBlocks Block pool.table.slots tells disks pool.space lost pool.cache s
-
 -- of what the disks held, these blocks went, and all others stay
 abbrev pub GivesUp : List Bptr → Type 0 → List (List ℕ) → OpenPool → Type 0 → List (List ℕ) → OpenPool → Type 0
-GivesUp blocks tells_old disks_old old tells_new disks_new new = (s : Stored) → HasBlocks tells_old disks_old old s → AreStored blocks s → Now (HasBlocksBut tells_new disks_new new) (λ n. Swaps s n blocks [])
+GivesUp blocks tells_old disks_old old tells_new disks_new new = (s : Stored) → HasBlocks tells_old disks_old old s → AreStored blocks s → Now (HasBlocks tells_new disks_new new) (λ n. Swaps s n blocks [])

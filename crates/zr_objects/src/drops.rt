@@ -29,7 +29,11 @@ ghost use Rattle.zr_vdev.specs.Mounts.{AreMounted};
 ghost use Rattle.zr_vdev.specs.Stores.{Continues, HoldsBlocks};
 ghost use Rattle.zr_objects.specs.Answers.{IsAnswered, IsDropRefusal, IsSumRefusal};
 ghost use Rattle.zr_objects.specs.Counts.{new_object};
-ghost use Rattle.zr_objects.specs.Drops.{AreBlocksOf, AreFoundIn, GivesUp, HasBlocksBut};
+ghost use Rattle.std.specs.FinMap as map;
+ghost use Rattle.zr_held.specs.Steps.{IsObjectOf};
+ghost use Rattle.zr_model.specs.Objects.{Objects};
+ghost use Rattle.zr_sync.specs.Objects.{HoldsObjects};
+ghost use Rattle.zr_objects.specs.Drops.{AreBlocksOf, AreFoundIn, GivesUp};
 ghost use Rattle.zr_objects.specs.Groups.{IsReadyGroup, SetsInGroup};
 ghost use Rattle.zr_objects.specs.Room.{LacksRoom, room_to_drop};
 
@@ -68,6 +72,7 @@ fn read_blocks<S: Shelf, P: Place>(
     ensures continues { Continues mount.entry.kind mount.entry.slots.now (S.sizes shelf.old) (S.sizes shelf.new) (S.counts shelf.old) (S.counts shelf.new) (S.tells shelf.old) (S.tells shelf.new) (S.world shelf.old) (S.world shelf.new) space.old space.new cache.old cache.new }
     ensures fault { IsErrOf result (Stops DiskFault) → HasRisen (S.counts shelf.old).disk (S.counts shelf.new).disk }
     ensures refused { (r : Refusal) → IsErrOf result (No r) → IsSumRefusal r }
+    ensures held { (s : Stored) → HoldsBlocks mount.entry.kind mount.entry.slots.now (S.tells shelf.old) (S.world shelf.old).now.seen space.old None cache.old s → Now (HoldsBlocks mount.entry.kind mount.entry.slots.now (S.tells shelf.new) (S.world shelf.new).now.seen space.new None cache.new) (λ n. Swaps s n [] []) }
     ensures none { (s : Stored) → HoldsBlocks mount.entry.kind mount.entry.slots.now (S.tells shelf.old) (S.world shelf.old).now.seen space.old None cache.old s → IsErrOf result (No NoSuchObject) → record_now s dir.now group.now id ≡ None }
     ensures count { IfOk result (λ blocks. length blocks.items ≤ 2 ^ 36) }
     ensures blocks { (s : Stored) → HoldsBlocks mount.entry.kind mount.entry.slots.now (S.tells shelf.old) (S.world shelf.old).now.seen space.old None cache.old s → IfOk result (λ blocks. AreBlocksOf s dir.now group.now id blocks.items) }
@@ -90,6 +95,7 @@ fn object_blocks<S: Shelf, P: Place>(
     ensures group { pool.new.group ≡ pool.old.group }
     ensures pool { IsOpen (S.sizes shelf.new) pool.new }
     ensures refused { (r : Refusal) → IsErrOf result (No r) → IsSumRefusal r }
+    ensures held { (s : Stored) → HasBlocks (S.tells shelf.old) (S.world shelf.old).now.seen pool.old s → Now (HasBlocks (S.tells shelf.new) (S.world shelf.new).now.seen pool.new) (λ n. Swaps s n [] []) }
     ensures none { (s : Stored) → HasBlocks (S.tells shelf.old) (S.world shelf.old).now.seen pool.old s → IsErrOf result (No NoSuchObject) → record_now s pool.old.dir pool.old.group id ≡ None }
     ensures count { IfOk result (λ blocks. length blocks.items ≤ 2 ^ 36) }
     ensures blocks { (s : Stored) → HasBlocks (S.tells shelf.old) (S.world shelf.old).now.seen pool.old s → IfOk result (λ blocks. AreBlocksOf s pool.old.dir pool.old.group id blocks.items) }
@@ -122,6 +128,8 @@ fn make_way_for<S: Shelf, P: Place>(
 ) -> Result<(), Fault>
     requires pool { IsOpen (S.sizes shelf.old) pool.old }
     ensures sizes { S.sizes shelf.new ≡ S.sizes shelf.old }
+    ensures objects { (objects : Objects) → HoldsObjects (S.tells shelf.old) (S.world shelf.old).now.seen pool.old objects → IsAnswered result → HoldsObjects (S.tells shelf.new) (S.world shelf.new).now.seen pool.new objects }
+    ensures missing { (objects : Objects) → HoldsObjects (S.tells shelf.old) (S.world shelf.old).now.seen pool.old objects → IsErrOf result (No NoSuchObject) → map.get objects id ≡ None }
     ensures none_fell { NoneFell (S.counts shelf.old) (S.counts shelf.new) }
     ensures told { S.tells shelf.old → S.tells shelf.new }
     ensures disks { S.tells shelf.old → WorksOnDisks (S.world shelf.old) (S.world shelf.new) }
@@ -180,7 +188,7 @@ fn free_blocks<S: Shelf, P: Place>(
     ensures block_count { OnOk result (block_count group.new.objects + length (changes_in group.old id) ≡ block_count group.old.objects) }
     ensures lawful { IsLawfulGroup group.new }
     ensures kept { IfErr result (λ e. group.new ≡ group.old) }
-    ensures swaps { (s : Stored) → HoldsBlocks mount.entry.kind mount.entry.slots.now (S.tells shelf.old) (S.world shelf.old).now.seen space.old None cache.old s → AreStored blocks.now s → OnOk result ((lost : Option Dva) × Now (HoldsBlocks mount.entry.kind mount.entry.slots.now (S.tells shelf.new) (S.world shelf.new).now.seen space.new lost cache.new) (λ n. Swaps s n blocks.now [])) }
+    ensures swaps { (s : Stored) → HoldsBlocks mount.entry.kind mount.entry.slots.now (S.tells shelf.old) (S.world shelf.old).now.seen space.old None cache.old s → AreStored blocks.now s → OnOk result (Now (HoldsBlocks mount.entry.kind mount.entry.slots.now (S.tells shelf.new) (S.world shelf.new).now.seen space.new None cache.new) (λ n. Swaps s n blocks.now [])) }
 {
     let mut store = Vdev::new(space, shelf, cache, mount);
     Ok(drop_object(alloc, &mut store, group, id, blocks)?)
@@ -234,6 +242,9 @@ fn drop_ready<S: Shelf, P: Place>(
     requires id { id < 65536 }
     requires takes { CanTake 0 (new_object pool.old.group id) pool.old.group }
     ensures sizes { S.sizes shelf.new ≡ S.sizes shelf.old }
+    ensures objects { (objects : Objects) → HoldsObjects (S.tells shelf.old) (S.world shelf.old).now.seen pool.old objects → (r : Refusal) → IsErrOf result (No r) → HoldsObjects (S.tells shelf.new) (S.world shelf.new).now.seen pool.new objects }
+    ensures missing { (objects : Objects) → HoldsObjects (S.tells shelf.old) (S.world shelf.old).now.seen pool.old objects → IsErrOf result (No NoSuchObject) → map.get objects id ≡ None }
+    ensures gone { (objects : Objects) → HoldsObjects (S.tells shelf.old) (S.world shelf.old).now.seen pool.old objects → OnOk result (IsObjectOf objects id (λ o. HoldsObjects (S.tells shelf.new) (S.world shelf.new).now.seen pool.new (map.remove objects id))) }
     ensures none_fell { NoneFell (S.counts shelf.old) (S.counts shelf.new) }
     ensures told { S.tells shelf.old → S.tells shelf.new }
     ensures disks { S.tells shelf.old → WorksOnDisks (S.world shelf.old) (S.world shelf.new) }
@@ -263,6 +274,9 @@ pub fn drop<S: Shelf, P: Place>(
 ) -> Result<(), Fault>
     requires pool { IsOpen (S.sizes shelf.old) pool.old }
     ensures sizes { S.sizes shelf.new ≡ S.sizes shelf.old }
+    ensures objects { (objects : Objects) → HoldsObjects (S.tells shelf.old) (S.world shelf.old).now.seen pool.old objects → (r : Refusal) → IsErrOf result (No r) → HoldsObjects (S.tells shelf.new) (S.world shelf.new).now.seen pool.new objects }
+    ensures missing { (objects : Objects) → HoldsObjects (S.tells shelf.old) (S.world shelf.old).now.seen pool.old objects → IsErrOf result (No NoSuchObject) → map.get objects id ≡ None }
+    ensures gone { (objects : Objects) → HoldsObjects (S.tells shelf.old) (S.world shelf.old).now.seen pool.old objects → OnOk result (IsObjectOf objects id (λ o. HoldsObjects (S.tells shelf.new) (S.world shelf.new).now.seen pool.new (map.remove objects id))) }
     ensures none_fell { NoneFell (S.counts shelf.old) (S.counts shelf.new) }
     ensures told { S.tells shelf.old → S.tells shelf.new }
     ensures disks { S.tells shelf.old → WorksOnDisks (S.world shelf.old) (S.world shelf.new) }

@@ -17,6 +17,10 @@ ghost use Rattle.zr_sync.specs.Writes.{WorksOnDisks};
 ghost use Rattle.zr_sync.specs.declared.fault.Fault.TheVariants.{No, Stops};
 ghost use Rattle.zr_sync.specs.declared.stop.Stop.TheVariants.{DiskFault};
 ghost use Rattle.zr_txg.specs.Changes.{IsRecorded, block_count, changes_in};
+ghost use Rattle.std.specs.FinMap as map;
+ghost use Rattle.zr_held.specs.Steps.{IsObjectOf};
+ghost use Rattle.zr_model.specs.Objects.{Objects, blank as blank_object};
+ghost use Rattle.zr_sync.specs.Objects.{HoldsObjects};
 ghost use Rattle.zr_objects.specs.Answers.{IsAnswered, IsMakeRefusal, IsNoRoom};
 ghost use Rattle.zr_objects.specs.Groups.{IsReadyGroup, SetsInGroup, blank, can_make};
 ghost use Rattle.zr_objects.specs.Room.{LacksRoom, room_for_group, room_to_make};
@@ -85,6 +89,8 @@ fn make_absent<S: Shelf, P: Place>(
     ensures pool { IsAnswered result → IsOpen (S.sizes shelf.new) pool.new }
     ensures same { IsAnswered result → IsSamePool pool.old pool.new }
     ensures refused { (r : Refusal) → IsErrOf result (No r) → IsNoRoom r }
+    ensures objects { (objects : Objects) → HoldsObjects (S.tells shelf.old) (S.world shelf.old).now.seen pool.old objects → (r : Refusal) → IsErrOf result (No r) → HoldsObjects (S.tells shelf.new) (S.world shelf.new).now.seen pool.new objects }
+    ensures comes { (objects : Objects) → HoldsObjects (S.tells shelf.old) (S.world shelf.old).now.seen pool.old objects → map.get objects id ≡ None → OnOk result (HoldsObjects (S.tells shelf.new) (S.world shelf.new).now.seen pool.new (map.insert objects id (blank_object units))) }
     ensures lacks { (needed free : ℕ) → IsErrOf result (No (NoRoom needed free)) → LacksRoom pool.new.space (room_to_make pool.new.space pool.new.group id) needed free }
     ensures room { OnOk result (room_for_group pool.new.space pool.new.group ≤ free_units pool.new.space) }
     ensures made { OnOk result (SetsInGroup id (Some (blank units)) pool.old.group pool.new.group) }
@@ -120,6 +126,9 @@ pub fn make<S: Shelf, P: Place>(
     ensures range { IsErrOf result (No OutOfRange) ↔ (can_make id units ≡ false) }
     ensures there { (s : Stored) → HasBlocks (S.tells shelf.old) (S.world shelf.old).now.seen pool.old s → IsErrOf result (No ObjectExists) → (object : ObjRec) × (record_now s pool.old.dir pool.old.group id ≡ Some object) }
     ensures absent { (s : Stored) → HasBlocks (S.tells shelf.old) (S.world shelf.old).now.seen pool.old s → OnOk result (record_now s pool.old.dir pool.old.group id ≡ None) }
+    ensures objects { (objects : Objects) → HoldsObjects (S.tells shelf.old) (S.world shelf.old).now.seen pool.old objects → (r : Refusal) → IsErrOf result (No r) → HoldsObjects (S.tells shelf.new) (S.world shelf.new).now.seen pool.new objects }
+    ensures exists { (objects : Objects) → HoldsObjects (S.tells shelf.old) (S.world shelf.old).now.seen pool.old objects → IsErrOf result (No ObjectExists) → IsObjectOf objects id (λ o. Unit {0}) }
+    ensures comes { (objects : Objects) → HoldsObjects (S.tells shelf.old) (S.world shelf.old).now.seen pool.old objects → OnOk result ((map.get objects id ≡ None) × HoldsObjects (S.tells shelf.new) (S.world shelf.new).now.seen pool.new (map.insert objects id (blank_object units))) }
     ensures lacks { (needed free : ℕ) → IsErrOf result (No (NoRoom needed free)) → LacksRoom pool.new.space (room_to_make pool.new.space pool.new.group id) needed free }
     ensures room { OnOk result (room_for_group pool.new.space pool.new.group ≤ free_units pool.new.space) }
     ensures made { OnOk result (SetsInGroup id (Some (blank units)) pool.old.group pool.new.group) }

@@ -26,3 +26,6 @@ returns-clause-given g c =
       got.5,
       got.6,
     ))
+
+pub returns-clause-objects : goal.returns-clause-objects
+returns-clause-objects g c = λ objects h r is. c.drop_ready.ensures.objects objects (c.in_ok-make_way_for.ensures.objects objects h tt) r is

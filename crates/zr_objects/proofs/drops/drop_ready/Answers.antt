@@ -1,4 +1,7 @@
-use Rattle.std.proofs.Common.{◌≤◌, ◌∙◌, List, true, refl, subst}
+use Rattle.zr_sync.specs.declared.open.OpenPool.{OpenPool}
+use Rattle.zr_sync.proofs.Stays.{objects_stay}
+use Rattle.zr_objects.proofs.Gone.{gone_of}
+use Rattle.std.proofs.Common.{ap, ◌≤◌, ◌∙◌, List, true, refl, subst}
 use Rattle.std.proofs.lemmas.Result.{err_from_is_err_and}
 use Rattle.zr_bptr.specs.declared.Bptr.{Bptr}
 use Rattle.zr_rules.specs.Columns.{free_units}
@@ -41,3 +44,19 @@ returns-clause-given g c =
       subst (λ (blocks : List Bptr). room_to_drop pool.space pool.group c.args.id blocks ≤ free_units pool.space) c.as_slice.ensures.value (c.in_ok-demand_to_drop.ensures.enough.0 (refl {a = true})),
       subst (λ (blocks : List Bptr). GivesUp blocks (g.S.Shelf.tells c.object_blocks.new.shelf) (g.S.Shelf.world c.object_blocks.new.shelf).now.seen pool (g.S.Shelf.tells c.free_object.new.shelf) (g.S.Shelf.world c.free_object.new.shelf).now.seen c.free_object.new.pool) c.as_slice-2.ensures.value gives,
     ))
+
+pub returns-in_err-blocks-clause-objects : goal.returns-in_err-blocks-clause-objects
+returns-in_err-blocks-clause-objects g c = λ objects h r is. objects_stay c.args.pool.now c.object_blocks.new.pool objects (ap (λ (p : OpenPool). p.dir) c.object_blocks.ensures.wrote.rest) c.object_blocks.ensures.group h (c.object_blocks.ensures.held h.stored h.held)
+
+pub returns-in_err-demand_to_drop-clause-objects : goal.returns-in_err-demand_to_drop-clause-objects
+returns-in_err-demand_to_drop-clause-objects g c = λ objects h r is. objects_stay c.args.pool.now c.object_blocks.new.pool objects (ap (λ (p : OpenPool). p.dir) c.object_blocks.ensures.wrote.rest) c.object_blocks.ensures.group h (c.object_blocks.ensures.held h.stored h.held)
+
+pub returns-clause-gone : goal.returns-clause-gone
+returns-clause-gone g c = λ objects h.
+    let found = c.object_blocks.new.pool in
+    let blocks = c.in_ok-blocks.blocks.items in
+    gone_of (g.S.Shelf.tells c.free_object.new.shelf) (g.S.Shelf.world c.free_object.new.shelf).now.seen c.args.pool.now found c.free_object.new.pool objects c.args.id blocks c.free_object.result c.requires.id
+    (ap (λ (p : OpenPool). p.dir) c.object_blocks.ensures.wrote.rest) c.object_blocks.ensures.group (ap (λ (p : OpenPool). p.dir) c.free_object.ensures.wrote.rest) h
+    (c.in_ok-blocks.ensures.blocks h.stored h.held) (c.object_blocks.ensures.held h.stored h.held) c.free_object.ensures.sets
+    (on_ok_map c.free_object.result c.free_object.ensures.gives (λ gives.
+    subst (λ (bs : List Bptr). GivesUp bs (g.S.Shelf.tells c.object_blocks.new.shelf) (g.S.Shelf.world c.object_blocks.new.shelf).now.seen found (g.S.Shelf.tells c.free_object.new.shelf) (g.S.Shelf.world c.free_object.new.shelf).now.seen c.free_object.new.pool) c.as_slice-2.ensures.value gives))

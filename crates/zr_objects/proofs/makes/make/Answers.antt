@@ -1,3 +1,7 @@
+use Rattle.zr_base.specs.declared.refusal.Refusal.TheVariants.{ObjectExists}
+use Rattle.zr_objects.proofs.Coming.{some_there, none_there, no_room_only}
+use Rattle.zr_objects.proofs.Giving.{on_ok_map}
+use Rattle.std.proofs.Common.{rules}
 use Rattle.std.proofs.Common.{◌≡◌, ◌∙◌, Bool, true, false, Option, Some, None, inr, refl, sym, subst}
 use Rattle.std.specs.Prelude.{is_some}
 use Rattle.zr_bptr.specs.declared.ObjRec.{ObjRec}
@@ -34,3 +38,17 @@ returns-clause-refused g c = λ r is. inr (inr (inr (c.make_absent.ensures.refus
 
 pub returns-clause-group : goal.returns-clause-group
 returns-clause-group g c = λ r is. subst (λ (h : Changes). IsReadyGroup c.args.id h c.make_absent.new.pool.group) c.find.ensures.group (c.make_absent.ensures.group r is)
+
+pub returns-then-is_some-clause-exists : goal.returns-then-is_some-clause-exists
+returns-then-is_some-clause-exists g c = λ objects h is. some_there objects c.args.id c.in_ok-find.field-0 (search rules) (c.in_ok-find.ensures.object objects h)
+
+pub returns-clause-objects : goal.returns-clause-objects
+returns-clause-objects g c = λ objects h r is. c.make_absent.ensures.objects objects (c.find.ensures.stays objects h) r is
+
+pub returns-clause-exists : goal.returns-clause-exists
+returns-clause-exists g c = λ objects h is. absurd (no_room_only (c.make_absent.ensures.refused ObjectExists is))
+
+pub returns-clause-comes : goal.returns-clause-comes
+returns-clause-comes g c = λ objects h.
+    let none = none_there objects c.args.id c.in_ok-find.field-0 (search rules) (c.in_ok-find.ensures.object objects h) in
+    on_ok_map c.make_absent.result (c.make_absent.ensures.comes objects (c.find.ensures.stays objects h) none) (λ held. (none, held))

@@ -1,3 +1,4 @@
+use Rattle.zr_objects.proofs.Coming.{comes_of}
 use Rattle.std.proofs.Common.{Some, arith}
 use Rattle.zr_objects.specs.Groups.{blank}
 use Rattle.zr_objects.proofs.Steps.{group_open, ready_group, ready_takes, set_limits}
@@ -28,3 +29,8 @@ returns-clause-made g c =
       ready = ready_group c.args.id c.new_objects-objects.result c.in_ok-make_way.field-0 c.args.pool.now c.make_way.new.pool c.new_objects-objects.ensures.new (λ no. (way.stays no).0) way.due way.empty way.txg;
       sets = c.in_ok-record_new.ensures.sets;
     }
+
+pub returns-clause-comes : goal.returns-clause-comes
+returns-clause-comes g c = λ objects h none.
+    comes_of (g.S.Shelf.tells c.make_way.new.shelf) (g.S.Shelf.world c.make_way.new.shelf).now.seen c.make_way.new.pool c.record_new.new.pool objects c.args.id c.args.units c.requires.id c.record_new.ensures.rest c.in_ok-record_new.ensures.sets none
+    (c.in_ok-make_way.ensures.objects objects h)
