@@ -1,5 +1,5 @@
 -- The table of a pool with a device more.
-use Rattle.std.proofs.Common.{◌≡◌, inl, inr, ◌⊎◌, ℕ, suc, ◌+◌, ◌<◌, ◌≤◌, ◌^◌, ◌-◌, ◌/◌, Bool, cond, true, false, List, [], ◌∷◌, length, get_or, set, take, drop, drop-cons, None, Some, refl, sym, ◌∙◌, ap, subst, arith}
+use Rattle.std.proofs.Common.{◌≡◌, inl, inr, ◌⊎◌, ℕ, suc, ◌+◌, ◌<◌, ◌≤◌, ◌^◌, ◌-◌, ◌/◌, Bool, cond, true, false, List, [], ◌∷◌, length, get_or, set, take, drop, drop-cons, Option, None, Some, refl, sym, ◌∙◌, ap, subst, arith}
 use Rattle.std.specs.Prelude.{◌&&◌}
 use Rattle.std.specs.List.{list_all}
 use Rattle.std.proofs.lemmas.Bool.Decides.{nat_tests}
@@ -15,7 +15,7 @@ use Rattle.zr_create.specs.Devices.{new_row}
 -- what a disk of a size that is taken has
 pub record IsSized (size version units : ℕ) : Type 0 where
   pub size_is : is_disk_size version size ≡ true
-  pub size_any : is_disk_size 2 size ≡ true
+  pub units_any : units_of_size size 2 ≡ Some units
   pub fits : unit_at units ≤ size
   pub small : units < 2 ^ 40
   pub row : (txg : ℕ) → 1 ≤ txg → is_row version txg (new_row units txg) ≡ true
@@ -37,6 +37,12 @@ new_row_in size version units txg (inr two) is units_are some =
 units_fit : (size units : ℕ) → is_disk_size 2 size ≡ true → (whole size - 4718592) / 4096 ≡ units → unit_at units ≤ size
 units_fit size units is units_are = grind (arith, nat_tests, is, units_are)
 
+abbrev some_units : ℕ → Option ℕ
+some_units n = Some n
+
+any_units : (size units : ℕ) → is_disk_size 2 size ≡ true → (whole size - 4718592) / 4096 ≡ units → units_of_size size 2 ≡ Some units
+any_units size units used are = ap (λ (b : Bool). cond b (Some ((whole size - 4718592) / 4096)) None) used ∙ ap (λ (n : ℕ). some_units n) are
+
 units_small : (size units : ℕ) → is_disk_size 2 size ≡ true → (whole size - 4718592) / 4096 ≡ units → units < 2 ^ 40
 units_small size units is units_are = grind (arith, nat_tests, is, units_are)
 
@@ -46,7 +52,7 @@ sized size version units known is =
     let any = any_version size version known got.0 in
     record {
       size_is = got.0;
-      size_any = any;
+      units_any = any_units size units any got.1;
       fits = units_fit size units any got.1;
       small = units_small size units any got.1;
       row = λ txg some. new_row_in size version units txg known got.0 got.1 some;

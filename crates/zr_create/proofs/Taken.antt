@@ -1,6 +1,6 @@
 -- A pool with a device more is open.
-use Rattle.std.proofs.Common.{◌≡◌, ◌≢◌, inl, inr, ◌⊎◌, ℕ, zero, suc, ◌+◌, ◌<◌, ◌≤◌, ◌^◌, true, false, List, [], ◌∷◌, ◌++◌, length, set, Option, None, Some, refl, sym, ◌∙◌, ap, subst, arith}
-use Rattle.std.specs.Prelude.{IsTrue, All, Vec, slice_index, slice_index_or}
+use Rattle.std.proofs.Common.{◌≡◌, ◌≢◌, inl, inr, ◌⊎◌, ℕ, zero, suc, ◌+◌, ◌<◌, ◌≤◌, ◌^◌, false, List, [], ◌∷◌, ◌++◌, length, set, Option, None, Some, refl, sym, ◌∙◌, ap, subst, arith}
+use Rattle.std.specs.Prelude.{All, Vec, slice_index, slice_index_or}
 use Rattle.std.specs.Global.{Global}
 use Rattle.std.proofs.lemmas.Bool.{cases_eq}
 use Rattle.std.proofs.lemmas.List.{get_or-set_same, get_or-set_other, length-set, get_or_append_left, length-append}
@@ -8,7 +8,7 @@ use Rattle.std.proofs.Math.Seq.{get_or-append_seam}
 use Rattle.zr_base.specs.declared.space.DevPart.{DevPart}
 use Rattle.zr_base.specs.declared.space.DevRow.{DevRow}
 use Rattle.zr_label.specs.Blocks.{no_row}
-use Rattle.zr_label.specs.Geometry.{is_disk_size, unit_at}
+use Rattle.zr_label.specs.Geometry.{units_of_size, unit_at}
 use Rattle.zr_rules.specs.Devices.{devices_of, state_at}
 use Rattle.zr_rules.specs.Places.{is_gone, is_leaving, no_part, part_of}
 use Rattle.zr_rules.specs.Space.{Space}
@@ -134,13 +134,21 @@ module _ (sizes : List ℕ) (x : OpenPool) (slot units : ℕ) (o : IsPool 0 size
     stays = each_part (λ p. is_leaving p.row.state ≡ false) x.space.parts.devs (new_part units x.group.txg) o.service.stays refl;
   }
 
-  disk_sizes : (d s : ℕ) → d < x.table.count + 1 → slot_of slots d ≡ Some s → IsTrue (is_disk_size 2 (slice_index sizes s))
+  abbrev has_units : DevRow → Option ℕ
+  has_units r = Some r.units
+
+  row_now : (d : ℕ) → d ≡ x.table.count → slice_index_or rows d no_row ≡ new_row units x.group.txg
+  row_now d is = subst (λ (k : ℕ). slice_index_or rows k no_row ≡ new_row units x.group.txg) (sym is) (get_or-set_same x.table.rows x.table.count (new_row units x.group.txg) no_row row_room)
+
+  disk_sizes : (d s : ℕ) → d < x.table.count + 1 → slot_of slots d ≡ Some s → units_of_size (slice_index sizes s) 2 ≡ Some (slice_index_or rows d no_row).units
   disk_sizes d s lt at = elim (before_or_new d lt) [
-    | inl less ↦ o.disks d s less (sym (at_other x.table.slots x.table.count slot d (λ is. omega (arith, less, is))) ∙ at)
+    | inl less ↦
+        o.disks d s less (sym (at_other x.table.slots x.table.count slot d (λ is. omega (arith, less, is))) ∙ at)
+        ∙ ap has_units (sym (get_or-set_other x.table.rows x.table.count d (new_row units x.group.txg) no_row (λ is. omega (arith, less, is))))
     | inr is ↦
         let here : Some slot ≡ Some s = sym (at_new x.table.slots x.table.count slot room) ∙ subst (λ (k : ℕ). slot_of slots k ≡ Some s) is at in
         let same : slot ≡ s = cc in
-        subst (λ (k : ℕ). is_disk_size 2 (slice_index sizes k) ≡ true) same sized.size_any
+        subst (λ (k : ℕ). units_of_size (slice_index sizes k) 2 ≡ Some (slice_index_or rows d no_row).units) same (sized.units_any ∙ ap has_units (sym (row_now d is)))
   ]
 
   now : (space : Space) (streams : Vec DeviceStreams Global) → steps.AddsDevice x.space space units x.group.txg → All AreStreams streams.items → length streams.items ≡ length x.streams.items + 1

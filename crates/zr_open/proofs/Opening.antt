@@ -1,6 +1,6 @@
 -- The pool of a root is one that is open.
-use Rattle.std.proofs.Common.{◌≡◌, inl, inr, ◌⊎◌, ℕ, ◌+◌, ◌*◌, ◌≤◌, List, [], ◌∷◌, length, Option, refl, sym, ◌∙◌, ap, subst, arith}
-use Rattle.std.specs.Prelude.{IsTrue, All, slice_index_or}
+use Rattle.std.proofs.Common.{◌≡◌, inl, inr, ◌⊎◌, ℕ, ◌+◌, ◌*◌, ◌≤◌, List, [], ◌∷◌, length, Option, Some, refl, sym, ◌∙◌, ap, subst, arith}
+use Rattle.std.specs.Prelude.{IsTrue, All, slice_index, slice_index_or}
 use Rattle.std.specs.List.{AllByRecursion, list_all, sum_by}
 use Rattle.std.proofs.lemmas.List.Sums.{sum_by-cons}
 use Rattle.std.specs.Int.{div_ceil}
@@ -12,6 +12,7 @@ use Rattle.zr_base.specs.declared.space.DevState.TheVariants.{On, Leaving, Gone}
 use Rattle.zr_bptr.specs.Spelling.{IsTree, IsOfLevel}
 use Rattle.zr_bptr.specs.declared.Ptr.{Ptr}
 use Rattle.zr_bptr.specs.declared.Ptr.TheVariants.{Hole, At}
+use Rattle.zr_label.specs.Geometry.{units_of_size}
 use Rattle.zr_label.specs.Blocks.{IsUber, IsName, IsMetaRoot, no_row}
 use Rattle.zr_label.specs.declared.root.Uber.{Uber}
 use Rattle.zr_lookup.specs.Groups.{IsChangeOf}
@@ -115,7 +116,7 @@ module _ (sizes : List ℕ) (u : Uber) (h : Head) (pool : OpenPool) (is : IsUber
     lawful = space.lawful;
     mounted = mounted_rows u is sizes pool.table.slots pool.space disks space.rows;
     service = space.service;
-    disks = λ d slot lt at. disks.sized d slot at;
+    disks = λ d slot lt at. subst (λ (rows : List DevRow). units_of_size (slice_index sizes slot) 2 ≡ Some (row_in rows d).units) (sym fresh.rows) (disks.sized d slot at);
   }
     where
       row_in : List DevRow → ℕ → DevRow

@@ -15,7 +15,6 @@ use Rattle.zr_label.specs.declared.root.Seen.{Seen}
 use Rattle.zr_label.specs.declared.root.Uber.{Uber}
 use Rattle.zr_rules.specs.Places.{is_gone}
 use Rattle.zr_scan.specs.Scan.{IsOwnLabel, IsSmallAndLawful}
-use Rattle.zr_scan.proofs.Spacing.{used_of}
 use Rattle.zr_image.specs.Current.{FindsCurrent, row_at, is_device, slot_of_device, slots_of, is_missing, missing_device, seen_at}
 use Rattle.zr_view.specs.Views.{slot_of}
 use Rattle.zr_sync.specs.declared.fault.Fault.{Fault}
@@ -104,6 +103,9 @@ size_fits size units is = go (is_disk_size 2 size) refl is
         grind (arith, nat_tests, used, n)
     go false used e = absurd cc
 
+abbrev some_units : ℕ → Option ℕ
+some_units n = Some n
+
 abbrev AreOwn : List ℕ → List Seen → Type 0
 AreOwn sizes seen = (slot : ℕ) → slot < length seen → IsSmallAndLawful (slice_index sizes slot) (seen_at seen slot)
 
@@ -150,5 +152,5 @@ module _ (sizes : List ℕ) (seen : List Seen) (u : Uber) (count : length seen �
           sym one.index ∙ (ap (λ (l : Label). l.index) same ∙ other.index);
       sized = λ d slot is.
           let at = in_pool d slot is in
-          used_of (slice_index sizes slot) at.label.units (own_label d slot at).units;
+          (own_label d slot at).units ∙ ap (λ (n : ℕ). some_units n) at.units;
     }

@@ -1,7 +1,7 @@
 -- What the slots show of a pool, and where its devices stand.
-use Rattle.std.specs.Prelude.{◌≡◌, ℕ, ◌<◌, false, IsTrue, List, length, slice_index, Option, Some, Result}
+use Rattle.std.specs.Prelude.{◌≡◌, ℕ, ◌<◌, false, List, length, slice_index, Option, Some, Result}
 use Rattle.zr_base.specs.declared.refusal.Refusal.{Refusal}
-use Rattle.zr_label.specs.Geometry.{is_disk_size}
+use Rattle.zr_label.specs.Geometry.{units_of_size}
 use Rattle.zr_label.specs.declared.root.Uber.{Uber}
 use Rattle.zr_label.specs.declared.root.Seen.{Seen}
 use Rattle.zr_rules.specs.Places.{is_gone}
@@ -26,8 +26,8 @@ pub record FindsOn (sizes : List ℕ) (tells : Type 0) (disks : List (List ℕ))
 abbrev pub HasSlots : List (Option ℕ) → List (Option ℕ) → Type 0
 HasSlots these slots = (d : ℕ) → slot_of slots d ≡ slot_of these d
 
--- Each device of the root that is not gone has a disk with its units. No disk is that of two, and each has a size that a device can have.
+-- Each device of the root that is not gone has a disk with its units. No disk is that of two, and each device has the units of its disk.
 pub record HasItsDisks (sizes : List ℕ) (slots : List (Option ℕ)) (u : Uber) : Type 0 where
   pub disks : (d : ℕ) → d < u.count → is_gone (row_at u d).state ≡ false → HasDisk sizes slots d (row_at u d).units
   pub apart : (d e slot : ℕ) → slot_of slots d ≡ Some slot → slot_of slots e ≡ Some slot → d ≡ e
-  pub sized : (d slot : ℕ) → slot_of slots d ≡ Some slot → IsTrue (is_disk_size 2 (slice_index sizes slot))
+  pub sized : (d slot : ℕ) → slot_of slots d ≡ Some slot → units_of_size (slice_index sizes slot) 2 ≡ Some (row_at u d).units
