@@ -1,14 +1,19 @@
 -- The pool on the devices of the words.
-use Rattle.std.specs.Prelude.{◌≡◌, ℕ, ◌≤◌, List, length, Option, Some, None, IfSome}
-use Rattle.zr_label.specs.Blocks.{name_of}
-use Rattle.zr_model.specs.State.{State, no_pool, opened, created}
+use Rattle.std.specs.Prelude.{◌≡◌, ◌⊎◌, ℕ, false, ◌≤◌, List, length, Option, Some, None, IfSome}
+use Rattle.zr_model.specs.State.{State, PoolState, opened}
+use Rattle.zr_sync.specs.Objects.{HoldsObjects}
+use Rattle.zr_pool.specs.Plain.{untold}
 use Rattle.zr_sync.specs.Pools.{IsOpen}
 use Rattle.zr_sync.specs.declared.open.OpenPool.{OpenPool}
 
--- Whether a pool is open, and which. Its objects are not told of so far.
-abbrev pub state_of : List (List ℕ) → Option OpenPool → State
-state_of paths None = no_pool
-state_of paths (Some p) = opened (created (name_of p.name) p.guid paths)
+-- an open pool stands for the state whose objects its disks hold, or for one of which none are told
+abbrev pub IsStateOf : List (List ℕ) → OpenPool → State → Type 0
+IsStateOf disks pool state = (state ≡ untold) ⊎ ((p : PoolState) × (state ≡ opened p) × HoldsObjects (Unit {0}) disks pool p.objects)
+
+-- what the pool, if one is open, and the disks stand for
+abbrev pub StandsFor : Option OpenPool → List (List ℕ) → State → Type 0
+StandsFor None disks state = state.is_open ≡ false
+StandsFor (Some pool) disks state = IsStateOf disks pool state
 
 -- the shelf has a slot for each path, at most 32, and the pool that is open is one of disks of these sizes
 pub record IsOnShelf (paths : List (List ℕ)) (pool : Option OpenPool) (sizes : List ℕ) : Type 0 where

@@ -9,6 +9,7 @@ use Rattle.zr_script.specs.declared.reply.Reply.TheVariants as reply
 use Rattle.zr_line.specs.Answers.{IsDamaged}
 use Rattle.zr_objects.specs.Answers.{IsNoRoom, IsSumRefusal, IsReadRefusal, IsMakeRefusal, IsDropRefusal}
 use Rattle.zr_model.specs.Runs.{Point, Turn, Meaning}
+use Rattle.zr_pool.specs.Plain.{IsObjectsTurn}
 
 -- the lines on objects
 abbrev pub is_on_objects : Command → Bool
@@ -109,10 +110,11 @@ abbrev pub IsTurn : Bool → Command → Reply → Bool → Type 0
 IsTurn true command answer after = IsOpenAnswer command answer × (after ≡ stays_open command answer)
 IsTurn false command answer after = IsClosedAnswer command answer × (after ≡ is_opened answer)
 
--- What commands mean to the pool on devices, so far as it is claimed. Of damage that ends a run nothing is said yet.
+-- What commands mean to the pool on devices, so far as it is claimed: each answer is one to its line, the pool is open where it should be, and the objects that are told are those of a
+-- pool of plain objects. Of damage that ends a run nothing is said yet.
 abbrev pub on_devices : Meaning
 on_devices = record {
-  takes = λ p t. IsTurn p.state.is_open t.command t.answer t.point.state.is_open;
+  takes = λ p t. IsTurn p.state.is_open t.command t.answer t.point.state.is_open × IsObjectsTurn p.state.is_open p.state.shelf p.state t.command t.answer t.point.state;
   serves = λ paths state command. IsServed command;
   damages = λ paths state command found. Unit {0};
 }

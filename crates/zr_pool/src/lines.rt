@@ -9,6 +9,9 @@ ghost use Rattle.zr_sync.specs.Pools.{IsOpen};
 ghost use Rattle.zr_sync.specs.Writes.{WorksOnDisks};
 ghost use Rattle.zr_sync.specs.declared.fault.Fault.TheVariants.{No, Stops};
 ghost use Rattle.zr_sync.specs.declared.stop.Stop.TheVariants.{DiskFault};
+ghost use Rattle.zr_model.specs.State.{PoolState};
+ghost use Rattle.zr_sync.specs.Objects.{HoldsObjects};
+ghost use Rattle.zr_pool.specs.Plain.{IsPlainOf, IsPlainRefusal};
 ghost use Rattle.zr_pool.specs.Turns.{IsOpenAnswer, IsOpenRefusal, is_on_objects, is_on_pool};
 
 use std::alloc::Global;
@@ -72,6 +75,9 @@ pub fn object_line<S: Shelf>(
     ensures fault { IsErrOf result (Stops DiskFault) → HasRisen (S.counts shelf.old).disk (S.counts shelf.new).disk }
     ensures pool { OnOk result (IsOpen (S.sizes shelf.new) pool.new) }
     ensures pool_no { (r : Refusal) → IsErrOf result (No r) → IsOpen (S.sizes shelf.new) pool.new }
+    ensures acts { (p : PoolState) → HoldsObjects (S.tells shelf.old) (S.world shelf.old).now.seen pool.old p.objects → IfOk result (IsPlainOf (HoldsObjects (S.tells shelf.new) (S.world shelf.new).now.seen pool.new) p command.now) }
+    ensures stays { (p : PoolState) → HoldsObjects (S.tells shelf.old) (S.world shelf.old).now.seen pool.old p.objects → (r : Refusal) → IsErrOf result (No r) → HoldsObjects (S.tells shelf.new) (S.world shelf.new).now.seen pool.new p.objects }
+    ensures cause { (p : PoolState) → HoldsObjects (S.tells shelf.old) (S.world shelf.old).now.seen pool.old p.objects → (r : Refusal) → IsErrOf result (No r) → IsPlainRefusal p.objects command.now r }
     ensures answer { IfOk result (IsOpenAnswer command.now) }
     ensures refused { (r : Refusal) → IsErrOf result (No r) → IsOpenRefusal command.now r }
 {
@@ -151,6 +157,9 @@ pub fn pool_line<S: Shelf>(
     ensures fault { IsErrOf result (Stops DiskFault) → HasRisen (S.counts shelf.old).disk (S.counts shelf.new).disk }
     ensures pool { OnOk result (IsOpen (S.sizes shelf.new) pool.new) }
     ensures pool_no { (r : Refusal) → IsErrOf result (No r) → IsOpen (S.sizes shelf.new) pool.new }
+    ensures acts { (p : PoolState) → HoldsObjects (S.tells shelf.old) (S.world shelf.old).now.seen pool.old p.objects → IfOk result (IsPlainOf (HoldsObjects (S.tells shelf.new) (S.world shelf.new).now.seen pool.new) p command.now) }
+    ensures stays { (p : PoolState) → HoldsObjects (S.tells shelf.old) (S.world shelf.old).now.seen pool.old p.objects → (r : Refusal) → IsErrOf result (No r) → HoldsObjects (S.tells shelf.new) (S.world shelf.new).now.seen pool.new p.objects }
+    ensures cause { (p : PoolState) → HoldsObjects (S.tells shelf.old) (S.world shelf.old).now.seen pool.old p.objects → (r : Refusal) → IsErrOf result (No r) → IsPlainRefusal p.objects command.now r }
     ensures answer { IfOk result (IsOpenAnswer command.now) }
     ensures refused { (r : Refusal) → IsErrOf result (No r) → IsOpenRefusal command.now r }
 {

@@ -8,6 +8,9 @@ ghost use Rattle.zr_sync.specs.Pools.{IsOpen};
 ghost use Rattle.zr_sync.specs.Writes.{WorksOnDisks};
 ghost use Rattle.zr_sync.specs.declared.fault.Fault.TheVariants.{No, Stops};
 ghost use Rattle.zr_sync.specs.declared.stop.Stop.TheVariants.{DiskFault};
+ghost use Rattle.zr_model.specs.State.{PoolState};
+ghost use Rattle.zr_sync.specs.Objects.{HoldsObjects};
+ghost use Rattle.zr_pool.specs.Plain.{IsPlainOf, IsPlainRefusal};
 ghost use Rattle.zr_pool.specs.Pools.{IsOnShelf};
 ghost use Rattle.zr_pool.specs.Ends.{is_closing};
 ghost use Rattle.zr_pool.specs.Turns.{IsServed, IsTurn, IsClosedRefusal, IsOpenRefusal, IsOpenAnswer, is_opener};
@@ -68,6 +71,9 @@ fn open_line<S: Shelf>(
     ensures fault { IsErrOf result (Stops DiskFault) → HasRisen (S.counts shelf.old).disk (S.counts shelf.new).disk }
     ensures pool { OnOk result (IsOpen (S.sizes shelf.new) pool.new) }
     ensures pool_no { (r : Refusal) → IsErrOf result (No r) → IsOpen (S.sizes shelf.new) pool.new }
+    ensures acts { (p : PoolState) → HoldsObjects (S.tells shelf.old) (S.world shelf.old).now.seen pool.old p.objects → IfOk result (λ found. IfSome found (IsPlainOf (HoldsObjects (S.tells shelf.new) (S.world shelf.new).now.seen pool.new) p command.now)) }
+    ensures stays { (p : PoolState) → HoldsObjects (S.tells shelf.old) (S.world shelf.old).now.seen pool.old p.objects → (r : Refusal) → IsErrOf result (No r) → HoldsObjects (S.tells shelf.new) (S.world shelf.new).now.seen pool.new p.objects }
+    ensures cause { (p : PoolState) → HoldsObjects (S.tells shelf.old) (S.world shelf.old).now.seen pool.old p.objects → (r : Refusal) → IsErrOf result (No r) → IsPlainRefusal p.objects command.now r }
     ensures answer { IfOk result (λ found. IfSome found (IsOpenAnswer command.now)) }
     ensures refused { (r : Refusal) → IsErrOf result (No r) → IsOpenRefusal command.now r }
     ensures none { IfOk result (λ found. IfNone found (IsServed command.now → ⊥)) }
@@ -120,12 +126,12 @@ impl DevicePool {
 }
 
 impl Pool for DevicePool {
-    ghost use Rattle.zr_pool.specs.Pools.{state_of, IsOnShelf};
+    ghost use Rattle.zr_pool.specs.Pools.{StandsFor, IsOnShelf};
     ghost use Rattle.zr_pool.specs.Turns.{on_devices};
 
     ghost paths = { λ p. p.paths };
 
-    ghost stands = { λ p disks state. state ≡ state_of p.paths p.pool };
+    ghost stands = { λ p disks state. StandsFor p.pool disks state };
 
     ghost meaning = { on_devices };
 

@@ -17,6 +17,8 @@ ghost use Rattle.zr_sync.specs.Writes.{WorksOnDisks};
 ghost use Rattle.zr_sync.specs.declared.fault.Fault.TheVariants.{No, Stops};
 ghost use Rattle.zr_sync.specs.declared.stop.Stop.TheVariants.{DiskFault};
 ghost use Rattle.zr_vdev.specs.Stores.{HoldsRead, GoesOnReading, addresses_of};
+ghost use Rattle.zr_model.specs.Objects.{Objects};
+ghost use Rattle.zr_sync.specs.Objects.{HoldsObjects};
 ghost use Rattle.zr_tables.specs.Audits.{IsWalk, AddsUp, lines_from};
 ghost use Rattle.zr_tables.specs.Walks.{AreLiveAddresses, metadata_reach};
 
@@ -124,6 +126,7 @@ pub fn audit<S: Shelf>(
     ensures refused { (r : Refusal) → IsErrOf result (No r) → (at : Dva) × (expected found : List ℕ) × (r ≡ Damaged at expected found) }
     ensures pool { IsOpen (S.sizes shelf.new) pool.new }
     ensures same { pool.new ≡ record pool.old { cache = pool.new.cache } }
+    ensures stays { (objects : Objects) → HoldsObjects (S.tells shelf.old) (S.world shelf.old).now.seen pool.old objects → HoldsObjects (S.tells shelf.new) (S.world shelf.new).now.seen pool.new objects }
     ensures indices { IfOk result (λ lines. map (λ l. l.index) lines ≡ range_with_len 0 (length pool.old.space.parts.devs)) }
     ensures allocated { IfOk result (λ lines. map (λ l. l.allocated) lines ≡ for_each_device pool.old.space (allocated_units pool.old.space)) }
     ensures walked { (s : Stored) → HoldsRead pool.old.table.slots (S.tells shelf.old) (S.world shelf.old).now.seen pool.old.space pool.old.cache s → IfOk result (λ lines. IsWalk s pool.old (map (λ l. l.walked) lines)) }

@@ -1,3 +1,4 @@
+use Rattle.zr_tables.proofs.Staying.{reading_stays}
 use Rattle.std.proofs.Common.{◌≡◌, ◌∙◌, List, map, sym, ap, ap₂, subst, arith}
 use Rattle.std.specs.List.{range_with_len}
 use Rattle.zr_audit.specs.Found.{found, for_each_device, allocated_units, AreMeta}
@@ -76,3 +77,15 @@ returns-clause-equal g c = λ s holds sound.
     ∙ (walked_are _ _
     ∙ (c.in_ok-counted.ensures.equal sound.saved adds is_meta
     ∙ (sym (allocated_are _ _ (walked ∙ sym allocated)) ∙ sym (ap (map (λ (l : AuditLine). l.allocated)) c.in_ok-lines_of.ensures.lines))))
+
+pub returns-in_err-met-clause-stays : goal.returns-in_err-met-clause-stays
+returns-in_err-met-clause-stays g c = λ objects h. reading_stays _ _ _ _ _ _ _ _ c.args.pool.now c.meet_all.new.pool objects c.meet_all.ensures.same c.meet_all.ensures.reads h
+
+pub returns-in_err-counted-clause-stays : goal.returns-in_err-counted-clause-stays
+returns-in_err-counted-clause-stays g c = λ objects h. reading_stays _ _ _ _ _ _ _ _ c.args.pool.now c.meet_all.new.pool objects c.meet_all.ensures.same c.meet_all.ensures.reads h
+
+pub returns-in_err-lines_of-clause-stays : goal.returns-in_err-lines_of-clause-stays
+returns-in_err-lines_of-clause-stays g c = λ objects h. reading_stays _ _ _ _ _ _ _ _ c.args.pool.now c.meet_all.new.pool objects c.meet_all.ensures.same c.meet_all.ensures.reads h
+
+pub returns-clause-stays : goal.returns-clause-stays
+returns-clause-stays g c = λ objects h. reading_stays _ _ _ _ _ _ _ _ c.args.pool.now c.meet_all.new.pool objects c.meet_all.ensures.same c.meet_all.ensures.reads h
