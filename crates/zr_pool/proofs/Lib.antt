@@ -1,3 +1,4 @@
 pub mod Outside
 pub mod Grammar
 pub mod Refused
+pub mod Acting

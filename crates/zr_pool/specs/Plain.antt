@@ -28,7 +28,7 @@ IsMissing objects (cmd.Fill id off len byte) = map.get objects id ≡ None
 IsMissing objects (cmd.Punch id off len) = map.get objects id ≡ None
 IsMissing objects (cmd.Read id off len) = map.get objects id ≡ None
 IsMissing objects (cmd.Sum id) = map.get objects id ≡ None
-IsMissing objects command = ⊥
+IsMissing objects command = Unit {0}
 
 -- the object is there, and the range is not in the line's reach
 abbrev pub IsOutOfReach : Objects → Reach → ℕ → ℕ → ℕ → Type 0
@@ -41,12 +41,12 @@ IsBeyond objects (cmd.Write id off bytes) = IsOutOfReach objects reach.Write id 
 IsBeyond objects (cmd.Fill id off len byte) = IsOutOfReach objects reach.Fill id off len
 IsBeyond objects (cmd.Punch id off len) = IsOutOfReach objects reach.Punch id off len
 IsBeyond objects (cmd.Read id off len) = IsObjectOf objects id (λ o. can_read o.units off len ≡ false)
-IsBeyond objects command = ⊥
+IsBeyond objects command = Unit {0}
 
 -- the line would make an object that is there
 abbrev pub IsThere : Objects → Command → Type 0
 IsThere objects (cmd.Make id units) = IsObjectOf objects id (λ o. Unit {0})
-IsThere objects command = ⊥
+IsThere objects command = Unit {0}
 
 -- A refusal that the objects decide has its cause in them.
 abbrev pub IsPlainRefusal : Objects → Command → Refusal → Type 0
