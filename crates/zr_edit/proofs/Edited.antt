@@ -1,5 +1,5 @@
 -- What a line finds and does, told of the objects that the disks hold.
-use Rattle.std.proofs.Common.{◌≡◌, ◌∙◌, ℕ, ◌<◌, List, [], Option, Some, None, Result, Ok, Err, true, false, refl, sym, ap, arith}
+use Rattle.std.proofs.Common.{◌≡◌, ◌∙◌, ℕ, ◌<◌, List, [], Option, Some, None, Result, Ok, Err, true, false, sym, ap, arith}
 use Rattle.std.specs.Prelude.{OnOk, IfOk, IfSome, length, slice_index}
 use Rattle.std.specs.FinMap as map
 use Rattle.std.proofs.lemmas.Bool.Decides.{nat_tests}
@@ -18,9 +18,6 @@ use Rattle.zr_store.specs.Store.{AreStored, Now, Swaps}
 use Rattle.zr_sync.specs.Holds.{HasBlocks}
 use Rattle.zr_sync.specs.Objects.{account_of, HoldsObjects}
 use Rattle.zr_sync.specs.declared.open.OpenPool.{OpenPool}
-use Rattle.zr_vdev.proofs.Moves.{begins_held}
-use Rattle.zr_vdev.specs.declared.kind.Kind.TheVariants.{Block}
-use Rattle.zr_edit.specs.Changes.{HoldsSome}
 use Rattle.zr_edit.specs.Intents.{IsFor, IsIntent, IsOutside, IsPlanned, IsReadyFor}
 use Rattle.zr_edit.specs.Reaches.{is_in_reach}
 use Rattle.zr_edit.specs.declared.intent.Intent.{Intent}
@@ -78,29 +75,24 @@ ready_stored reach id e i x objects fits ready = edit_stored ready.stored (accou
 module _ {told : Type 0} {disks : List (List ℕ)} (told_new : Type 0) (disks_new : List (List ℕ)) (reach : Reach) (id : ℕ) (e : Edit) (i : Intent) (x y : OpenPool) (objects : Objects) (bytes : List ℕ)
     (intent : IsIntent x.group id i) (fits : IsFor reach e i) (ready : IsReadyFor told disks x id e objects i) where
   pub edited_now : y.dir ≡ x.dir → length bytes ≡ e.len → ((k : ℕ) → k < e.len → slice_index bytes k ≡ byte_put e.bytes k)
-      → Now (HoldsSome Block y.table.slots told_new disks_new y.space y.cache) (λ n. IsChanged id i.rec i.plan.items ready.stored x.group n y.group)
+      → Now (HasBlocks told_new disks_new y) (λ n. IsChanged id i.rec i.plan.items ready.stored x.group n y.group)
       → IsObjectOf objects id (λ o. (is_in_reach reach o.units e ≡ true) × (changes_lost o e.off (length bytes) ≡ false) × HoldsObjects told_new disks_new y (map.insert objects id (with_bytes o e.off bytes)))
   edited_now dir size each now =
       let found = ready.planned.found in
       let was = object_of ready.stored (account_of x) objects id i.rec ready.has found in
       let done = edit_done ready.stored now.stored (account_of x) (account_of y) objects id i.rec e i.plan.items bytes ready.has intent.low found (some_units i.rec.units intent.object.size) (some_bytes reach i.rec.units e fits.within)
-      fits.touched ready.planned.plans dir now.is now.held.held.alone size each in
-      let ends = begins_held Block y.table.slots told_new disks_new y.space now.held.lost y.cache now.stored now.held.held in (
+      fits.touched ready.planned.plans dir now.is now.held.alone size each in (
         done.0,
         done.1,
         (
           ap (λ (units : ℕ). is_in_reach reach units e) (same_units objects id done.0 was.0 done.1 was.1 ∙ was.2.units) ∙ fits.within,
           done.2.0,
-          record {
-            stored = ends.stored;
-            held = ends.held;
-            has = same now.stored ends.stored (account_of y) (account_of y) (map.insert objects id (with_bytes done.0 e.off bytes)) ends.is refl refl done.2.1;
-          },
+          record { stored = now.stored; held = now.held; has = done.2.1 },
         ),
       )
 
   pub edited_ok : {T E : Type 0} (r : Result T E) → OnOk r (y.dir ≡ x.dir) → length bytes ≡ e.len → ((k : ℕ) → k < e.len → slice_index bytes k ≡ byte_put e.bytes k)
-      → OnOk r (Now (HoldsSome Block y.table.slots told_new disks_new y.space y.cache) (λ n. IsChanged id i.rec i.plan.items ready.stored x.group n y.group))
+      → OnOk r (Now (HasBlocks told_new disks_new y) (λ n. IsChanged id i.rec i.plan.items ready.stored x.group n y.group))
       → OnOk r (IsObjectOf objects id (λ o. (is_in_reach reach o.units e ≡ true) × (changes_lost o e.off (length bytes) ≡ false) × HoldsObjects told_new disks_new y (map.insert objects id (with_bytes o e.off bytes))))
   edited_ok (Ok v) dir size each now = edited_now dir size each now
   edited_ok (Err v) dir size each now = tt

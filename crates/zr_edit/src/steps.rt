@@ -19,7 +19,7 @@ ghost use Rattle.zr_sync.specs.declared.stop.Stop.TheVariants.{DiskFault};
 ghost use Rattle.zr_vdev.specs.Stores.{Continues};
 ghost use Rattle.zr_vdev.specs.declared.kind.Kind.TheVariants.{Block};
 ghost use Rattle.zr_edit.specs.Causes.{IsLookRefusal, IsShort, IsLongRun};
-ghost use Rattle.zr_edit.specs.Changes.{HasDone, HoldsSome};
+ghost use Rattle.zr_edit.specs.Changes.{HasDone};
 ghost use Rattle.zr_edit.specs.Intents.{IsIntent, IsFor, IsPlanned, IsOutside, IsFull, IsReadyFor};
 ghost use Rattle.zr_edit.specs.Reaches.{is_in_reach};
 
@@ -103,7 +103,7 @@ pub(crate) fn carry_out<S: Shelf, P: Place>(
     ensures pool_no { (r : Refusal) → IsErrOf result (No r) → IsOpen (S.sizes shelf.new) pool.new }
     ensures stays_no { (objects : Objects) → HoldsObjects (S.tells shelf.old) (S.world shelf.old).now.seen pool.old objects → (r : Refusal) → IsErrOf result (No r) → HoldsObjects (S.tells shelf.new) (S.world shelf.new).now.seen pool.new objects }
     ensures refused { (r : Refusal) → IsErrOf result (No r) → IsShort reach pool.new.space pool.new.group id intent.now r ⊎ IsLongRun intent.now r }
-    ensures changed { (s : Stored) → HasBlocks (S.tells shelf.old) (S.world shelf.old).now.seen pool.old s → AreStored (olds_of intent.now.plan.items) s → OnOk result (Now (HoldsSome Block pool.new.table.slots (S.tells shelf.new) (S.world shelf.new).now.seen pool.new.space pool.new.cache) (λ n. IsChanged id intent.now.rec intent.now.plan.items s pool.old.group n pool.new.group)) }
+    ensures changed { (s : Stored) → HasBlocks (S.tells shelf.old) (S.world shelf.old).now.seen pool.old s → AreStored (olds_of intent.now.plan.items) s → OnOk result (Now (HasBlocks (S.tells shelf.new) (S.world shelf.new).now.seen pool.new) (λ n. IsChanged id intent.now.rec intent.now.plan.items s pool.old.group n pool.new.group)) }
     ensures done { OnOk result (HasDone reach id intent.now pool.old.space pool.old.group pool.new.group) }
 {
     check_room(alloc, pool, id, intent, reach)?;

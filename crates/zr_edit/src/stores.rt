@@ -20,7 +20,6 @@ ghost use Rattle.zr_sync.specs.declared.stop.Stop.TheVariants.{DiskFault};
 ghost use Rattle.zr_vdev.specs.Mounts.{AreMounted};
 ghost use Rattle.zr_vdev.specs.Stores.{Continues, HoldsBlocks};
 ghost use Rattle.zr_edit.specs.Causes.{IsLookRefusal, IsMissingRun};
-ghost use Rattle.zr_edit.specs.Changes.{HoldsSome};
 ghost use Rattle.zr_edit.specs.Intents.{IsIntent, IsFor, IsPlanned, IsOutside, IsFull};
 
 use crate::intent::{Intent, fulfil, look};
@@ -95,7 +94,7 @@ pub(crate) fn change_at<S: Shelf, P: Place>(
     ensures recorded { OnOk result (HasRecorded id intent.now.rec intent.now.plan.items group.old group.new) }
     ensures lawful { OnOk result (IsLawfulGroup group.new) }
     ensures limits { OnOk result (IsInLimits group.new) }
-    ensures changed { (s : Stored) → HoldsBlocks mount.entry.kind mount.entry.slots.now (S.tells shelf.old) (S.world shelf.old).now.seen space.old None cache.old s → AreStored (olds_of intent.now.plan.items) s → OnOk result (Now (HoldsSome mount.entry.kind mount.entry.slots.now (S.tells shelf.new) (S.world shelf.new).now.seen space.new cache.new) (λ n. IsChanged id intent.now.rec intent.now.plan.items s group.old n group.new)) }
+    ensures changed { (s : Stored) → HoldsBlocks mount.entry.kind mount.entry.slots.now (S.tells shelf.old) (S.world shelf.old).now.seen space.old None cache.old s → AreStored (olds_of intent.now.plan.items) s → OnOk result (Now (HoldsBlocks mount.entry.kind mount.entry.slots.now (S.tells shelf.new) (S.world shelf.new).now.seen space.new None cache.new) (λ n. IsChanged id intent.now.rec intent.now.plan.items s group.old n group.new)) }
 {
     let mut store = Vdev::new(space, shelf, cache, mount);
     fulfil(alloc, &mut store, group, id, intent)
