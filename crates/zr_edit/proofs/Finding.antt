@@ -11,9 +11,8 @@ use Rattle.zr_store.specs.Store.{AreStored, Now, Stored}
 use Rattle.zr_sync.specs.Pools.{IsSamePool}
 use Rattle.zr_sync.specs.declared.open.OpenPool.{OpenPool}
 use Rattle.zr_txg.specs.Changes.{Changes}
-use Rattle.zr_vdev.specs.declared.kind.Kind.TheVariants.{Block}
 use Rattle.zr_edit.specs.Causes.{IsShort, IsLongRun, IsAbsent, IsTooFar}
-use Rattle.zr_edit.specs.Changes.{HasDone, HoldsSome, IsDone}
+use Rattle.zr_edit.specs.Changes.{HasDone, IsDone}
 use Rattle.zr_edit.specs.Intents.{Found, IsFull, IsBehindCommit, IsFor, IsIntent, IsOutside, IsPlanned, Means}
 use Rattle.zr_edit.specs.declared.intent.Intent.{Intent}
 use Rattle.zr_edit.specs.declared.range.Reach.{Reach}
@@ -79,7 +78,7 @@ kept_by told reach id e old disks i new m group same = elim m.is_found [
 
 module _ (t1 t2 t3 : Type 0) (tells : t1 → t2) (reach : Reach) (id : ℕ) (e : Edit) (old : OpenPool) (disks : List (List ℕ)) (i : Intent) (before : Found) (seen : List (List ℕ)) (new : OpenPool) (m : Means t1 reach id e old disks i) (same : before.pool.group ≡ m.found.pool.group) where
   pub done_by : {T E : Type 0} (r : Result T E) → OnOk r (HasDone reach id i before.pool.space before.pool.group new.group)
-      → ((s : Stored) → HasBlocks t2 before.disks before.pool s → AreStored (olds_of i.plan.items) s → OnOk r (Now (HoldsSome Block new.table.slots t3 seen new.space new.cache) (λ n. IsChanged id i.rec i.plan.items s before.pool.group n new.group)))
+      → ((s : Stored) → HasBlocks t2 before.disks before.pool s → AreStored (olds_of i.plan.items) s → OnOk r (Now (HasBlocks t3 seen new) (λ n. IsChanged id i.rec i.plan.items s before.pool.group n new.group)))
       → OnOk r (IsDone t1 reach id e old disks t3 seen new)
   done_by (Ok x) d changed = record { intent = i; means = m; before = before; same = same; done = d; changed = λ s h stored. changed s (told_by tells before.disks before.pool s h) stored }
   done_by (Err x) d changed = tt

@@ -1,7 +1,5 @@
 -- What a line leaves that changed an object.
-use Rattle.std.specs.Prelude.{◌≡◌, ℕ, ◌≤◌, List, Option}
-use Rattle.zr_base.specs.declared.space.Dva.{Dva}
-use Rattle.zr_cache.specs.declared.table.Cache.{Cache}
+use Rattle.std.specs.Prelude.{◌≡◌, ℕ, ◌≤◌, List}
 use Rattle.zr_change.specs.Plans.{HasRecorded, IsChanged, olds_of}
 use Rattle.zr_change.specs.declared.ranges.Edit.{Edit}
 use Rattle.zr_sync.specs.Holds.{HasBlocks}
@@ -10,18 +8,10 @@ use Rattle.zr_rules.specs.Space.{Space}
 use Rattle.zr_store.specs.Store.{AreStored, Now, Stored}
 use Rattle.zr_sync.specs.declared.open.OpenPool.{OpenPool}
 use Rattle.zr_txg.specs.Changes.{Changes}
-use Rattle.zr_vdev.specs.Stores.{HoldsBlocks}
-use Rattle.zr_vdev.specs.declared.kind.Kind.{Kind}
-use Rattle.zr_vdev.specs.declared.kind.Kind.TheVariants.{Block}
 use Rattle.zr_edit.specs.Intents.{Found, Means}
 use Rattle.zr_edit.specs.Rooms.{needed_units}
 use Rattle.zr_edit.specs.declared.intent.Intent.{Intent}
 use Rattle.zr_edit.specs.declared.range.Reach.{Reach}
-
--- the disks hold these blocks, whatever units a put may have taken for nothing
-pub record HoldsSome (kind : Kind) (slots : List (Option ℕ)) (tells : Type 0) (disks : List (List ℕ)) (space : Space) (cache : Cache) (s : Stored) : Type 0 where
-  pub lost : Option Dva
-  pub held : HoldsBlocks kind slots tells disks space lost cache s
 
 -- there was room for what was meant, and the group has recorded a pointer for each planned block, and nothing else
 pub record HasDone (reach : Reach) (id : ℕ) (i : Intent) (before : Space) (old new : Changes) : Type 0 where
@@ -37,4 +27,4 @@ pub record IsDone (told : Type 0) (reach : Reach) (id : ℕ) (e : Edit) (old : O
   pub same : before.pool.group ≡ means.found.pool.group
   pub done : HasDone reach id intent before.pool.space before.pool.group new.group
   pub changed : (s : Stored) → HasBlocks told before.disks before.pool s → AreStored (olds_of intent.plan.items) s
-      → Now (HoldsSome Block new.table.slots told_new disks_new new.space new.cache) (λ n. IsChanged id intent.rec intent.plan.items s before.pool.group n new.group)
+      → Now (HasBlocks told_new disks_new new) (λ n. IsChanged id intent.rec intent.plan.items s before.pool.group n new.group)

@@ -9,11 +9,14 @@ use Rattle.zr_change.specs.Changes.{new_in}
 use Rattle.zr_change.specs.Edits.{touched}
 use Rattle.zr_change.specs.Plans.{AreNew, IsPlannedFor}
 use Rattle.zr_change.specs.declared.ranges.Edit.{Edit}
+use Rattle.zr_held.specs.Held.{HasObjects}
 use Rattle.zr_line.specs.Answers.{CanTake}
+use Rattle.zr_model.specs.Objects.{Objects}
 use Rattle.zr_sync.specs.Holds.{HasBlocks}
 use Rattle.zr_lookup.specs.Objects.{record_now}
 use Rattle.zr_objects.specs.Counts.{new_object}
 use Rattle.zr_store.specs.Store.{Stored}
+use Rattle.zr_sync.specs.Objects.{account_of}
 use Rattle.zr_sync.specs.Pools.{IsSamePool}
 use Rattle.zr_sync.specs.declared.open.OpenPool.{OpenPool}
 use Rattle.zr_txg.specs.Changes.{Changes, object_in}
@@ -83,3 +86,10 @@ pub record Means (told : Type 0) (reach : Reach) (id : ℕ) (e : Edit) (old : Op
   pub intent : IsIntent found.pool.group id i
   pub fits : IsFor reach e i
   pub planned : (s : Stored) → HasBlocks told found.disks found.pool s → IsPlanned s found.pool.dir found.pool.group id e i
+
+-- The disks hold all blocks of the pool, their bytes are these objects, and what is meant is planned by what they hold.
+pub record IsReadyFor (tells : Type 0) (disks : List (List ℕ)) (pool : OpenPool) (id : ℕ) (e : Edit) (objects : Objects) (i : Intent) : Type 0 where
+  pub stored : Stored
+  pub held : HasBlocks tells disks pool stored
+  pub has : HasObjects stored (account_of pool) objects
+  pub planned : IsPlanned stored pool.dir pool.group id e i

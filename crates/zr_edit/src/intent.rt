@@ -2,7 +2,7 @@
 //!
 //! A line looks at its object through one store, from its record to its blocks, so that all that it finds was held at one
 //! moment.
-ghost use Rattle.std.specs.Prelude.{◌≡◌, ◌≤◌, ◌<◌, IfOk, IfSome, OnOk, IsErrOf, None};
+ghost use Rattle.std.specs.Prelude.{◌≡◌, ◌≤◌, ◌<◌, IfOk, IfSome, OnOk, IsErrOf, None, []};
 ghost use Rattle.zr_base.specs.Counts.{HasRisen};
 ghost use Rattle.zr_base.specs.declared.refusal.Refusal.{Refusal};
 ghost use Rattle.zr_base.specs.declared.refusal.Refusal.TheVariants.{NoSuchObject, OutOfRange};
@@ -11,7 +11,7 @@ ghost use Rattle.zr_change.specs.Edits.{HasLength};
 ghost use Rattle.zr_change.specs.Plans.{HasRecorded, IsChanged, puts_of, olds_of};
 ghost use Rattle.zr_lookup.specs.Groups.{IsLawfulGroup};
 ghost use Rattle.zr_lookup.specs.Objects.{record_now};
-ghost use Rattle.zr_store.specs.Store.{Stored, Now, AreStored};
+ghost use Rattle.zr_store.specs.Store.{Stored, Now, AreStored, Swaps};
 ghost use Rattle.zr_sync.specs.Pools.{IsInLimits};
 ghost use Rattle.zr_sync.specs.declared.fault.Fault.TheVariants.{No, Stops};
 ghost use Rattle.zr_sync.specs.declared.stop.Stop.TheVariants.{DiskFault};
@@ -54,6 +54,7 @@ pub(crate) fn look<B: Blocks>(
     ensures follows { (start : B) → B.follows start store.old → B.follows start store.new }
     ensures fault { IsErrOf result (Stops DiskFault) → HasRisen (B.account store.old).faults (B.account store.new).faults }
     ensures refused { (r : Refusal) → IsErrOf result (No r) → IsLookRefusal r }
+    ensures same { (s : Stored) → B.holds store.old s → B.holds store.new s }
     ensures none { (s : Stored) → B.holds store.old s → IsErrOf result (No NoSuchObject) → record_now s dir.now group.now id ≡ None }
     ensures outside { (s : Stored) → B.holds store.old s → IsErrOf result (No OutOfRange) → IsOutside s dir.now group.now id reach edit.now }
     ensures full { IfOk result (λ i. i ≡ None → IsFull reach group.now id edit.now) }
@@ -95,6 +96,7 @@ pub(crate) fn fulfil<B: Blocks>(
     ensures fault { IsErrOf result (Stops DiskFault) → HasRisen (B.account store.old).faults (B.account store.new).faults }
     ensures refused { (r : Refusal) → IsErrOf result (No r) → IsMissingRun intent.now.rec.units (puts_of intent.now.plan.items) (B.account store.old).room r }
     ensures kept { (r : Refusal) → IsErrOf result (No r) → group.new ≡ group.old }
+    ensures stays_no { (s : Stored) → B.holds store.old s → (r : Refusal) → IsErrOf result (No r) → Now (B.holds store.new) (λ n. Swaps s n [] []) }
     ensures recorded { OnOk result (HasRecorded id intent.now.rec intent.now.plan.items group.old group.new) }
     ensures lawful { OnOk result (IsLawfulGroup group.new) }
     ensures limits { OnOk result (IsInLimits group.new) }

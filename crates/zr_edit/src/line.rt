@@ -1,17 +1,22 @@
 //! A line that puts bytes into an object of an open pool.
-ghost use Rattle.std.specs.Prelude.{◌≡◌, ◌≤◌, ◌⊎◌, OnOk, IfOk, IsErrOf};
+ghost use Rattle.std.specs.FinMap as map;
+ghost use Rattle.std.specs.Prelude.{◌≡◌, ◌<◌, ◌≤◌, ◌⊎◌, ℕ, false, true, None, List, length, slice_index, OnOk, IfOk, IsErrOf};
 ghost use Rattle.zr_base.specs.Counts.{HasRisen};
 ghost use Rattle.zr_base.specs.declared.refusal.Refusal.{Refusal};
 ghost use Rattle.zr_base.specs.declared.refusal.Refusal.TheVariants.{NoSuchObject, OutOfRange};
-ghost use Rattle.zr_change.specs.Edits.{HasLength};
+ghost use Rattle.zr_change.specs.Edits.{HasLength, byte_put};
+ghost use Rattle.zr_held.specs.Steps.{IsObjectOf};
+ghost use Rattle.zr_model.specs.Objects.{Objects, changes_lost, with_bytes};
 ghost use Rattle.zr_shelf.specs.Counts.{NoneFell};
+ghost use Rattle.zr_sync.specs.Objects.{HoldsObjects};
 ghost use Rattle.zr_sync.specs.Pools.{IsOpen, IsSamePool};
 ghost use Rattle.zr_sync.specs.Writes.{WorksOnDisks};
 ghost use Rattle.zr_sync.specs.declared.fault.Fault.TheVariants.{No, Stops};
 ghost use Rattle.zr_sync.specs.declared.stop.Stop.TheVariants.{DiskFault};
 ghost use Rattle.zr_edit.specs.Causes.{IsLookRefusal, IsAbsent, IsTooFar, IsUndone};
 ghost use Rattle.zr_edit.specs.Changes.{IsDone};
-ghost use Rattle.zr_edit.specs.Intents.{IsBehindCommit, Means};
+ghost use Rattle.zr_edit.specs.Intents.{IsBehindCommit, IsReadyFor, Means};
+ghost use Rattle.zr_edit.specs.Reaches.{is_in_reach};
 ghost use Rattle.zr_edit.specs.declared.range.Reach.TheVariants.{Write};
 
 use crate::intent::Intent;
@@ -50,6 +55,10 @@ fn mean<S: Shelf, P: Place>(
     ensures too_far { IsErrOf result (No OutOfRange) → IsTooFar (S.tells shelf.old) reach id edit.now pool.old (S.world shelf.old).now.seen }
     ensures kept { (r : Refusal) → IsErrOf result (No r) → (pool.new.group ≡ pool.old.group) ⊎ IsBehindCommit reach id edit.now pool.old pool.new }
     ensures means { IfOk result (λ i. (m : Means (S.tells shelf.old) reach id edit.now pool.old (S.world shelf.old).now.seen i) × (pool.new.group ≡ m.found.pool.group)) }
+    ensures stays_no { (objects : Objects) → HoldsObjects (S.tells shelf.old) (S.world shelf.old).now.seen pool.old objects → (r : Refusal) → IsErrOf result (No r) → HoldsObjects (S.tells shelf.new) (S.world shelf.new).now.seen pool.new objects }
+    ensures absent_object { (objects : Objects) → HoldsObjects (S.tells shelf.old) (S.world shelf.old).now.seen pool.old objects → IsErrOf result (No NoSuchObject) → map.get objects id ≡ None }
+    ensures too_far_object { (objects : Objects) → HoldsObjects (S.tells shelf.old) (S.world shelf.old).now.seen pool.old objects → IsErrOf result (No OutOfRange) → IsObjectOf objects id (λ o. is_in_reach reach o.units edit.now ≡ false) }
+    ensures ready { (objects : Objects) → HoldsObjects (S.tells shelf.old) (S.world shelf.old).now.seen pool.old objects → IfOk result (IsReadyFor (S.tells shelf.new) (S.world shelf.new).now.seen pool.new id edit.now objects) }
 {
     if let Some(intent) = look_over(alloc, pool, shelf, pick, id, edit, reach)? {
         return Ok(intent);
@@ -91,6 +100,11 @@ pub fn change<S: Shelf, P: Place>(
     ensures too_far { IsErrOf result (No OutOfRange) → IsTooFar (S.tells shelf.old) reach id edit.now pool.old (S.world shelf.old).now.seen }
     ensures kept { (r : Refusal) → IsErrOf result (No r) → (pool.new.group ≡ pool.old.group) ⊎ IsBehindCommit reach id edit.now pool.old pool.new }
     ensures done { OnOk result (IsDone (S.tells shelf.old) reach id edit.now pool.old (S.world shelf.old).now.seen (S.tells shelf.new) (S.world shelf.new).now.seen pool.new) }
+    ensures stays_no { (objects : Objects) → HoldsObjects (S.tells shelf.old) (S.world shelf.old).now.seen pool.old objects → (r : Refusal) → IsErrOf result (No r) → HoldsObjects (S.tells shelf.new) (S.world shelf.new).now.seen pool.new objects }
+    ensures absent_object { (objects : Objects) → HoldsObjects (S.tells shelf.old) (S.world shelf.old).now.seen pool.old objects → IsErrOf result (No NoSuchObject) → map.get objects id ≡ None }
+    ensures too_far_object { (objects : Objects) → HoldsObjects (S.tells shelf.old) (S.world shelf.old).now.seen pool.old objects → IsErrOf result (No OutOfRange) → IsObjectOf objects id (λ o. is_in_reach reach o.units edit.now ≡ false) }
+    ensures edited { (objects : Objects) (bytes : List ℕ) → HoldsObjects (S.tells shelf.old) (S.world shelf.old).now.seen pool.old objects → length bytes ≡ edit.now.len → ((k : ℕ) → k < edit.now.len → slice_index bytes k ≡ byte_put edit.now.bytes k)
+        → OnOk result (IsObjectOf objects id (λ o. (is_in_reach reach o.units edit.now ≡ true) × (changes_lost o edit.now.off (length bytes) ≡ false) × HoldsObjects (S.tells shelf.new) (S.world shelf.new).now.seen pool.new (map.insert objects id (with_bytes o edit.now.off bytes)))) }
 {
     let intent = mean(alloc, pool, shelf, pick, id, edit, reach)?;
     carry_out(alloc, pool, shelf, pick, id as u32, &intent, reach)

@@ -1,13 +1,17 @@
 //! The steps of a change on an open pool.
-ghost use Rattle.std.specs.Prelude.{◌≡◌, ◌⊎◌, None, IfOk, IfSome, OnOk, IsErrOf};
+ghost use Rattle.std.specs.FinMap as map;
+ghost use Rattle.std.specs.Prelude.{◌≡◌, ◌⊎◌, [], false, None, IfOk, IfSome, OnOk, IsErrOf};
 ghost use Rattle.zr_base.specs.Counts.{HasRisen};
 ghost use Rattle.zr_base.specs.declared.refusal.Refusal.{Refusal};
 ghost use Rattle.zr_base.specs.declared.refusal.Refusal.TheVariants.{NoSuchObject, OutOfRange};
 ghost use Rattle.zr_change.specs.Edits.{HasLength};
 ghost use Rattle.zr_change.specs.Plans.{IsChanged, olds_of};
+ghost use Rattle.zr_held.specs.Steps.{IsObjectOf};
+ghost use Rattle.zr_model.specs.Objects.{Objects};
 ghost use Rattle.zr_sync.specs.Holds.{HasBlocks};
+ghost use Rattle.zr_sync.specs.Objects.{HoldsObjects};
 ghost use Rattle.zr_lookup.specs.Objects.{record_now};
-ghost use Rattle.zr_store.specs.Store.{AreStored, Now, Stored};
+ghost use Rattle.zr_store.specs.Store.{AreStored, Now, Stored, Swaps};
 ghost use Rattle.zr_sync.specs.Pools.{IsOpen};
 ghost use Rattle.zr_sync.specs.Writes.{WritesBlocks};
 ghost use Rattle.zr_sync.specs.declared.fault.Fault.TheVariants.{No, Stops};
@@ -15,8 +19,9 @@ ghost use Rattle.zr_sync.specs.declared.stop.Stop.TheVariants.{DiskFault};
 ghost use Rattle.zr_vdev.specs.Stores.{Continues};
 ghost use Rattle.zr_vdev.specs.declared.kind.Kind.TheVariants.{Block};
 ghost use Rattle.zr_edit.specs.Causes.{IsLookRefusal, IsShort, IsLongRun};
-ghost use Rattle.zr_edit.specs.Changes.{HasDone, HoldsSome};
-ghost use Rattle.zr_edit.specs.Intents.{IsIntent, IsFor, IsPlanned, IsOutside, IsFull};
+ghost use Rattle.zr_edit.specs.Changes.{HasDone};
+ghost use Rattle.zr_edit.specs.Intents.{IsIntent, IsFor, IsPlanned, IsOutside, IsFull, IsReadyFor};
+ghost use Rattle.zr_edit.specs.Reaches.{is_in_reach};
 
 use crate::intent::Intent;
 use crate::range::Reach;
@@ -51,6 +56,11 @@ pub(crate) fn look_over<S: Shelf, P: Place>(
     ensures intent { IfOk result (λ i. IfSome i (IsIntent pool.old.group id)) }
     ensures fits { IfOk result (λ i. IfSome i (IsFor reach edit.now)) }
     ensures planned { (s : Stored) → HasBlocks (S.tells shelf.old) (S.world shelf.old).now.seen pool.old s → IfOk result (λ i. IfSome i (IsPlanned s pool.old.dir pool.old.group id edit.now)) }
+    ensures held { (s : Stored) → HasBlocks (S.tells shelf.old) (S.world shelf.old).now.seen pool.old s → Now (HasBlocks (S.tells shelf.new) (S.world shelf.new).now.seen pool.new) (λ n. Swaps s n [] []) }
+    ensures stays { (objects : Objects) → HoldsObjects (S.tells shelf.old) (S.world shelf.old).now.seen pool.old objects → HoldsObjects (S.tells shelf.new) (S.world shelf.new).now.seen pool.new objects }
+    ensures absent_object { (objects : Objects) → HoldsObjects (S.tells shelf.old) (S.world shelf.old).now.seen pool.old objects → IsErrOf result (No NoSuchObject) → map.get objects id ≡ None }
+    ensures too_far_object { (objects : Objects) → HoldsObjects (S.tells shelf.old) (S.world shelf.old).now.seen pool.old objects → IsErrOf result (No OutOfRange) → IsObjectOf objects id (λ o. is_in_reach reach o.units edit.now ≡ false) }
+    ensures ready { (objects : Objects) → HoldsObjects (S.tells shelf.old) (S.world shelf.old).now.seen pool.old objects → IfOk result (λ i. IfSome i (IsReadyFor (S.tells shelf.new) (S.world shelf.new).now.seen pool.new id edit.now objects)) }
 {
     let mount = Mount {
         slots: &pool.table.slots,
@@ -91,8 +101,9 @@ pub(crate) fn carry_out<S: Shelf, P: Place>(
     ensures wrote_no { (r : Refusal) → IsErrOf result (No r) → WritesBlocks (S.sizes shelf.old) (S.sizes shelf.new) (S.counts shelf.old) (S.counts shelf.new) (S.tells shelf.old) (S.tells shelf.new) (S.world shelf.old) (S.world shelf.new) pool.old pool.new }
     ensures group_no { (r : Refusal) → IsErrOf result (No r) → pool.new.group ≡ pool.old.group }
     ensures pool_no { (r : Refusal) → IsErrOf result (No r) → IsOpen (S.sizes shelf.new) pool.new }
+    ensures stays_no { (objects : Objects) → HoldsObjects (S.tells shelf.old) (S.world shelf.old).now.seen pool.old objects → (r : Refusal) → IsErrOf result (No r) → HoldsObjects (S.tells shelf.new) (S.world shelf.new).now.seen pool.new objects }
     ensures refused { (r : Refusal) → IsErrOf result (No r) → IsShort reach pool.new.space pool.new.group id intent.now r ⊎ IsLongRun intent.now r }
-    ensures changed { (s : Stored) → HasBlocks (S.tells shelf.old) (S.world shelf.old).now.seen pool.old s → AreStored (olds_of intent.now.plan.items) s → OnOk result (Now (HoldsSome Block pool.new.table.slots (S.tells shelf.new) (S.world shelf.new).now.seen pool.new.space pool.new.cache) (λ n. IsChanged id intent.now.rec intent.now.plan.items s pool.old.group n pool.new.group)) }
+    ensures changed { (s : Stored) → HasBlocks (S.tells shelf.old) (S.world shelf.old).now.seen pool.old s → AreStored (olds_of intent.now.plan.items) s → OnOk result (Now (HasBlocks (S.tells shelf.new) (S.world shelf.new).now.seen pool.new) (λ n. IsChanged id intent.now.rec intent.now.plan.items s pool.old.group n pool.new.group)) }
     ensures done { OnOk result (HasDone reach id intent.now pool.old.space pool.old.group pool.new.group) }
 {
     check_room(alloc, pool, id, intent, reach)?;

@@ -2,7 +2,7 @@ use Rattle.std.proofs.Common.{Option, subst}
 use Rattle.std.specs.Prelude.{IfSome}
 use Rattle.std.proofs.lemmas.Result.{err_from_is_err_and}
 use Rattle.zr_sync.proofs.Disks.{works_more}
-use Rattle.zr_edit.specs.Intents.{IsIntent, IsFor, IsPlanned}
+use Rattle.zr_edit.specs.Intents.{IsIntent, IsFor, IsPlanned, IsReadyFor}
 use Rattle.zr_edit.specs.declared.intent.Intent.{Intent}
 use Rattle.zr_edit.proofs.Finding.{behind_commit, absent_here, far_here, means_here, absent_behind, far_behind, means_behind, none_by}
 use Rattle.zr_edit.proofs.Places.{takes_all}
@@ -109,3 +109,45 @@ returns-clause-means g c =
     means_behind (g.S.Shelf.tells c.args.shelf.now) c.args.reach c.args.id e p (g.S.Shelf.world c.args.shelf.now).now.seen (g.S.Shelf.tells c.commit.new.shelf) (λ told. c.commit.ensures.told (c.look_over.ensures.wrote.goes.told told)) x (g.S.Shelf.world c.commit.new.shelf).now.seen behind i intent fits
     (λ s h. subst (λ (o : Option Intent). IfSome o (IsPlanned s x.dir x.group c.args.id e)) c.in-Some-2.is (found.planned s h))
     c.look_over-2.new.pool.group c.look_over-2.ensures.group
+
+-- ---- the objects
+
+pub returns-in_err-intent-clause-stays_no : goal.returns-in_err-intent-clause-stays_no
+returns-in_err-intent-clause-stays_no g c = λ objects h r is. c.look_over.ensures.stays objects h
+
+pub returns-in_err-intent-clause-absent_object : goal.returns-in_err-intent-clause-absent_object
+returns-in_err-intent-clause-absent_object g c = λ objects h is.
+    let e = c.in_err-intent in
+    let was = err_from_is_err_and c.from_residual.result c.from_residual.ensures.1 in
+    e.ensures.absent_object objects h cc
+
+pub returns-in_err-intent-clause-too_far_object : goal.returns-in_err-intent-clause-too_far_object
+returns-in_err-intent-clause-too_far_object g c = λ objects h is.
+    let e = c.in_err-intent in
+    let was = err_from_is_err_and c.from_residual.result c.from_residual.ensures.1 in
+    e.ensures.too_far_object objects h cc
+
+pub returns-in-Some-clause-ready : goal.returns-in-Some-clause-ready
+returns-in-Some-clause-ready g c = λ objects h.
+    let new = c.look_over.new in
+    subst (λ (o : Option Intent). IfSome o (IsReadyFor (g.S.Shelf.tells new.shelf) (g.S.Shelf.world new.shelf).now.seen new.pool c.args.id c.args.edit.now objects)) c.in-Some.is (c.in_ok-intent.ensures.ready objects h)
+
+pub returns-in_err-intent-2-clause-stays_no : goal.returns-in_err-intent-2-clause-stays_no
+returns-in_err-intent-2-clause-stays_no g c = λ objects h r is. c.look_over-2.ensures.stays objects (c.in_ok-commit.ensures.stays objects (c.look_over.ensures.stays objects h))
+
+pub returns-in_err-intent-2-clause-absent_object : goal.returns-in_err-intent-2-clause-absent_object
+returns-in_err-intent-2-clause-absent_object g c = λ objects h is.
+    let e = c.in_err-intent-2 in
+    let was = err_from_is_err_and c.from_residual-in_err-intent-2.result c.from_residual-in_err-intent-2.ensures.1 in
+    e.ensures.absent_object objects (c.in_ok-commit.ensures.stays objects (c.look_over.ensures.stays objects h)) cc
+
+pub returns-in_err-intent-2-clause-too_far_object : goal.returns-in_err-intent-2-clause-too_far_object
+returns-in_err-intent-2-clause-too_far_object g c = λ objects h is.
+    let e = c.in_err-intent-2 in
+    let was = err_from_is_err_and c.from_residual-in_err-intent-2.result c.from_residual-in_err-intent-2.ensures.1 in
+    e.ensures.too_far_object objects (c.in_ok-commit.ensures.stays objects (c.look_over.ensures.stays objects h)) cc
+
+pub returns-clause-ready : goal.returns-clause-ready
+returns-clause-ready g c = λ objects h.
+    let new = c.look_over-2.new in
+    subst (λ (o : Option Intent). IfSome o (IsReadyFor (g.S.Shelf.tells new.shelf) (g.S.Shelf.world new.shelf).now.seen new.pool c.args.id c.args.edit.now objects)) c.in-Some-2.is (c.in_ok-intent-2.ensures.ready objects (c.in_ok-commit.ensures.stays objects (c.look_over.ensures.stays objects h)))
