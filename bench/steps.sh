@@ -5,7 +5,7 @@
 # is new to them. The aim is that from one size to the next what an extent costs grows by less than 2. A mark costs two
 # searches among pages and now and then the move of the array of pages, so it may grow by a little more.
 #
-# Measured on a virtual machine with 4 processors (Intel Xeon, 2.50 GHz, model 85) that other work kept busy:
+# Measured on a virtual machine with 4 processors (Intel Xeon, 2.70 GHz, model 167) that other work kept busy:
 #
 #    extents step(64), ns an extent   copied, ns an extent   marked, ns an extent
 #      10000                    2.1                   11.6                  182.3
