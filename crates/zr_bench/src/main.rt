@@ -2,8 +2,8 @@
 //! FULL is 1, with 95 of 100 units used, and hands out all that is free, unit by unit. It prints how many units it handed
 //! out and the nanoseconds that this took, without those of making the devices.
 //!
-//! `zr_bench EXTENTS` times the work that goes on a few extents at a time: it discards so many kept extents, and copies so
-//! many that are left. It prints how many each gave, and the nanoseconds of the one and the other.
+//! `zr_bench EXTENTS` times the work that goes on a few extents at a time: it discards so many kept extents, copies so
+//! many that are left, and marks so many units. It prints how many each gave, and the nanoseconds of each.
 //!
 //! With no words it goes once through each of the smallest clients: it prints the sum that the one keeps, and what the
 //! other copied, freed and gave back.
@@ -23,7 +23,7 @@ use removal::Removal;
 use std::alloc::Global;
 use std::env;
 use std::time::{Duration, Instant};
-use steps::{time_copying, time_discarding};
+use steps::{time_copying, time_discarding, time_marking};
 use store::Store;
 use zr_base::{Extent, NoMemory, Policy};
 use zr_choose::{Chooser, pick_first};
@@ -141,7 +141,7 @@ fn time_allocator(
     Ok(())
 }
 
-/// Times the discarding and the copying of so many extents.
+/// Times the discarding, the copying and the marking of so many extents.
 fn time_steps(rt: &HostRuntime, extents: u64) -> anyhow::Result<()> {
     if extents >= 1 << 32 {
         println!(rt; "too much")?;
@@ -149,11 +149,13 @@ fn time_steps(rt: &HostRuntime, extents: u64) -> anyhow::Result<()> {
     }
     let discarded = time_discarding(rt, extents)?;
     let copied = time_copying(rt, extents)?;
-    println!(rt; "{} {}", discarded.given, copied.given)?;
+    let marked = time_marking(rt, extents)?;
+    println!(rt; "{} {} {}", discarded.given, copied.given, marked.given)?;
     println!(rt;
-        "{} {}",
+        "{} {} {}",
         discarded.spent.as_nanos(),
-        copied.spent.as_nanos()
+        copied.spent.as_nanos(),
+        marked.spent.as_nanos()
     )?;
     Ok(())
 }

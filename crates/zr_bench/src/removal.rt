@@ -14,6 +14,7 @@ use std::marker::Model;
 use zr_base::{Extent, NoMemory};
 use zr_evac::Evac;
 use zr_imap::Imap;
+use zr_paged::PagedSet;
 use zr_ranges::RangeSet;
 
 /// A device that is being removed: what it holds, and its evacuation.
@@ -112,7 +113,7 @@ impl Removal {
     }
 
     /// The mapping and its marks, where nothing is left to copy: the units that are held are those that have a copy.
-    pub fn finish(self) -> (Imap, RangeSet)
+    pub fn finish(self) -> (Imap, PagedSet)
         requires { self.left ≡ [] }
         ensures { (u : ℕ) → has_copy result.0.entries result.1.extents u ≡ has_unit self.held u }
     {

@@ -1,7 +1,8 @@
-//! The work that goes on a few extents at a time: the discarding of a checkpoint and the copying of a removal.
+//! The work that goes on a few extents at a time: the discarding of a checkpoint, the copying of a removal, and the
+//! marking of units of it that are freed.
 //!
-//! Each takes the lowest extents first and moves none of those that stay, so what an extent costs is not to grow with how
-//! many there are.
+//! The first two take the lowest extents first and move none of those that stay, so what an extent costs is not to grow
+//! with how many there are. Units are freed in any order, so the third marks units that are scattered.
 ghost use Rattle.std.specs.Prelude.{◌≡◌, ℕ, ◌+◌, ◌*◌, ◌<◌, ◌≤◌, ◌^◌, false, IfOk};
 ghost use Rattle.zr_base.specs.Extents.{has_unit};
 
@@ -12,6 +13,7 @@ use zr_base::{Extent, NoMemory};
 use zr_ckpt::Ckpt;
 use zr_evac::Evac;
 use zr_imap::Imap;
+use zr_paged::PagedSet;
 use zr_ranges::RangeSet;
 
 /// How many extents were given, and the time that this took.
@@ -45,6 +47,19 @@ pub fn time_copying(rt: &HostRuntime, extents: u64) -> anyhow::Result<Timed>
         .context("out of memory")?;
     let start = Instant::now(rt)?;
     let given = copy_all(&mut evac, extents).ok().context("out of memory")?;
+    let spent = start.elapsed(rt)?;
+    Ok(Timed { given, spent })
+}
+
+/// Marks so many units that do not touch, one here and one there.
+pub fn time_marking(rt: &HostRuntime, extents: u64) -> anyhow::Result<Timed>
+    requires { extents < 2 ^ 32 }
+{
+    let mut marks = PagedSet::new(rt.alloc());
+    let start = Instant::now(rt)?;
+    let given = mark_scattered(&mut marks, extents)
+        .ok()
+        .context("out of memory")?;
     let spent = start.elapsed(rt)?;
     Ok(Timed { given, spent })
 }
@@ -110,4 +125,39 @@ fn copy_all(evac: &mut Evac, most: u64) -> Result<u64, NoMemory>
         evac.copied(piece, 1, piece.start);
     }
     Ok(most)
+}
+
+/// How far the next unit to mark lies from the last, as an index among so many.
+const STRIDE: u64 = 7_919;
+
+/// Marks each second unit, so many, a stride apart. It answers how many were not marked before.
+fn mark_scattered(marks: &mut PagedSet, extents: u64) -> Result<u64, NoMemory>
+    requires { extents < 2 ^ 32 }
+{
+    let mut given: u64 = 0;
+    for k in 0..extents {
+        let unit = Extent {
+            start: 2 * (k * STRIDE % extents),
+            len: 1,
+        };
+        if mark(marks, unit)? {
+            given = given.saturating_add(1);
+        }
+    }
+    Ok(given)
+}
+
+/// Marks a unit, and answers whether it was not marked before.
+fn mark(marks: &mut PagedSet, unit: Extent) -> Result<bool, NoMemory>
+    requires one { unit.len ≡ 1 }
+    requires in_range { unit.start + unit.len ≤ 2 ^ 62 }
+{
+    marks.reserve(1)?;
+    if let Some(part) = marks.first_from(unit.start) {
+        if part.start == unit.start {
+            return Ok(false);
+        }
+    }
+    marks.add_reserved(unit);
+    Ok(true)
 }

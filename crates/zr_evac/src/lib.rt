@@ -29,7 +29,7 @@ pub struct Evac {
     alloc: Global,
     dev: u32,
     map: Imap,
-    marks: RangeSet,
+    marks: PagedSet,
     left: PagedSet,
     synced: u64,
     opened: u64,
@@ -56,7 +56,7 @@ pub struct Routed {
 
 impl Evac {
     /// Goes on at the end of the last entry of a mapping, where both frontiers then are. What is left to copy is what
-    /// the device holds from there on. It goes over the held extents.
+    /// the device holds from there on. It goes over the held and the marked extents.
     pub fn begin(
         alloc: Global,
         dev: u32,
@@ -73,6 +73,7 @@ impl Evac {
     {
         let from = end_of_map(&map);
         let left = rest_from(alloc, held, from)?;
+        let marks = PagedSet::of(alloc, &marks)?;
         Ok(Evac {
             alloc,
             dev,
@@ -154,8 +155,8 @@ impl Evac {
     }
 
     /// Units are freed that were copied or are left to copy: what was copied is marked, and the rest is left no more. It
-    /// takes no memory. It costs a change of the marks, a search in them and the move of those above, and one of what is
-    /// left, a search and the move of one page, however much that is.
+    /// takes no memory. It costs a change of the marks and one of what is left, each a search and the move of a page or
+    /// two, however much there is.
     pub fn freed(&mut self, e: Extent)
         requires not_empty { 0 < e.len }
         requires unmarked { HasNone self.old.marks e }
@@ -191,8 +192,8 @@ impl Evac {
         &self.map
     }
 
-    /// The units that were copied and then freed.
-    pub fn marks(&self) -> &RangeSet
+    /// The units that were copied and then freed. `to_set` gives them in one array.
+    pub fn marks(&self) -> &PagedSet
         ensures { result.now.extents ≡ self.now.marks }
     {
         &self.marks
@@ -212,7 +213,7 @@ impl Evac {
     }
 
     /// The mapping and the marks.
-    pub fn end(self) -> (Imap, RangeSet)
+    pub fn end(self) -> (Imap, PagedSet)
         ensures map { result.0.entries ≡ self.entries }
         ensures marks { result.1.extents ≡ self.marks }
     {
@@ -224,7 +225,7 @@ impl Evac {
 fn push_unmarked(
     list: &mut Vec<(u32, Extent)>,
     entry: Entry,
-    marks: &RangeSet,
+    marks: &PagedSet,
 ) -> Result<(), NoMemory>
     requires { IsEntry entry }
     ensures hits { OnOk result ((d u : ℕ) → hits_at list.new.items d u ≡ hits_at list.old.items d u + one_if (is_copy_in marks.now.extents entry entry.len d u)) }
@@ -258,7 +259,7 @@ fn push_full(list: &mut Vec<(u32, Extent)>, dev: u32, e: Extent) -> Result<(), N
 }
 
 // The first marked units from one unit to below another that follow each other, or none at its end.
-fn next_marked(marks: &RangeSet, at: u64, end: u64) -> Extent
+fn next_marked(marks: &PagedSet, at: u64, end: u64) -> Extent
     requires { at < end }
     ensures from { at ≤ result.start }
     ensures more { at < result.start + result.len }
@@ -363,7 +364,7 @@ fn part_between(e: Extent, from: u64, to: u64) -> Option<Extent>
 }
 
 // Marks the units of an extent below a unit.
-fn mark_below(marks: &mut RangeSet, e: Extent, at: u64)
+fn mark_below(marks: &mut PagedSet, e: Extent, at: u64)
     requires unmarked { HasNone marks.old.extents e }
     requires bound { at ≤ 2 ^ 62 }
     requires room { 0 < marks.old.spare }
@@ -424,6 +425,7 @@ mod tests {
         assert!(rt; evac.marks().units() == 15);
         let (map, marks) = evac.end();
         assert!(rt; map.len() == 2);
+        let marks = marks.to_set()?;
         assert_eq!(rt; marks.extents(), [Extent { start: 5, len: 15 }].as_slice());
         Ok(())
     }

@@ -17,6 +17,7 @@ mod finder;
 mod maxima;
 mod metaslab;
 mod order;
+mod reserved;
 #[cfg(test)]
 mod tests;
 

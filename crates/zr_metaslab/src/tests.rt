@@ -136,6 +136,7 @@ fn runs_stay_within_metaslabs_and_come_back(rt: HostRuntime) -> Result<(), Fail>
     );
     slabs.release(high.dev, extent(high));
     assert_eq!(rt; slabs.longest(), 88);
+    slabs.reserve(1)?;
     let Ok(low) = slabs.alloc(10, &first) else {
         panic!(rt; "no run of 10")
     };
@@ -147,7 +148,7 @@ fn runs_stay_within_metaslabs_and_come_back(rt: HostRuntime) -> Result<(), Fail>
             len: 10
         }
     );
-    slabs.release(low.dev, extent(low));
+    slabs.release_reserved(low.dev, extent(low));
     assert_eq!(rt; slabs.free_units(0), 100);
     slabs.off(0);
     assert_eq!(rt; slabs.longest(), 0);

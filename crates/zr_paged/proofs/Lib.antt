@@ -1,2 +1,5 @@
 pub mod Joined
 pub mod Shapes
+pub mod Adding
+pub mod Finding
+pub mod Whole

@@ -62,7 +62,7 @@ pub none_is : (pages : List (List Extent)) → length pages ≡ 0 → all_of pag
 none_is [] h = refl
 none_is (p ∷ ps) h = absurd (omega arith)
 
-none_below : (pages : List (List Extent)) (k : ℕ) → length pages ≤ suc k → below pages k ≡ []
+pub none_below : (pages : List (List Extent)) (k : ℕ) → length pages ≤ suc k → below pages k ≡ []
 none_below [] k h = refl
 none_below (p ∷ ps) zero h = none_is ps (omega arith)
 none_below (p ∷ ps) (suc k) h = none_below ps k (omega arith)

@@ -1,5 +1,5 @@
 -- A set of units in pages of extents, the highest page first.
-use Rattle.std.specs.Prelude.{◌≡◌, ℕ, ◌+◌, ◌-◌, ◌≤◌, ◌<◌, List, [], ◌∷◌, ◌++◌, length, slice_index_or}
+use Rattle.std.specs.Prelude.{◌≡◌, ℕ, ◌-◌, ◌≤◌, ◌<◌, List, [], ◌∷◌, ◌++◌, length, slice_index_or}
 use Rattle.zr_base.specs.declared.space.Extent.{Extent}
 use Rattle.zr_base.specs.Extents.{IsMaximal, unit_count, extent_at}
 
@@ -32,3 +32,7 @@ pub record IsPlace (pages : List (List Extent)) (k u : ℕ) : Type 0 where
   pub within : k ≤ length pages
   pub from : k < length pages → start_of (page_at pages k) ≤ u
   pub above : 0 < k → u < start_of (page_at pages (k - 1))
+
+-- the page before the place, which is the next above it, does not start at the unit
+abbrev pub IsClear : List (List Extent) → ℕ → ℕ → Type 0
+IsClear pages k u = 0 < k → start_of (page_at pages (k - 1)) ≡ u → ⊥

@@ -6,17 +6,23 @@
 //! unit up gives up its pages at the end of their array, and moves none.
 #![tactic(auto)]
 
-ghost use Rattle.std.specs.Prelude.{◌≡◌, ℕ, ◌+◌, ◌-◌, ◌^◌, ◌<◌, ◌≤◌, ◌∷◌, [], length, min, IfSome, IfNone, OnOk, OnErr};
-ghost use Rattle.zr_base.specs.Extents.{IsMaximal, HasAll, RemovesUnits, unit_count, extent_at};
+ghost use Rattle.std.specs.Prelude.{◌≡◌, ℕ, ◌+◌, ◌-◌, ◌^◌, ◌<◌, ◌≤◌, ◌∷◌, [], length, min, IfOk, IfSome, IfNone, OnOk, OnErr};
+ghost use Rattle.zr_base.specs.Extents.{IsMaximal, HasAll, HasNone, HasNoneFrom, IsFirstPart, AddsUnits, RemovesUnits, unit_count, extent_at};
+ghost use Rattle.zr_paged.specs.Pages.{all_of};
 
+mod find;
+mod join;
 mod page;
 mod shape;
 
-use page::{Page, make_ready};
+use find::part_from;
+use join::add_in;
+use page::{Page, append_page, make_ready};
 use shape::{lowest, place_of, push_in, remove_in, take_in};
 use std::alloc::Global;
 use std::marker::Model;
 use zr_base::{Extent, NoMemory};
+use zr_ranges::RangeSet;
 
 /// A set of units below 2^62, of any number of extents.
 #[derive(Drop)]
@@ -53,6 +59,27 @@ impl PagedSet {
         }
     }
 
+    /// The units of a set in one array. It goes over its extents.
+    pub fn of(alloc: Global, set: &RangeSet) -> Result<PagedSet, NoMemory>
+        ensures { IfOk result (λ paged. paged.extents ≡ set.now.extents) }
+    {
+        let runs = set.extents();
+        let mut paged = PagedSet::new(alloc);
+        let mut count = runs.len();
+        while count > 0 {
+            count -= 1;
+            paged.push_first(runs[count])?;
+        }
+        Ok(paged)
+    }
+
+    /// The units as a set in one array. It goes over all extents.
+    pub fn to_set(&self) -> Result<RangeSet, NoMemory>
+        ensures { IfOk result (λ set. set.extents ≡ self.now.extents) }
+    {
+        all_in_one(self.alloc, self.pages.as_slice())
+    }
+
     /// Puts in an extent below all others. It costs the move of one page.
     pub fn push_first(&mut self, e: Extent) -> Result<(), NoMemory>
         requires { IsMaximal (e ∷ self.old.extents) }
@@ -72,6 +99,20 @@ impl PagedSet {
     {
         self.pages.reserve(n)?;
         make_ready(self.alloc, &mut self.ready, n)
+    }
+
+    /// Puts in the units of an extent that has none in the set. It takes no memory. It costs what `remove_reserved` does,
+    /// or twice that where it meets the first extent of a page.
+    pub fn add_reserved(&mut self, e: Extent)
+        requires not_empty { 0 < e.len }
+        requires in_range { e.start + e.len ≤ 2 ^ 62 }
+        requires apart { HasNone self.old.extents e }
+        requires room { 0 < self.old.spare }
+        ensures added { AddsUnits self.old.extents self.new.extents e }
+        ensures spare { self.old.spare ≤ self.new.spare + 1 }
+    {
+        add_in(&mut self.pages, &mut self.ready, e);
+        self.units += e.len;
     }
 
     /// Takes out the units of an extent that has all in the set. It takes no memory. It costs a search among the pages and
@@ -117,6 +158,14 @@ impl PagedSet {
         lowest(self.pages.as_slice())
     }
 
+    /// The part at or above `u` of the lowest extent that ends above `u`. Logarithmic in the extents.
+    pub fn first_from(&self, u: u64) -> Option<Extent>
+        ensures some { IfSome result (IsFirstPart self.now.extents u) }
+        ensures none { IfNone result (HasNoneFrom self.now.extents u) }
+    {
+        part_from(self.pages.as_slice(), u)
+    }
+
     /// How many units the set has. It is kept, not counted.
     pub fn units(&self) -> u64
         ensures units { result ≡ unit_count self.now.extents }
@@ -124,6 +173,20 @@ impl PagedSet {
     {
         self.units
     }
+}
+
+// The extents of all pages, from the lowest page up.
+fn all_in_one(alloc: Global, pages: &[Page]) -> Result<RangeSet, NoMemory>
+    requires { IsMaximal (all_of pages.now) }
+    ensures { IfOk result (λ set. set.extents ≡ all_of pages.now) }
+{
+    let mut set = RangeSet::new(alloc);
+    let mut count = pages.len();
+    while count > 0 {
+        count -= 1;
+        append_page(&pages[count], &mut set)?;
+    }
+    Ok(set)
 }
 
 #[cfg(test)]
@@ -141,6 +204,36 @@ mod tests {
         assert_eq!(rt; set.units(), 6);
         assert_eq!(rt; set.take_front(9), Extent { start: 2, len: 3 });
         assert_eq!(rt; set.first(), Some(Extent { start: 9, len: 1 }));
+        Ok(())
+    }
+
+    // Each second of the first 140 units: in pages the highest 64 of them, from 12 up, and below these 6.
+    fn each_second(rt: &HostRuntime) -> Result<RangeSet, NoMemory> {
+        let mut set = RangeSet::new(rt.alloc());
+        for k in 0..70 {
+            set.add(Extent {
+                start: 2 * k,
+                len: 1,
+            })?;
+        }
+        Ok(set)
+    }
+
+    #[test]
+    fn runs_join_across_two_pages(rt: HostRuntime) -> Result<(), Fail> {
+        let even = each_second(&rt)?;
+        let between = Extent { start: 11, len: 1 };
+        assert!(rt; even.is_apart(between));
+        let mut set = PagedSet::of(rt.alloc(), &even)?;
+        set.reserve(1)?;
+        set.add_reserved(between);
+        assert_eq!(rt; set.units(), 71);
+        assert_eq!(rt; set.first_from(9), Some(Extent { start: 10, len: 3 }));
+        assert_eq!(rt; set.first_from(13), Some(Extent { start: 14, len: 1 }));
+        assert_eq!(rt; set.first_from(139), None);
+        let all = set.to_set()?;
+        assert_eq!(rt; all.extents().len(), 69);
+        assert!(rt; all.covers(Extent { start: 10, len: 3 }));
         Ok(())
     }
 }

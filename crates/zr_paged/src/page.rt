@@ -1,8 +1,8 @@
 //! A page of a set: at most 65 extents, for which it has room from the start.
 //!
 //! A set keeps at most 64 in a page. With one more it is cut in half, so each change of a page has room.
-ghost use Rattle.std.specs.Prelude.{◌≡◌, ◌+◌, ◌^◌, ◌<◌, ◌≤◌, ◌∷◌, ◌++◌, [], length, min, vec_len, IfOk, OnOk};
-ghost use Rattle.zr_base.specs.Extents.{IsMaximal, HasAll, RemovesUnits, extent_at};
+ghost use Rattle.std.specs.Prelude.{◌≡◌, ◌+◌, ◌^◌, ◌<◌, ◌≤◌, ◌∷◌, ◌++◌, [], length, min, vec_len, IfOk, IfSome, IfNone, OnOk};
+ghost use Rattle.zr_base.specs.Extents.{IsMaximal, HasAll, HasNone, HasNoneFrom, IsFirstPart, AddsUnits, RemovesUnits, extent_at};
 ghost use Rattle.zr_paged.specs.Pages.{start_of};
 
 use std::alloc::Global;
@@ -56,6 +56,26 @@ impl Page {
         runs[0]
     }
 
+    /// The part at or above `u` of the lowest extent that ends above `u`.
+    pub fn first_from(&self, u: u64) -> Option<Extent>
+        ensures some { IfSome result (IsFirstPart self.now u) }
+        ensures none { IfNone result (HasNoneFrom self.now u) }
+    {
+        self.runs.first_from(u)
+    }
+
+    /// Puts in the units of an extent that has none in the page.
+    pub fn add(&mut self, e: Extent)
+        requires not_empty { 0 < e.len }
+        requires in_range { e.start + e.len ≤ 2 ^ 62 }
+        requires apart { HasNone self.old e }
+        requires short { length self.old ≤ 64 }
+        ensures added { AddsUnits self.old self.new e }
+        ensures growth { length self.new ≤ length self.old + 1 }
+    {
+        self.runs.add_reserved(e);
+    }
+
     /// Takes out the units of an extent that has all in the page.
     pub fn remove(&mut self, e: Extent)
         requires not_empty { 0 < e.len }
@@ -85,7 +105,11 @@ impl Page {
     /// Takes out the first extent.
     pub fn take_first(&mut self) -> Extent
         requires { 0 < length self.old }
-        ensures { self.old ≡ result ∷ self.new }
+        ensures first { self.old ≡ result ∷ self.new }
+        ensures not_empty { 0 < result.len }
+        ensures in_range { result.start + result.len ≤ 2 ^ 62 }
+        ensures covered { HasAll self.old result }
+        ensures removed { RemovesUnits self.old self.new result }
     {
         self.runs.take_front(u64::MAX)
     }
@@ -116,6 +140,27 @@ impl Page {
     {
         self.runs.clear();
     }
+}
+
+/// Adds the extents of a page to a set, above all that it has.
+pub fn append_page(page: &Page, set: &mut RangeSet) -> Result<(), NoMemory>
+    requires { IsMaximal (set.old.extents ++ page.now) }
+    ensures { OnOk result (set.new.extents ≡ set.old.extents ++ page.now) }
+{
+    let runs = page.runs.extents();
+    for i in 0..runs.len() {
+        append_run(set, runs[i])?;
+    }
+    Ok(())
+}
+
+// Adds an extent to a set, above all that it has.
+fn append_run(set: &mut RangeSet, e: Extent) -> Result<(), NoMemory>
+    requires { IsMaximal (set.old.extents ++ e ∷ []) }
+    ensures { OnOk result (set.new.extents ≡ set.old.extents ++ e ∷ []) }
+{
+    set.add(e)?;
+    Ok(())
 }
 
 /// Makes empty pages, until so many stand ready.

@@ -91,8 +91,8 @@ pub fn take_in(pages: &mut Vec<Page>, n: u64) -> Extent
     taken
 }
 
-// Takes a page out where it is empty.
-fn drop_empty(pages: &mut Vec<Page>, k: usize)
+/// Takes a page out where it is empty.
+pub fn drop_empty(pages: &mut Vec<Page>, k: usize)
     requires index { k < length pages.old.items }
     requires short { length (page_at pages.old.items k) ≤ 64 }
     requires others { (q : List Extent) → 0 < length q → length q ≤ 64 → AreFit (slice_set pages.old.items k q) }
@@ -106,8 +106,8 @@ fn drop_empty(pages: &mut Vec<Page>, k: usize)
     }
 }
 
-// After a change of a page: takes it out where it is empty, and cuts it in half where it is too long.
-fn tidy_page(pages: &mut Vec<Page>, ready: &mut Vec<Page>, k: usize)
+/// After a change of a page: takes it out where it is empty, and cuts it in half where it is too long.
+pub fn tidy_page(pages: &mut Vec<Page>, ready: &mut Vec<Page>, k: usize)
     requires index { k < length pages.old.items }
     requires short { length (page_at pages.old.items k) ≤ 65 }
     requires others { (q : List Extent) → 0 < length q → length q ≤ 64 → AreFit (slice_set pages.old.items k q) }

@@ -1,3 +1,4 @@
 pub mod Spelling
 pub mod Cutting
 pub mod SetWords
+pub mod Replaying

@@ -15,6 +15,9 @@ ghost use Rattle.zr_rules.specs.Owed.{set_words};
 ghost use Rattle.zr_smap.specs.Spellings.{SpellsNothing, IsRun};
 ghost use Rattle.zr_smap.specs.Cuts.{IsInReach, PutsRun, AreCutWords};
 
+mod laws;
+
+pub use laws::{a_set_written_anew_replays, words_of_a_changed_set};
 use std::alloc::Global;
 use zr_base::{Change, Extent, NoMemory};
 use zr_ranges::RangeSet;

@@ -1,6 +1,5 @@
 use Rattle.std.proofs.Common.{◌≡◌, ◌-◌, ◌<◌, [], length, ap, refl, sym, ◌∙◌, arith}
 use Rattle.std.proofs.lemmas.List.{get_or_default}
-use Rattle.zr_base.specs.declared.space.Extent.{Extent}
 use Rattle.zr_base.specs.Extents.{extent_at}
 use Rattle.zr_paged.specs.Pages.{page_at}
 use Rattle.zr_paged.proofs.Shapes.{lowest_first, lowest_some}

@@ -6,5 +6,5 @@ use Rattle.zr_paged.proofs.shape.move_half.Goals as goal
 
 pub push_last-requires-clause-maximal : goal.push_last-requires-clause-maximal
 push_last-requires-clause-maximal c =
-    let all : (c.loop-page.low ++ c.take_first-first.result ∷ []) ++ c.take_first-first.new.self ≡ c.args.page.now = append_assoc c.loop-page.low (c.take_first-first.result ∷ []) c.take_first-first.new.self ∙ ap (λ (l : List Extent). c.loop-page.low ++ l) (sym c.take_first-first.ensures) ∙ c.loop-page.invariant.all in
+    let all : (c.loop-page.low ++ c.take_first-first.result ∷ []) ++ c.take_first-first.new.self ≡ c.args.page.now = append_assoc c.loop-page.low (c.take_first-first.result ∷ []) c.take_first-first.new.self ∙ ap (λ (l : List Extent). c.loop-page.low ++ l) (sym c.take_first-first.ensures.first) ∙ c.loop-page.invariant.all in
     maximal_front 0 (c.loop-page.low ++ c.take_first-first.result ∷ []) c.take_first-first.new.self (subst (λ (l : List Extent). IsMaximal l) (sym all) c.requires.maximal)

@@ -2,7 +2,7 @@ use Rattle.std.proofs.Common.{◌≡◌, ℕ, ◌-◌, ◌<◌, List, [], ◌∷
 use Rattle.std.proofs.lemmas.List.{get_or_default}
 use Rattle.zr_base.specs.declared.space.Extent.{Extent}
 use Rattle.zr_base.specs.Extents.{IsMaximal}
-use Rattle.zr_paged.specs.Pages.{all_of, page_at}
+use Rattle.zr_paged.specs.Pages.{page_at}
 use Rattle.zr_paged.proofs.Joined.{maximal_front}
 use Rattle.zr_paged.proofs.Shapes.{above, lowest_all, set_lowest, push_all, fit_set, fit_append}
 use Rattle.zr_paged.proofs.shape.push_in.Goals as goal

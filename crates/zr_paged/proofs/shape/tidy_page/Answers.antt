@@ -1,7 +1,6 @@
-use Rattle.std.proofs.Common.{◌≡◌, ◌-◌, ◌<◌, List, [], ◌++◌, set, length, ap, sym, subst, ◌∙◌, arith}
+use Rattle.std.proofs.Common.{◌≡◌, [], set, ◌∙◌, arith}
 use Rattle.std.proofs.lemmas.List.{get_or_default}
-use Rattle.zr_base.specs.declared.space.Extent.{Extent}
-use Rattle.zr_paged.specs.Pages.{all_of, page_at}
+use Rattle.zr_paged.specs.Pages.{page_at}
 use Rattle.zr_paged.proofs.Shapes.{page_maximal, split_all, fit_insert}
 use Rattle.zr_paged.proofs.shape.tidy_page.Goals as goal
 

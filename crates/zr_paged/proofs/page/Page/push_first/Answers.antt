@@ -1,7 +1,6 @@
-use Rattle.std.proofs.Common.{◌≡◌, ◌+◌, [], ◌∷◌, ◌++◌, sym, ◌∙◌, arith}
+use Rattle.std.proofs.Common.{◌+◌, ◌∷◌, arith}
 use Rattle.std.proofs.lemmas.Bool.Decides.{nat_tests}
 use Rattle.std.proofs.lemmas.Grind.{common_steps}
-use Rattle.zr_base.specs.Extents.{IsMaximal, has_unit}
 use Rattle.zr_base.proofs.ExtentSets.{same_extents, has_unit-below}
 use Rattle.zr_paged.proofs.page.Page.push_first.Goals as goal
 
