@@ -2,11 +2,11 @@
 """Prints how fast `zr` is, each number beside its bound, measured in the same run.
 
 A bound is what the work cannot do without: the digest of the bytes that it has to digest, in the program's own code; the
-flushes that make it last; or the same work on a smaller pool. So a row is a ratio, which a slow machine does not change
-much. What waits for no disk runs on device files in memory and is told in processor time; what waits for flushes runs on
+flushes that make it last; or the same work on a smaller pool. What is told is how much of the bound is reached: 1 is the
+bound, less is slower, and a slow machine does not change it much. What waits for no disk runs on device files in memory and is told in processor time; what waits for flushes runs on
 device files on a disk and is told in time by the clock. Each row is the median of several runs.
 
-    bench/run.py [--runs N] [--large] [--disk FOLDER] [--memory FOLDER] [ROW..]
+    bench/run.py [--runs N] [--extents N] [--disk FOLDER] [--memory FOLDER] [PART..]
 """
 import argparse
 import os
@@ -61,9 +61,9 @@ def run_alone(words, **more):
 class Zr:
     """The program on device files in a folder. Lines are sent in batches, whose cost is told."""
 
-    def __init__(self, folder, *devices):
+    def __init__(self, folder, *devices, **more):
         self.child = subprocess.Popen(PROGRAM + list(devices), cwd=folder, bufsize=0,
-                                      stdin=subprocess.PIPE, stdout=subprocess.PIPE)
+                                      stdin=subprocess.PIPE, stdout=subprocess.PIPE, **more)
         self.proc = '/proc/%d/' % self.child.pid
         self.rest()
 
@@ -95,10 +95,10 @@ class Zr:
             spent = int(told.read().split()[0])
         return int(io['rchar']), int(io['wchar']), spent / 1e9
 
-    def memory(self):
-        """The most memory that the program has had, in bytes."""
+    def memory(self, which):
+        """The memory that the program has (VmRSS), or the most that it has had (VmHWM), in bytes."""
         with open(self.proc + 'status') as told:
-            return int(re.search(r'VmHWM:\s+(\d+) kB', told.read()).group(1)) * 1024
+            return int(re.search(which + r':\s+(\d+) kB', told.read()).group(1)) * 1024
 
     def send(self, lines):
         """Sends lines, waits for all replies, and answers them as one text, and what they cost."""
@@ -179,6 +179,14 @@ def copy(folder, size, count):
     return cost * (size * count / (64 * MIB))
 
 
+def put(folder, size, count):
+    """Writing so many blocks of a size to a new file."""
+    name = os.path.join(folder, 'bytes')
+    cost = run_alone(['dd', 'if=/dev/zero', 'of=' + name, 'bs=%d' % size, 'count=%d' % count])[0]
+    os.remove(name)
+    return cost
+
+
 def flushed(folder, size, count):
     """Writing so many blocks of a size to a file that is made as a device is, each made durable."""
     name = os.path.join(folder, 'flushed')
@@ -191,41 +199,35 @@ def flushed(folder, size, count):
 
 # --- The table ---------------------------------------------------------------------------------------------------------
 
-class Row:
-    """A line of the table: a number and its bound, both from the same runs, and the ratio that is aimed at."""
+SPEEDS = ('MiB/s', 'rounds/s')
 
-    def __init__(self, name, unit, least=None, most=None, exact=None):
-        self.name, self.unit, self.least, self.most, self.exact = name, unit, least, most, exact
+
+class Row:
+    """A line of the table: a number and its bound, from the same runs, and how much of the bound is reached."""
+
+    def __init__(self, name, bound, unit, least=None):
+        self.name, self.bound, self.unit, self.least = name, bound, unit, least
         self.measured, self.bounds, self.ratios = [], [], []
 
-    def add(self, measured, bound, ratio=None):
+    def add(self, measured, bound):
+        better, worse = (measured, bound) if self.unit in SPEEDS else (bound, measured)
         self.measured.append(measured)
         self.bounds.append(bound)
-        self.ratios.append(measured / bound if ratio is None else ratio)
+        self.ratios.append(1.0 if better == worse else better / worse if worse else float('inf'))
 
     def ratio(self):
         return statistics.median(self.ratios)
 
-    def aim(self):
-        if self.exact is not None:
-            return '= %g' % self.exact
-        if self.least is not None:
-            return '>= %g' % self.least
-        return '<= %g' % self.most if self.most is not None else ''
-
     def verdict(self):
-        if self.exact is not None:
-            return 'met' if self.ratio() == self.exact else 'MISSED'
-        if self.least is not None:
-            return 'met' if self.ratio() >= self.least else 'MISSED'
-        if self.most is not None:
-            return 'met' if self.ratio() <= self.most else 'MISSED'
-        return ''
+        return '' if self.least is None else 'met' if self.ratio() >= self.least else 'MISSED'
 
     def line(self):
-        return '%-46s %10s %10s %-14s %8.2f %-8s %-6s' % (
-            self.name, number(statistics.median(self.measured)), number(statistics.median(self.bounds)), self.unit,
-            self.ratio(), self.aim(), self.verdict())
+        return LINE % (self.name, self.bound, number(statistics.median(self.measured)),
+                       number(statistics.median(self.bounds)), self.unit, '%.2f' % self.ratio(),
+                       '' if self.least is None else '%g' % self.least, self.verdict())
+
+
+LINE = '%-43s %-28s %9s %9s %-9s %6s %4s %s'
 
 
 def number(x):
@@ -236,6 +238,7 @@ ROWS = []
 
 
 def row(*words, **more):
+    """A new line of the table."""
     made = Row(*words, **more)
     ROWS.append(made)
     return made
@@ -278,20 +281,31 @@ def device(blocks, units):
 
 # --- Rows --------------------------------------------------------------------------------------------------------------
 
+DIGESTED = 'digest of its bytes'
+READ = 'digest and read of its bytes'
+
+
+def bound_read(folder, cost):
+    """Digest and read of the bytes that the work has read from the device, unit by unit."""
+    return digest(UNIT, cost.read / UNIT) + copy(folder, UNIT, cost.read / UNIT)
+
+
 def fill(runs, memory, disk):
     """`fill` of whole blocks of 32 units, 64 a line, so that each line but the first commits the one before."""
     lines, size, count = 16, 32 * UNIT, 1024
-    own = row('fill, 32-unit blocks: zr / its digest', 'MiB/s', least=0.9)
-    other = row('fill, 32-unit blocks: zr / sha256sum', 'MiB/s')
-    last = row('fill and sync, on a disk: zr / dd dsync', 'MiB/s')
+    own = row('fill, 32-unit blocks', DIGESTED, 'MiB/s', least=0.9)
+    written = row('fill, 32-unit blocks', 'digest and dd of its bytes', 'MiB/s')
+    other = row('fill, 32-unit blocks', 'sha256sum of its bytes', 'MiB/s')
+    last = row('fill and sync, on a disk', 'dd dsync, 8 MiB each', 'MiB/s')
     total = size * count / MIB
     for _ in range(runs):
         with Folder(memory) as folder:
-            alone, summed = digest(size, count), sha256sum(folder, size * count)
+            alone, summed, stored = digest(size, count), sha256sum(folder, size * count), put(folder, size, count)
             with Zr(folder, 'a:%d' % device(count, 32)) as zr:
                 zr.do('create p 1 a', 'make 1 32')
                 cost = zr.do(*fills(1, count, 32))
         own.add(total / cost.processor, total / alone.processor)
+        written.add(total / cost.processor, total / (alone + stored).processor)
         other.add(total / cost.processor, total / summed.processor)
         with Folder(disk) as folder:
             bound = flushed(folder, 64 * size, lines)
@@ -299,14 +313,17 @@ def fill(runs, memory, disk):
                 zr.do('create p 1 a', 'make 1 32')
                 cost = zr.do(*fills(1, count, 32), 'sync')
         last.add(total / cost.clock, total / bound.clock)
-    return [own, other, last]
+    return [own, written, other, last]
+
+
+FLUSHES = 3
 
 
 def sync(runs, memory, disk):
     """A `write` of one block and a `sync`, again and again, beside as many bytes in as many flushes by `dd`."""
     rounds = 100
-    clock = row('write and sync, on a disk: zr / dd dsync', 'rounds/s')
-    work = row('write and sync: digest of what it writes / zr', 'us')
+    clock = row('write and sync, on a disk', 'dd dsync, 3 a round', 'rounds/s')
+    work = row('write and sync', DIGESTED, 'us')
     for _ in range(runs):
         lines = ['create p 1 a', 'make 1 1'] + fills(1, 4096, 1) + ['sync']
         pairs = [line for k in range(rounds) for line in ('write 1 %d 7a' % (UNIT * (37 * k % 4096)), 'sync')]
@@ -320,20 +337,16 @@ def sync(runs, memory, disk):
             with Zr(folder, 'a:%d' % (128 * MIB)) as zr:
                 zr.do(*lines)
                 cost = zr.do(*pairs)
-            bound = digest(UNIT, cost.written // UNIT)
-        work.add(cost.processor / rounds * 1e6, bound.processor / rounds * 1e6, bound.processor / cost.processor)
+            bound = digest(UNIT, cost.written / UNIT)
+        work.add(cost.processor / rounds * 1e6, bound.processor / rounds * 1e6)
     return [clock, work]
-
-
-FLUSHES = 3
 
 
 def flushes(runs, memory, disk):
     """How often a commit makes a device file durable, by strace."""
-    made = row('flushes of a device, a commit', 'flushes', exact=1)
     if shutil.which('strace') is None:
-        ROWS.remove(made)
         return []
+    made = row('flushes, a commit', 'three', 'flushes', least=1)
 
     def count(syncs):
         with Folder(memory) as folder:
@@ -343,17 +356,20 @@ def flushes(runs, memory, disk):
                            ['a:%d' % (16 * MIB)], input=text.encode(), cwd=folder, stdout=subprocess.DEVNULL, check=True)
             with open(told) as lines:
                 return sum('sync' in line for line in lines)
-    made.add((count(20) - count(0)) / 20, FLUSHES)
+    found = (count(20) - count(0)) / 20
+    if found < FLUSHES:
+        raise Wrong('a commit makes %g flushes' % found)
+    made.add(found, FLUSHES)
     return [made]
 
 
 def read(runs, memory, disk):
     """`read` of one unit: of a hole, of a cached block, and of blocks that are not cached."""
     count, size = 1000, 32 * UNIT
-    cached = row('read, cached: a hole / zr', 'us')
-    calls = row('read, cached: bytes from the device, a read', 'bytes', exact=0)
-    far = row('read, 32-unit blocks: digest and read / zr', 'us')
-    near = row('read, 1-unit blocks: digest and read / zr', 'us')
+    cached = row('read, cached', 'read of a hole', 'us')
+    calls = row('read, cached, bytes of the device', 'none', 'bytes', least=1)
+    far = row('read, 32-unit blocks', READ, 'us')
+    near = row('read, 1-unit blocks', READ, 'us')
     for _ in range(runs):
         with Folder(memory) as folder:
             with Zr(folder, 'a:%d' % device(count, 34)) as zr:
@@ -364,11 +380,11 @@ def read(runs, memory, disk):
                 apart = zr.do(*['read 1 %d 4096' % (k * size) for k in range(count)])
                 small = zr.do(*['read 2 %d 4096' % (k * UNIT) for k in range(8 * count)])
             bound = digest(size, count) + copy(folder, size, count)
-            bounds = digest(UNIT, small.read // UNIT) + copy(folder, UNIT, small.read // UNIT)
-        cached.add(again.processor / count * 1e6, hole.processor / count * 1e6, hole.processor / again.processor)
-        calls.add(again.read / count, 0, again.read / count)
-        far.add(apart.processor / count * 1e6, bound.processor / count * 1e6, bound.processor / apart.processor)
-        near.add(small.processor / count / 8 * 1e6, bounds.processor / count / 8 * 1e6, bounds.processor / small.processor)
+            bounds = bound_read(folder, small)
+        cached.add(again.processor / count * 1e6, hole.processor / count * 1e6)
+        calls.add(again.read / count, 0)
+        far.add(apart.processor / count * 1e6, bound.processor / count * 1e6)
+        near.add(small.processor / count / 8 * 1e6, bounds.processor / count / 8 * 1e6)
     return [cached, calls, far, near]
 
 
@@ -382,37 +398,44 @@ def pool_of(folder, blocks):
 def whole(runs, memory, disk):
     """`import`, `audit` and `export` of pools of several sizes, beside the digest of what each reads or writes."""
     sizes = (2048, 16384, 131072)
-    made = []
-    growth = {}
+    made, growth = [], {}
     for blocks in sizes:
-        name = '%d blocks' % blocks
-        opened = row('import, %s: digest and read / zr' % name, 'ms')
-        walked = row('audit, %s: digest and read / zr' % name, 'ms')
-        closed = row('export, %s: digest / zr' % name, 'ms')
+        opened = row('import, %d blocks' % blocks, READ, 'ms')
+        walked = row('audit, %d blocks' % blocks, READ, 'ms')
+        closed = row('export, %d blocks' % blocks, DIGESTED, 'ms')
         with Folder(memory) as folder:
             words = pool_of(folder, blocks)
             for _ in range(runs):
                 with Zr(folder, words) as zr:
-                    cost = zr.do('import')
-                    audited = zr.do('audit')
+                    first, audited = zr.do('import'), zr.do('audit')
                     zr.do('write 1 0 7a')
-                    ended = zr.do('export')
-                units = cost.read // UNIT
-                bound = digest(UNIT, units) + copy(folder, UNIT, units)
-                bound_audit = digest(UNIT, audited.read // UNIT) + copy(folder, UNIT, audited.read // UNIT)
-                bound_end = digest(UNIT, ended.written // UNIT)
-                opened.add(cost.processor * 1e3, bound.processor * 1e3, bound.processor / cost.processor)
-                walked.add(audited.processor * 1e3, bound_audit.processor * 1e3, bound_audit.processor / audited.processor)
-                closed.add(ended.processor * 1e3, bound_end.processor * 1e3, bound_end.processor / ended.processor)
-                growth.setdefault(blocks, []).append((cost.processor / units, audited.processor / units, ended.processor))
+                    last = zr.do('export')
+                opened.add(first.processor * 1e3, bound_read(folder, first).processor * 1e3)
+                walked.add(audited.processor * 1e3, bound_read(folder, audited).processor * 1e3)
+                closed.add(last.processor * 1e3, digest(UNIT, last.written / UNIT).processor * 1e3)
+                growth.setdefault(blocks, []).append((first.processor / blocks, audited.processor / blocks, last.processor))
         made += [opened, walked, closed]
-    for index, (name, most) in enumerate((('import, time a unit read', 2), ('audit, time a unit read', 2), ('export, time', 2))):
-        grown = row('%s: %d / %d blocks' % (name, sizes[-1], sizes[0]), 'us', most=most)
-        small = statistics.median(cost[index] for cost in growth[sizes[0]])
-        large = statistics.median(cost[index] for cost in growth[sizes[-1]])
+    for index, name in enumerate(('import, a block', 'audit, a block', 'export')):
+        grown = row('%s, of %d blocks' % (name, sizes[-1]), 'of %d blocks' % sizes[0], 'us', least=0.5)
+        small, large = (statistics.median(cost[index] for cost in growth[blocks]) for blocks in (sizes[0], sizes[-1]))
         grown.add(large * 1e6, small * 1e6)
         made.append(grown)
     return made
+
+
+def idents(runs, memory, disk):
+    """`audit` of a pool of 200 small objects, whose IDs are the first ones or all over the range."""
+    made = row('audit, 200 IDs to 65535', '200 IDs to 199', 'ms', least=0.5)
+    for _ in range(runs):
+        each = []
+        for step in (1, 329):
+            with Folder(memory) as folder:
+                with Zr(folder, 'a:%d' % (64 * MIB)) as zr:
+                    zr.do('create p 1 a', *[line for k in range(200)
+                                            for line in ('make %d 1' % (step * k), 'write %d 0 7a' % (step * k))], 'sync')
+                    each.append(zr.do('audit').processor * 1e3)
+        made.add(each[1], each[0])
+    return [made]
 
 
 def allocate(runs, memory, disk):
@@ -421,7 +444,7 @@ def allocate(runs, memory, disk):
     allocator = built('zr_bench')
     made = []
     for full, state in ((0, 'empty'), (1, '95% full')):
-        rows = [row('allocate, %s, %s: 64 MiB / it' % (state, name), 'ns', least=0.5) for name, *_ in devices[1:]]
+        rows = [row('allocate, %s, %s' % (name, state), '64 MiB, %s' % state, 'ns', least=0.5) for name, *_ in devices[1:]]
         for _ in range(runs):
             each = []
             for name, units, *rounds in devices:
@@ -429,72 +452,86 @@ def allocate(runs, memory, disk):
                 count, spent = map(int, out.split())
                 each.append(spent / count)
             for line, cost in zip(rows, each[1:]):
-                line.add(cost, each[0], each[0] / cost)
+                line.add(cost, each[0])
         made += rows
     return made
 
 
-def scattered(folder, extents, held):
-    """A pool whose device has at least so many extents of so many held units, in a folder: the words that attach it."""
-    blocks = extents * (held + 1)
-    with Zr(folder, 'a:%d' % device(blocks, 1)) as zr:
+HELD = 10
+ROUNDS = 1000
+
+# The pool of few extents has that many times eleven blocks: enough for an import to fill the cache.
+FEW = 1000
+
+
+def scattered(folder, size, blocks, punched):
+    """Makes a pool of so many blocks of one unit, of which the first of each eleven is punched, so many times."""
+    with Zr(folder, 'a:%d' % size) as zr:
         zr.do('create p 1 a', 'make 1 1', *fills(1, blocks, 1))
-        zr.do(*['punch 1 %d %d' % (UNIT * (held + 1) * k, UNIT) for k in range(extents)])
-        zr.do('export')
-    return 'a'
+        zr.do(*['punch 1 %d %d' % (UNIT * (HELD + 1) * k, UNIT) for k in range(punched)], 'export')
+
+
+# What an open pool holds at rest is read of a process whose C library gives back what is freed; else what an import needed
+# on its way would count.
+def imported(folder, blocks):
+    """Of a pool in a folder: what an import, each of the rounds, a `write` alone and a `drop` cost, and the memory."""
+    with Zr(folder, 'a', env=dict(os.environ, MALLOC_MMAP_THRESHOLD_='65536', MALLOC_TRIM_THRESHOLD_='65536')) as zr:
+        zr.do('import')
+        rest = zr.memory('VmRSS')
+    with Zr(folder, 'a') as zr:
+        opened = zr.do('import')
+        most = zr.memory('VmHWM')
+        rounds, write = rounds_on(zr, blocks), writes_on(zr)
+        dropped = zr.do('drop 1')
+    return opened, rounds, write, dropped, rest, most
 
 
 def commits(runs, memory, disk):
-    """What a commit writes and costs on a pool of many extents, and what memory the pool takes, beside a pool of few."""
-    extents, rounds = (100000, 1000) if LARGE else (10000, 1000)
-    held = 10
-    blocks = extents * (held + 1)
-    name = '%d extents' % extents
-    mean = row('units a commit writes, %s, average' % name, 'units', most=1)
-    median = row('units a commit writes, %s, median' % name, 'units', most=1)
-    cost_row = row('write and sync: few extents / %s' % name, 'us')
-    write_row = row('write alone: few extents / %s' % name, 'us')
-    space = row('memory, bytes an extent, %s' % name, 'bytes', most=1)
+    """What a commit writes, and what work and memory cost on a pool of many extents, beside one of few extents."""
+    blocks, few = EXTENTS * (HELD + 1), FEW * (HELD + 1)
+    name, beside = '%d extents' % EXTENTS, 'of few extents'
+    mean = row('units a commit writes, %s, mean' % name, '64', 'units', least=1)
+    median = row('units a commit writes, %s, median' % name, '32', 'units', least=1)
+    opened = row('import, %s' % name, READ, 'ms')
+    both = row('write and sync, %s' % name, beside, 'us', least=0.5)
+    alone = row('write, %s' % name, beside, 'us', least=0.5)
+    dropped = row('drop, a block, %s' % name, beside, 'us', least=0.5)
+    rest = row('memory of an open pool, an extent', '64', 'bytes', least=1)
+    most = row('memory of an import, an extent', '64', 'bytes', least=1)
     with Folder(memory) as folder:
-        words = 'a:%d' % device(blocks, 1)
-        few = Cost()
-        with Zr(folder, words) as zr:
-            zr.do('create p 1 a', 'make 1 1', *fills(1, 4096, 1), 'sync')
-            few_each = rounds_on(zr, 4096, rounds, held)
-            few_write = writes_on(zr, 4096, held)
-            few_memory = zr.memory()
+        scattered(folder, device(blocks, 1), few, 0)
+        one = imported(folder, few)
     with Folder(memory) as folder:
-        words = scattered(folder, extents, held)
-        with Zr(folder, words) as zr:
-            zr.do('import')
-            many_each = rounds_on(zr, blocks, rounds, held)
-            many_write = writes_on(zr, blocks, held)
-            many_memory = zr.memory()
-    written = [cost.written / UNIT for cost in many_each]
+        scattered(folder, device(blocks, 1), blocks, EXTENTS)
+        many = imported(folder, blocks)
+        bound = bound_read(folder, many[0])
+    written = [cost.written / UNIT for cost in many[1]]
     mean.add(statistics.mean(written), 64)
     median.add(statistics.median(written), 32)
-    few_time = statistics.median(cost.processor for cost in few_each)
-    many_time = statistics.median(cost.processor for cost in many_each)
-    cost_row.add(many_time * 1e6, few_time * 1e6, few_time / many_time)
-    write_row.add(many_write * 1e6, few_write * 1e6, few_write / many_write)
-    space.add((many_memory - few_memory) / extents, 64)
-    return [mean, median, cost_row, write_row, space]
+    opened.add(many[0].processor * 1e3, bound.processor * 1e3)
+    one_time, many_time = (statistics.median(cost.processor for cost in each[1]) for each in (one, many))
+    both.add(many_time * 1e6, one_time * 1e6)
+    alone.add(many[2] * 1e6, one[2] * 1e6)
+    dropped.add(many[3].processor / blocks * 1e6, one[3].processor / few * 1e6)
+    rest.add((many[4] - one[4]) / EXTENTS, 64)
+    most.add((many[5] - one[5]) / EXTENTS, 64)
+    return [mean, median, opened, both, alone, dropped, rest, most]
 
 
-def rounds_on(zr, blocks, rounds, held):
-    """The cost of each of so many rounds: a `write` of a block that stands, anywhere, and a `sync`."""
+def rounds_on(zr, blocks):
+    """The cost of each of the rounds: a `write` of a block that stands, anywhere, and a `sync`."""
     anywhere = random.Random(1)
     each = []
-    for _ in range(rounds):
-        block = anywhere.randrange(blocks // (held + 1)) * (held + 1) + 1 + anywhere.randrange(held)
+    for _ in range(ROUNDS):
+        block = anywhere.randrange(blocks // (HELD + 1)) * (HELD + 1) + 1 + anywhere.randrange(HELD)
         each.append(zr.do('write 1 %d 7a' % (UNIT * block), 'sync'))
     return each
 
 
-def writes_on(zr, blocks, held):
+def writes_on(zr):
     """The processor time of a `write` of a whole block that the open group has."""
     zr.do('sync', 'write 1 %d 7a' % UNIT)
-    lines = ['write 1 %d %s' % (UNIT, '7a' * 4096)] * 200
+    lines = ['write 1 %d %s' % (UNIT, '7a' * UNIT)] * 200
     return zr.do(*lines).processor / len(lines)
 
 
@@ -503,18 +540,15 @@ def writes_on(zr, blocks, held):
 def chart():
     """Each ratio as a bar, `|` where its aim is."""
     wide = 40
-    print('\nthe ratios, a sign for each %g; `|` is the aim' % (2 / wide))
+    print('\nhow much of the bound is reached, a sign for each %g of it; `|` is the aim, `>` goes on' % (2 / wide))
     for made in ROWS:
-        if not made.ratios:
-            continue
         length = min(wide, round(made.ratio() * wide / 2))
         bar = list(('#' * length).ljust(wide + 1))
         if made.ratio() > 2:
             bar[wide] = '>'
-        aim = next((aim for aim in (made.exact, made.least, made.most) if aim is not None), None)
-        if aim is not None:
-            bar[min(wide, round(aim * wide / 2))] = '|'
-        print('%-46s %s %.2f' % (made.name, ''.join(bar), made.ratio()))
+        if made.least is not None:
+            bar[round(made.least * wide / 2)] = '|'
+        print('%-43s %-28s %s %.2f' % (made.name, made.bound, ''.join(bar), made.ratio()))
 
 
 def machine():
@@ -539,27 +573,27 @@ def built(crate):
     return program
 
 
-PARTS = {'fill': fill, 'sync': sync, 'flushes': flushes, 'read': read, 'whole': whole, 'allocate': allocate,
-         'commits': commits}
+PARTS = {'fill': fill, 'sync': sync, 'flushes': flushes, 'read': read, 'whole': whole, 'idents': idents,
+         'allocate': allocate, 'commits': commits}
 
 
 def main():
-    global PROGRAM, DIGEST, LARGE
+    global PROGRAM, DIGEST, EXTENTS
     words = argparse.ArgumentParser(description='Times zr beside its bounds.')
     words.add_argument('--runs', type=int, default=5, help='runs of each row, of which the median counts')
-    words.add_argument('--large', action='store_true', help='a pool of 10^6 units in 10^5 extents; it takes minutes')
+    words.add_argument('--extents', type=int, default=10000, help='extents of the pool of many, of 10 units each')
     words.add_argument('--memory', default='/dev/shm', help='a folder in memory, for device files')
     words.add_argument('--disk', default=None, help='a folder on a disk, for device files')
     words.add_argument('--program', default=None, help='the program, if it is not the one of this repository')
     words.add_argument('parts', nargs='*', help='of ' + ', '.join(PARTS))
     said = words.parse_args()
-    LARGE = said.large
+    EXTENTS = said.extents
     PROGRAM = said.program.split() if said.program else [built('zr_cli')]
     DIGEST = built('zr_digest')
     disk = said.disk or os.path.join(TOP, 'bench', 'out')
     os.makedirs(disk, exist_ok=True)
     print(machine() + '\n')
-    print('%-46s %10s %10s %-14s %8s %-8s' % ('row', 'measured', 'bound', '', 'ratio', 'aim'))
+    print(LINE % ('row', 'bound', 'measured', 'bound', '', 'ratio', 'aim', ''))
     for name in said.parts or PARTS:
         for made in PARTS[name](said.runs, said.memory, disk):
             show(made)
