@@ -223,15 +223,19 @@ class Row:
 
     def line(self):
         return LINE % (self.name, self.bound, number(statistics.median(self.measured)),
-                       number(statistics.median(self.bounds)), self.unit, '%.2f' % self.ratio(),
+                       number(statistics.median(self.bounds)), self.unit, share(self.ratio()),
                        '' if self.least is None else '%g' % self.least, self.verdict())
 
 
-LINE = '%-43s %-28s %9s %9s %-9s %6s %4s %s'
+LINE = '%-46s %-28s %9s %9s %-9s %6s %4s %s'
 
 
 def number(x):
     return '%.0f' % x if x >= 100 else '%.1f' % x if x >= 10 else '%.2f' % x if x >= 0.01 or x == 0 else '%.4f' % x
+
+
+def share(x):
+    return '%.2f' % x if x >= 0.1 else '%.3f' % x
 
 
 ROWS = []
@@ -457,15 +461,17 @@ def allocate(runs, memory, disk):
     return made
 
 
-HELD = 10
+# Of each nine blocks of one unit the first is punched. The commits behind it take some of what is freed for blocks of their
+# own: of six holes about five are left, so that many more are made than extents are wanted.
+HELD = 8
 ROUNDS = 1000
 
-# The pool of few extents has that many times eleven blocks: enough for an import to fill the cache.
-FEW = 1000
+# The pool of few extents has that many times nine blocks: enough for an import to fill the cache.
+FEW = 1200
 
 
 def scattered(folder, size, blocks, punched):
-    """Makes a pool of so many blocks of one unit, of which the first of each eleven is punched, so many times."""
+    """Makes a pool of so many blocks of one unit, of which the first of each nine is punched, so many times."""
     with Zr(folder, 'a:%d' % size) as zr:
         zr.do('create p 1 a', 'make 1 1', *fills(1, blocks, 1))
         zr.do(*['punch 1 %d %d' % (UNIT * (HELD + 1) * k, UNIT) for k in range(punched)], 'export')
@@ -488,11 +494,13 @@ def imported(folder, blocks):
 
 def commits(runs, memory, disk):
     """What a commit writes, and what work and memory cost on a pool of many extents, beside one of few extents."""
-    blocks, few = EXTENTS * (HELD + 1), FEW * (HELD + 1)
+    holes = EXTENTS * 6 // 5
+    blocks, few = holes * (HELD + 1), FEW * (HELD + 1)
     name, beside = '%d extents' % EXTENTS, 'of few extents'
     mean = row('units a commit writes, %s, mean' % name, '64', 'units', least=1)
     median = row('units a commit writes, %s, median' % name, '32', 'units', least=1)
     opened = row('import, %s' % name, READ, 'ms')
+    linear = row('import, a unit read, %s' % name, beside, 'us', least=0.5)
     both = row('write and sync, %s' % name, beside, 'us', least=0.5)
     alone = row('write, %s' % name, beside, 'us', least=0.5)
     dropped = row('drop, a block, %s' % name, beside, 'us', least=0.5)
@@ -502,20 +510,21 @@ def commits(runs, memory, disk):
         scattered(folder, device(blocks, 1), few, 0)
         one = imported(folder, few)
     with Folder(memory) as folder:
-        scattered(folder, device(blocks, 1), blocks, EXTENTS)
+        scattered(folder, device(blocks, 1), blocks, holes)
         many = imported(folder, blocks)
         bound = bound_read(folder, many[0])
     written = [cost.written / UNIT for cost in many[1]]
     mean.add(statistics.mean(written), 64)
     median.add(statistics.median(written), 32)
     opened.add(many[0].processor * 1e3, bound.processor * 1e3)
+    linear.add(*(cost.processor / (cost.read / UNIT) * 1e6 for cost in (many[0], one[0])))
     one_time, many_time = (statistics.median(cost.processor for cost in each[1]) for each in (one, many))
     both.add(many_time * 1e6, one_time * 1e6)
     alone.add(many[2] * 1e6, one[2] * 1e6)
     dropped.add(many[3].processor / blocks * 1e6, one[3].processor / few * 1e6)
     rest.add((many[4] - one[4]) / EXTENTS, 64)
     most.add((many[5] - one[5]) / EXTENTS, 64)
-    return [mean, median, opened, both, alone, dropped, rest, most]
+    return [mean, median, opened, linear, both, alone, dropped, rest, most]
 
 
 def rounds_on(zr, blocks):
@@ -548,7 +557,7 @@ def chart():
             bar[wide] = '>'
         if made.least is not None:
             bar[round(made.least * wide / 2)] = '|'
-        print('%-43s %-28s %s %.2f' % (made.name, made.bound, ''.join(bar), made.ratio()))
+        print('%-46s %-28s %s %s' % (made.name, made.bound, ''.join(bar), share(made.ratio())))
 
 
 def machine():
@@ -581,7 +590,7 @@ def main():
     global PROGRAM, DIGEST, EXTENTS
     words = argparse.ArgumentParser(description='Times zr beside its bounds.')
     words.add_argument('--runs', type=int, default=5, help='runs of each row, of which the median counts')
-    words.add_argument('--extents', type=int, default=10000, help='extents of the pool of many, of 10 units each')
+    words.add_argument('--extents', type=int, default=10000, help='extents of the pool of many, about 10 units each')
     words.add_argument('--memory', default='/dev/shm', help='a folder in memory, for device files')
     words.add_argument('--disk', default=None, help='a folder on a disk, for device files')
     words.add_argument('--program', default=None, help='the program, if it is not the one of this repository')
