@@ -442,6 +442,29 @@ def idents(runs, memory, disk):
     return [made]
 
 
+def spans(runs, memory, disk):
+    """A pool of one small object on devices of 64 MiB, 16 GiB and 128 GiB, of which files only what is written exists."""
+    small, devices = '64 MiB', (('64 MiB', 64 * MIB), ('16 GiB', 16384 * MIB), ('128 GiB', 131072 * MIB))
+    made = [row(name % at, small, unit, least=least) for at, _ in devices[1:]
+            for name, unit, least in (('create, %s', 'ms', None), ('import, %s', 'ms', None),
+                                      ('write and sync, %s', 'us', 0.5), ('memory, %s', 'MiB', 0.5))]
+    for _ in range(runs):
+        each = []
+        for _, size in devices:
+            with Folder(memory) as folder:
+                with Zr(folder, 'a:%d' % size) as zr:
+                    first = zr.do('create p 1 a')
+                    zr.do('make 1 1', *fills(1, 1024, 1), 'export')
+                with Zr(folder, 'a') as zr:
+                    opened = zr.do('import')
+                    again = zr.do(*['write 1 0 7a', 'sync'] * 100)
+                    each.append((first.processor * 1e3, opened.processor * 1e3, again.processor / 100 * 1e6,
+                                 zr.memory('VmHWM') / MIB))
+        for index, line in enumerate(made):
+            line.add(each[1 + index // 4][index % 4], each[0][index % 4])
+    return made
+
+
 def allocate(runs, memory, disk):
     """One unit after another from the allocator, on devices of 64 MiB, 16 GiB and 128 GiB."""
     devices = (('64 MiB', 15232, 200, 2000), ('16 GiB', 4193152, 1, 8), ('128 GiB', 33553280, 1, 1))
@@ -583,7 +606,7 @@ def built(crate):
 
 
 PARTS = {'fill': fill, 'sync': sync, 'flushes': flushes, 'read': read, 'whole': whole, 'idents': idents,
-         'allocate': allocate, 'commits': commits}
+         'spans': spans, 'allocate': allocate, 'commits': commits}
 
 
 def main():
