@@ -412,7 +412,7 @@ def whole(runs, memory, disk):
             for _ in range(runs):
                 with Zr(folder, words) as zr:
                     first, audited = zr.do('import'), zr.do('audit')
-                    zr.do('write 1 0 7a')
+                    zr.do('write 1 0 7a', 'sync', 'write 1 0 7a')
                     last = zr.do('export')
                 opened.add(first.processor * 1e3, bound_read(folder, first).processor * 1e3)
                 walked.add(audited.processor * 1e3, bound_read(folder, audited).processor * 1e3)
