@@ -500,10 +500,12 @@ def scattered(folder, size, blocks, punched):
         zr.do(*['punch 1 %d %d' % (UNIT * (HELD + 1) * k, UNIT) for k in range(punched)], 'export')
 
 
-# What an open pool holds at rest is read of a process whose C library gives back what is freed; else what an import needed
-# on its way would count.
 def imported(folder, blocks):
-    """Of a pool in a folder: what an import, each of the rounds, a `write` alone and a `drop` cost, and the memory."""
+    """Of a pool in a folder: what an import, each of the rounds, a `write` alone and a `drop` cost, and the memory.
+
+    What an open pool holds at rest is read of a process whose C library gives back what is freed; else what an import
+    needed on its way would count.
+    """
     with Zr(folder, 'a', env=dict(os.environ, MALLOC_MMAP_THRESHOLD_='65536', MALLOC_TRIM_THRESHOLD_='65536')) as zr:
         zr.do('import')
         rest = zr.memory('VmRSS')
