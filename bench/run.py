@@ -3,8 +3,9 @@
 
 A bound is what the work cannot do without: the digest of the bytes that it has to digest, in the program's own code; the
 flushes that make it last; or the same work on a smaller pool. What is told is how much of the bound is reached: 1 is the
-bound, less is slower, and a slow machine does not change it much. What waits for no disk runs on device files in memory and is told in processor time; what waits for flushes runs on
-device files on a disk and is told in time by the clock. Each row is the median of several runs.
+bound, less is slower, and a slow machine does not change it much. What waits for no disk runs on device files in memory, and
+is told in processor time; what waits for flushes runs on device files on a disk, and is told in time by the clock. Each row
+is the median of several runs.
 
     bench/run.py [--runs N] [--extents N] [--disk FOLDER] [--memory FOLDER] [PART..]
 """
@@ -46,10 +47,10 @@ class Cost:
         return Cost(self.clock * times, self.processor * times, self.read * times, self.written * times)
 
 
-def run_alone(words, **more):
+def run_alone(words):
     """The cost of another program, from its start to its end, and what it printed."""
     begin = time.perf_counter()
-    child = subprocess.Popen(words, stdout=subprocess.PIPE, stderr=subprocess.DEVNULL, **more)
+    child = subprocess.Popen(words, stdout=subprocess.PIPE, stderr=subprocess.DEVNULL)
     out = child.stdout.read()
     _, status, usage = os.wait4(child.pid, 0)
     child.returncode = os.waitstatus_to_exitcode(status)
