@@ -1,5 +1,5 @@
 -- Lines as steps of plain objects.
-use Rattle.std.proofs.Common.{◌≡◌, ◌∙◌, ℕ, List, length, replicate, true, false, Option, Some, None, refl, sym, ap, subst}
+use Rattle.std.proofs.Common.{◌≡◌, ◌∙◌, ℕ, zero, List, length, replicate, true, false, Option, Some, None, refl, sym, ap, subst}
 use Rattle.std.specs.Prelude.{unwrap_or, option_map, Bool}
 use Rattle.std.specs.FinMap as map
 use Rattle.std.proofs.lemmas.List.{length-replicate}
@@ -8,12 +8,16 @@ use Rattle.zr_base.specs.declared.refusal.Refusal.TheVariants as refusal
 use Rattle.zr_script.specs.declared.command.Command.{Command}
 use Rattle.zr_script.specs.declared.command.Command.TheVariants as cmd
 use Rattle.zr_script.specs.declared.reply.Reply.TheVariants as reply
+use Rattle.zr_script.specs.declared.reply.ListLine.{ListLine}
+use Rattle.zr_script.specs.declared.reply.StatusLines.{StatusLines}
+use Rattle.zr_script.specs.declared.reply.AuditLine.{AuditLine}
 use Rattle.zr_model.specs.Objects.{Object, Objects, blank, with_bytes, reads_lost, changes_lost, has_lost}
 use Rattle.zr_model.specs.State.{PoolState, with_objects}
 use Rattle.zr_moves.specs.Answers.{needs_lost, of_object}
+use Rattle.zr_change.specs.declared.ranges.Edit.{Edit}
 use Rattle.zr_held.specs.Steps.{IsObjectOf}
 use Rattle.zr_objects.specs.Reads.{IsReadOf}
-use Rattle.zr_pool.specs.Plain.{IsMissing, IsBeyond, IsThere, IsPlainRefusal, IsPlainOn}
+use Rattle.zr_pool.specs.Plain.{IsMissing, IsBeyond, IsThere, IsPlainRefusal, IsPlainOn, IsPlainOf}
 
 pub plain_refusal : (objects : Objects) (command : Command) (r : Refusal) → (r ≡ refusal.NoSuchObject → IsMissing objects command) → (r ≡ refusal.OutOfRange → IsBeyond objects command) → (r ≡ refusal.ObjectExists → IsThere objects command)
     → IsPlainRefusal objects command r
@@ -23,7 +27,14 @@ plain_refusal objects command refusal.ObjectExists a b c = c refl
 plain_refusal objects command r a b c = tt
 
 tested : (p : PoolState) (id : ℕ) (o : Object) (test : Object → Bool) → map.get p.objects id ≡ Some o → test o ≡ false → of_object p id test ≡ false
-tested p id o test found no = ap (λ (x : Option Object). unwrap_or (option_map test x) false) found ∙ no
+tested p id o test found fails = ap (λ (x : Option Object). unwrap_or (option_map test x) false) found ∙ fails
+
+-- the object has these bytes from now on, and no lost block was changed in part
+pub record IsChangedBy (Holds : Objects → Type 0) (p : PoolState) (id off : ℕ) (bytes : List ℕ) : Type 0 where
+  pub o : Object
+  pub found : map.get p.objects id ≡ Some o
+  pub whole : changes_lost o off (length bytes) ≡ false
+  pub holds : Holds (map.insert p.objects id (with_bytes o off bytes))
 
 module _ (Holds : Objects → Type 0) (p : PoolState) where
   pub made_on : (id units : ℕ) → Holds (map.insert p.objects id (blank units)) → IsPlainOn Holds p (cmd.Make id units) reply.Done
@@ -38,19 +49,36 @@ module _ (Holds : Objects → Type 0) (p : PoolState) where
   pub sum_on : (id : ℕ) (sum : List ℕ) → IsObjectOf p.objects id (λ o. has_lost o ≡ false) → Holds p.objects → IsPlainOn Holds p (cmd.Sum id) (reply.Sum sum)
   sum_on id sum o h = record { after = p; holds = h; turn = (refl, o) }
 
-  pub written_on : (id off : ℕ) (bytes : List ℕ) (In : Object → Type 0) → IsObjectOf p.objects id (λ o. In o × (changes_lost o off (length bytes) ≡ false) × Holds (map.insert p.objects id (with_bytes o off bytes))) → IsPlainOn Holds p (cmd.Write id off bytes) reply.Done
-  written_on id off bytes In o =
-      let q = with_objects p (map.insert p.objects id (with_bytes o.0 off bytes)) in
-      record { after = q; holds = o.2.2; turn = (q, (o.0, o.1, refl), tested p id o.0 (λ x. changes_lost x off (length bytes)) o.1 o.2.1, refl) }
+  pub written_on : (id off : ℕ) (bytes : List ℕ) → IsChangedBy Holds p id off bytes → IsPlainOn Holds p (cmd.Write id off bytes) reply.Done
+  written_on id off bytes c = record { after = (with_objects p (map.insert p.objects id (with_bytes c.o off bytes))); holds = c.holds; turn = ((with_objects p (map.insert p.objects id (with_bytes c.o off bytes))), (c.o, c.found, refl), tested p id c.o (λ x. changes_lost x off (length bytes)) c.found c.whole, refl) }
 
-  pub filled_on : (id off len byte : ℕ) (In : Object → Type 0) → IsObjectOf p.objects id (λ o. In o × (changes_lost o off (length (replicate len byte)) ≡ false) × Holds (map.insert p.objects id (with_bytes o off (replicate len byte)))) → IsPlainOn Holds p (cmd.Fill id off len byte) reply.Done
-  filled_on id off len byte In o =
-      let q = with_objects p (map.insert p.objects id (with_bytes o.0 off (replicate len byte))) in
-      let whole = subst (λ (n : ℕ). changes_lost o.0 off n ≡ false) (length-replicate len byte) o.2.1 in
-      record { after = q; holds = o.2.2; turn = (q, (o.0, o.1, refl), tested p id o.0 (λ x. changes_lost x off len) o.1 whole, refl) }
+  pub filled_on : (id off len byte : ℕ) → IsChangedBy Holds p id off (replicate len byte) → IsPlainOn Holds p (cmd.Fill id off len byte) reply.Done
+  filled_on id off len byte c =
+      let whole = subst (λ (n : ℕ). changes_lost c.o off n ≡ false) (length-replicate len byte) c.whole in
+      record { after = (with_objects p (map.insert p.objects id (with_bytes c.o off (replicate len byte)))); holds = c.holds; turn = ((with_objects p (map.insert p.objects id (with_bytes c.o off (replicate len byte)))), (c.o, c.found, refl), tested p id c.o (λ x. changes_lost x off len) c.found whole, refl) }
 
-  pub punched_on : (id off len : ℕ) (In : Object → Type 0) → IsObjectOf p.objects id (λ o. In o × (changes_lost o off (length (replicate len 0)) ≡ false) × Holds (map.insert p.objects id (with_bytes o off (replicate len 0)))) → IsPlainOn Holds p (cmd.Punch id off len) reply.Done
-  punched_on id off len In o =
-      let q = with_objects p (map.insert p.objects id (with_bytes o.0 off (replicate len 0))) in
-      let whole = subst (λ (n : ℕ). changes_lost o.0 off n ≡ false) (length-replicate len 0) o.2.1 in
-      record { after = q; holds = o.2.2; turn = (q, (o.0, o.1, refl), tested p id o.0 (λ x. changes_lost x off len) o.1 whole, refl) }
+  pub punched_on : (id off len : ℕ) → IsChangedBy Holds p id off (replicate len zero) → IsPlainOn Holds p (cmd.Punch id off len) reply.Done
+  punched_on id off len c =
+      let whole = subst (λ (n : ℕ). changes_lost c.o off n ≡ false) (length-replicate len zero) c.whole in
+      record { after = (with_objects p (map.insert p.objects id (with_bytes c.o off (replicate len zero)))); holds = c.holds; turn = ((with_objects p (map.insert p.objects id (with_bytes c.o off (replicate len zero)))), (c.o, c.found, refl), tested p id c.o (λ x. changes_lost x off len) c.found whole, refl) }
+
+  pub changed_by : (id off : ℕ) (bytes : List ℕ) (e : Edit) (In : Object → Type 0) → e.off ≡ off
+      → IsObjectOf p.objects id (λ o. In o × (changes_lost o e.off (length bytes) ≡ false) × Holds (map.insert p.objects id (with_bytes o e.off bytes))) → IsChangedBy Holds p id off bytes
+  changed_by id off bytes e In at h = record {
+    o = h.0;
+    found = h.1;
+    whole = subst (λ (n : ℕ). changes_lost h.0 n (length bytes) ≡ false) at h.2.1;
+    holds = subst (λ (n : ℕ). Holds (map.insert p.objects id (with_bytes h.0 n bytes))) at h.2.2;
+  }
+
+  pub synced_as : (command : Command) (txg : ℕ) → command ≡ cmd.Sync → Holds p.objects → IsPlainOf Holds p command (reply.Synced txg)
+  synced_as command txg is h = subst (λ (k : Command). IsPlainOf Holds p k (reply.Synced txg)) (sym is) (record { after = p; holds = h; turn = (p, refl, refl, refl) })
+
+  pub listed_as : (command : Command) (lines : List ListLine) → command ≡ cmd.List → Holds p.objects → IsPlainOf Holds p command (reply.List lines)
+  listed_as command lines is h = subst (λ (k : Command). IsPlainOf Holds p k (reply.List lines)) (sym is) (record { after = p; holds = h; turn = (p, refl, refl, refl) })
+
+  pub status_as : (command : Command) (lines : StatusLines) → command ≡ cmd.Status → Holds p.objects → IsPlainOf Holds p command (reply.Status lines)
+  status_as command lines is h = subst (λ (k : Command). IsPlainOf Holds p k (reply.Status lines)) (sym is) (record { after = p; holds = h; turn = (p, refl, refl, refl) })
+
+  pub audited_as : (command : Command) (lines : List AuditLine) → command ≡ cmd.Audit → Holds p.objects → IsPlainOf Holds p command (reply.Audit lines)
+  audited_as command lines is h = subst (λ (k : Command). IsPlainOf Holds p k (reply.Audit lines)) (sym is) (record { after = p; holds = h; turn = (p, refl, refl, refl) })

@@ -2,3 +2,5 @@ pub mod Outside
 pub mod Grammar
 pub mod Refused
 pub mod Acting
+pub mod Staying
+pub mod Turning

@@ -67,8 +67,8 @@ exported p = record { is_open = false; shelf = Is p }
 -- What a line makes of the objects of an open pool. Of those behind an added device nothing is told yet, and nothing of a sum.
 abbrev pub IsPlainTurn : PoolState → Command → Reply → State → Type 0
 IsPlainTurn p command (reply.No r) new = (new ≡ opened p) × IsPlainRefusal p.objects command r
-IsPlainTurn p cmd.Export answer new = new ≡ exported p
-IsPlainTurn p (cmd.Add dev) answer new = new ≡ untold
+IsPlainTurn p cmd.Export reply.Done new = new ≡ exported p
+IsPlainTurn p (cmd.Add dev) reply.Done new = new ≡ untold
 IsPlainTurn p (cmd.Sum id) answer new = (new ≡ opened p) × IsObjectOf p.objects id (λ o. has_lost o ≡ false)
 IsPlainTurn p command answer new = (q : PoolState) × Acts p command answer q × (needs_lost p command ≡ false) × (new ≡ opened q)
 
@@ -92,6 +92,11 @@ pub record IsPlainOn (Holds : Objects → Type 0) (p : PoolState) (command : Com
 
 -- so was each line but an export and an added device, of whose objects nothing is to be held
 abbrev pub IsPlainOf : (Objects → Type 0) → PoolState → Command → Reply → Type 0
-IsPlainOf Holds p cmd.Export answer = Unit {0}
-IsPlainOf Holds p (cmd.Add dev) answer = Unit {0}
+IsPlainOf Holds p cmd.Export reply.Done = Unit {0}
+IsPlainOf Holds p (cmd.Add dev) reply.Done = Unit {0}
 IsPlainOf Holds p command answer = IsPlainOn Holds p command answer
+
+-- a pool that was made holds no objects
+abbrev pub IsMade : (Objects → Type 0) → Command → Type 0
+IsMade Holds (cmd.Create name guid devs) = Holds map.empty
+IsMade Holds command = Unit {0}

@@ -1,8 +1,8 @@
 //! The lines of an open pool, each with its call.
-ghost use Rattle.std.specs.Prelude.{◌≡◌, ◌≤◌, ℕ, List, true, false, IfOk, IsErrOf, OnOk, length};
+ghost use Rattle.std.specs.Prelude.{◌≡◌, ◌≤◌, ℕ, List, true, false, IfOk, IsErrOf, OnOk, length, slice_index};
 ghost use Rattle.zr_base.specs.Counts.{HasRisen};
 ghost use Rattle.zr_base.specs.declared.refusal.Refusal.{Refusal};
-ghost use Rattle.zr_change.specs.Edits.{HasLength};
+ghost use Rattle.zr_change.specs.Edits.{HasLength, byte_put};
 ghost use Rattle.zr_script.specs.Grammar.{IsLine};
 ghost use Rattle.zr_shelf.specs.Counts.{NoneFell};
 ghost use Rattle.zr_sync.specs.Pools.{IsOpen};
@@ -117,7 +117,9 @@ pub fn object_line<S: Shelf>(
 // These bytes from an offset on.
 fn given(off: u64, bytes: &[u8]) -> Edit<'_>
     ensures given { HasLength result.len result.bytes }
+    ensures off { result.off ≡ off }
     ensures len { result.len ≡ length bytes.now }
+    ensures puts { (k : ℕ) → byte_put result.bytes k ≡ slice_index bytes.now k }
 {
     Edit {
         off,
@@ -128,7 +130,10 @@ fn given(off: u64, bytes: &[u8]) -> Edit<'_>
 
 // Copies of one byte.
 fn filled(off: u64, len: u64, byte: u8) -> Edit<'static>
-    ensures { HasLength result.len result.bytes }
+    ensures given { HasLength result.len result.bytes }
+    ensures off { result.off ≡ off }
+    ensures len { result.len ≡ len }
+    ensures puts { (k : ℕ) → byte_put result.bytes k ≡ byte }
 {
     Edit {
         off,
