@@ -34,8 +34,7 @@ gone_of t3 d3 x y z objects id blocks (Ok done) low dir group next h are now set
     let found = subst (λ (t : Tree). record_now n t y.group id ≡ Some r) (sym dir) (subst (λ (g : Changes). record_now n x.dir g id ≡ Some r) (sym group) found_x) in
     let blocks_are = subst (λ (g : Changes). AreObjectBlocks n g id r blocks) (sym group) (blocks_again h.stored n (account_of x) objects id r now.is h.has are.found blocks are.blocks_are) in
     let went = gives n now.held (drop_stored n (account_of y) objects id r blocks here found blocks_are) in
-    let o = object_of n (account_of y) objects id r here found in
-    (
+    let o = object_of n (account_of y) objects id r here found in (
       o.0,
       o.1,
       record {

@@ -15,8 +15,7 @@ module _ {told : Type 0} {disks : List (List ℕ)} (x : OpenPool) (objects : Obj
   pub bytes_of_object : (off len : ℕ) (bytes : List ℕ) → AreBytesOf h.stored x.dir x.group id off len bytes → IsObjectOf objects id (IsReadOf off len bytes)
   bytes_of_object off len bytes are =
       let r = are.object in
-      let o = object_of h.stored (account_of x) objects id r h.has are.found in
-      (
+      let o = object_of h.stored (account_of x) objects id r h.has are.found in (
         o.0,
         o.1,
         record {
