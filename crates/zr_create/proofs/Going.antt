@@ -9,7 +9,7 @@ use Rattle.zr_view.specs.Views.{slot_of}
 use Rattle.zr_sync.specs.declared.open.OpenPool.{OpenPool}
 use Rattle.zr_sync.specs.declared.open.Table.{Table}
 use Rattle.zr_sync.specs.Pools.{IsPool, IsOpen}
-use Rattle.zr_create.specs.Devices.{new_row, TakesOn, IsDeviceIn, KeepsIdentity}
+use Rattle.zr_create.specs.Devices.{new_row, TakesOn, IsDeviceIn, KeepsRest}
 use Rattle.zr_create.specs.Names.{AreApart}
 use Rattle.zr_create.proofs.Taken.{IsFree, at_new, at_other}
 
@@ -79,15 +79,15 @@ next_free named i x apart lt only d at =
     let k = own.1 in
     omega (arith, same, k)
 
-module _ (sizes named : List ℕ) (i slot units : ℕ) (x y z : OpenPool) (o : IsPool 0 sizes y) (few : y.table.count < 32) (count : y.table.count ≡ i) (named_is : slice_index named i ≡ slot) (units_are : units_of_size (slice_index sizes slot) y.version ≡ Some units) (same : KeepsIdentity x y) (took : TakesOn slot units y z) where
+module _ (sizes named : List ℕ) (i slot units : ℕ) (x y z : OpenPool) (o : IsPool 0 sizes y) (few : y.table.count < 32) (count : y.table.count ≡ i) (named_is : slice_index named i ≡ slot) (units_are : units_of_size (slice_index sizes slot) y.version ≡ Some units) (same : KeepsRest x y) (took : TakesOn slot units y z) where
   room : y.table.count < length y.table.slots
   room = let n = o.slots in omega (arith, few, n)
 
   row_room : y.table.count < length y.table.rows
   row_room = let n = o.table.size in omega (arith, few, n)
 
-  pub same_more : KeepsIdentity x z
-  same_more = record { name = took.name ∙ same.name; guid = took.guid ∙ same.guid; version = took.version ∙ same.version; group = took.group ∙ same.group; last = took.last ∙ same.last }
+  pub same_more : KeepsRest x z
+  same_more = record { name = took.name ∙ same.name; guid = took.guid ∙ same.guid; version = took.version ∙ same.version; group = took.group ∙ same.group; last = took.last ∙ same.last; cache = took.cache ∙ same.cache; dir = took.dir ∙ same.dir; head = took.head ∙ same.head }
 
   pub count_more : z.table.count ≡ i + 1
   count_more = ap (λ (t : Table). t.count) took.table ∙ ap (λ (n : ℕ). n + 1) count

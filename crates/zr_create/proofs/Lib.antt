@@ -4,3 +4,4 @@ pub mod Rows
 pub mod Taken
 pub mod Going
 pub mod Checking
+pub mod Nothing

@@ -1,5 +1,7 @@
 -- Pools that have just been made.
 use Rattle.std.specs.Prelude.{◌≡◌, ℕ, false, [], Option, None, IsSomeAnd}
+use Rattle.zr_cache.specs.Entries.{entries}
+use Rattle.zr_held.specs.Steps.{no_tree}
 use Rattle.zr_label.specs.declared.root.Name.{Name}
 use Rattle.zr_label.specs.declared.root.Uber.{Uber}
 use Rattle.zr_rules.specs.Roles.{is_deferred_role}
@@ -14,7 +16,7 @@ pub record IsNamed (name : Name) (guid version : ℕ) (pool : OpenPool) : Type 0
   pub guid_is : pool.guid ≡ guid
   pub version_is : pool.version ≡ version
 
--- a pool without devices, whose first group is open and has changed nothing
+-- a pool without devices and without a directory, whose first group is open and has changed nothing, and of which no block is cached
 pub record IsBlank (pool : OpenPool) : Type 0 where
   pub count : pool.table.count ≡ 0
   pub slots : (d : ℕ) → slot_of pool.table.slots d ≡ None
@@ -22,6 +24,8 @@ pub record IsBlank (pool : OpenPool) : Type 0 where
   pub last : pool.last ≡ None
   pub txg : pool.group.txg ≡ 1
   pub objects : pool.group.objects ≡ []
+  pub dir : pool.dir ≡ no_tree
+  pub cache : entries pool.cache ≡ []
 
 -- the last root is of this group, which was a reset
 abbrev pub IsResetAt : ℕ → Option Uber → Type 0

@@ -22,7 +22,7 @@ with_device t slot row = record { count = t.count + 1; rows = slice_set t.rows t
 abbrev pub next_label : OpenPool → ℕ → Label
 next_label pool units = record { guid = pool.guid; index = pool.table.count; added = pool.group.txg; units = units; name = pool.name }
 
--- The open group has added a device with so many units, which is in this slot. All else is the same but the cache and the streams.
+-- The open group has added a device with so many units, which is in this slot. All else is the same but the streams.
 pub record TakesOn (slot units : ℕ) (old new : OpenPool) : Type 0 where
   pub name : new.name ≡ old.name
   pub guid : new.guid ≡ old.guid
@@ -31,6 +31,9 @@ pub record TakesOn (slot units : ℕ) (old new : OpenPool) : Type 0 where
   pub space : steps.AddsDevice old.space new.space units old.group.txg
   pub group : new.group ≡ old.group
   pub last : new.last ≡ old.last
+  pub cache : new.cache ≡ old.cache
+  pub dir : new.dir ≡ old.dir
+  pub head : new.head ≡ old.head
 
 -- The device is in this slot and in service, with the units of its disk, and the group added it.
 pub record IsDeviceIn (sizes : List ℕ) (txg : ℕ) (pool : OpenPool) (index slot : ℕ) : Type 0 where
@@ -53,13 +56,16 @@ pub record Grows (sizes : List ℕ) (slot : ℕ) (old new : OpenPool) : Type 0 w
   pub units_are : units_of_size (slice_index sizes slot) old.version ≡ Some units
   pub table : new.table ≡ with_device old.table slot (new_row units (old.group.txg + 1))
 
--- the name, the identity, the open group and the last root are the same
-pub record KeepsIdentity (old new : OpenPool) : Type 0 where
+-- all is the same but the devices
+pub record KeepsRest (old new : OpenPool) : Type 0 where
   pub name : new.name ≡ old.name
   pub guid : new.guid ≡ old.guid
   pub version : new.version ≡ old.version
   pub group : new.group ≡ old.group
   pub last : new.last ≡ old.last
+  pub cache : new.cache ≡ old.cache
+  pub dir : new.dir ≡ old.dir
+  pub head : new.head ≡ old.head
 
 -- each of these slots has a disk that a pool of the version can have
 abbrev pub HaveDisks : List ℕ → ℕ → List ℕ → Type 0

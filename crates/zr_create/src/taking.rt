@@ -13,7 +13,7 @@ ghost use Rattle.zr_sync.specs.Writes.{WorksOnDisks};
 ghost use Rattle.zr_sync.specs.declared.stop.Stop.TheVariants.{DiskFault};
 ghost use Rattle.zr_view.specs.Views.{slot_of};
 ghost use Rattle.zr_create.specs.Blank.{IsBlank};
-ghost use Rattle.zr_create.specs.Devices.{TakesOn, HasDevicesIn, HaveDisks, KeepsIdentity, next_label, with_device};
+ghost use Rattle.zr_create.specs.Devices.{TakesOn, HasDevicesIn, HaveDisks, KeepsRest, next_label, with_device};
 ghost use Rattle.zr_create.specs.Names.{AreApart};
 
 use std::alloc::Global;
@@ -124,7 +124,7 @@ pub fn take_all<S: Shelf>(
     ensures fault { IsErrOf result DiskFault → HasRisen (S.counts shelf.old).disk (S.counts shelf.new).disk }
     ensures pool { OnOk result (IsPool 0 (S.sizes shelf.new) pool.new) }
     ensures devices { OnOk result (HasDevicesIn (S.sizes shelf.old) pool.old.group.txg named.now pool.new) }
-    ensures same { OnOk result (KeepsIdentity pool.old pool.new) }
+    ensures same { OnOk result (KeepsRest pool.old pool.new) }
 {
     for i in 0..named.len() {
         let slot = named[i];

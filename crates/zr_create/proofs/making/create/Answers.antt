@@ -1,7 +1,11 @@
-use Rattle.std.proofs.Common.{ℕ, List, subst, sym}
+use Rattle.std.proofs.Common.{ℕ, List, subst, sym, ◌∙◌, ap}
+use Rattle.std.specs.FinMap as map
+use Rattle.zr_cache.specs.Entries.{entries}
+use Rattle.zr_txg.specs.declared.group.Group.{Group}
 use Rattle.zr_create.specs.Devices.{HaveDisks}
 use Rattle.zr_sync.proofs.Disks.{works_more, works_still}
 use Rattle.zr_create.proofs.Checking.{new_disks}
+use Rattle.zr_create.proofs.Nothing.{none_held}
 use Rattle.zr_create.proofs.making.create.Goals as goal
 
 pub returns-in_err-check_new-clause-disks : goal.returns-in_err-check_new-clause-disks
@@ -46,3 +50,13 @@ returns-clause-disks g c = λ t.
     let w2 = g.S.Shelf.world c.take_all.new.shelf in
     let w3 = g.S.Shelf.world c.commit.new.shelf in
     works_more w0 w1 w3 (works_still w0 w1 (c.check_new.ensures.still t)) (works_more w1 w2 w3 (c.take_all.ensures.disks told) (c.commit.ensures.disks told2))
+
+pub returns-clause-objects : goal.returns-clause-objects
+returns-clause-objects g c = λ t.
+    let told = c.take_all.ensures.told (c.check_new.ensures.told t) in
+    let before = c.take_all.new.pool in
+    let blank = c.in_ok-pool.ensures.blank in
+    let same = c.in_ok-take_all.ensures.same in
+    c.in_ok-commit.ensures.stays map.empty
+    (none_held (g.S.Shelf.tells c.take_all.new.shelf) (g.S.Shelf.world c.take_all.new.shelf).now.seen before told c.in_ok-take_all.ensures.pool.service (same.dir ∙ blank.dir) (ap (λ (x : Group). x.objects) same.group ∙ blank.objects)
+    (ap entries same.cache ∙ blank.cache))

@@ -4,7 +4,7 @@ use Rattle.zr_shelf.specs.Counts.{NoneFell}
 use Rattle.zr_view.specs.Views.{slot_of}
 use Rattle.zr_sync.specs.Pools.{IsPool}
 use Rattle.zr_sync.specs.Writes.{WorksOnDisks}
-use Rattle.zr_create.specs.Devices.{IsDeviceIn, KeepsIdentity}
+use Rattle.zr_create.specs.Devices.{IsDeviceIn, KeepsRest}
 use Rattle.zr_create.proofs.taking.take_all.Given as goal
 
 abbrev pub invariant-loop-i : goal.invariant-loop-i
@@ -14,7 +14,7 @@ invariant-loop-i g l = record {
   told : g.S.Shelf.tells l.fn.shelf → g.S.Shelf.tells l.shelf;
   disks : g.S.Shelf.tells l.fn.shelf → WorksOnDisks (g.S.Shelf.world l.fn.shelf) (g.S.Shelf.world l.shelf);
   pool : IsPool 0 (g.S.Shelf.sizes l.shelf) l.pool;
-  same : KeepsIdentity l.fn.pool l.pool;
+  same : KeepsRest l.fn.pool l.pool;
   count : l.pool.table.count ≡ l.i;
   each : (k : ℕ) → k < l.i → IsDeviceIn (g.S.Shelf.sizes l.fn.shelf) l.fn.pool.group.txg l.pool k (slice_index l.named k);
   only : (d slot : ℕ) → slot_of l.pool.table.slots d ≡ Some slot → (k : ℕ) × (k < l.i) × (slice_index l.named k ≡ slot);

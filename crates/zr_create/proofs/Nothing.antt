@@ -1,0 +1,42 @@
+-- A pool that has nothing yet holds no objects.
+use Rattle.std.proofs.Common.{◌≡◌, ℕ, List, [], Option, None, Some, subst, arith}
+use Rattle.std.specs.Prelude.{Contains}
+use Rattle.std.specs.FinMap as map
+use Rattle.std.proofs.lemmas.List.Elements.{All-nil}
+use Rattle.zr_base.specs.declared.space.Dva.{Dva}
+use Rattle.zr_bptr.specs.declared.Bptr.{Bptr}
+use Rattle.zr_cache.specs.declared.table.Cache.{Cache}
+use Rattle.zr_cache.specs.Entries.{entries}
+use Rattle.zr_cache.specs.Sums.{Entry}
+use Rattle.zr_held.proofs.Empty as held
+use Rattle.zr_held.specs.Steps.{no_tree}
+use Rattle.zr_rules.specs.Equation.{devices_in}
+use Rattle.zr_rules.specs.Space.{Space}
+use Rattle.zr_space.specs.Paths.{AreInService}
+use Rattle.zr_store.specs.Store.{Stored}
+use Rattle.zr_sync.specs.Objects.{HoldsObjects, account_of}
+use Rattle.zr_sync.specs.declared.open.OpenPool.{OpenPool}
+use Rattle.zr_vdev.proofs.Moves.{bytes_now, holds_these}
+use Rattle.zr_vdev.specs.Caches.{AreRead}
+use Rattle.zr_vdev.specs.Stores.{IsStoredAt}
+use Rattle.zr_vdev.specs.declared.kind.Kind.TheVariants.{Block}
+
+-- what is true of all that is cached, where nothing is
+pub nothing_cached : (disks : List (List ℕ)) (slots : List (Option ℕ)) (s : Space) (c : Cache) → entries c ≡ [] → AreRead disks slots s c
+nothing_cached disks slots s c none e has =
+    let at : Contains [] e = subst (λ (es : List Entry). Contains es e) none has in
+    let lt = at.1 in
+    absurd (omega (arith, lt))
+
+none_lost : (at : Dva) → None ≡ Some at → ⊥
+none_lost at is = cc
+
+pub none_held : (tells : Type 0) (disks : List (List ℕ)) (pool : OpenPool) → tells → AreInService (devices_in pool.space) → pool.dir ≡ no_tree → pool.group.objects ≡ [] → entries pool.cache ≡ [] → HoldsObjects tells disks pool map.empty
+none_held tells disks pool told service dir objects cache =
+    let blocks = holds_these Block pool.table.slots tells disks pool.space None pool.cache service [] told (nothing_cached disks pool.table.slots pool.space pool.cache cache) (λ at is. absurd (none_lost at is)) (All-nil (λ (b : Bptr). IsStoredAt Block pool.space None b.at)) (λ d u. omega arith) in
+    let none : Stored = record { pointers = []; bytes = bytes_now Block pool.table.slots disks pool.space None } in
+    record {
+      stored = none;
+      held = blocks;
+      has = held.none_held none (account_of pool) dir objects blocks.alone;
+    }
