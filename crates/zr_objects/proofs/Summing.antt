@@ -1,10 +1,9 @@
 -- The sum of an object's leaves is the sum of the object: both go over the blocks with a byte that is not 0, by rising index.
-use Rattle.std.proofs.Common.{◌≡◌, ◌≢◌, ◌∙◌, ◌<◌, ◌≤◌, ◌+◌, ◌*◌, ◌/◌, ◌%◌, ℕ, zero, suc, List, [], ◌∷◌, ◌++◌, map, length, get_or, replicate, Option, Some, None, Bool, true, false, refl, sym, ap, subst, arith, ⊎_elim}
+use Rattle.std.proofs.Common.{◌≡◌, ◌≢◌, ◌∙◌, ◌<◌, ◌≤◌, ◌+◌, ◌*◌, ◌/◌, ◌%◌, ℕ, zero, suc, List, ◌++◌, map, get_or, replicate, Option, Some, None, Bool, true, false, refl, sym, ap, subst, arith, ⊎_elim}
 use Rattle.std.specs.Prelude.{not, ◌==◌, unwrap_or, is_some}
 use Rattle.std.specs.Option.{option_map}
-use Rattle.std.specs.List.{list_any, flat_map}
+use Rattle.std.specs.List.{flat_map}
 use Rattle.std.specs.FinMap as fin
-use Rattle.std.specs.Ordering.{nat_cmp, eq_by_cmp}
 use Rattle.std.proofs.Math.Nat.{div-add-mod, mod-lt, mul-le-mul_left}
 use Rattle.std.proofs.lemmas.Bool.{ne_eqb, cases_lt}
 use Rattle.std.proofs.lemmas.List.Folds.{Any-from_list_any, list_any_at}
@@ -68,13 +67,20 @@ mark_of : {V : Type 0} (found : Option V) → is_some found ≡ true → option_
 mark_of None there = absurd (cc)
 mark_of (Some v) there = refl
 
-module _ (bytes : Bytes) (nonzero : (at : ℕ) → fin.get bytes at ≢ Some 0) (size : ℕ) (some : 0 < size) where
-  -- the bytes of a block
-  abbrev pub block : ℕ → List ℕ
-  block i = bytes_at bytes (size * i) size
+-- the bytes of a block of this size
+abbrev block_in_bytes : Bytes → ℕ → ℕ → List ℕ
+block_in_bytes bytes size i = bytes_at bytes (size * i) size
 
-  abbrev pub parts : List ℕ
-  parts = map (λ at. at / size) (fin.keys bytes)
+-- the block of each byte
+abbrev blocks_in_bytes : Bytes → ℕ → List ℕ
+blocks_in_bytes bytes size = map (λ at. at / size) (fin.keys bytes)
+
+module _ (bytes : Bytes) (nonzero : (at : ℕ) → fin.get bytes at ≢ Some 0) (size : ℕ) (some : 0 < size) where
+  abbrev block : ℕ → List ℕ
+  block i = block_in_bytes bytes size i
+
+  abbrev parts : List ℕ
+  parts = blocks_in_bytes bytes size
 
   -- a block with such a byte has a key
   has_part : (i : ℕ) → has_some (block i) ≡ true → value_at (marks parts) i ≡ Some tt
@@ -106,7 +112,7 @@ module _ (bytes : Bytes) (nonzero : (at : ℕ) → fin.get bytes at ≢ Some 0) 
   no_part i (Some u) is unmet = absurd (let met = part_has i is in let e = sym met ∙ unmet in cc)
 
   -- where each block with such a byte has an entry, the entries of such blocks are the parts
-  pub same_parts : {V : Type 0} (es : List (ℕ × V)) → ((i : ℕ) → has_some (block i) ≡ true → is_some (value_at es i) ≡ true) → (i : ℕ)
+  same_parts : {V : Type 0} (es : List (ℕ × V)) → ((i : ℕ) → has_some (block i) ≡ true → is_some (value_at es i) ≡ true) → (i : ℕ)
       → value_at (marks (once_each parts)) i ≡ value_at (passing (λ k. has_some (block k)) es) i
   same_parts {V} es each i = same_once parts i ∙ by_test (has_some (block i)) refl
     where
@@ -114,7 +120,7 @@ module _ (bytes : Bytes) (nonzero : (at : ℕ) → fin.get bytes at ≢ Some 0) 
       by_test true is = has_part i is ∙ sym (passes (λ k. has_some (block k)) es i is ∙ mark_of (value_at es i) (each i is))
       by_test false is = no_part i (value_at (marks parts) i) refl is ∙ sym (fails (λ k. has_some (block k)) es i is)
 
-  pub rising_parts : IsRisingFrom 0 (marks (once_each parts))
+  rising_parts : IsRisingFrom 0 (marks (once_each parts))
   rising_parts = rising_once 0 parts (not_falling (λ x. x / size) (parts_keep size some) (fin.entries bytes) (fin.entries_sorted bytes))
 
 -- ---- the leaves
@@ -144,13 +150,14 @@ module _ (s : Stored) (a : Account) (id : ℕ) (r : ObjRec) (o : Object) (found 
   pub sum_of_leaves : (sum : List ℕ) → IsObjectSum s a.changes id r sum → sum ≡ object_sum o
   sum_of_leaves sum sums =
       let many : 0 < 4096 * r.units = omega (arith, some) in
-      let f = block o.bytes is.nonzero (4096 * r.units) many in
+      let f = block_in_bytes o.bytes (4096 * r.units) in
+      let blocks = once_each (blocks_in_bytes o.bytes (4096 * r.units)) in
       let leaves = sums.leaves in
       let each = sums.are_leaves.each in
       let over = all_summed f s.bytes 0 leaves sums.are_leaves.rising (λ i b here. leaf_bytes i b (pointer_now s a.changes id r i) refl (sym (each i) ∙ here)) in
       let alike = same_parts o.bytes is.nonzero (4096 * r.units) many leaves
           (λ i met. ap is_some (each i) ∙ has_leaf i (pointer_now s a.changes id r i) refl met) in
-      let lists = one_list 0 (marks (once_each (parts o.bytes is.nonzero (4096 * r.units) many))) (passing (λ k. has_some (f k)) leaves)
+      let lists = one_list 0 (marks blocks) (passing (λ k. has_some (f k)) leaves)
           (rising_parts o.bytes is.nonzero (4096 * r.units) many) (rising_passing (λ k. has_some (f k)) 0 leaves sums.are_leaves.rising) alike in
-      let flat = joined f (once_each (parts o.bytes is.nonzero (4096 * r.units) many)) ∙ ap (λ (es : List (ℕ × Unit {0})). flat_map (λ (e : ℕ × Unit {0}). word e.0 ++ f e.0) es) lists in
+      let flat = joined f blocks ∙ ap (λ (es : List (ℕ × Unit {0})). flat_map (λ (e : ℕ × Unit {0}). word e.0 ++ f e.0) es) lists in
       sums.sum_is ∙ (ap sha256 (over ∙ sym flat) ∙ ap (λ (units : ℕ). sum_in o.bytes units) (sym is.units))
