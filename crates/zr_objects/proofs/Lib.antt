@@ -3,3 +3,5 @@ pub mod Giving
 pub mod Reading
 pub mod Gone
 pub mod Coming
+pub mod Marks
+pub mod Summing

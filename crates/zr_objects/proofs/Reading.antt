@@ -3,12 +3,13 @@ use Rattle.std.proofs.Common.{◌≡◌, ℕ, List, None, true, false, refl, sym
 use Rattle.std.specs.FinMap as map
 use Rattle.zr_bptr.specs.declared.ObjRec.{ObjRec}
 use Rattle.zr_lookup.proofs.Touching.{some_units}
-use Rattle.zr_model.specs.Objects.{Objects, has_lost}
+use Rattle.zr_model.specs.Objects.{Objects, has_lost, object_sum}
 use Rattle.zr_held.specs.Steps.{IsObjectOf}
 use Rattle.zr_held.proofs.Reading.{object_of, object_missing, bytes_read, none_read, none_at_all}
 use Rattle.zr_lookup.specs.Objects.{record_now}
 use Rattle.zr_sync.specs.Objects.{account_of, HoldsObjects}
 use Rattle.zr_sync.specs.declared.open.OpenPool.{OpenPool}
+use Rattle.zr_objects.proofs.Summing.{sum_of_leaves}
 use Rattle.zr_objects.specs.Reads.{AreBytesOf, IsOutside, IsSumOf, IsReadOf, can_read}
 
 module _ {told : Type 0} {disks : List (List ℕ)} (x : OpenPool) (objects : Objects) (id : ℕ) (h : HoldsObjects told disks x objects) where
@@ -33,7 +34,14 @@ module _ {told : Type 0} {disks : List (List ℕ)} (x : OpenPool) (objects : Obj
   pub no_object : record_now h.stored x.dir x.group id ≡ None → map.get objects id ≡ None
   no_object none = object_missing h.stored (account_of x) objects id h.has none
 
-  pub sum_of_object : (sum : List ℕ) → IsSumOf h.stored x.dir x.group id sum → IsObjectOf objects id (λ o. has_lost o ≡ false)
+  pub sum_of_object : (sum : List ℕ) → IsSumOf h.stored x.dir x.group id sum → IsObjectOf objects id (λ o. (has_lost o ≡ false) × (sum ≡ object_sum o))
   sum_of_object sum is =
       let o = object_of h.stored (account_of x) objects id is.object h.has is.found in
-      (o.0, o.1, none_at_all h.stored (account_of x) id is.object o.0 is.found o.2 is.sound)
+      (
+        o.0,
+        o.1,
+        (
+          none_at_all h.stored (account_of x) id is.object o.0 is.found o.2 is.sound,
+          sum_of_leaves h.stored (account_of x) id is.object o.0 is.found o.2 (some_units is.object.units is.lawful.size) is.sound sum is.sum_is,
+        ),
+      )

@@ -19,7 +19,7 @@ ghost use Rattle.zr_vdev.specs.Stores.{Continues, HoldsBlocks};
 ghost use Rattle.zr_objects.specs.Answers.{IsReadRefusal, IsSumRefusal};
 ghost use Rattle.std.specs.FinMap as map;
 ghost use Rattle.zr_held.specs.Steps.{IsObjectOf};
-ghost use Rattle.zr_model.specs.Objects.{Objects, has_lost};
+ghost use Rattle.zr_model.specs.Objects.{Objects, has_lost, object_sum};
 ghost use Rattle.zr_sync.specs.Objects.{HoldsObjects};
 ghost use Rattle.zr_objects.specs.Reads.{AreBytesOf, IsOutside, IsSumOf, IsReadOf, can_read};
 
@@ -162,7 +162,7 @@ pub fn sum<S: Shelf, P: Place>(
     ensures refused { (r : Refusal) → IsErrOf result (No r) → IsSumRefusal r }
     ensures stays { (objects : Objects) → HoldsObjects (S.tells shelf.old) (S.world shelf.old).now.seen pool.old objects → HoldsObjects (S.tells shelf.new) (S.world shelf.new).now.seen pool.new objects }
     ensures missing { (objects : Objects) → HoldsObjects (S.tells shelf.old) (S.world shelf.old).now.seen pool.old objects → IsErrOf result (No NoSuchObject) → map.get objects id ≡ None }
-    ensures object { (objects : Objects) → HoldsObjects (S.tells shelf.old) (S.world shelf.old).now.seen pool.old objects → IfOk result (λ sum. IsObjectOf objects id (λ o. has_lost o ≡ false)) }
+    ensures object { (objects : Objects) → HoldsObjects (S.tells shelf.old) (S.world shelf.old).now.seen pool.old objects → IfOk result (λ sum. IsObjectOf objects id (λ o. (has_lost o ≡ false) × (sum ≡ object_sum o))) }
     ensures none { (s : Stored) → HasBlocks (S.tells shelf.old) (S.world shelf.old).now.seen pool.old s → IsErrOf result (No NoSuchObject) → record_now s pool.old.dir pool.old.group id ≡ None }
     ensures sum { (s : Stored) → HasBlocks (S.tells shelf.old) (S.world shelf.old).now.seen pool.old s → IfOk result (λ sum. IsSumOf s pool.old.dir pool.old.group id sum) }
 {
