@@ -166,8 +166,8 @@ pub all_summed : {V : Type 0} (f : ℕ → List ℕ) (g : V → List ℕ) (low :
 all_summed f g low [] up alike = refl
 all_summed {V} f g low (e ∷ es) up alike =
     let rest = all_summed f g (suc e.0) es up.1
-        (λ k v is. by_key e.0 k
-        (λ same. absurd (let none = value_at-low (suc e.0) k es up.1 (omega (arith, same)) in let c = sym is ∙ none in cc))
-        (λ other. alike k v (rw (ne_eqb e.0 k other) is))) in
+    (λ k v is. by_key e.0 k
+    (λ same. absurd (let none = value_at-low (suc e.0) k es up.1 (omega (arith, same)) in let c = sym is ∙ none in cc))
+    (λ other. alike k v (rw (ne_eqb e.0 k other) is))) in
     ap (λ (bytes : List ℕ). summed e.0 bytes ++ flat_map (λ (x : ℕ × V). summed x.0 (g x.1)) es) (alike e.0 e.1 (rw (eq-eqb e.0 e.0 refl) refl))
     ∙ add_summed f (has_some (f e.0)) e.0 (flat_map (λ (x : ℕ × V). summed x.0 (g x.1)) es) (passing (λ k. has_some (f k)) es) rest

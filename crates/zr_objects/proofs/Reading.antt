@@ -36,8 +36,7 @@ module _ {told : Type 0} {disks : List (List ℕ)} (x : OpenPool) (objects : Obj
 
   pub sum_of_object : (sum : List ℕ) → IsSumOf h.stored x.dir x.group id sum → IsObjectOf objects id (λ o. (has_lost o ≡ false) × (sum ≡ object_sum o))
   sum_of_object sum is =
-      let o = object_of h.stored (account_of x) objects id is.object h.has is.found in
-      (
+      let o = object_of h.stored (account_of x) objects id is.object h.has is.found in (
         o.0,
         o.1,
         (

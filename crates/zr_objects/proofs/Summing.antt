@@ -156,8 +156,8 @@ module _ (s : Stored) (a : Account) (id : ℕ) (r : ObjRec) (o : Object) (found 
       let each = sums.are_leaves.each in
       let over = all_summed f s.bytes 0 leaves sums.are_leaves.rising (λ i b here. leaf_bytes i b (pointer_now s a.changes id r i) refl (sym (each i) ∙ here)) in
       let alike = same_parts o.bytes is.nonzero (4096 * r.units) many leaves
-          (λ i met. ap is_some (each i) ∙ has_leaf i (pointer_now s a.changes id r i) refl met) in
+      (λ i met. ap is_some (each i) ∙ has_leaf i (pointer_now s a.changes id r i) refl met) in
       let lists = one_list 0 (marks blocks) (passing (λ k. has_some (f k)) leaves)
-          (rising_parts o.bytes is.nonzero (4096 * r.units) many) (rising_passing (λ k. has_some (f k)) 0 leaves sums.are_leaves.rising) alike in
+      (rising_parts o.bytes is.nonzero (4096 * r.units) many) (rising_passing (λ k. has_some (f k)) 0 leaves sums.are_leaves.rising) alike in
       let flat = joined f blocks ∙ ap (λ (es : List (ℕ × Unit {0})). flat_map (λ (e : ℕ × Unit {0}). word e.0 ++ f e.0) es) lists in
       sums.sum_is ∙ (ap sha256 (over ∙ sym flat) ∙ ap (λ (units : ℕ). sum_in o.bytes units) (sym is.units))

@@ -11,7 +11,7 @@ use Rattle.zr_script.specs.declared.reply.Reply.TheVariants as reply
 use Rattle.zr_script.specs.declared.reply.ListLine.{ListLine}
 use Rattle.zr_script.specs.declared.reply.StatusLines.{StatusLines}
 use Rattle.zr_script.specs.declared.reply.AuditLine.{AuditLine}
-use Rattle.zr_model.specs.Objects.{Object, Objects, blank, with_bytes, reads_lost, changes_lost, has_lost}
+use Rattle.zr_model.specs.Objects.{Object, Objects, blank, with_bytes, reads_lost, changes_lost, has_lost, object_sum}
 use Rattle.zr_model.specs.State.{PoolState, with_objects}
 use Rattle.zr_moves.specs.Answers.{needs_lost, of_object}
 use Rattle.zr_change.specs.declared.ranges.Edit.{Edit}
@@ -46,8 +46,8 @@ module _ (Holds : Objects → Type 0) (p : PoolState) where
   pub read_on : (id off len : ℕ) (bytes : List ℕ) → IsObjectOf p.objects id (IsReadOf off len bytes) → Holds p.objects → IsPlainOn Holds p (cmd.Read id off len) (reply.Data bytes)
   read_on id off len bytes o h = record { after = p; holds = h; turn = (p, (o.0, o.1, o.2.are, refl), tested p id o.0 (λ x. reads_lost x off len) o.1 o.2.whole, refl) }
 
-  pub sum_on : (id : ℕ) (sum : List ℕ) → IsObjectOf p.objects id (λ o. has_lost o ≡ false) → Holds p.objects → IsPlainOn Holds p (cmd.Sum id) (reply.Sum sum)
-  sum_on id sum o h = record { after = p; holds = h; turn = (refl, o) }
+  pub sum_on : (id : ℕ) (sum : List ℕ) → IsObjectOf p.objects id (λ o. (has_lost o ≡ false) × (sum ≡ object_sum o)) → Holds p.objects → IsPlainOn Holds p (cmd.Sum id) (reply.Sum sum)
+  sum_on id sum o h = record { after = p; holds = h; turn = (p, (o.0, o.1, o.2.1, refl), tested p id o.0 has_lost o.1 o.2.0, refl) }
 
   pub written_on : (id off : ℕ) (bytes : List ℕ) → IsChangedBy Holds p id off bytes → IsPlainOn Holds p (cmd.Write id off bytes) reply.Done
   written_on id off bytes c = record { after = (with_objects p (map.insert p.objects id (with_bytes c.o off bytes))); holds = c.holds; turn = ((with_objects p (map.insert p.objects id (with_bytes c.o off bytes))), (c.o, c.found, refl), tested p id c.o (λ x. changes_lost x off (length bytes)) c.found c.whole, refl) }

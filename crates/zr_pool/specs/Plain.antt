@@ -7,7 +7,7 @@ use Rattle.zr_script.specs.declared.command.Command.{Command}
 use Rattle.zr_script.specs.declared.command.Command.TheVariants as cmd
 use Rattle.zr_script.specs.declared.reply.Reply.{Reply}
 use Rattle.zr_script.specs.declared.reply.Reply.TheVariants as reply
-use Rattle.zr_model.specs.Objects.{Object, Objects, has_lost, is_within}
+use Rattle.zr_model.specs.Objects.{Objects}
 use Rattle.zr_model.specs.State.{State, PoolState, ShelfPart, Empty, Is, opened, created}
 use Rattle.zr_moves.specs.Answers.{Acts, needs_lost}
 use Rattle.zr_held.specs.Steps.{IsObjectOf}
@@ -64,12 +64,11 @@ untold = record { is_open = true; shelf = Empty }
 abbrev pub exported : PoolState → State
 exported p = record { is_open = false; shelf = Is p }
 
--- What a line makes of the objects of an open pool. Of those behind an added device nothing is told yet, and nothing of a sum.
+-- What a line makes of the objects of an open pool. Of those behind an added device nothing is told yet.
 abbrev pub IsPlainTurn : PoolState → Command → Reply → State → Type 0
 IsPlainTurn p command (reply.No r) new = (new ≡ opened p) × IsPlainRefusal p.objects command r
 IsPlainTurn p cmd.Export reply.Done new = new ≡ exported p
 IsPlainTurn p (cmd.Add dev) reply.Done new = new ≡ untold
-IsPlainTurn p (cmd.Sum id) answer new = (new ≡ opened p) × IsObjectOf p.objects id (λ o. has_lost o ≡ false)
 IsPlainTurn p command answer new = (q : PoolState) × Acts p command answer q × (needs_lost p command ≡ false) × (new ≡ opened q)
 
 -- A pool that is made has no objects. Of those of one that is imported nothing is told yet.
