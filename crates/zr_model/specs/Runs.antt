@@ -1,5 +1,5 @@
 -- A run of commands, each answered from what the one before left.
-use Rattle.std.specs.Prelude.{◌≡◌, ◌≢◌, ◌⊎◌, ℕ, List, [], ◌∷◌}
+use Rattle.std.specs.Prelude.{◌≡◌, ◌≢◌, ◌⊎◌, ℕ, Bool, false, List, [], ◌∷◌}
 use Rattle.std.specs.List.{flat_map}
 use Rattle.zr_shelf.specs.Disks.{Stand}
 use Rattle.zr_shelf.specs.Moments.{World, Throughout}
@@ -9,6 +9,8 @@ use Rattle.zr_script.specs.declared.command.Command.TheVariants as cmd
 use Rattle.zr_script.specs.declared.reply.Reply.{Reply}
 use Rattle.zr_script.specs.Grammar.{IsLine}
 use Rattle.zr_script.specs.ReplyText.{reply_text}
+use Rattle.zr_model.specs.declared.pool.Actor.{Actor}
+use Rattle.zr_model.specs.declared.pool.Actor.TheVariants.{Evac, Discard, Condense}
 use Rattle.zr_model.specs.State.{State}
 use Rattle.zr_model.specs.Step.{Step, IsServed}
 
@@ -49,12 +51,20 @@ pub record Meaning : Type 1 where
   pub takes : Point → Turn → Type 0
   -- the command may stand there, by the paths and the state
   pub serves : List (List ℕ) → State → Command → Type 0
-  -- the command may meet this damage there
-  pub damages : List (List ℕ) → State → Command → Refusal → Type 0
+  -- the command may meet this damage from a point
+  pub damages : Point → Command → Refusal → Type 0
+  -- a step of the actor has work there
+  pub works : State → Actor → Bool
 
--- what they mean to plain objects, of which none is ever damaged
+-- what they mean to plain objects, of which none is ever damaged, and which leave no work
 abbrev pub plain : Meaning
-plain = record { takes = Takes; serves = IsServed; damages = λ paths state command found. ⊥ }
+plain = record { takes = Takes; serves = IsServed; damages = λ p command found. ⊥; works = λ state actor. false }
+
+-- the line that makes a step of the actor
+abbrev pub step_of : Actor → Command
+step_of Evac = cmd.StepEvac
+step_of Discard = cmd.StepDiscard
+step_of Condense = cmd.StepCondense
 
 -- A command was answered and led to some state, for which the pool then stands.
 pub record TurnsTo (m : Meaning) (stands : List (List ℕ) → State → Type 0) (before : State) (old : Stand) (command : Command) (answer : Reply) (new : Stand) : Type 0 where
@@ -87,11 +97,11 @@ IsBad m p line =
 
 -- the line asks for a command that may meet this damage
 abbrev pub MeetsDamage : Meaning → Point → List ℕ → Refusal → Type 0
-MeetsDamage m p line found = (command : Command) × Asks line command × m.damages p.shelf.paths p.state command found
+MeetsDamage m p line found = (command : Command) × Asks line command × m.damages p command found
 
 -- some command to such a pool may meet damage
 abbrev pub MayBeDamaged : Meaning → Type 0
-MayBeDamaged m = (paths : List (List ℕ)) × (state : State) × (command : Command) × (found : Refusal) × m.damages paths state command found
+MayBeDamaged m = (p : Point) × (command : Command) × (found : Refusal) × m.damages p command found
 
 -- the same devices, input and output
 pub record IsOutside (old new : Stand) : Type 0 where

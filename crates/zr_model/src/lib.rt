@@ -1,10 +1,10 @@
 //! What a pool of plain objects answers, without devices, blocks or addresses.
 //!
 //! The definitions in specs/ are split by how often they change: the objects, the state of a pool, what one command does
-//! to it, a run of commands, and what has been answered when a run ends. The trait `Pool` is all that a run over lines
+//! to it, and a run of commands. The trait `Pool` is all that a run over lines
 //! knows of a pool: one call for one command, whatever the pool stands on.
 #![tactic(auto)]
 
 mod pool;
 
-pub use pool::{Pool, Stop};
+pub use pool::{Actor, Pool, Stop};

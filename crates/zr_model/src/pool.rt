@@ -11,7 +11,7 @@ ghost use Rattle.zr_base.specs.declared.space.Dva.{Dva};
 ghost use Rattle.zr_script.specs.Grammar.{IsLine};
 ghost use Rattle.zr_shelf.specs.Counts.{NoneFell};
 ghost use Rattle.zr_model.specs.State.{State, no_pool};
-ghost use Rattle.zr_model.specs.Runs.{Meaning, TurnsTo, MayBeDamaged, KeepsOutside};
+ghost use Rattle.zr_model.specs.Runs.{Meaning, point, TurnsTo, MayBeDamaged, KeepsOutside};
 ghost use Rattle.zr_model.specs.declared.pool.Stop.TheVariants.{DiskFault, Damaged};
 
 use std::alloc::{AllocError, Global};
@@ -56,6 +56,17 @@ impl From<AllocError> for Stop {
     }
 }
 
+/// What works on an open pool in the background, a step at a time, after zpool-remove(8) and zpool-checkpoint(8).
+#[derive(Clone, Copy, Debug, PartialEq, Eq)]
+pub enum Actor {
+    /// Copies what a device that is leaving still has.
+    Evac,
+    /// Gives back what a checkpoint kept that is being discarded.
+    Discard,
+    /// Condenses the mapping of a removed device.
+    Condense,
+}
+
 /// A pool on the devices of the words.
 pub trait Pool {
     /// The paths of the words, one for each slot.
@@ -92,7 +103,7 @@ pub trait Pool {
             TurnsTo meaning (stands self.new) before (S.world shelf.old).now command.now reply (S.world shelf.new).now)) }
         ensures none { (disks : List (List ℕ)) (before : State) → stands self.old disks before → IfOk result (λ found. IfNone found (meaning.serves (paths self.old) before command.now → ⊥)) }
         ensures failed { IsErrOf result DiskFault → HasRisen (S.counts shelf.old).disk (S.counts shelf.new).disk }
-        ensures damaged { S.tells shelf.old → (before : State) → stands self.old (S.world shelf.old).now.seen before → (at : Dva) (expected found : List ℕ) → IsErrOf result (Damaged at expected found) → meaning.damages (paths self.old) before command.now (refusal.Damaged at expected found) }
+        ensures damaged { S.tells shelf.old → (before : State) → stands self.old (S.world shelf.old).now.seen before → (at : Dva) (expected found : List ℕ) → IsErrOf result (Damaged at expected found) → meaning.damages (point (S.world shelf.old).now before) command.now (refusal.Damaged at expected found) }
         ensures may_damage { (at : Dva) (expected found : List ℕ) → IsErrOf result (Damaged at expected found) → MayBeDamaged meaning }
         ensures fits { fits self.new (S.sizes shelf.new) }
         ensures paths { paths self.new ≡ paths self.old }
@@ -100,4 +111,8 @@ pub trait Pool {
         ensures none_fell { NoneFell (S.counts shelf.old) (S.counts shelf.new) }
         ensures told { S.tells shelf.old → S.tells shelf.new }
         ensures outside { S.tells shelf.old → KeepsOutside (S.world shelf.old) (S.world shelf.new) };
+
+    /// Whether a step of this actor has work to do, so that it is not refused for want of it.
+    fn has_work(&self, actor: Actor) -> bool
+        ensures works { (disks : List (List ℕ)) (state : State) → stands self.now disks state → result ≡ meaning.works state actor };
 }

@@ -111,10 +111,11 @@ IsTurn true command answer after = IsOpenAnswer command answer × (after ≡ sta
 IsTurn false command answer after = IsClosedAnswer command answer × (after ≡ is_opened answer)
 
 -- What commands mean to the pool on devices, so far as it is claimed: each answer is one to its line, the pool is open where it should be, and the objects that are told are those of a
--- pool of plain objects. Of damage that ends a run nothing is said yet.
+-- pool of plain objects. No line is served that leaves work behind. Of damage that ends a run nothing is said yet.
 abbrev pub on_devices : Meaning
 on_devices = record {
   takes = λ p t. IsTurn p.state.is_open t.command t.answer t.point.state.is_open × IsObjectsTurn p.state.is_open p.state.shelf p.state t.command t.answer t.point.state;
   serves = λ paths state command. IsServed command;
-  damages = λ paths state command found. Unit {0};
+  damages = λ p command found. Unit {0};
+  works = λ state actor. false;
 }

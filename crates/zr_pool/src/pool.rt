@@ -21,7 +21,7 @@ use crate::replies::answer_of;
 use std::alloc::Global;
 use zr_base::{Blob, Items, NoMemory, Refusal};
 use zr_choose::Chooser;
-use zr_model::{Pool, Stop};
+use zr_model::{Actor, Pool, Stop};
 use zr_script::{Command, Reply};
 use zr_shelf::Shelf;
 use zr_sync::{Fault, OpenPool};
@@ -160,5 +160,9 @@ impl Pool for DevicePool {
             self.pool = None;
         }
         answer_of(done)
+    }
+
+    fn has_work(&self, _actor: Actor) -> bool {
+        false
     }
 }

@@ -8,7 +8,7 @@ ghost use Rattle.std.specs.Prelude.{◌≡◌, ◌⊎◌, [], ◌≤◌, length,
 ghost use Rattle.std.specs.String.{string_bytes};
 ghost use Rattle.zr_base.specs.Counts.{HasRisen};
 ghost use Rattle.zr_model.specs.Runs.{MayBeDamaged};
-ghost use Rattle.zr_model.specs.Answers.{RunsTo, StopsAtDevice, IsDone, TellsBadLine, TellsLimit, TellsFault, TellsDamage, AnswersTaken, AnswersFront, AnswersPartly};
+ghost use Rattle.zr_session.specs.Answers.{RunsTo, StopsAtDevice, IsDone, TellsBadLine, TellsLimit, TellsFault, TellsDamage, AnswersTaken, AnswersFront, AnswersPartly};
 ghost use Rattle.zr_session.specs.Headline.{NoneRose, IsNoCommandLine};
 ghost use Rattle.zr_pool.specs.Turns.{on_devices};
 

@@ -7,7 +7,7 @@ use Rattle.std.proofs.lemmas.Str.Pattern.{IsSplitOnceResult, split_after, split_
 use Rattle.std.proofs.lemmas.List.{get_or_at, take_more, map-append}
 use Rattle.zr_script.specs.Words.{is_path, is_path_byte, is_letter, is_digit, IsNumber, are_paths}
 use Rattle.zr_script.specs.CommandLine.{IsDevice}
-use Rattle.zr_model.specs.Answers.{AreDevices}
+use Rattle.zr_session.specs.Answers.{AreDevices}
 use Rattle.zr_session.specs.declared.device.Device.{Device}
 use Rattle.zr_session.specs.Headline.{device_of, path_of}
 

@@ -10,7 +10,7 @@ use Rattle.zr_script.specs.ReplyText as text
 use Rattle.zr_script.specs.ReplyText.{last_line}
 use Rattle.zr_model.specs.State.{State, no_pool}
 use Rattle.zr_model.specs.Runs.{Meaning, Turn, point, end_of, texts, Asks, IsBad}
-use Rattle.zr_model.specs.Answers.{IsOpenLine, Reach, HasReached, IsBetween, IsNextText, reply, bad_line, limit, fault, damage, IsAtDamage, IsDone}
+use Rattle.zr_session.specs.Answers.{IsOpenLine, Reach, HasReached, IsBetween, IsNextText, reply, bad_line, limit, fault, damage, IsAtDamage, IsDone}
 use Rattle.zr_session.specs.declared.end.End.{End}
 use Rattle.zr_session.specs.declared.end.End.TheVariants.{Answered, BadWords, InputFault, OutputFault, DiskFault, BadLine, Damaged, AttachFault, InputLimit, NoMemory}
 use Rattle.zr_session.specs.Ends.{EndsAs}
@@ -43,8 +43,8 @@ next_bad meaning opening now state line number d b =
     subst (λ n. IsNextText meaning opening (reach_of meaning d) (last_line (text.BadLine n))) (sym d.number_is) (bad_line (line, d.more, refl, bad_at meaning opening now state line number d b, d.prompt))
 
 damage_at : (meaning : Meaning) (opening now : Stand) (state : State) (line : List ℕ) (number : ℕ) (c : Command) (found : Refusal) (d : IsDue meaning opening now state line number)
-    → Asks line c → meaning.damages now.paths state c found → IsAtDamage meaning opening (reach_of meaning d) found
-damage_at meaning opening now state line number c found d a h = (line, d.more, refl, (c, a, subst (λ p. meaning.damages p.shelf.paths p.state c found) (sym d.answered.ends) h))
+    → Asks line c → meaning.damages (point now state) c found → IsAtDamage meaning opening (reach_of meaning d) found
+damage_at meaning opening now state line number c found d a h = (line, d.more, refl, (c, a, subst (λ p. meaning.damages p c found) (sym d.answered.ends) h))
 
 next_text : (meaning : Meaning) (opening now : Stand) (state : State) (line : List ℕ) (number : ℕ) (c : Command) (bytes : List ℕ) (d : IsDue meaning opening now state line number)
     → Asks line c → IsTextFor meaning c number state now bytes → IsNextText meaning opening (reach_of meaning d) bytes

@@ -3,7 +3,7 @@ use Rattle.std.proofs.Common.{◌≡◌, ◌≤◌, ◌<◌, ◌+◌, ◌⊎◌,
 use Rattle.std.proofs.lemmas.List.{append-nil, take_more, map-append}
 use Rattle.zr_shelf.specs.Disks.{Stand, with_disk}
 use Rattle.zr_model.specs.Runs.{Meaning}
-use Rattle.zr_model.specs.Answers.{IsStarted, IsAttached, IsPartlyAttached, RunsTo, StopsAtDevice, AnswersFront}
+use Rattle.zr_session.specs.Answers.{IsStarted, IsAttached, IsPartlyAttached, RunsTo, StopsAtDevice, AnswersFront}
 use Rattle.zr_session.specs.declared.device.Device.{Device}
 use Rattle.zr_session.specs.declared.end.End.{End}
 use Rattle.zr_session.specs.declared.end.End.TheVariants.{Answered, BadWords, InputFault, OutputFault, DiskFault, BadLine, Damaged, AttachFault, InputLimit, NoMemory}

@@ -143,12 +143,12 @@ stops_fault meaning command number before old mid new bytes end o e (partly p) =
     stops_partly meaning command number before old mid new _ end o fault (subst (λ b. SendsPartly b mid new end) e p)
 
 -- damage was met
-pub stops_damage : (meaning : Meaning) (command : Command) (number : ℕ) (before : State) (old mid new : Stand) (paths : List (List ℕ)) (found : Refusal) (end : End)
-    → IsOutside old mid → old.paths ≡ paths → meaning.damages paths before command found → Tells Damaged (last_line (text.Damage found)) end mid new → StopsAtCommand meaning command number before old new end
-stops_damage meaning command number before old mid new paths found end o e h (wholly is s) =
-    subst (λ x. StopsAtCommand meaning command number before old new x) (sym is) (found, subst (λ p. meaning.damages p before command found) (sym e) h, sends_from old mid new _ o s)
-stops_damage meaning command number before old mid new paths found end o e h (partly p) =
-    stops_partly meaning command number before old mid new _ end o (damage found (subst (λ p. meaning.damages p before command found) (sym e) h)) p
+pub stops_damage : (meaning : Meaning) (command : Command) (number : ℕ) (before : State) (old mid new : Stand) (found : Refusal) (end : End)
+    → IsOutside old mid → meaning.damages (point old before) command found → Tells Damaged (last_line (text.Damage found)) end mid new → StopsAtCommand meaning command number before old new end
+stops_damage meaning command number before old mid new found end o h (wholly is s) =
+    subst (λ x. StopsAtCommand meaning command number before old new x) (sym is) (found, h, sends_from old mid new _ o s)
+stops_damage meaning command number before old mid new found end o h (partly p) =
+    stops_partly meaning command number before old mid new _ end o (damage found h) p
 
 -- what follows from three facts of an Ok
 pub from_three : {T E : Type 0} (r : Result T E) (A B C D : Type 0) → OnOk r A → OnOk r B → OnOk r C → (A → B → C → D) → OnOk r D

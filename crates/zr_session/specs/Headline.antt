@@ -2,7 +2,7 @@
 use Rattle.std.specs.Prelude.{ℕ, List, Option}
 use Rattle.zr_base.specs.Counts.{HasRisen}
 use Rattle.zr_shelf.specs.Counts.{Counts}
-use Rattle.zr_model.specs.Answers.{IsStarted}
+use Rattle.zr_session.specs.Answers.{IsStarted}
 use Rattle.zr_session.specs.declared.device.Device.{Device}
 
 -- no call of any kind failed

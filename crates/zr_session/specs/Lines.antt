@@ -46,7 +46,7 @@ pub data IsTextFor (m : Meaning) (command : Command) (number : ℕ) (before : St
   reply : (answer : Reply) (after : Point) → m.takes (point old before) (record { command = command; answer = answer; point = after }) → IsTextFor m command number before old (reply_text answer)
   bad_line : (m.serves old.paths before command → ⊥) → IsTextFor m command number before old (last_line (text.BadLine number))
   fault : IsTextFor m command number before old (last_line text.DiskFault)
-  damage : (found : Refusal) → m.damages old.paths before command found → IsTextFor m command number before old (last_line (text.Damage found))
+  damage : (found : Refusal) → m.damages (point old before) command found → IsTextFor m command number before old (last_line (text.Damage found))
 
 -- the run ends at the command
 abbrev pub StopsAtCommand : Meaning → Command → ℕ → State → Stand → Stand → End → Type 0
@@ -54,7 +54,7 @@ StopsAtCommand m command number before old new OutputFault =
     (front back next : List ℕ) × (front ++ back ≡ next) × IsTextFor m command number before old next × Sends old new front
 StopsAtCommand m command number before old new DiskFault = Sends old new (last_line text.DiskFault)
 StopsAtCommand m command number before old new BadLine = (m.serves old.paths before command → ⊥) × Sends old new (last_line (text.BadLine number))
-StopsAtCommand m command number before old new Damaged = (found : Refusal) × m.damages old.paths before command found × Sends old new (last_line (text.Damage found))
+StopsAtCommand m command number before old new Damaged = (found : Refusal) × m.damages (point old before) command found × Sends old new (last_line (text.Damage found))
 StopsAtCommand m command number before old new NoMemory = Sends old new []
 StopsAtCommand m command number before old new _ = ⊥
 

@@ -4,7 +4,7 @@ ghost use Rattle.std.specs.String.{string_bytes};
 ghost use Rattle.std.specs.List.{AllZip};
 ghost use Rattle.zr_script.specs.CommandLine.{IsDevice};
 ghost use Rattle.zr_script.specs.Words.{are_paths};
-ghost use Rattle.zr_model.specs.Answers.{AreDevices};
+ghost use Rattle.zr_session.specs.Answers.{AreDevices};
 ghost use Rattle.zr_session.specs.Headline.{device_of, path_of};
 
 use std::alloc::Global;

@@ -3,7 +3,7 @@ ghost use Rattle.std.specs.Prelude.{◌≡◌, ◌⊎◌, length, ◌∷◌, ◌
 ghost use Rattle.std.specs.List.{AllByRecursion};
 ghost use Rattle.zr_shelf.specs.Counts.{NoneFell};
 ghost use Rattle.zr_shelf.specs.Disks.{sent_more};
-ghost use Rattle.zr_model.specs.Answers.{IsOpenLine};
+ghost use Rattle.zr_session.specs.Answers.{IsOpenLine};
 ghost use Rattle.zr_base.specs.declared.refusal.Refusal.TheVariants as refusal;
 ghost use Rattle.zr_script.specs.Grammar.{IsLine};
 ghost use Rattle.zr_script.specs.ReplyText.{last_line, BadLine, InputLimit, DiskFault, Damage};

@@ -9,7 +9,7 @@ use crate::table::ObjectTable;
 use std::alloc::Global;
 use zr_base::{Blob, Items, NoMemory};
 use zr_choose::Chooser;
-use zr_model::{Pool, Stop};
+use zr_model::{Actor, Pool, Stop};
 use zr_script::{Command, Reply};
 use zr_shelf::Shelf;
 
@@ -133,5 +133,9 @@ impl Pool for MemoryPool {
         command: &Command,
     ) -> Result<Option<Reply>, Stop> {
         Ok(self.act(alloc, command)?)
+    }
+
+    fn has_work(&self, _actor: Actor) -> bool {
+        false
     }
 }

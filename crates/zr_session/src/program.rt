@@ -8,7 +8,7 @@ ghost use Rattle.zr_base.specs.Counts.{HasRisen};
 ghost use Rattle.zr_shelf.specs.Counts.{NoneFell};
 ghost use Rattle.zr_shelf.specs.declared.desk.DeskErr.TheVariants.{Failed};
 ghost use Rattle.zr_model.specs.Runs.{MayBeDamaged, plain};
-ghost use Rattle.zr_model.specs.Answers.{IsAttached, IsPartlyAttached, RunsTo, StopsAtDevice, IsDone, TellsBadLine, TellsLimit, TellsFault, TellsDamage, AnswersTaken, AnswersFront, AnswersPartly};
+ghost use Rattle.zr_session.specs.Answers.{IsAttached, IsPartlyAttached, RunsTo, StopsAtDevice, IsDone, TellsBadLine, TellsLimit, TellsFault, TellsDamage, AnswersTaken, AnswersFront, AnswersPartly};
 ghost use Rattle.zr_session.specs.Ends.{HasCause, IsOpenedTo};
 ghost use Rattle.zr_session.specs.Headline.{NoneRose, IsNoCommandLine, path_of};
 

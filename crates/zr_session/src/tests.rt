@@ -7,7 +7,7 @@ use std::alloc::Global;
 use std::test::Fail;
 use zr_base::{Blob, Dva, Extent, Items, NoMemory, Policy};
 use zr_choose::{Chooser, pick_first};
-use zr_model::{Pool, Stop};
+use zr_model::{Actor, Pool, Stop};
 use zr_script::{Command, Reply};
 use zr_shelf::{Desk, DeskErr, MemDesk, Shelf};
 
@@ -76,7 +76,7 @@ struct DamagedPool {
 }
 
 impl Pool for DamagedPool {
-    ghost use Rattle.std.specs.Prelude.{◌≡◌, length};
+    ghost use Rattle.std.specs.Prelude.{◌≡◌, false, length};
     ghost use Rattle.zr_model.specs.State.{no_pool};
 
     ghost paths = { λ p. p.paths };
@@ -85,7 +85,7 @@ impl Pool for DamagedPool {
 
     ghost fits = { λ p sizes. length sizes ≡ length p.paths };
 
-    ghost meaning = { record { takes = λ p t. ⊥; serves = λ paths state command. Unit {0}; damages = λ paths state command found. Unit {0} } };
+    ghost meaning = { record { takes = λ p t. ⊥; serves = λ paths state command. Unit {0}; damages = λ p command found. Unit {0}; works = λ state actor. false } };
 
     fn closed(_alloc: Global, devs: Items<Blob>) -> Result<DamagedPool, NoMemory> {
         Ok(DamagedPool { paths: devs })
@@ -107,6 +107,10 @@ impl Pool for DamagedPool {
             expected: [1; 32],
             found: [254; 32],
         })
+    }
+
+    fn has_work(&self, _actor: Actor) -> bool {
+        false
     }
 }
 

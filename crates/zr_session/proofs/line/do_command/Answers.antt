@@ -47,7 +47,7 @@ pub returns-in-Err-Damaged-clause-stopped : goal.returns-in-Err-Damaged-clause-s
 returns-in-Err-Damaged-clause-stopped g c = λ t n before s.
     let out = (c.command.ensures.outside t).now in
     let met = c.command.ensures.damaged t before s _ _ _ (c.in-Err-Damaged.is ∙ ap Err c.in-Err-Damaged.field-0-is) in
-    stops_damage _ _ c.args.number _ _ _ _ _ _ _ out n met (c.tell_damage.ensures.told_it (c.command.ensures.told t))
+    stops_damage _ _ c.args.number _ _ _ _ _ _ out met (c.tell_damage.ensures.told_it (c.command.ensures.told t))
 
 pub returns-in-Err-Damaged-clause-cause : goal.returns-in-Err-Damaged-clause-cause
 returns-in-Err-Damaged-clause-cause g c =

@@ -1,6 +1,6 @@
 use Rattle.std.proofs.Common.{◌≡◌, ◌+◌, map, take, length}
 use Rattle.zr_shelf.specs.Counts.{NoneFell}
-use Rattle.zr_model.specs.Answers.{IsAttached}
+use Rattle.zr_session.specs.Answers.{IsAttached}
 use Rattle.zr_session.specs.Headline.{path_of}
 use Rattle.zr_session.proofs.program.attach_all.Given as goal
 

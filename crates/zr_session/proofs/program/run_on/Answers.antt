@@ -1,6 +1,6 @@
 use Rattle.std.proofs.Common.{sym, ap, ◌∙◌, arith, length, map}
 use Rattle.std.specs.String.{string_bytes}
-use Rattle.zr_model.specs.Answers.{IsStarted, IsDone, TellsBadLine, TellsLimit, TellsFault, TellsDamage, AnswersTaken, AnswersPartly}
+use Rattle.zr_session.specs.Answers.{IsStarted, IsDone, TellsBadLine, TellsLimit, TellsFault, TellsDamage, AnswersTaken, AnswersPartly}
 use Rattle.zr_session.specs.Headline.{device_of, path_of}
 use Rattle.zr_session.proofs.Opening.{opened_with, runs_to, stops_at, memory_at}
 use Rattle.zr_session.proofs.program.run_on.Goals.{After-drop-devices}
