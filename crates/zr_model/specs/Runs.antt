@@ -1,5 +1,5 @@
 -- A run of commands, each answered from what the one before left.
-use Rattle.std.specs.Prelude.{◌≡◌, ◌≢◌, ◌⊎◌, ℕ, Bool, false, List, [], ◌∷◌}
+use Rattle.std.specs.Prelude.{◌≡◌, ◌≢◌, ◌⊎◌, ℕ, ◌+◌, min, Bool, false, List, [], ◌∷◌, ◌++◌, length}
 use Rattle.std.specs.List.{flat_map}
 use Rattle.zr_shelf.specs.Disks.{Stand}
 use Rattle.zr_shelf.specs.Moments.{World, Throughout}
@@ -86,6 +86,10 @@ end_of p (t ∷ turns) = end_of t.point turns
 abbrev pub texts : List Turn → List ℕ
 texts turns = flat_map (λ t. reply_text t.answer) turns
 
+-- the bytes of these lines with their line feeds, and those that it takes to know the next: up to its line feed, or the first that is too many
+abbrev pub bytes_to : List (List ℕ) → List ℕ → ℕ
+bytes_to lines line = length (flat_map (λ l. l ++ 10 ∷ []) lines) + min (length line + 1) 16385
+
 -- the line asks for the command, which does not end the run
 abbrev pub Asks : List ℕ → Command → Type 0
 Asks line command = IsLine line command × (command ≢ cmd.Quit)
@@ -94,10 +98,6 @@ Asks line command = IsLine line command × (command ≢ cmd.Quit)
 abbrev pub IsBad : Meaning → Point → List ℕ → Type 0
 IsBad m p line =
     ((command : Command) → IsLine line command → ⊥) ⊎ ((command : Command) × Asks line command × (m.serves p.shelf.paths p.state command → ⊥))
-
--- the line asks for a command that may meet this damage
-abbrev pub MeetsDamage : Meaning → Point → List ℕ → Refusal → Type 0
-MeetsDamage m p line found = (command : Command) × Asks line command × m.damages p command found
 
 -- some command to such a pool may meet damage
 abbrev pub MayBeDamaged : Meaning → Type 0

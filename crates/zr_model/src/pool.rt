@@ -4,14 +4,14 @@
 //! between the shelf and the state before and after: to plain objects it is their step (`plain`). Objects may lie on the
 //! disks, so a pool has no state of its own: it stands for one together with what the disks hold (`stands`). A pool works
 //! on the desk as a shelf alone, so it takes nothing of the input and sends nothing.
-ghost use Rattle.std.specs.Prelude.{◌≡◌, ◌∷◌, ◌≤◌, List, ℕ, length, IfOk, IfSome, IfNone, IsErrOf};
+ghost use Rattle.std.specs.Prelude.{◌≡◌, ◌∷◌, ◌≤◌, List, ℕ, length, IfOk, IfSome, IfNone, IsErrOf, IsTrue};
 ghost use Rattle.zr_base.specs.Counts.{HasRisen};
 ghost use Rattle.zr_base.specs.declared.refusal.Refusal.TheVariants as refusal;
 ghost use Rattle.zr_base.specs.declared.space.Dva.{Dva};
 ghost use Rattle.zr_script.specs.Grammar.{IsLine};
 ghost use Rattle.zr_shelf.specs.Counts.{NoneFell};
 ghost use Rattle.zr_model.specs.State.{State, no_pool};
-ghost use Rattle.zr_model.specs.Runs.{Meaning, point, TurnsTo, MayBeDamaged, KeepsOutside};
+ghost use Rattle.zr_model.specs.Runs.{Meaning, point, TurnsTo, MayBeDamaged, KeepsOutside, step_of};
 ghost use Rattle.zr_model.specs.declared.pool.Stop.TheVariants.{DiskFault, Damaged};
 
 use std::alloc::{AllocError, Global};
@@ -112,7 +112,8 @@ pub trait Pool {
         ensures told { S.tells shelf.old → S.tells shelf.new }
         ensures outside { S.tells shelf.old → KeepsOutside (S.world shelf.old) (S.world shelf.new) };
 
-    /// Whether a step of this actor has work to do, so that it is not refused for want of it.
+    /// Whether a step of this actor has work to do, so that it is not refused for want of it. A step that has is served.
     fn has_work(&self, actor: Actor) -> bool
-        ensures works { (disks : List (List ℕ)) (state : State) → stands self.now disks state → result ≡ meaning.works state actor };
+        ensures works { (disks : List (List ℕ)) (state : State) → stands self.now disks state → result ≡ meaning.works state actor }
+        ensures served { (disks : List (List ℕ)) (state : State) → stands self.now disks state → IsTrue result → meaning.serves (paths self.now) state (step_of actor) };
 }

@@ -17,8 +17,7 @@ use Rattle.zr_script.specs.Generated.{script_of}
 use Rattle.zr_script.specs.Grammar.{IsLine}
 use Rattle.zr_script.specs.Lines.{lines_of}
 use Rattle.zr_script.specs.ReplyText.{End, Answered, BadWords, NoInput, NoOutput, DiskFault, BadLine, Damage, NoDevice, InputLimit, NoMemory, status_of, last_line, reply_text, generated_line}
-use Rattle.zr_session.specs.Answers.{bytes_to}
-use Rattle.zr_model.specs.Runs.{Turn, Asks, texts}
+use Rattle.zr_model.specs.Runs.{Turn, Asks, texts, bytes_to}
 use Rattle.zr_moves.specs.Prefix.{Now, KeepsPrefix, KeepsSome, KeepsAll}
 use Rattle.zr_moves.specs.Runs.{Standing, Act, Item, Given, Inserted, behind, turns_of, shelf_of, agenda, has_work, IsStart, Run, Happen, Plays, IsDue}
 use Rattle.zr_moves.specs.Premises.{IsTrusted, HasLawfulGroups}

@@ -8,8 +8,8 @@ use Rattle.zr_shelf.specs.Disks.{Stand, taken_to}
 use Rattle.zr_script.specs.Lines.{lines_of, before_lines}
 use Rattle.zr_script.specs.ReplyText.{reply_text}
 use Rattle.zr_model.specs.State.{State, no_pool}
-use Rattle.zr_model.specs.Runs.{Meaning, Point, Turn, point, turn, Run, end_of, texts, Asks}
-use Rattle.zr_session.specs.Answers.{IsOpenLine, bytes_to}
+use Rattle.zr_model.specs.Runs.{Meaning, Point, Turn, point, turn, Run, end_of, texts, Asks, bytes_to}
+use Rattle.zr_session.specs.Answers.{IsOpenLine}
 use Rattle.zr_session.specs.Lines.{StandsForOne, AnswersLine}
 use Rattle.zr_session.specs.Progress.{HasAnswered, IsAt, IsDue, StandsAt}
 

@@ -3,6 +3,7 @@ use Rattle.std.specs.Prelude.{◌≡◌, ◌≢◌, ◌⊎◌, ℕ, ◌+◌, ◌
 use Rattle.std.specs.List.{AllZip, AllByRecursion, flat_map}
 use Rattle.zr_shelf.specs.Disks.{Stand, with_disk}
 use Rattle.zr_base.specs.declared.refusal.Refusal.{Refusal}
+use Rattle.zr_script.specs.declared.command.Command.{Command}
 use Rattle.zr_script.specs.declared.command.Command.TheVariants as cmd
 use Rattle.zr_script.specs.CommandLine.{IsDevice}
 use Rattle.zr_script.specs.Words.{are_paths}
@@ -10,7 +11,7 @@ use Rattle.zr_script.specs.Grammar.{IsLine}
 use Rattle.zr_script.specs.Lines.{lines_of}
 use Rattle.zr_script.specs.ReplyText.{reply_text, BadLine, InputLimit, DiskFault, Damage, last_line}
 use Rattle.zr_model.specs.State.{no_pool}
-use Rattle.zr_model.specs.Runs.{Point, Turn, point, Meaning, Run, end_of, texts, Asks, IsBad, MeetsDamage}
+use Rattle.zr_model.specs.Runs.{Point, Turn, point, Meaning, Run, end_of, texts, Asks, IsBad, bytes_to}
 
 -- each word is a device, and they are 1 to 32 different ones
 pub record AreDevices (words : List (List ℕ)) (devs : List (List ℕ × Option ℕ)) : Type 0 where
@@ -59,10 +60,6 @@ IsOpenLine line = AllByRecursion (λ b. b ≢ 10) line
 abbrev pub IsBetween : Reach → Type 0
 IsBetween r = (line : List ℕ) × (r.taken ≡ flat_map (λ l. l ++ 10 ∷ []) r.lines ++ line) × IsOpenLine line × (length line ≤ 16384)
 
--- the bytes of these lines with their line feeds, and those that it takes to know the next: up to its line feed, or the first that is too many
-abbrev pub bytes_to : List (List ℕ) → List ℕ → ℕ
-bytes_to lines line = length (flat_map (λ l. l ++ 10 ∷ []) lines) + min (length line + 1) 16385
-
 -- what was taken behind the line is less than a piece
 abbrev pub IsPrompt : Reach → List ℕ → Type 0
 IsPrompt r line = length r.taken < bytes_to r.lines line + 65536
@@ -78,6 +75,10 @@ IsAtLimit r = (length r.taken ≡ 2 ^ 32) × IsBetween r
 -- the next line is due
 abbrev pub IsAtLine : Reach → Type 0
 IsAtLine r = (line : List ℕ) × (more : List (List ℕ)) × (r.rest ≡ line ∷ more) × ((command : _) × Asks line command)
+
+-- the line asks for a command that may meet this damage
+abbrev pub MeetsDamage : Meaning → Point → List ℕ → Refusal → Type 0
+MeetsDamage m p line found = (command : Command) × Asks line command × m.damages p command found
 
 -- the next line is due, and its command may meet this damage
 abbrev pub IsAtDamage : Meaning → Stand → Reach → Refusal → Type 0

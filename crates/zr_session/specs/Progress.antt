@@ -4,8 +4,8 @@ use Rattle.std.specs.List.{AllZip, flat_map}
 use Rattle.zr_shelf.specs.Disks.{Stand}
 use Rattle.zr_script.specs.Lines.{lines_of}
 use Rattle.zr_model.specs.State.{State, no_pool}
-use Rattle.zr_model.specs.Runs.{Meaning, Turn, point, Run, end_of, texts, Asks}
-use Rattle.zr_session.specs.Answers.{IsOpenLine, bytes_to}
+use Rattle.zr_model.specs.Runs.{Meaning, Turn, point, Run, end_of, texts, Asks, bytes_to}
+use Rattle.zr_session.specs.Answers.{IsOpenLine}
 use Rattle.zr_session.specs.Lines.{StandsForOne}
 
 -- first lines are answered, and this was sent for them
