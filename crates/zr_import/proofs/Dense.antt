@@ -100,7 +100,7 @@ module _ (s : Stored) (n units below : ℕ) where
       )
 
 -- the index within a block: the pointer, and the index below it
-digits : (i below : ℕ) → i % 32 ^ suc below ≡ digit below i * 32 ^ below + i % 32 ^ below
+pub digits : (i below : ℕ) → i % 32 ^ suc below ≡ digit below i * 32 ^ below + i % 32 ^ below
 digits i below =
     let w = 32 ^ below in
     let q = i / w in

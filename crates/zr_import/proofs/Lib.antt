@@ -6,3 +6,5 @@ pub mod Marking
 pub mod Below
 pub mod Reading
 pub mod Directory
+pub mod Places
+pub mod Fewer

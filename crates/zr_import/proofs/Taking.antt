@@ -31,7 +31,7 @@ apart_from low (suc i) (x ∷ xs) d m lt = λ u inside.
 pub is_apart_from : (i : ℕ) (xs : List Extent) (d : Extent) → IsMaximal xs → i < length xs → HasNone (take i xs) (get_or xs i d)
 is_apart_from i xs d m lt = apart_from 0 i xs d m lt
 
-has_unit-append : (xs ys : List Extent) (u : ℕ) → has_unit (xs ++ ys) u ≡ (has_unit xs u || has_unit ys u)
+pub has_unit-append : (xs ys : List Extent) (u : ℕ) → has_unit (xs ++ ys) u ≡ (has_unit xs u || has_unit ys u)
 has_unit-append [] ys u = refl
 has_unit-append (x ∷ xs) ys u = grind (arith, nat_tests, has_unit-append xs ys u)
 

@@ -2,3 +2,4 @@ pub mod Causes
 pub mod Units
 pub mod Shapes
 pub mod Words
+pub mod Directories

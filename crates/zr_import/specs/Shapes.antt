@@ -20,6 +20,10 @@ MayStand shape level index (At b) = (index < shape.leaves) × (level ≡ 0 → b
 abbrev pub StandFrom : Shape → ℕ → ℕ → List Ptr → Type 0
 StandFrom shape level index pointers = (k : ℕ) → k < 32 → MayStand shape level (index + k * 32 ^ level) (slot pointers k)
 
+-- so does each leaf below a pointer whose first leaf has this index
+abbrev pub StandBelow : Stored → Shape → ℕ → ℕ → Ptr → Type 0
+StandBelow s shape level index p = (i : ℕ) → MayStand shape 0 (index + i % 32 ^ level) (leaf_at s level p i)
+
 -- The leaves below a pointer of a level are the first ones from this index on, as far as there are n, each of so many units.
 pub record HasFirst (s : Stored) (n units level index : ℕ) (p : Ptr) : Type 0 where
   pub count : length (leaves_below s level p) ≡ min (n - index) (32 ^ level)

@@ -1,10 +1,11 @@
 -- Units that pointers may still lead to.
-use Rattle.std.specs.Prelude.{◌≡◌, ◌≢◌, ℕ, ◌≤◌, ◌<◌, List, [], ◌∷◌, slice_index_or, map, All}
+use Rattle.std.specs.Prelude.{◌≡◌, ◌≢◌, ℕ, ◌≤◌, ◌<◌, true, List, [], ◌∷◌, slice_index_or, map, All}
 use Rattle.zr_base.specs.declared.space.Dva.{Dva}
 use Rattle.zr_bptr.specs.declared.Bptr.{Bptr}
 use Rattle.zr_base.specs.declared.space.DevPart.{DevPart}
 use Rattle.zr_base.specs.declared.space.Extent.{Extent}
-use Rattle.zr_base.specs.Extents.{HasAll, IsMaximal, RemovesUnits}
+use Rattle.zr_base.specs.Extents.{has_unit, HasAll, IsMaximal, RemovesUnits}
+use Rattle.zr_rules.specs.Places.{is_kept}
 use Rattle.zr_ranges.specs.Ranges.{Ranges}
 
 -- the units of the device with this index
@@ -25,6 +26,10 @@ pub record Takes (old new : List Ranges) (d : ℕ) (e : Extent) : Type 0 where
   pub taken : RemovesUnits (units_at old d) (units_at new d) e
   pub others : (other : ℕ) → other ≢ d → units_at new other ≡ units_at old other
 
+-- each unit that is there was there
+abbrev pub AreFewer : List Ranges → List Ranges → Type 0
+AreFewer old new = (d u : ℕ) → has_unit (units_at new d) u ≡ true → has_unit (units_at old d) u ≡ true
+
 -- These blocks were marked in order: none is younger than the group, and the units of each were there and are gone.
 abbrev pub MarksAll : ℕ → List Ranges → List Ranges → List Bptr → Type 0
 MarksAll txg old new [] = new ≡ old
@@ -34,10 +39,11 @@ MarksAll txg old new (b ∷ bs) = (b.birth ≤ txg) × ((mid : List Ranges) × (
 abbrev pub HasMaximal : DevPart → Type 0
 HasMaximal p = IsMaximal p.held
 
--- These blocks were marked, where at first just the held units could be. Where nothing is kept, no held unit is left.
+-- These blocks were marked, where at first just the held units could be. The kept units are left, and where none is kept, no held unit is left.
 pub record MarksHeld (txg : ℕ) (devs : List DevPart) (blocks : List Bptr) : Type 0 where
   pub held : List Ranges
   pub left : List Ranges
   pub held_is : map (λ (r : Ranges). r.extents) held ≡ map (λ (p : DevPart). p.held) devs
   pub marks : MarksAll txg held left blocks
+  pub kept : (d u : ℕ) → is_kept devs d u ≡ true → has_unit (units_at left d) u ≡ true
   pub spent : All (λ (p : DevPart). p.kept ≡ []) devs → All (λ (r : Ranges). r.extents ≡ []) left

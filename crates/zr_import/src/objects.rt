@@ -10,8 +10,11 @@ ghost use Rattle.zr_image.specs.Roots.{HasRootSize};
 ghost use Rattle.zr_import.specs.Causes.{HasCause};
 ghost use Rattle.std.specs.List.{flat_map};
 ghost use Rattle.zr_tree.specs.Trees.{tree_reach};
-ghost use Rattle.zr_objset.specs.Records.{object_reach, leaf_reach, all_reach};
-ghost use Rattle.zr_import.specs.Units.{HasMaximal, MarksAll, MarksHeld};
+ghost use Rattle.zr_objset.specs.Records.{all_reach};
+ghost use Rattle.zr_import.specs.Directories.{recorded, objects_in, HasItsLength, IsInPlace};
+ghost use Rattle.zr_base.specs.Extents.{has_unit};
+ghost use Rattle.zr_rules.specs.Places.{is_kept};
+ghost use Rattle.zr_import.specs.Units.{AreFewer, HasMaximal, MarksAll, MarksHeld, units_at};
 ghost use Rattle.zr_import.specs.declared.errors.ImportErr.TheVariants.{NoMemory, Rule};
 
 use crate::blocks::read;
@@ -37,8 +40,10 @@ fn has_root_size(r: &ObjRec) -> bool
 fn add_object(objects: &mut Vec<ObjRec>, record: &Option<ObjRec>) -> Result<(), ImportErr>
     requires lawful { IfSome record.now IsObject }
     requires before { All IsObject objects.old.items }
+    requires sizes { All HasRootSize objects.old.items }
     ensures lawful { All IsObject objects.new.items }
-    ensures reach { (s : Stored) → OnOk result (flat_map (λ r. tree_reach s r.tree) objects.new.items ≡ flat_map (λ r. tree_reach s r.tree) objects.old.items ++ object_reach s record.now) }
+    ensures sized { All HasRootSize objects.new.items }
+    ensures objects { OnOk result (objects.new.items ≡ objects.old.items ++ recorded record.now) }
     ensures errors { IfErr result (λ e. (e ≡ NoMemory) ⊎ (e ≡ Rule 1)) }
 {
     match record {
@@ -57,8 +62,10 @@ fn add_object(objects: &mut Vec<ObjRec>, record: &Option<ObjRec>) -> Result<(), 
 fn add_objects(objects: &mut Vec<ObjRec>, records: &[Option<ObjRec>]) -> Result<(), ImportErr>
     requires lawful { All (λ r. IfSome r IsObject) records.now }
     requires before { All IsObject objects.old.items }
+    requires sizes { All HasRootSize objects.old.items }
     ensures lawful { All IsObject objects.new.items }
-    ensures reach { (s : Stored) → OnOk result (flat_map (λ r. tree_reach s r.tree) objects.new.items ≡ flat_map (λ r. tree_reach s r.tree) objects.old.items ++ flat_map (object_reach s) records.now) }
+    ensures sized { All HasRootSize objects.new.items }
+    ensures objects { OnOk result (objects.new.items ≡ objects.old.items ++ flat_map recorded records.now) }
     ensures errors { IfErr result (λ e. (e ≡ NoMemory) ⊎ (e ≡ Rule 1)) }
 {
     for record in records {
@@ -75,12 +82,14 @@ fn read_objects<B: Blocks>(
     objects: &mut Vec<ObjRec>,
 ) -> Result<(), ImportErr>
     requires before { All IsObject objects.old.items }
+    requires sizes { All HasRootSize objects.old.items }
     ensures follows { (start : B) → B.follows start store.old → B.follows start store.new }
     ensures costs { Costs 0 0 (B.account store.old) (B.account store.new) }
     ensures cause { HasCause (B.account store.old) (B.account store.new) result }
     ensures same { (s : Stored) → B.holds store.old s → B.holds store.new s }
     ensures lawful { All IsObject objects.new.items }
-    ensures reach { (s : Stored) → B.holds store.old s → OnOk result (flat_map (λ r. tree_reach s r.tree) objects.new.items ≡ flat_map (λ r. tree_reach s r.tree) objects.old.items ++ leaf_reach s b.now) }
+    ensures sized { All HasRootSize objects.new.items }
+    ensures objects { (s : Stored) → B.holds store.old s → OnOk result (objects.new.items ≡ objects.old.items ++ objects_in s b.now) }
 {
     if b.level != 0 {
         return Ok(());
@@ -103,7 +112,8 @@ fn read_directory<B: Blocks>(
     ensures cause { HasCause (B.account store.old) (B.account store.new) result }
     ensures same { (s : Stored) → B.holds store.old s → B.holds store.new s }
     ensures lawful { IfOk result (λ objects. All IsObject objects.items) }
-    ensures reach { (s : Stored) → B.holds store.old s → IfOk result (λ objects. flat_map (λ r. tree_reach s r.tree) objects.items ≡ flat_map (leaf_reach s) met.now) }
+    ensures sized { IfOk result (λ objects. All HasRootSize objects.items) }
+    ensures objects { (s : Stored) → B.holds store.old s → IfOk result (λ objects. objects.items ≡ flat_map (objects_in s) met.now) }
 {
     let mut objects = Vec::new(alloc);
     for b in met {
@@ -120,7 +130,9 @@ fn walk_object<B: Blocks>(
     txg: u64,
     r: &ObjRec,
 ) -> Result<(), ImportErr>
-    requires { IsObject r.now }
+    requires lawful { IsObject r.now }
+    requires sized { HasRootSize r.now }
+    ensures length { (s : Stored) → B.holds store.old s → OnOk result (HasItsLength s r.now) }
     ensures marks { (s : Stored) → B.holds store.old s → OnOk result (MarksAll txg held.old held.new (tree_reach s r.now.tree)) }
     ensures follows { (start : B) → B.follows start store.old → B.follows start store.new }
     ensures costs { Costs 0 0 (B.account store.old) (B.account store.new) }
@@ -148,6 +160,7 @@ fn walk_all<B: Blocks>(
 ) -> Result<(), ImportErr>
     requires { IsTree dir.now }
     ensures marks { (s : Stored) → B.holds store.old s → OnOk result (MarksAll txg held.old held.new (all_reach s dir.now)) }
+    ensures place { (s : Stored) → B.holds store.old s → OnOk result (IsInPlace s dir.now) }
     ensures follows { (start : B) → B.follows start store.old → B.follows start store.new }
     ensures costs { Costs 0 0 (B.account store.old) (B.account store.new) }
     ensures cause { HasCause (B.account store.old) (B.account store.new) result }
@@ -172,6 +185,8 @@ fn walk_all<B: Blocks>(
 /// Takes out the kept units of a device.
 fn take_kept(held: &mut Marks, dev: u32, kept: &[Extent]) -> Result<(), ImportErr>
     ensures none { kept.now ≡ [] → held.new ≡ held.old }
+    ensures fewer { OnOk result (AreFewer held.old held.new) }
+    ensures kept { OnOk result ((u : ℕ) → has_unit kept.now u ≡ true → has_unit (units_at held.old dev) u ≡ true) }
     ensures errors { IfErr result (λ e. (e ≡ NoMemory) ⊎ (e ≡ Rule 7)) }
 {
     for e in kept {
@@ -198,6 +213,7 @@ fn take_late(free: &mut Marks, held: &Marks, dev: u32, runs: &[LateRun]) -> Resu
 fn spend_held(left: &mut Marks, parts: &[DevPart]) -> Result<(), ImportErr>
     requires { length parts.now ≤ 32 }
     ensures none { All (λ p. p.kept ≡ []) parts.now → OnOk result (All (λ s. s.extents ≡ []) left.old) }
+    ensures kept { OnOk result ((d u : ℕ) → is_kept parts.now d u ≡ true → has_unit (units_at left.old d) u ≡ true) }
     ensures errors { IfErr result (λ e. (e ≡ NoMemory) ⊎ (e ≡ Rule 7)) }
 {
     for (dev, part) in parts.iter().enumerate() {
@@ -237,6 +253,7 @@ pub fn walk_objects<B: Blocks>(
     requires few { length parts.now.devs ≤ 32 }
     requires held { All HasMaximal parts.now.devs }
     ensures marks { (s : Stored) → B.holds store.old s → OnOk result (MarksHeld txg parts.now.devs (all_reach s dir.now)) }
+    ensures place { (s : Stored) → B.holds store.old s → OnOk result (IsInPlace s dir.now) }
     ensures follows { (start : B) → B.follows start store.old → B.follows start store.new }
     ensures costs { Costs 0 0 (B.account store.old) (B.account store.new) }
     ensures cause { HasCause (B.account store.old) (B.account store.new) result }

@@ -9,6 +9,7 @@ ghost use Rattle.zr_store.specs.Store.{Stored};
 ghost use Rattle.zr_image.specs.Roots.{rows_of};
 ghost use Rattle.zr_objset.specs.Records.{all_reach};
 ghost use Rattle.zr_import.specs.Causes.{HasCause};
+ghost use Rattle.zr_import.specs.Directories.{IsInPlace};
 ghost use Rattle.zr_import.specs.Units.{MarksHeld};
 ghost use Rattle.zr_import.specs.Words.{ReadsMeta, meta_reach};
 
@@ -61,6 +62,7 @@ pub fn import_root<B: Blocks>(alloc: Global, store: &mut B, uber: &Uber) -> Resu
     ensures reads { (s : Stored) → B.holds store.old s → IfOk result (λ root. ReadsMeta s uber.now root.head root.parts) }
     ensures meta { (s : Stored) → B.holds store.old s → IfOk result (λ root. root.meta ≡ map (λ b. b.at) (meta_reach s uber.now root.head)) }
     ensures live { (s : Stored) → B.holds store.old s → IfOk result (λ root. MarksHeld uber.now.txg root.parts.devs (all_reach s root.head.dir)) }
+    ensures place { (s : Stored) → B.holds store.old s → IfOk result (λ root. IsInPlace s root.head.dir) }
     ensures follows { (start : B) → B.follows start store.old → B.follows start store.new }
     ensures costs { Costs 0 0 (B.account store.old) (B.account store.new) }
     ensures cause { HasCause (B.account store.old) (B.account store.new) result }

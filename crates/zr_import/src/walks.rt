@@ -14,7 +14,7 @@ ghost use Rattle.zr_import.specs.Causes.{HasCause};
 ghost use Rattle.zr_import.specs.declared.errors.ImportErr.TheVariants.{NoMemory, Rule};
 ghost use Rattle.zr_import.specs.declared.walks.Kept.TheVariants.{Nothing, Bytes};
 ghost use Rattle.zr_import.specs.Units.{MarksAll};
-ghost use Rattle.zr_import.specs.Shapes.{MayStand, StandFrom, HasFirst, AddsLeaves, ReadsTree};
+ghost use Rattle.zr_import.specs.Shapes.{MayStand, StandFrom, StandBelow, HasFirst, AddsLeaves, ReadsTree};
 
 use crate::blocks::{read_pointers, read_unit};
 use crate::errors::ImportErr;
@@ -194,6 +194,7 @@ fn walk_below<B: Blocks>(
     ensures sound { (s : Stored) → B.holds store.old s → FitsAt level p.now → OnOk result (IsSoundAt s level p.now) }
     ensures marks { (s : Stored) → B.holds store.old s → OnOk result (MarksAll shape.now.txg marks.old marks.new (reach s level p.now)) }
     ensures bytes { (s : Stored) → B.holds store.old s → shape.now.kept ≡ Bytes → OnOk result (AddsLeaves s (leaves_below s level p.now) found.old.bytes.items found.new.bytes.items) }
+    ensures stand { (s : Stored) → B.holds store.old s → MayStand shape.now level index p.now → OnOk result (StandBelow s shape.now level index p.now) }
     ensures first { (s : Stored) → B.holds store.old s → shape.now.full ≡ true → MayStand shape.now level index p.now → OnOk result (HasFirst s shape.now.leaves shape.now.leaf_units level index p.now) }
     ensures follows { (start : B) → B.follows start store.old → B.follows start store.new }
     ensures costs { Costs 0 0 (B.account store.old) (B.account store.new) }
@@ -231,6 +232,7 @@ pub(crate) fn walk_tree<B: Blocks>(
     requires { IsTree t.now }
     ensures met { (s : Stored) → B.holds store.old s → shape.now.kept ≢ Nothing → OnOk result (found.new.met.items ≡ found.old.met.items ++ tree_reach s t.now) }
     ensures sound { (s : Stored) → B.holds store.old s → OnOk result (IsSoundAt s t.now.height t.now.root) }
+    ensures stand { (s : Stored) → B.holds store.old s → MayStand shape.now t.now.height 0 t.now.root → OnOk result (StandBelow s shape.now t.now.height 0 t.now.root) }
     ensures marks { (s : Stored) → B.holds store.old s → OnOk result (MarksAll shape.now.txg marks.old marks.new (tree_reach s t.now)) }
     ensures follows { (start : B) → B.follows start store.old → B.follows start store.new }
     ensures costs { Costs 0 0 (B.account store.old) (B.account store.new) }

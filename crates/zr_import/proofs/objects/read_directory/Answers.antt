@@ -1,6 +1,6 @@
 use Rattle.std.proofs.Common.{rules, []}
-use Rattle.zr_objset.specs.Records.{leaf_reach}
-use Rattle.zr_objset.proofs.Walking.{reach_more}
+use Rattle.zr_import.specs.Directories.{objects_in}
+use Rattle.zr_import.proofs.Directory.{objects_more}
 use Rattle.zr_import.proofs.objects.read_directory.Goals as goal
 
 pub loop-b-preserved : goal.loop-b-preserved
@@ -11,5 +11,6 @@ loop-b-preserved g c =
       costs = search rules;
       same = search rules;
       lawful = search rules;
-      reach = λ s holds. reach_more (leaf_reach s) c.args.met.now c.loop-b.b-index _ [] _ _ c.loop-b-test.true (inv.reach s holds) (c.in_ok-read_objects.ensures.reach s (inv.same s holds));
+      sized = search rules;
+      objects = λ s holds. objects_more (objects_in s) c.args.met.now c.loop-b.b-index _ [] _ _ c.loop-b-test.true (inv.objects s holds) (c.in_ok-read_objects.ensures.objects s (inv.same s holds));
     }

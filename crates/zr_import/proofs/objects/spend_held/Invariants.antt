@@ -1,9 +1,14 @@
-use Rattle.std.proofs.Common.{◌≡◌, []}
+use Rattle.std.proofs.Common.{◌≡◌, ◌<◌, ℕ, [], true}
 use Rattle.std.specs.Prelude.{All}
 use Rattle.zr_base.specs.declared.space.DevPart.{DevPart}
+use Rattle.zr_base.specs.Extents.{has_unit}
+use Rattle.zr_rules.specs.Places.{is_kept}
+use Rattle.zr_import.specs.Units.{AreFewer, units_at}
 use Rattle.zr_import.proofs.objects.spend_held.Given as goal
 
 abbrev pub invariant-loop-dev : goal.invariant-loop-dev
 invariant-loop-dev l = record {
   none : All (λ (p : DevPart). p.kept ≡ []) l.parts → l.left ≡ l.initial.left;
+  fewer : AreFewer l.initial.left l.left;
+  kept : (d u : ℕ) → d < l.dev → is_kept l.parts d u ≡ true → has_unit (units_at l.initial.left d) u ≡ true;
 }
