@@ -1,7 +1,7 @@
 //! What a change is to make of each block that it touches.
 //!
 //! A block that is written over whole is not read. A block that would have zeros alone is stored as no block.
-ghost use Rattle.std.specs.Prelude.{◌≡◌, ℕ, ◌+◌, ◌-◌, ◌*◌, ◌/◌, ◌^◌, ◌<◌, ◌≤◌, ◌↔◌, IsTrue, length, map, replicate, All, IfOk, IfErr, slice_index, true, false, OnOk, ◌++◌};
+ghost use Rattle.std.specs.Prelude.{◌≡◌, ℕ, ◌+◌, ◌-◌, ◌*◌, ◌/◌, ◌^◌, ◌<◌, ◌≤◌, ◌↔◌, IsTrue, length, map, replicate, take, drop, All, IfOk, IfErr, slice_index, true, false, OnOk, ◌++◌};
 ghost use Rattle.std.specs.List.{range_with_len};
 ghost use Rattle.zr_base.specs.Blocks.{is_block_size};
 ghost use Rattle.zr_bptr.specs.declared.Ptr.{Ptr};
@@ -34,19 +34,21 @@ pub struct Planned {
     pub new: Option<Vec<u8>>,
 }
 
-/// The byte at an offset after the edit, where it was `old`.
-fn byte_at(edit: &Edit<'_>, at: u64, old: u8) -> u8
-    requires fits { edit.now.off + edit.now.len < 2 ^ 64 }
-    requires given { HasLength edit.now.len edit.now.bytes }
-    ensures { result ≡ byte_after edit.now at old }
+/// Puts bytes into a block in place of those from `from` on.
+fn put_given(block: &mut [u8], from: usize, bytes: &[u8])
+    requires { from + length bytes.now ≤ length block.old }
+    ensures { block.new ≡ take from block.old ++ bytes.now ++ drop (from + length bytes.now) block.old }
 {
-    if at < edit.off || at >= edit.off + edit.len {
-        return old;
-    }
-    match edit.bytes {
-        Bytes::Given(bytes) => bytes[(at - edit.off) as usize],
-        Bytes::Filled(byte) => byte,
-    }
+    block[from..from + bytes.len()].copy_from_slice(bytes);
+}
+
+/// Puts one byte into a block in place of each of those.
+fn put_filled(block: &mut [u8], from: usize, to: usize, byte: u8)
+    requires order { from ≤ to }
+    requires within { to ≤ length block.old }
+    ensures { block.new ≡ take from block.old ++ replicate (to - from) byte ++ drop to block.old }
+{
+    block[from..to].fill(byte);
 }
 
 /// Puts into a block, whose first byte has the offset `at`, what the edit puts there.
@@ -54,10 +56,22 @@ fn put_part(block: &mut [u8], at: u64, edit: &Edit<'_>)
     requires low { at + length block.old < 2 ^ 64 }
     requires fits { edit.now.off + edit.now.len < 2 ^ 64 }
     requires given { HasLength edit.now.len edit.now.bytes }
-    ensures { (k : ℕ) → k < length block.old → slice_index block.new k ≡ byte_after edit.now (at + k) (slice_index block.old k) }
+    ensures len { length block.new ≡ length block.old }
+    ensures bytes { (k : ℕ) → k < length block.old → slice_index block.new k ≡ byte_after edit.now (at + k) (slice_index block.old k) }
 {
-    for (k, byte) in block.iter_mut().enumerate() {
-        *byte = byte_at(edit, at + k as u64, *byte);
+    let from = at.max(edit.off);
+    let to = (at + block.len() as u64).min(edit.off + edit.len);
+    if from >= to {
+        return;
+    }
+    let (first, last) = ((from - at) as usize, (to - at) as usize);
+    match edit.bytes {
+        Bytes::Given(bytes) => put_given(
+            block,
+            first,
+            &bytes[(from - edit.off) as usize..(to - edit.off) as usize],
+        ),
+        Bytes::Filled(byte) => put_filled(block, first, last, byte),
     }
 }
 

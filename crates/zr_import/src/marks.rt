@@ -1,21 +1,22 @@
 //! The units to which a pointer may still lead.
 //!
 //! A unit that was met is taken out. So a pointer may be marked where all its units are there, and what is left behind a
-//! walk are the units that it did not meet.
+//! walk are the units that it did not meet. Each pointer takes some units out of the middle of a set, so the sets are in
+//! pages.
 ghost use Rattle.std.specs.Prelude.{◌≡◌, ◌↔◌, ◌<◌, ◌≤◌, ◌^◌, ℕ, [], length, map, false, IsTrue, IfOk, OnErr, All};
-ghost use Rattle.zr_base.specs.Extents.{HasNone, IsMaximal};
+ghost use Rattle.zr_base.specs.Extents.{HasAll, HasNone, IsMaximal};
 ghost use Rattle.zr_ranges.specs.Ranges.{Ranges};
 ghost use Rattle.zr_import.specs.Units.{units_at, extent_of, Has, Takes, HasMaximal};
 
 use std::alloc::Global;
 use std::marker::Model;
 use zr_base::{DevPart, DevRow, DevState, Dva, Extent, NoMemory};
-use zr_ranges::RangeSet;
+use zr_paged::PagedSet;
 
 /// The units of each device to which a pointer may still lead.
 #[derive(Drop)]
 pub struct Marks {
-    left: Vec<RangeSet>,
+    left: Vec<PagedSet>,
 }
 
 impl Model for Marks {
@@ -38,24 +39,47 @@ pub(crate) fn extent_of(at: &Dva) -> Extent
 }
 
 /// A set of these extents.
-fn set_of(alloc: Global, extents: &[Extent]) -> Result<RangeSet, NoMemory>
+fn set_of(alloc: Global, extents: &[Extent]) -> Result<PagedSet, NoMemory>
     requires { IsMaximal extents.now }
     ensures { IfOk result (λ set. set.extents ≡ extents.now) }
 {
-    let mut set = RangeSet::new(alloc);
-    for e in extents {
-        set.add(*e)?;
+    let mut set = PagedSet::new(alloc);
+    let mut count = extents.len();
+    while count > 0 {
+        count -= 1;
+        set.push_first(extents[count])?;
     }
     Ok(set)
 }
 
+/// Whether the set has each unit of the extent, which has some. Logarithmic in the extents.
+fn covers(set: &PagedSet, e: Extent) -> bool
+    requires { 0 < e.len }
+    ensures { IsTrue result ↔ HasAll set.now.extents e }
+{
+    match set.first_from(e.start) {
+        Some(part) => part.start == e.start && e.len <= part.len,
+        None => false,
+    }
+}
+
+/// Whether the set has no unit of the extent. Logarithmic in the extents.
+fn is_apart(set: &PagedSet, e: Extent) -> bool
+    ensures { IsTrue result ↔ HasNone set.now.extents e }
+{
+    match set.first_from(e.start) {
+        Some(part) => e.len <= part.start - e.start,
+        None => true,
+    }
+}
+
 /// All units of a device in service, and none of another.
-fn row_set(alloc: Global, row: &DevRow) -> Result<RangeSet, NoMemory>
+fn row_set(alloc: Global, row: &DevRow) -> Result<PagedSet, NoMemory>
     requires { row.now.units ≤ 2 ^ 36 }
 {
-    let mut set = RangeSet::new(alloc);
+    let mut set = PagedSet::new(alloc);
     if row.state == DevState::On && row.units > 0 {
-        set.add(Extent {
+        set.push_first(Extent {
             start: 0,
             len: row.units,
         })?;
@@ -87,7 +111,7 @@ impl Marks {
         Ok(Marks { left })
     }
 
-    /// Takes out units, where all of them are there. It is logarithmic in the extents, and moves those above.
+    /// Takes out units, where all of them are there. It costs a search among the extents, and the move of one page.
     pub fn take(&mut self, dev: u32, e: Extent) -> Result<bool, NoMemory>
         ensures fits { IfOk result (λ yes. IsTrue yes ↔ Has self.old dev e) }
         ensures takes { IfOk result (λ yes. IsTrue yes → Takes self.old self.new dev e) }
@@ -101,10 +125,12 @@ impl Marks {
         if dev >= self.left.len() {
             return Ok(false);
         }
-        if !self.left[dev].covers(e) {
+        let set = &mut self.left[dev];
+        if !covers(set, e) {
             return Ok(false);
         }
-        self.left[dev].remove(e)?;
+        set.reserve(1)?;
+        set.remove_reserved(e);
         Ok(true)
     }
 
@@ -123,13 +149,13 @@ impl Marks {
         ensures { IsTrue result ↔ HasNone (units_at self.now dev) e }
     {
         let dev = dev as usize;
-        dev >= self.left.len() || self.left[dev].is_apart(e)
+        dev >= self.left.len() || is_apart(&self.left[dev], e)
     }
 
     /// Whether no unit is there.
     pub fn is_empty(&self) -> bool
         ensures { IsTrue result ↔ All (λ s. s.extents ≡ []) self.now }
     {
-        self.left.iter().all(|set| set.extents().is_empty())
+        self.left.iter().all(|set| set.first().is_none())
     }
 }
