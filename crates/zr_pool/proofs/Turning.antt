@@ -9,23 +9,23 @@ use Rattle.zr_script.specs.declared.reply.Reply.{Reply}
 use Rattle.zr_script.specs.declared.reply.Reply.TheVariants as reply
 use Rattle.zr_shelf.specs.Disks.{Stand}
 use Rattle.zr_model.specs.State.{State, PoolState, Empty, opened, created}
-use Rattle.zr_model.specs.Runs.{TurnsTo}
+use Rattle.zr_model.specs.Runs.{Shelf, TurnsTo}
 use Rattle.zr_sync.specs.Objects.{HoldsObjects}
 use Rattle.zr_sync.specs.declared.fault.Fault.{Fault}
 use Rattle.zr_sync.specs.declared.fault.Fault.TheVariants.{No, Stops}
 use Rattle.zr_sync.specs.declared.open.OpenPool.{OpenPool}
 use Rattle.zr_pool.specs.Ends.{answer_of, is_closing}
-use Rattle.zr_pool.specs.Plain.{untold, exported, IsMade, IsPlainRefusal, IsPlainTurn, IsPlainOn, IsPlainOf, IsOpeningTurn, IsObjectsTurn}
+use Rattle.zr_pool.specs.Plain.{untold, exported, IsMade, IsPlainRefusal, IsPlainTurn, IsPlainOn, IsPlainOf, IsOpeningTurn, IsObjectsTurn, shelf_of}
 use Rattle.zr_pool.specs.Pools.{StandsFor}
 use Rattle.zr_pool.specs.Turns.{on_devices, IsTurn, IsOpenAnswer, IsOpenRefusal, IsClosedAnswer, IsClosedRefusal, stays_open, is_opened, is_opener}
 use Rattle.zr_pool.proofs.Staying.{told_anew}
 
 -- ---- where no pool is open
 
-opening_refused : (old : State) (command : Command) (r : Refusal) → IsOpeningTurn old command (reply.No r) old
-opening_refused old (cmd.Create name guid devs) r = refl
-opening_refused old cmd.Import r = refl
-opening_refused old command r = refl
+opening_refused : (shelf : Shelf) (old : State) (command : Command) (r : Refusal) → IsOpeningTurn shelf old command (reply.No r) old
+opening_refused shelf old (cmd.Create name guid devs) r = refl
+opening_refused shelf old cmd.Import r = refl
+opening_refused shelf old command r = refl
 
 is_none : (o : Option OpenPool) → is_some o ≡ false → o ≡ None
 is_none None e = refl
@@ -35,15 +35,15 @@ module _ (old new : Stand) (before : State) (closed : before.is_open ≡ false) 
   abbrev Turns : Option OpenPool → Reply → Type 0
   Turns pool answer = TurnsTo on_devices (λ disks state. StandsFor pool disks state) before old command answer new
 
-  takes_closed : (answer : Reply) (after : State) → IsTurn false command answer after.is_open → IsOpeningTurn before command answer after
-      → IsTurn before.is_open command answer after.is_open × IsObjectsTurn before.is_open before.shelf before command answer after
-  takes_closed answer after turn opening = subst (λ (b : Bool). IsTurn b command answer after.is_open × IsObjectsTurn b before.shelf before command answer after) (sym closed) (turn, opening)
+  takes_closed : (answer : Reply) (after : State) → IsTurn false command answer after.is_open → IsOpeningTurn (shelf_of old) before command answer after
+      → IsTurn before.is_open command answer after.is_open × IsObjectsTurn before.is_open before.shelf (shelf_of old) before command answer after
+  takes_closed answer after turn opening = subst (λ (b : Bool). IsTurn b command answer after.is_open × IsObjectsTurn b before.shelf (shelf_of old) before command answer after) (sym closed) (turn, opening)
 
   refused_closed : (pool : Option OpenPool) (r : Refusal) → pool ≡ None → IsClosedRefusal command r → Turns pool (reply.No r)
   refused_closed pool r none why = record {
     after = before;
     stands_for = subst (λ (o : Option OpenPool). StandsFor o new.seen before) (sym none) closed;
-    takes = takes_closed (reply.No r) before (subst (λ (b : Bool). IsTurn false command (reply.No r) b) (sym closed) (why, refl)) (opening_refused before command r);
+    takes = takes_closed (reply.No r) before (subst (λ (b : Bool). IsTurn false command (reply.No r) b) (sym closed) (why, refl)) (opening_refused (shelf_of old) before command r);
   }
 
   made_to : (pool : OpenPool) → (name : List ℕ) (guid : ℕ) (devs : List (List ℕ)) → command ≡ cmd.Create name guid devs → IsClosedAnswer command reply.Done → HoldsObjects told new.seen pool map.empty → Turns (Some pool) reply.Done
@@ -52,24 +52,24 @@ module _ (old new : Stand) (before : State) (closed : before.is_open ≡ false) 
       record {
         after = after;
         stands_for = inr (created name guid devs, refl, told_anew told (Unit {0}) new.seen pool map.empty tt holds);
-        takes = takes_closed reply.Done after (answer, refl) (subst (λ (k : Command). IsOpeningTurn before k reply.Done after) (sym is) refl);
+        takes = takes_closed reply.Done after (answer, refl) (subst (λ (k : Command). IsOpeningTurn (shelf_of old) before k reply.Done after) (sym is) refl);
       }
 
-  imported_to : (pool : OpenPool) → command ≡ cmd.Import → IsClosedAnswer command reply.Done → Turns (Some pool) reply.Done
-  imported_to pool is answer = record {
-    after = untold;
-    stands_for = inl refl;
-    takes = takes_closed reply.Done untold (answer, refl) (subst (λ (k : Command). IsOpeningTurn before k reply.Done untold) (sym is) refl);
+  imported_to : (pool : OpenPool) → command ≡ cmd.Import → IsClosedAnswer command reply.Done → IsMade (shelf_of old) (HoldsObjects told new.seen pool) cmd.Import → Turns (Some pool) reply.Done
+  imported_to pool is answer (p, shows, holds) = record {
+    after = opened p;
+    stands_for = inr (p, refl, told_anew told (Unit {0}) new.seen pool p.objects tt holds);
+    takes = takes_closed reply.Done (opened p) (answer, refl) (subst (λ (k : Command). IsOpeningTurn (shelf_of old) before k reply.Done (opened p)) (sym is) (p, shows, refl));
   }
 
 done_to : (old new : Stand) (before : State) (closed : before.is_open ≡ false) (told : Type 0) (is_told : told) (command : Command) (pool : OpenPool) → is_opener command ≡ true
-    → IsMade (HoldsObjects told new.seen pool) command → TurnsTo on_devices (λ disks state. StandsFor (Some pool) disks state) before old command reply.Done new
+    → IsMade (shelf_of old) (HoldsObjects told new.seen pool) command → TurnsTo on_devices (λ disks state. StandsFor (Some pool) disks state) before old command reply.Done new
 done_to old new before closed told is_told (cmd.Create name guid devs) pool is made = made_to old new before closed told is_told (cmd.Create name guid devs) pool name guid devs refl is made
-done_to old new before closed told is_told cmd.Import pool is made = imported_to old new before closed told is_told cmd.Import pool refl is
+done_to old new before closed told is_told cmd.Import pool is made = imported_to old new before closed told is_told cmd.Import pool refl is made
 done_to old new before closed told is_told command pool is made = absurd (cc)
 
 answered_closed : (old new : Stand) (before : State) (closed : before.is_open ≡ false) (told : Type 0) (is_told : told) (command : Command) (pool : Option OpenPool) (answer : Reply)
-    → IsTurn false command answer (is_some pool) → IfSome pool (λ p. IsMade (HoldsObjects told new.seen p) command) → TurnsTo on_devices (λ disks state. StandsFor pool disks state) before old command answer new
+    → IsTurn false command answer (is_some pool) → IfSome pool (λ p. IsMade (shelf_of old) (HoldsObjects told new.seen p) command) → TurnsTo on_devices (λ disks state. StandsFor pool disks state) before old command answer new
 answered_closed old new before closed told is_told command None reply.Done turn made = absurd (let e = turn.1 in cc)
 answered_closed old new before closed told is_told command (Some pool) reply.Done turn made = done_to old new before closed told is_told command pool turn.0 made
 answered_closed old new before closed told is_told command pool (reply.No r) turn made = refused_closed old new before closed told is_told command pool r (is_none pool turn.1) turn.0
@@ -77,7 +77,7 @@ answered_closed old new before closed told is_told command pool answer turn made
 
 pub closed_turns : (old new : Stand) (before : State) → before.is_open ≡ false → (told : Type 0) → told → (command : Command) (pool : Option OpenPool) (r : Result (Option Reply) Fault)
     → IfOk r (λ found. IfSome found (λ answer. IsTurn false command answer (is_some pool))) → ((x : Refusal) → r ≡ Err (No x) → IsClosedRefusal command x) → OnErr r (pool ≡ None)
-    → IfSome pool (λ p. IsMade (HoldsObjects told new.seen p) command)
+    → IfSome pool (λ p. IsMade (shelf_of old) (HoldsObjects told new.seen p) command)
     → IfOk (answer_of r) (λ found. IfSome found (λ answer. TurnsTo on_devices (λ disks state. StandsFor pool disks state) before old command answer new))
 closed_turns old new before closed told is_told command pool (Ok None) turn refused none made = tt
 closed_turns old new before closed told is_told command pool (Ok (Some answer)) turn refused none made = answered_closed old new before closed told is_told command pool answer turn made
