@@ -10,21 +10,51 @@
 //! answers Ok has raised its count by all that it was asked for, and a body that asks the system for less is not
 //! proved. A read or write also tests that the system began where it was asked to. Nothing else reads these counts. All
 //! counts stand still at the end of `u64`.
-ghost use Rattle.std.specs.Prelude.{◌≡◌, ◌<◌, ◌≤◌, ◌+◌, ◌-◌, ◌^◌, map, length, min, OnOk, IfOk};
+//!
+//! Nor can a contract say which file the system opened. So one function alone asks the system to open a path, one to give
+//! a file its size, and each answers what it asked for with what it got. The clauses lead from there up to `attach`: the
+//! device that is kept has the path and the size of the call, and a new file's folder was made durable, and no other.
+ghost use Rattle.std.specs.Prelude.{◌≡◌, ◌<◌, ◌≤◌, ◌+◌, ◌-◌, ◌^◌, map, length, min, Some, OnOk, IfOk};
 ghost use Rattle.zr_shelf.specs.declared.desk.DeskErr.TheVariants.{Failed};
 ghost use Rattle.zr_cli.specs.Raised.{raised, CountsFault};
+ghost use Rattle.zr_cli.specs.Paths.{folder_of};
 
 use std::alloc::Global;
 use std::fs::{self, File, OpenFile, OpenOptions};
-use std::io::{ErrorKind, Read, Seek, SeekFrom, Write};
+use std::io::{self, ErrorKind, Read, Seek, SeekFrom, Write};
 use std::path::Path;
 use zr_shelf::{Desk, DeskErr, Shelf};
 
-/// An open device file, and the bytes that it had when it was attached.
+/// An open device file: the bytes that it had when it was attached, and the path and the size for a new file with which it
+/// was.
 #[derive(Drop)]
 pub struct DeviceFile {
     pub size: u64,
+    path: Vec<u8>,
+    make: Option<u64>,
     file: File,
+}
+
+/// A file, and the path that the system was asked to open.
+#[derive(Drop)]
+struct Opened<'p> {
+    path: &'p str,
+    file: File,
+}
+
+/// What makes a new file last: the size that it was given, and the folder that was made durable.
+#[derive(Clone, Copy)]
+struct Made<'p> {
+    size: u64,
+    folder: &'p str,
+}
+
+/// An open file and its bytes, and the size that was asked for if it were not there.
+#[derive(Drop)]
+struct Found<'p> {
+    opened: Opened<'p>,
+    size: u64,
+    make: Option<u64>,
 }
 
 /// How much was moved: bytes read of and written to devices, files made durable, bytes of the input and the calls that
@@ -198,97 +228,148 @@ fn sync_each(devices: &[DeviceFile], synced: &mut u64, faults: &mut u64) -> Resu
     Ok(())
 }
 
-/// Makes the entry of a path in its folder durable. A folder is opened for reading as a file is, and synced through
-/// that handle.
-fn sync_folder(
-    rt: &HostRuntime,
-    path: &str,
-    synced: &mut u64,
-    faults: &mut u64,
-) -> Result<(), DeskErr>
-    ensures moved { OnOk result (synced.new ≡ raised synced.old 1) }
-    ensures faults { CountsFault result faults.old faults.new }
+/// Asks the system to open a path. Nothing else opens a file.
+fn open_as<'p>(rt: &HostRuntime, path: &'p str, options: &OpenOptions) -> io::Result<Opened<'p>>
+    ensures path { IfOk result (λ opened. opened.path.now ≡ path.now) }
 {
-    let folder = match Path::new(path).parent() {
-        Some(parent) if !parent.as_str().is_empty() => parent,
-        _ => Path::new("."),
-    };
-    let Ok(handle) = OpenOptions::new().read(true).open(rt, folder) else {
-        return Err(fault(faults));
-    };
-    sync_file(&handle, synced, faults)
+    let file = options.open(rt, path)?;
+    Ok(Opened { path, file })
 }
 
-/// Makes a file of that many zero bytes, and makes it and its entry last.
-fn fill_new(
-    rt: &HostRuntime,
-    path: &str,
-    file: &File,
-    size: u64,
-    synced: &mut u64,
-    faults: &mut u64,
-) -> Result<(), DeskErr>
-    ensures moved { OnOk result (synced.new ≡ raised synced.old 2) }
+/// Asks the system to give a file so many bytes, and answers how many. Nothing else does.
+fn set_size(file: &File, size: u64, faults: &mut u64) -> Result<u64, DeskErr>
+    ensures size { IfOk result (λ given. given ≡ size) }
     ensures faults { CountsFault result faults.old faults.new }
 {
     if file.set_len(size).is_err() {
         return Err(fault(faults));
     }
-    sync_file(file, synced, faults)?;
-    sync_folder(rt, path, synced, faults)
+    Ok(size)
 }
 
-/// Makes a file of that many zero bytes, or leaves none.
-fn make_new(
+/// The folder of a path: the working folder where it names none.
+fn folder_at(path: &str) -> &str
+    ensures { result.now ≡ folder_of path.now }
+{
+    match Path::new(path).parent() {
+        Some(parent) if !parent.as_str().is_empty() => parent.as_str(),
+        _ => ".",
+    }
+}
+
+/// Makes the entry of a path in its folder durable, and answers the folder. It is opened for reading as a file is, and
+/// synced through that handle.
+fn sync_folder<'p>(
     rt: &HostRuntime,
-    path: &str,
+    path: &'p str,
+    synced: &mut u64,
+    faults: &mut u64,
+) -> Result<&'p str, DeskErr>
+    ensures folder { IfOk result (λ folder. folder.now ≡ folder_of path.now) }
+    ensures moved { OnOk result (synced.new ≡ raised synced.old 1) }
+    ensures faults { CountsFault result faults.old faults.new }
+{
+    let Ok(handle) = open_as(rt, folder_at(path), OpenOptions::new().read(true)) else {
+        return Err(fault(faults));
+    };
+    sync_file(&handle.file, synced, faults)?;
+    Ok(handle.path)
+}
+
+/// Makes a file of that many zero bytes, and makes it and its entry last.
+fn fill_new<'p>(
+    rt: &HostRuntime,
+    new: &Opened<'p>,
     size: u64,
     synced: &mut u64,
     faults: &mut u64,
-) -> Result<File, DeskErr>
+) -> Result<Made<'p>, DeskErr>
+    ensures size { IfOk result (λ made. made.size ≡ size) }
+    ensures folder { IfOk result (λ made. made.folder.now ≡ folder_of new.now.path.now) }
     ensures moved { OnOk result (synced.new ≡ raised synced.old 2) }
     ensures faults { CountsFault result faults.old faults.new }
 {
-    let opened = OpenOptions::new()
-        .read(true)
-        .write(true)
-        .create_new(true)
-        .open(rt, path);
-    let Ok(file) = opened else {
+    let size = set_size(&new.file, size, faults)?;
+    sync_file(&new.file, synced, faults)?;
+    let folder = sync_folder(rt, new.path, synced, faults)?;
+    Ok(Made { size, folder })
+}
+
+/// Makes a file of that many zero bytes, or leaves none.
+fn make_new<'p>(
+    rt: &HostRuntime,
+    path: &'p str,
+    size: u64,
+    synced: &mut u64,
+    faults: &mut u64,
+) -> Result<(Opened<'p>, Made<'p>), DeskErr>
+    ensures path { IfOk result (λ new. new.0.path.now ≡ path.now) }
+    ensures size { IfOk result (λ new. new.1.size ≡ size) }
+    ensures folder { IfOk result (λ new. new.1.folder.now ≡ folder_of path.now) }
+    ensures moved { OnOk result (synced.new ≡ raised synced.old 2) }
+    ensures faults { CountsFault result faults.old faults.new }
+{
+    let opened = open_as(
+        rt,
+        path,
+        OpenOptions::new().read(true).write(true).create_new(true),
+    );
+    let Ok(new) = opened else {
         return Err(fault(faults));
     };
-    if let Err(error) = fill_new(rt, path, &file, size, synced, faults) {
-        let _ = fs::remove_file(rt, path);
-        return Err(error);
+    match fill_new(rt, &new, size, synced, faults) {
+        Ok(made) => Ok((new, made)),
+        Err(error) => {
+            let _ = fs::remove_file(rt, path);
+            Err(error)
+        }
     }
-    Ok(file)
 }
 
 /// Opens a file as it is. Where there is none and a size is given, makes one of that many zero bytes.
-fn open_or_make(
+fn open_or_make<'p>(
     rt: &HostRuntime,
-    path: &str,
+    path: &'p str,
     make: Option<u64>,
     synced: &mut u64,
     faults: &mut u64,
-) -> Result<DeviceFile, DeskErr>
-    ensures { CountsFault result faults.old faults.new }
+) -> Result<Found<'p>, DeskErr>
+    ensures path { IfOk result (λ found. found.opened.path.now ≡ path.now) }
+    ensures make { IfOk result (λ found. found.make ≡ make) }
+    ensures faults { CountsFault result faults.old faults.new }
 {
-    let opened = OpenOptions::new().read(true).write(true).open(rt, path);
-    let file = match (opened, make) {
-        (Ok(file), _) => file,
+    let opened = open_as(rt, path, OpenOptions::new().read(true).write(true));
+    let (opened, make) = match (opened, make) {
+        (Ok(opened), make) => (opened, make),
         (Err(error), Some(size)) if error.kind() == ErrorKind::NotFound => {
-            make_new(rt, path, size, synced, faults)?
+            let (opened, made) = make_new(rt, path, size, synced, faults)?;
+            (opened, Some(made.size))
         }
         (Err(_), _) => return Err(fault(faults)),
     };
-    let Ok(metadata) = file.metadata() else {
+    let Ok(metadata) = opened.file.metadata() else {
         return Err(fault(faults));
     };
-    Ok(DeviceFile {
+    Ok(Found {
         size: metadata.len(),
-        file,
+        opened,
+        make,
     })
+}
+
+/// The device of a file that was found at that path.
+fn device_of(found: Found<'_>, path: Vec<u8>) -> DeviceFile
+    requires path { path.items ≡ found.opened.path.now }
+    ensures path { result.path.items ≡ found.entry.opened.path.now }
+    ensures make { result.make ≡ found.entry.make }
+    ensures size { result.size ≡ found.entry.size }
+{
+    DeviceFile {
+        size: found.size,
+        path,
+        make: found.make,
+        file: found.opened.file,
+    }
 }
 
 impl Shelf for FileDesk {
@@ -368,26 +449,36 @@ impl Shelf for FileDesk {
 }
 
 impl Desk for FileDesk {
-    ghost use Rattle.std.specs.Prelude.{IfOk, IsErrOf};
+    ghost use Rattle.std.specs.Prelude.{ℕ, ◌++◌, ◌∷◌, [], IfOk, OnErr, IsErrOf};
     ghost use Rattle.zr_base.specs.Counts.{HasRisen};
     ghost use Rattle.zr_shelf.specs.Counts.{NoneFell};
     ghost use Rattle.zr_shelf.specs.declared.desk.DeskErr.TheVariants.{NoMemory};
-    ghost use Rattle.zr_cli.specs.Desk.{sizes_of, faults_of};
+    ghost use Rattle.zr_cli.specs.Desk.{sizes_of, faults_of, paths_of, makes_of};
 
-    fn attach(&mut self, path: &str, make: Option<u64>) -> Result<u32, DeskErr> {
+    fn attach(&mut self, path: &str, make: Option<u64>) -> Result<u32, DeskErr>
+        ensures slot { IfOk result (λ slot. slot ≡ length (sizes_of self.old)) }
+        ensures sizes { IfOk result (λ slot. (size : ℕ) × (sizes_of self.new ≡ sizes_of self.old ++ size ∷ [])) }
+        ensures err { OnErr result (sizes_of self.new ≡ sizes_of self.old) }
+        ensures none_fell { NoneFell (faults_of self.old) (faults_of self.new) }
+        ensures failed { IsErrOf result Failed → HasRisen (faults_of self.old).attach (faults_of self.new).attach }
+        // What is kept was opened by the path of the call, and by its size where there was no file.
+        ensures paths { OnOk result (paths_of self.new ≡ paths_of self.old ++ path.now ∷ []) }
+        ensures makes { OnOk result (makes_of self.new ≡ makes_of self.old ++ make ∷ []) }
+    {
         let slot = self.slots();
         if slot == u32::MAX {
             return Err(DeskErr::NoMemory);
         }
         self.devices.reserve(1)?;
-        let device = open_or_make(
+        let kept = path.as_bytes().to_vec(self.rt.alloc())?;
+        let found = open_or_make(
             &self.rt,
             path,
             make,
             &mut self.moved.synced,
             &mut self.attach_faults,
         )?;
-        self.devices.push_reserved(device);
+        self.devices.push_reserved(device_of(found, kept));
         Ok(slot)
     }
 

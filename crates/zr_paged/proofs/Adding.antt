@@ -1,5 +1,5 @@
--- An extent is added to a part of a list of maximal extents.
-use Rattle.std.proofs.Common.{◌≡◌, ℕ, zero, suc, ◌+◌, ◌-◌, ◌<◌, ◌≤◌, true, false, ◌||◌, List, [], ◌∷◌, ◌++◌, length, set, min, sym, ap, subst, arith, ⊎_elim, ◌⊎◌, inl, inr, sub-one}
+-- An extent is added to a part of the pages.
+use Rattle.std.proofs.Common.{◌≡◌, ℕ, ◌+◌, ◌<◌, ◌≤◌, true, false, ◌||◌, List, [], ◌∷◌, ◌++◌, length, min, sym, ap, subst, ◌∙◌, arith, ⊎_elim, ◌⊎◌, append_assoc}
 use Rattle.std.proofs.lemmas.List.{append-nil}
 use Rattle.std.proofs.lemmas.Grind.{common_steps}
 use Rattle.std.proofs.lemmas.Bool.{cases_lt}
@@ -7,9 +7,11 @@ use Rattle.std.proofs.lemmas.Bool.Decides.{nat_tests}
 use Rattle.zr_base.specs.declared.space.Extent.{Extent}
 use Rattle.zr_base.specs.Extents.{has_unit, IsMaximal, IsMaximalFrom, HasNone, AddsUnits}
 use Rattle.zr_base.proofs.ExtentSets.{has_unit-below, raised, StartsFrom, StartsAbove}
-use Rattle.zr_paged.specs.Pages.{all_of, page_at, start_of, AreFit, IsPlace, IsClear}
+use Rattle.zr_paged.specs.Runs.{start_of, stop_of}
+use Rattle.zr_paged.specs.Pages.{all_of, AreFit, ArePages, IsClear}
 use Rattle.zr_paged.proofs.Joined.{has_append, count_append, maximal_back, maximal_front, before, glue, has_three}
-use Rattle.zr_paged.proofs.Shapes.{below, above, page_all, set_all, fit_at, take_all_suc, none_below}
+use Rattle.zr_paged.proofs.Ends.{below_stop, after_stop, first_unit}
+use Rattle.zr_paged.proofs.Sides.{all_three, split, fit_page, fit_high, maximal_page, maximal_rest, maximal_high, clear_back, some_extents, start_all}
 
 -- where a part gains an extent, it starts no lower than its first unit or that of the extent
 starts_low : (low : ℕ) (ps qs : List Extent) (e : Extent) → low ≤ start_of ps → low ≤ e.start → 0 < length ps → IsMaximal ps → AddsUnits ps qs e → StartsFrom low qs
@@ -43,7 +45,7 @@ above_from : (low v : ℕ) (cs : List Extent) → StartsAbove v cs → low ≤ v
 above_from low v [] to le = tt
 above_from low v (c ∷ cs) to le = omega (arith, to, le)
 
-before_all : (u : ℕ) (los ps cs : List Extent) → IsMaximal (los ++ (ps ++ cs)) → 0 < length ps → has_unit los u ≡ true → u + 1 < start_of ps
+pub before_all : (u : ℕ) (los ps cs : List Extent) → IsMaximal (los ++ (ps ++ cs)) → 0 < length ps → has_unit los u ≡ true → u + 1 < start_of ps
 before_all u los [] cs m some is = absurd (omega (arith, some))
 before_all u los (p ∷ ps) cs m some is = before 0 u los p (ps ++ cs) m is
 
@@ -64,113 +66,114 @@ adds_all los ps qs cs e m some a low to = record {
   maximal = glue_all los ps qs cs e m some a low to;
 }
 
--- a page starts with a unit of the set
-first_there : (los ps cs : List Extent) → IsMaximal (los ++ (ps ++ cs)) → 0 < length ps → has_unit (los ++ (ps ++ cs)) (start_of ps) ≡ true
-first_there los [] cs m some = absurd (omega (arith, some))
-first_there los (p ∷ ps) cs m some =
-    let back : IsMaximalFrom 0 (p ∷ (ps ++ cs)) = maximal_back 0 los (p ∷ (ps ++ cs)) m in
-    let len : 0 < p.len = back.1 in
-    grind (arith, nat_tests, len, has_three los (p ∷ ps) cs p.start)
-
-start_there : (pages : List (List Extent)) (j : ℕ) → AreFit pages → IsMaximal (all_of pages) → j < length pages → has_unit (all_of pages) (start_of (page_at pages j)) ≡ true
-start_there pages j fit m inside =
-    rw (page_all pages j inside) (first_there (below pages j) (page_at pages j) (above pages j) (subst (λ (l : List Extent). IsMaximal l) (page_all pages j inside) m) (fit_at pages j fit inside).0)
-
--- no extent of the pages above starts at the end of the new one
-above_clear : (pages : List (List Extent)) (k : ℕ) (e : Extent) → AreFit pages → IsMaximal (all_of pages) → IsPlace pages k e.start → 0 < e.len → HasNone (all_of pages) e → IsClear pages k (e.start + e.len) → StartsAbove (e.start + e.len) (above pages k)
-above_clear pages zero e fit m place some none clear = tt
-above_clear pages (suc j) e fit m place some none clear =
-    let inside : j < length pages = omega (arith, place.within) in
-    let lt : e.start < start_of (page_at pages j) = rw sub-one at (place.above (omega arith)) in
-    let other : start_of (page_at pages j) ≡ e.start + e.len → ⊥ = rw sub-one at (clear (omega arith)) in
-    let first : has_unit (all_of pages) (start_of (page_at pages j)) ≡ true = start_there pages j fit m inside in
-    let past : e.start + e.len < start_of (page_at pages j) =
-    ⊎_elim
-    (λ lower. absurd (grind (arith, nat_tests, first, none (start_of (page_at pages j)), lt, lower)))
-    (λ ge.
+-- where an extent has none of a list and does not end where it starts, it ends below it
+pub ends_under : (xs : List Extent) (e : Extent) → IsMaximal xs → 0 < length xs → e.start < start_of xs → HasNone xs e → (start_of xs ≡ e.start + e.len → ⊥) → e.start + e.len < start_of xs
+ends_under xs e m some lt none other =
+    let first : has_unit xs (start_of xs) ≡ true = first_unit xs m some in
     ⊎_elim
     (λ l. l)
-    (λ g. absurd (other (omega (arith, g, ge))))
-    (cases_lt (e.start + e.len) (start_of (page_at pages j))))
-    (cases_lt (start_of (page_at pages j)) (e.start + e.len)) in
-    subst (λ (l : List Extent). StartsAbove (e.start + e.len) l) (sym (take_all_suc pages j inside)) (start_page (e.start + e.len) (page_at pages j) (above pages j) (fit_at pages j fit inside).0 past)
-  where
-    start_page : (v : ℕ) (page rest : List Extent) → 0 < length page → v < start_of page → StartsAbove v (page ++ rest)
-    start_page v [] rest some lt = absurd (omega (arith, some))
-    start_page v (x ∷ xs) rest some lt = lt
-
--- the page that gets the extent: the one at the place, or the lowest where all start above it
-pub record IsHome (pages : List (List Extent)) (k home : ℕ) : Type 0 where
-  pub some : 0 < length pages
-  pub is : home ≡ min k (length pages - 1)
-
-home_cases : (pages : List (List Extent)) (k home : ℕ) → IsHome pages k home → k ≤ length pages → (home ≡ k) ⊎ (k ≡ suc home)
-home_cases pages k home h within =
-    ⊎_elim
-    (λ lt. inl (omega (arith, h.is, lt)))
-    (λ ge. inr (omega (arith, h.is, h.some, ge, within)))
-    (cases_lt k (length pages))
-
-above_page : (v : ℕ) (ps cs : List Extent) → IsMaximal (ps ++ cs) → 0 < length ps → StartsAbove v (ps ++ cs) → StartsAbove v cs
-above_page v [] cs m some to = absurd (omega (arith, some))
-above_page v (p ∷ ps) [] m some to = tt
-above_page v (p ∷ ps) (c ∷ cs) m some to =
-    let back : IsMaximalFrom (p.start + p.len + 1) (c ∷ cs) = maximal_back (p.start + p.len + 1) ps (c ∷ cs) m.3 in
-    omega (arith, to, back.0)
-
-home_above : (pages : List (List Extent)) (k home : ℕ) (e : Extent) → IsMaximal (all_of pages) → AreFit pages → IsHome pages k home → IsPlace pages k e.start → StartsAbove (e.start + e.len) (above pages k) → StartsAbove (e.start + e.len) (above pages home)
-home_above pages k home e m fit h place to =
-    ⊎_elim
-    (λ same. subst (λ (j : ℕ). StartsAbove (e.start + e.len) (above pages j)) (sym same) to)
-    (λ last.
-    let inside : home < length pages = omega (arith, last, place.within) in
-    let both : StartsAbove (e.start + e.len) (page_at pages home ++ above pages home) = subst (λ (l : List Extent). StartsAbove (e.start + e.len) l) (take_all_suc pages home inside) (subst (λ (j : ℕ). StartsAbove (e.start + e.len) (above pages j)) last to) in
-    let part : IsMaximal (page_at pages home ++ above pages home) = maximal_back 0 (below pages home) (page_at pages home ++ above pages home) (subst (λ (l : List Extent). IsMaximal l) (page_all pages home inside) m) in
-    above_page (e.start + e.len) (page_at pages home) (above pages home) part (fit_at pages home fit inside).0 both)
-    (home_cases pages k home h place.within)
-
-home_below : (pages : List (List Extent)) (k home : ℕ) (e : Extent) → IsMaximal (all_of pages) → AreFit pages → IsHome pages k home → IsPlace pages k e.start → (u : ℕ) → has_unit (below pages home) u ≡ true → u + 1 < e.start
-home_below pages k home e m fit h place u is =
-    ⊎_elim
-    (λ lt.
-    let same : home ≡ k = omega (arith, h.is, lt) in
-    let inside : home < length pages = omega (arith, same, lt) in
-    let start : start_of (page_at pages home) ≤ e.start = subst (λ (j : ℕ). start_of (page_at pages j) ≤ e.start) (sym same) (place.from lt) in
-    omega (arith, start, before_all u (below pages home) (page_at pages home) (above pages home) (subst (λ (l : List Extent). IsMaximal l) (page_all pages home inside) m) (fit_at pages home fit inside).0 is))
     (λ ge.
-    let none : below pages home ≡ [] = none_below pages home (omega (arith, h.is, h.some, ge)) in
-    absurd (grind (arith, common_steps, is, ap (λ (l : List Extent). has_unit l u) none)))
-    (cases_lt k (length pages))
+    ⊎_elim
+    (λ l. absurd (grind (arith, nat_tests, first, none (start_of xs), lt, l)))
+    (λ g. absurd (other (omega (arith, g, ge))))
+    (cases_lt (start_of xs) (e.start + e.len)))
+    (cases_lt (e.start + e.len) (start_of xs))
 
--- the page that gets the extent has none of it
-pub home_apart : (pages : List (List Extent)) (home : ℕ) (e : Extent) → home < length pages → HasNone (all_of pages) e → HasNone (page_at pages home) e
-home_apart pages home e inside none u is =
-    let all : has_unit (all_of pages) u ≡ (has_unit (below pages home) u || (has_unit (page_at pages home) u || has_unit (above pages home) u)) = subst (λ (l : List Extent). has_unit l u ≡ (has_unit (below pages home) u || (has_unit (page_at pages home) u || has_unit (above pages home) u))) (sym (page_all pages home inside)) (has_three (below pages home) (page_at pages home) (above pages home) u) in
-    grind (arith, common_steps, all, none u is)
+starts_over : (v : ℕ) (xs ys : List Extent) → 0 < length xs → v < start_of xs → StartsAbove v (xs ++ ys)
+starts_over v [] ys some lt = absurd (omega (arith, some))
+starts_over v (x ∷ xs) ys some lt = lt
 
-pub adds_in : (pages : List (List Extent)) (k home : ℕ) (new : List Extent) (e : Extent) → IsMaximal (all_of pages) → AreFit pages → IsHome pages k home → IsPlace pages k e.start → 0 < e.len → HasNone (all_of pages) e → IsClear pages k (e.start + e.len) → AddsUnits (page_at pages home) new e → AddsUnits (all_of pages) (all_of (set pages home new)) e
-adds_in pages k home new e m fit h place some none clear a =
-    let inside : home < length pages = omega (arith, h.is, h.some) in
-    let split : IsMaximal (below pages home ++ (page_at pages home ++ above pages home)) = subst (λ (l : List Extent). IsMaximal l) (page_all pages home inside) m in
-    let to : StartsAbove (e.start + e.len) (above pages home) = home_above pages k home e m fit h place (above_clear pages k e fit m place some none clear) in
-    rw (page_all pages home inside, set_all pages home new inside)
-    (adds_all (below pages home) (page_at pages home) new (above pages home) e split (fit_at pages home fit inside).0 a (home_below pages k home e m fit h place) to)
+-- no part has a unit that all have not
+pub none_low : (lows : List (List Extent)) (p : List Extent) (highs : List (List Extent)) (e : Extent) → HasNone (all_of (lows ++ p ∷ highs)) e → HasNone (all_of lows) e
+none_low lows p highs e none u is =
+    let three : has_unit (all_of (lows ++ p ∷ highs)) u ≡ (has_unit (all_of lows) u || (has_unit p u || has_unit (all_of highs) u)) = ap (λ (l : List Extent). has_unit l u) (all_three lows p highs) ∙ has_three (all_of lows) p (all_of highs) u in
+    grind (arith, common_steps, three, none u is)
 
--- after the first extent of a page there is a gap
-first_gap : (los ps cs : List Extent) (f : Extent) → IsMaximal (los ++ ((f ∷ ps) ++ cs)) → has_unit (los ++ ((f ∷ ps) ++ cs)) (f.start + f.len) ≡ false
-first_gap los ps cs f m =
-    let back : IsMaximalFrom 0 (f ∷ (ps ++ cs)) = maximal_back 0 los (f ∷ (ps ++ cs)) m in
-    let after : has_unit (ps ++ cs) (f.start + f.len) ≡ false = has_unit-below (f.start + f.len + 1) (f.start + f.len) (ps ++ cs) back.3 (omega arith) in
-    let low : has_unit los (f.start + f.len) ≡ true → f.start + f.len + 1 < f.start = before 0 (f.start + f.len) los f (ps ++ cs) m in
-    grind (arith, nat_tests, after, low, has_append los ((f ∷ ps) ++ cs) (f.start + f.len))
+pub none_page : (lows : List (List Extent)) (p : List Extent) (highs : List (List Extent)) (e : Extent) → HasNone (all_of (lows ++ p ∷ highs)) e → HasNone p e
+none_page lows p highs e none u is =
+    let three : has_unit (all_of (lows ++ p ∷ highs)) u ≡ (has_unit (all_of lows) u || (has_unit p u || has_unit (all_of highs) u)) = ap (λ (l : List Extent). has_unit l u) (all_three lows p highs) ∙ has_three (all_of lows) p (all_of highs) u in
+    grind (arith, common_steps, three, none u is)
 
-pub page_gap : (pages : List (List Extent)) (k : ℕ) (f : Extent) (rest : List Extent) → k < length pages → IsMaximal (all_of pages) → page_at pages k ≡ f ∷ rest → has_unit (all_of pages) (f.start + f.len) ≡ false
-page_gap pages k f rest inside m is =
-    let split : all_of pages ≡ below pages k ++ ((f ∷ rest) ++ above pages k) = subst (λ (p : List Extent). all_of pages ≡ below pages k ++ (p ++ above pages k)) is (page_all pages k inside) in
-    rw split (first_gap (below pages k) rest (above pages k) f (subst (λ (l : List Extent). IsMaximal l) split m))
+pub none_high : (lows : List (List Extent)) (p : List Extent) (highs : List (List Extent)) (e : Extent) → HasNone (all_of (lows ++ p ∷ highs)) e → HasNone (all_of highs) e
+none_high lows p highs e none u is =
+    let three : has_unit (all_of (lows ++ p ∷ highs)) u ≡ (has_unit (all_of lows) u || (has_unit p u || has_unit (all_of highs) u)) = ap (λ (l : List Extent). has_unit l u) (all_three lows p highs) ∙ has_three (all_of lows) p (all_of highs) u in
+    grind (arith, common_steps, three, none u is)
+
+-- the pages below a node's gain an extent that starts below its page
+pub add_low : (lows : List (List Extent)) (p : List Extent) (highs : List (List Extent)) (news : List (List Extent)) (e : Extent) → ArePages (lows ++ p ∷ highs) → HasNone (all_of (lows ++ p ∷ highs)) e → IsClear (lows ++ p ∷ highs) (e.start + e.len) → e.start < start_of p → 0 < length (all_of lows) → AddsUnits (all_of lows) (all_of news) e → AddsUnits (all_of (lows ++ p ∷ highs)) (all_of (news ++ p ∷ highs)) e
+add_low lows p highs news e a none clear lt some adds =
+    let page = fit_page lows p highs a.fit in
+    let past : e.start + e.len < start_of p = ends_under p e (maximal_page lows p highs a.maximal) page.0 lt (none_page lows p highs e none) (clear_back lows (p ∷ highs) (e.start + e.len) clear).0 in
+    rw (all_three lows p highs, all_three news p highs)
+    (adds_all [] (all_of lows) (all_of news) (p ++ all_of highs) e (split lows p highs a.maximal) some adds (λ u is. absurd (cc (is))) (starts_over (e.start + e.len) p (all_of highs) page.0 past))
+
+-- the pages above a node's gain an extent that starts above its page
+pub add_high : (lows : List (List Extent)) (p : List Extent) (highs : List (List Extent)) (news : List (List Extent)) (e : Extent) → ArePages (lows ++ p ∷ highs) → stop_of p < e.start → 0 < length (all_of highs) → AddsUnits (all_of highs) (all_of news) e → AddsUnits (all_of (lows ++ p ∷ highs)) (all_of (lows ++ p ∷ news)) e
+add_high lows p highs news e a lt some adds =
+    let old : all_of (lows ++ p ∷ highs) ≡ (all_of lows ++ p) ++ (all_of highs ++ []) = all_three lows p highs ∙ sym (append_assoc (all_of lows) p (all_of highs)) ∙ ap (λ (l : List Extent). (all_of lows ++ p) ++ l) (sym (append-nil (all_of highs))) in
+    let new : all_of (lows ++ p ∷ news) ≡ (all_of lows ++ p) ++ (all_of news ++ []) = all_three lows p news ∙ sym (append_assoc (all_of lows) p (all_of news)) ∙ ap (λ (l : List Extent). (all_of lows ++ p) ++ l) (sym (append-nil (all_of news))) in
+    rw (old, new)
+    (adds_all (all_of lows ++ p) (all_of highs) (all_of news) [] e (subst (λ (l : List Extent). IsMaximal l) old a.maximal) some adds (λ u is. under lows p highs e u a lt is) tt)
+  where
+    under : (lows : List (List Extent)) (p : List Extent) (highs : List (List Extent)) (e : Extent) (u : ℕ) → ArePages (lows ++ p ∷ highs) → stop_of p < e.start → has_unit (all_of lows ++ p) u ≡ true → u + 1 < e.start
+    under lows p highs e u a lt is =
+        let page = fit_page lows p highs a.fit in
+        let here : has_unit p u ≡ true → u < stop_of p = below_stop 0 u p (maximal_page lows p highs a.maximal) in
+        let low : has_unit (all_of lows) u ≡ true → u + 1 < start_of p = before_all u (all_of lows) p (all_of highs) (split lows p highs a.maximal) page.0 in
+        let last : start_of p < stop_of p = below_stop 0 (start_of p) p (maximal_page lows p highs a.maximal) (first_unit p (maximal_page lows p highs a.maximal) page.0) in
+        grind (arith, common_steps, has_append (all_of lows) p u, is, here, low, last, lt)
+
+starts : (v : ℕ) (xs : List Extent) → 0 < length xs → StartsAbove v xs → v < start_of xs
+starts v [] some above = absurd (omega (arith, some))
+starts v (x ∷ xs) some above = above
+
+above_of : (v : ℕ) (xs : List Extent) → v < start_of xs → StartsAbove v xs
+above_of v [] lt = tt
+above_of v (x ∷ xs) lt = lt
+
+cons_nil : (h : List Extent) (hs : List (List Extent)) → h ∷ hs ≡ [] → ⊥
+cons_nil h hs same = absurd (omega (arith, ap (λ (l : List (List Extent)). length l) same))
+
+-- a node's page gains an extent that has no other place
+pub add_page : (lows : List (List Extent)) (p : List Extent) (highs : List (List Extent)) (new : List Extent) (e : Extent) → ArePages (lows ++ p ∷ highs) → HasNone (all_of (lows ++ p ∷ highs)) e → IsClear (lows ++ p ∷ highs) (e.start + e.len) → (start_of p ≤ e.start) ⊎ (lows ≡ []) → (e.start ≤ stop_of p) ⊎ (highs ≡ []) → AddsUnits p new e → AddsUnits (all_of (lows ++ p ∷ highs)) (all_of (lows ++ new ∷ highs)) e
+add_page lows p highs new e a none clear from to adds =
+    let page = fit_page lows p highs a.fit in
+    rw (all_three lows p highs, all_three lows new highs)
+    (adds_all (all_of lows) p new (all_of highs) e (split lows p highs a.maximal) page.0 adds (λ u is. under lows p highs e u a from is) (over lows p highs e a none clear to))
+  where
+    under : (lows : List (List Extent)) (p : List Extent) (highs : List (List Extent)) (e : Extent) (u : ℕ) → ArePages (lows ++ p ∷ highs) → (start_of p ≤ e.start) ⊎ (lows ≡ []) → has_unit (all_of lows) u ≡ true → u + 1 < e.start
+    under lows p highs e u a from is =
+        ⊎_elim
+        (λ le. omega (arith, le, before_all u (all_of lows) p (all_of highs) (split lows p highs a.maximal) (fit_page lows p highs a.fit).0 is))
+        (λ none. absurd (grind (arith, common_steps, is, ap (λ (l : List (List Extent)). has_unit (all_of l) u) none)))
+        from
+
+    over : (lows : List (List Extent)) (p : List Extent) (highs : List (List Extent)) (e : Extent) → ArePages (lows ++ p ∷ highs) → HasNone (all_of (lows ++ p ∷ highs)) e → IsClear (lows ++ p ∷ highs) (e.start + e.len) → (e.start ≤ stop_of p) ⊎ (highs ≡ []) → StartsAbove (e.start + e.len) (all_of highs)
+    over lows p [] e a none clear to = tt
+    over lows p (h ∷ highs) e a none clear to =
+        ⊎_elim
+        (λ le.
+        let fits = fit_high lows p (h ∷ highs) a.fit in
+        let start : start_of (all_of (h ∷ highs)) ≡ start_of h = start_all h highs fits.0 in
+        let some : 0 < length (all_of (h ∷ highs)) = some_extents (h ∷ highs) fits (omega arith) in
+        let far : StartsAbove (stop_of p) (all_of (h ∷ highs)) = after_stop p (all_of (h ∷ highs)) (maximal_rest lows p (h ∷ highs) a.maximal) (fit_page lows p (h ∷ highs) a.fit).0 in
+        let lt : e.start < start_of (all_of (h ∷ highs)) = omega (arith, le, starts (stop_of p) (all_of (h ∷ highs)) some far) in
+        let other : start_of (all_of (h ∷ highs)) ≡ e.start + e.len → ⊥ = λ same. (clear_back lows (p ∷ h ∷ highs) (e.start + e.len) clear).1.0 (sym start ∙ same) in
+        above_of (e.start + e.len) (all_of (h ∷ highs)) (ends_under (all_of (h ∷ highs)) e (maximal_high lows p (h ∷ highs) a.maximal) some lt (none_high lows p (h ∷ highs) e none) other))
+        (λ none. absurd (cons_nil h highs none))
+        to
 
 -- no page starts where there is no unit
-pub clear_where_none : (pages : List (List Extent)) (k u : ℕ) → AreFit pages → IsMaximal (all_of pages) → k ≤ length pages → has_unit (all_of pages) u ≡ false → IsClear pages k u
-clear_where_none pages k u fit m within none some is =
-    let there : has_unit (all_of pages) (start_of (page_at pages (k - 1))) ≡ true = start_there pages (k - 1) fit m (omega (arith, some, within)) in
-    absurd (grind (arith, common_steps, there, none, ap (λ (v : ℕ). has_unit (all_of pages) v) is))
+pub clear_where_none : (pages : List (List Extent)) (u : ℕ) → AreFit pages → IsMaximal (all_of pages) → has_unit (all_of pages) u ≡ false → IsClear pages u
+clear_where_none [] u fit m none = tt
+clear_where_none (p ∷ pages) u fit m none =
+    let first : has_unit p (start_of p) ≡ true = first_unit p (maximal_front 0 p (all_of pages) m) fit.0 in
+    let two : has_unit (p ++ all_of pages) u ≡ (has_unit p u || has_unit (all_of pages) u) = has_append p (all_of pages) u in (
+      λ same. absurd (grind (arith, common_steps, two, none, first, ap (λ (v : ℕ). has_unit p v) same)),
+      clear_where_none pages u fit.2 (maximal_back 0 p (all_of pages) m) (grind (arith, common_steps, two, none)),
+    )
+
+-- what has gained an extent is not empty
+pub added_some : (old new : List Extent) (e : Extent) → 0 < e.len → AddsUnits old new e → 0 < length new
+added_some old [] e some a = absurd (grind (arith, nat_tests, some, a.members e.start))
+added_some old (x ∷ xs) e some a = omega arith

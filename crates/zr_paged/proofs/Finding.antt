@@ -1,14 +1,18 @@
 -- The first units of all pages from a unit on.
-use Rattle.std.proofs.Common.{◌≡◌, ℕ, zero, suc, ◌+◌, ◌-◌, ◌<◌, ◌≤◌, true, false, List, [], ◌∷◌, ◌++◌, length, drop, refl, ap, subst, arith, ⊎_elim, sub-one}
+use Rattle.std.proofs.Common.{◌≡◌, ℕ, ◌+◌, ◌-◌, ◌<◌, ◌≤◌, true, false, List, [], ◌∷◌, ◌++◌, length, refl, sym, ap, subst, ◌∙◌, arith, append_assoc}
+use Rattle.std.proofs.lemmas.List.{append-nil}
 use Rattle.std.proofs.lemmas.Grind.{common_steps}
-use Rattle.std.proofs.lemmas.Bool.{cases_lt}
 use Rattle.std.proofs.lemmas.Bool.Decides.{nat_tests}
 use Rattle.zr_base.specs.declared.space.Extent.{Extent}
 use Rattle.zr_base.specs.Extents.{has_unit, extent_at, IsMaximal, IsMaximalFrom, HasNoneFrom, IsFirstPart}
 use Rattle.zr_base.proofs.ExtentSets.{has_unit-below}
-use Rattle.zr_paged.specs.Pages.{all_of, page_at, start_of, AreFit, IsPlace}
+use Rattle.zr_paged.specs.Runs.{start_of, stop_of}
+use Rattle.zr_paged.specs.Pages.{all_of, ArePages}
 use Rattle.zr_paged.proofs.Joined.{has_append, maximal_back, before, has_three}
-use Rattle.zr_paged.proofs.Shapes.{below, above, page_all, fit_at}
+use Rattle.zr_paged.proofs.Ends.{below_stop, last_unit}
+use Rattle.zr_paged.proofs.Sides.{all_three, split, fit_page, maximal_page}
+use Rattle.zr_paged.proofs.Removing.{three_of}
+use Rattle.zr_paged.proofs.Nexts.{none_behind}
 
 -- what a part has from a unit on is what all have, where what stands before it ends below the unit
 part_first : (los ps cs : List Extent) (u : ℕ) (p : Extent) → IsMaximal (los ++ (ps ++ cs)) → HasNoneFrom los u → IsFirstPart ps u p → IsFirstPart (los ++ (ps ++ cs)) u p
@@ -45,69 +49,37 @@ next_first los f rest u m low lt =
       ends = grind (arith, nat_tests, has_append los (f ∷ rest) (f.start + f.len), low (f.start + f.len) (omega (arith, lt)), has_unit-below (f.start + f.len + 1) (f.start + f.len) rest back.3 (omega arith));
     }
 
--- what stands before a page that starts at the unit or below it ends below the unit
-none_before : (pages : List (List Extent)) (k u : ℕ) → AreFit pages → IsMaximal (all_of pages) → k < length pages → start_of (page_at pages k) ≤ u → HasNoneFrom (below pages k) u
-none_before pages k u fit m inside start v le =
-    low (below pages k) (page_at pages k) (above pages k) v (subst (λ (l : List Extent). IsMaximal l) (page_all pages k inside) m) (fit_at pages k fit inside).0 (omega (arith, start, le))
+pub first_low : (lows : List (List Extent)) (p : List Extent) (highs : List (List Extent)) (u : ℕ) (part : Extent) → ArePages (lows ++ p ∷ highs) → IsFirstPart (all_of lows) u part → IsFirstPart (all_of (lows ++ p ∷ highs)) u part
+first_low lows p highs u part a f = rw (all_three lows p highs) (part_first [] (all_of lows) (p ++ all_of highs) u part (split lows p highs a.maximal) (λ v le. refl) f)
+
+-- where the pages below have nothing from the unit on, a page above it has the first
+pub first_next : (lows : List (List Extent)) (p : List Extent) (highs : List (List Extent)) (u : ℕ) → ArePages (lows ++ p ∷ highs) → HasNoneFrom (all_of lows) u → u < start_of p → IsFirstPart (all_of (lows ++ p ∷ highs)) u (extent_at p 0)
+first_next lows p highs u a low lt = rw (all_three lows p highs) (first_of (all_of lows) p (all_of highs) u (split lows p highs a.maximal) low (fit_page lows p highs a.fit).0 lt)
   where
-    low : (los ps cs : List Extent) (v : ℕ) → IsMaximal (los ++ (ps ++ cs)) → 0 < length ps → start_of ps ≤ v → has_unit los v ≡ false
-    low los [] cs v m some le = absurd (omega (arith, some))
-    low los (p ∷ ps) cs v m some le =
-        elim (has_unit los v) as (λ b. (has_unit los v ≡ b) → b ≡ false) [ true ↦ λ is. absurd (omega (arith, before 0 v los p (ps ++ cs) m is, le)) | false ↦ λ is. refl ] refl
+    first_of : (los ps cs : List Extent) (u : ℕ) → IsMaximal (los ++ (ps ++ cs)) → HasNoneFrom los u → 0 < length ps → u < start_of ps → IsFirstPart (los ++ (ps ++ cs)) u (extent_at ps 0)
+    first_of los [] cs u m low some lt = absurd (omega (arith, some))
+    first_of los (p ∷ ps) cs u m low some lt = next_first los p (ps ++ cs) u m low lt
 
-drop_whole : (pages : List (List Extent)) (k : ℕ) → length pages ≤ k → all_of (drop k pages) ≡ []
-drop_whole [] zero h = refl
-drop_whole [] (suc k) h = refl
-drop_whole (p ∷ ps) zero h = absurd (omega arith)
-drop_whole (p ∷ ps) (suc k) h = drop_whole ps k (omega arith)
+pub first_page : (lows : List (List Extent)) (p : List Extent) (highs : List (List Extent)) (u : ℕ) (part : Extent) → ArePages (lows ++ p ∷ highs) → start_of p ≤ u → IsFirstPart p u part → IsFirstPart (all_of (lows ++ p ∷ highs)) u part
+first_page lows p highs u part a from f = rw (all_three lows p highs) (part_first (all_of lows) p (all_of highs) u part (split lows p highs a.maximal) (λ v le. none_behind lows p highs v a (omega (arith, from, le))) f)
 
-pub drop_page : (pages : List (List Extent)) (k : ℕ) → k < length pages → all_of (drop k pages) ≡ below pages k ++ page_at pages k
-drop_page [] k h = absurd (omega arith)
-drop_page (p ∷ ps) zero h = refl
-drop_page (p ∷ ps) (suc k) h = drop_page ps k (omega arith)
+-- a page that ends above the unit has something from it on
+pub page_some : (lows : List (List Extent)) (p : List Extent) (highs : List (List Extent)) (u : ℕ) → ArePages (lows ++ p ∷ highs) → u < stop_of p → HasNoneFrom p u → ⊥
+page_some lows p highs u a lt none =
+    let last = last_unit 0 p (maximal_page lows p highs a.maximal) (fit_page lows p highs a.fit).0 in
+    absurd (grind (arith, common_steps, last.1, none (stop_of p - 1) (omega (arith, lt))))
 
--- the pages from the place down have nothing from the unit on
-low_none : (pages : List (List Extent)) (k u : ℕ) → AreFit pages → IsMaximal (all_of pages) → IsPlace pages k u → HasNoneFrom (page_at pages k) u → HasNoneFrom (all_of (drop k pages)) u
-low_none pages k u fit m place none v le =
-    ⊎_elim
-    (λ lt. rw (drop_page pages k lt) (grind (arith, common_steps, has_append (below pages k) (page_at pages k) v, none v le, none_before pages k u fit m lt (place.from lt) v le)))
-    (λ ge. rw (drop_whole pages k ge) refl)
-    (cases_lt k (length pages))
+-- what stands up to a page that ends by the unit has nothing from it on
+none_up : (lows : List (List Extent)) (p : List Extent) (highs : List (List Extent)) (u v : ℕ) → ArePages (lows ++ p ∷ highs) → start_of p ≤ u → stop_of p ≤ u → u ≤ v → has_unit (all_of lows ++ p) v ≡ false
+none_up lows p highs u v a from le at =
+    let here : has_unit p v ≡ true → v < stop_of p = below_stop 0 v p (maximal_page lows p highs a.maximal) in
+    grind (arith, common_steps, has_append (all_of lows) p v, here, none_behind lows p highs v a (omega (arith, from, at)), le, at)
 
--- the place has something from the unit on
-pub found_in_page : (pages : List (List Extent)) (k u : ℕ) (part : Extent) → AreFit pages → IsMaximal (all_of pages) → IsPlace pages k u → IsFirstPart (page_at pages k) u part → IsFirstPart (all_of pages) u part
-found_in_page pages k u part fit m place f =
-    ⊎_elim
-    (λ lt. rw (page_all pages k lt) (part_first (below pages k) (page_at pages k) (above pages k) u part (subst (λ (l : List Extent). IsMaximal l) (page_all pages k lt) m) (none_before pages k u fit m lt (place.from lt)) f))
-    (λ ge.
-    let none : page_at pages k ≡ [] = past_end pages k ge in
-    let some : 0 < part.len = f.not_empty in
-    let has : has_unit (page_at pages k) part.start ≡ true = f.covered part.start (grind (arith, nat_tests, some)) in
-    absurd (grind (arith, common_steps, has, ap (λ (l : List Extent). has_unit l part.start) none)))
-    (cases_lt k (length pages))
-  where
-    past_end : (pages : List (List Extent)) (k : ℕ) → length pages ≤ k → page_at pages k ≡ []
-    past_end [] k h = refl
-    past_end (p ∷ ps) zero h = absurd (omega arith)
-    past_end (p ∷ ps) (suc k) h = past_end ps k (omega arith)
+pub first_high : (lows : List (List Extent)) (p : List Extent) (highs : List (List Extent)) (u : ℕ) (part : Extent) → ArePages (lows ++ p ∷ highs) → start_of p ≤ u → stop_of p ≤ u → IsFirstPart (all_of highs) u part → IsFirstPart (all_of (lows ++ p ∷ highs)) u part
+first_high lows p highs u part a from le f =
+    let same : all_of (lows ++ p ∷ highs) ≡ (all_of lows ++ p) ++ (all_of highs ++ []) = all_three lows p highs ∙ sym (append_assoc (all_of lows) p (all_of highs)) ∙ ap (λ (l : List Extent). (all_of lows ++ p) ++ l) (sym (append-nil (all_of highs))) in
+    rw same (part_first (all_of lows ++ p) (all_of highs) [] u part (subst (λ (l : List Extent). IsMaximal l) same a.maximal) (λ v at. none_up lows p highs u v a from le at) f)
 
--- no page is above the place, and it has nothing
-pub found_none : (pages : List (List Extent)) (k u : ℕ) → AreFit pages → IsMaximal (all_of pages) → IsPlace pages k u → HasNoneFrom (page_at pages k) u → k ≡ 0 → HasNoneFrom (all_of pages) u
-found_none pages k u fit m place none is v le =
-    let low : has_unit (all_of (drop k pages)) v ≡ false = low_none pages k u fit m place none v le in
-    subst (λ (j : ℕ). has_unit (all_of (drop j pages)) v ≡ false) is low
-
--- the page above the place has the first
-pub found_above : (pages : List (List Extent)) (k u : ℕ) → AreFit pages → IsMaximal (all_of pages) → IsPlace pages k u → HasNoneFrom (page_at pages k) u → 0 < k → IsFirstPart (all_of pages) u (extent_at (page_at pages (k - 1)) 0)
-found_above pages zero u fit m place none some = absurd (omega (arith, some))
-found_above pages (suc j) u fit m place none some =
-    let inside : j < length pages = omega (arith, place.within) in
-    let there : 0 < length (page_at pages j) = (fit_at pages j fit inside).0 in
-    let lt : u < start_of (page_at pages j) = rw sub-one at (place.above (omega arith)) in
-    let low : HasNoneFrom (all_of (drop (suc j) pages)) u = low_none pages (suc j) u fit m place none in
-    let split : all_of pages ≡ all_of (drop (suc j) pages) ++ (page_at pages j ++ above pages j) = page_all pages j inside in
-    rw (sub-one, split) (first_page (all_of (drop (suc j) pages)) (page_at pages j) (above pages j) u (subst (λ (l : List Extent). IsMaximal l) split m) low there lt)
-  where
-    first_page : (los ps cs : List Extent) (u : ℕ) → IsMaximal (los ++ (ps ++ cs)) → HasNoneFrom los u → 0 < length ps → u < start_of ps → IsFirstPart (los ++ (ps ++ cs)) u (extent_at ps 0)
-    first_page los [] cs u m low some lt = absurd (omega (arith, some))
-    first_page los (p ∷ ps) cs u m low some lt = next_first los p (ps ++ cs) u m low lt
+pub none_high_from : (lows : List (List Extent)) (p : List Extent) (highs : List (List Extent)) (u : ℕ) → ArePages (lows ++ p ∷ highs) → start_of p ≤ u → stop_of p ≤ u → HasNoneFrom (all_of highs) u → HasNoneFrom (all_of (lows ++ p ∷ highs)) u
+none_high_from lows p highs u a from le none v at =
+    grind (arith, common_steps, three_of lows p highs v, has_append (all_of lows) p v, none_up lows p highs u v a from le at, none v at)

@@ -7,7 +7,7 @@ use Rattle.std.proofs.lemmas.Bool.Decides.{nat_tests}
 use Rattle.zr_base.specs.declared.space.Extent.{Extent}
 use Rattle.zr_base.specs.Extents.{has_unit, in_extent, unit_count, IsMaximal, IsMaximalFrom, HasAll, RemovesUnits}
 use Rattle.zr_base.proofs.ExtentSets.{has_unit-below, raised, StartsFrom, StartsAbove}
-use Rattle.zr_paged.specs.Pages.{start_of}
+use Rattle.zr_paged.specs.Runs.{start_of}
 
 pub has_append : (xs ys : List Extent) (u : ℕ) → has_unit (xs ++ ys) u ≡ (has_unit xs u || has_unit ys u)
 has_append [] ys u = refl

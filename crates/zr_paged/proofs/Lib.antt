@@ -1,5 +1,9 @@
 pub mod Joined
-pub mod Shapes
+pub mod Ends
+pub mod Sides
 pub mod Adding
+pub mod Removing
+pub mod Nexts
 pub mod Finding
+pub mod Trees
 pub mod Whole

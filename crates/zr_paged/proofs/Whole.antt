@@ -1,11 +1,10 @@
 -- Extents that go from a set in one array to pages and back.
-use Rattle.std.proofs.Common.{◌≡◌, ℕ, zero, suc, ◌+◌, ◌-◌, ◌<◌, ◌≤◌, List, [], ◌∷◌, ◌++◌, length, take, drop, refl, sym, subst, ◌∙◌, arith, append_assoc}
+use Rattle.std.proofs.Common.{◌≡◌, ℕ, zero, suc, ◌+◌, ◌-◌, ◌<◌, ◌≤◌, List, [], ◌∷◌, ◌++◌, length, take, drop, refl, sym, ap, subst, ◌∙◌, arith, append_assoc}
 use Rattle.zr_base.specs.declared.space.Extent.{Extent}
 use Rattle.zr_base.specs.Extents.{extent_at, IsMaximal, IsMaximalFrom}
-use Rattle.zr_paged.specs.Pages.{all_of, page_at}
+use Rattle.zr_paged.specs.Pages.{all_of}
 use Rattle.zr_paged.proofs.Joined.{lower, maximal_front}
-use Rattle.zr_paged.proofs.Shapes.{below, above, page_all}
-use Rattle.zr_paged.proofs.Finding.{drop_page}
+use Rattle.zr_paged.proofs.Sides.{all_three}
 
 -- the next extent stands above those before it
 pub take_run : (low i : ℕ) (s page : List Extent) → IsMaximalFrom low (s ++ page) → i < length page → IsMaximalFrom low ((s ++ take i page) ++ extent_at page i ∷ [])
@@ -33,15 +32,19 @@ drop_more n xs some le =
 pub drop_rises : (n : ℕ) (xs : List Extent) → IsMaximal xs → 0 < n → n ≤ length xs → IsMaximal (extent_at xs (n - 1) ∷ drop n xs)
 drop_rises n xs m some le = subst (λ (l : List Extent). IsMaximal l) (sym (drop_more n xs some le)) (drop_maximal 0 (n - 1) xs m)
 
--- a page more from below
-pub page_more : (n : ℕ) (pages : List (List Extent)) → 0 < n → n ≤ length pages → all_of (drop n pages) ++ page_at pages (n - 1) ≡ all_of (drop (n - 1) pages)
-page_more n pages some le =
-    let same : suc (n - 1) ≡ n = omega (arith, some) in
-    subst (λ (k : ℕ). all_of (drop k pages) ++ page_at pages (n - 1) ≡ all_of (drop (n - 1) pages)) same (sym (drop_page pages (n - 1) (omega (arith, some, le))))
+-- the extents of a node behind those of a set
+pub one_by_one : (s : List Extent) (lows : List (List Extent)) (p : List Extent) (highs : List (List Extent)) → s ++ all_of (lows ++ p ∷ highs) ≡ ((s ++ all_of lows) ++ p) ++ all_of highs
+one_by_one s lows p highs = ap (λ (l : List Extent). s ++ l) (all_three lows p highs) ∙ sym (append_assoc s (all_of lows) (p ++ all_of highs)) ∙ sym (append_assoc (s ++ all_of lows) p (all_of highs))
 
-pub page_rises : (n : ℕ) (pages : List (List Extent)) → IsMaximal (all_of pages) → 0 < n → n ≤ length pages → IsMaximal (all_of (drop n pages) ++ page_at pages (n - 1))
-page_rises n pages m some le =
-    let inside : n - 1 < length pages = omega (arith, some, le) in
-    let split : all_of pages ≡ (below pages (n - 1) ++ page_at pages (n - 1)) ++ above pages (n - 1) = page_all pages (n - 1) inside ∙ sym (append_assoc (below pages (n - 1)) (page_at pages (n - 1)) (above pages (n - 1))) in
-    let part : IsMaximal (below pages (n - 1) ++ page_at pages (n - 1)) = maximal_front 0 (below pages (n - 1) ++ page_at pages (n - 1)) (above pages (n - 1)) (subst (λ (l : List Extent). IsMaximal l) split m) in
-    subst (λ (l : List Extent). IsMaximal l) (sym (drop_page pages (n - 1) inside) ∙ sym (page_more n pages some le)) part
+pub whole_rises : (s : List Extent) (lows : List (List Extent)) (p : List Extent) (highs : List (List Extent)) → IsMaximal (s ++ all_of (lows ++ p ∷ highs)) → IsMaximal (((s ++ all_of lows) ++ p) ++ all_of highs)
+whole_rises s lows p highs m = subst (λ (l : List Extent). IsMaximal l) (one_by_one s lows p highs) m
+
+pub page_rises : (s : List Extent) (lows : List (List Extent)) (p : List Extent) (highs : List (List Extent)) → IsMaximal (s ++ all_of (lows ++ p ∷ highs)) → IsMaximal ((s ++ all_of lows) ++ p)
+page_rises s lows p highs m = maximal_front 0 ((s ++ all_of lows) ++ p) (all_of highs) (whole_rises s lows p highs m)
+
+pub low_rises : (s : List Extent) (lows : List (List Extent)) (p : List Extent) (highs : List (List Extent)) → IsMaximal (s ++ all_of (lows ++ p ∷ highs)) → IsMaximal (s ++ all_of lows)
+low_rises s lows p highs m = maximal_front 0 (s ++ all_of lows) p (page_rises s lows p highs m)
+
+pub push_rises : (e : Extent) (lows : List (List Extent)) (p : List Extent) (highs : List (List Extent)) → lows ≡ [] → IsMaximal (e ∷ all_of (lows ++ p ∷ highs)) → IsMaximal (e ∷ p)
+push_rises e lows p highs none m =
+    maximal_front 0 (e ∷ p) (all_of highs) (subst (λ (ls : List (List Extent)). IsMaximal (e ∷ all_of (ls ++ p ∷ highs))) none m)

@@ -1,38 +1,66 @@
--- A set of units in pages of extents, the highest page first.
-use Rattle.std.specs.Prelude.{◌≡◌, ℕ, ◌-◌, ◌≤◌, ◌<◌, List, [], ◌∷◌, ◌++◌, length, slice_index_or}
+-- A set of units in pages of extents, which stand in the nodes of a tree.
+use Rattle.std.specs.Prelude.{◌≡◌, ℕ, ◌+◌, ◌≤◌, ◌<◌, ◌^◌, false, List, [], ◌∷◌, ◌++◌, length}
 use Rattle.zr_base.specs.declared.space.Extent.{Extent}
-use Rattle.zr_base.specs.Extents.{IsMaximal, unit_count, extent_at}
+use Rattle.zr_base.specs.Extents.{IsMaximal, HasAll, RemovesUnits, has_unit, unit_count}
+use Rattle.zr_paged.specs.Runs.{start_of}
+use Rattle.zr_paged.specs.declared.tree.Tree.{Tree, Empty, Fork'}
+use Rattle.zr_paged.specs.declared.tree.Node.{Node}
 
--- all extents in order: the pages stand from the highest down
+-- the pages of a tree in order: a node's page stands between those of its two sides
+abbrev pub pages_in : Tree → List (List Extent)
+pages_in Empty = []
+pages_in (Fork' p low page height high) = pages_in low ++ page ∷ pages_in high
+
+-- the same of a node
+abbrev pub pages_of : Node → List (List Extent)
+pages_of n = pages_in n.low ++ n.page ∷ pages_in n.high
+
+-- all extents in order
 abbrev pub all_of : List (List Extent) → List Extent
 all_of [] = []
-all_of (page ∷ pages) = all_of pages ++ page
-
--- the page at an index, and an empty one past the end
-abbrev pub page_at : List (List Extent) → ℕ → List Extent
-page_at pages k = slice_index_or pages k []
-
--- the first unit of a page
-abbrev pub start_of : List Extent → ℕ
-start_of page = (extent_at page 0).start
+all_of (page ∷ pages) = page ++ all_of pages
 
 -- no page is empty, and none has more than 64 extents
 abbrev pub AreFit : List (List Extent) → Type 0
 AreFit [] = Unit {0}
 AreFit (page ∷ pages) = (0 < length page) × (length page ≤ 64) × AreFit pages
 
--- the pages of a set, and the number of its units
-pub record IsPaged (pages : List (List Extent)) (units : ℕ) : Type 0 where
+-- the same, but for the page on top, which may be empty or have one extent more
+abbrev pub IsOpen : Tree → Type 0
+IsOpen Empty = Unit {0}
+IsOpen (Fork' p low page height high) = AreFit (pages_in low) × IsMaximal page × (length page ≤ 65) × AreFit (pages_in high)
+
+-- the page on top is empty, and the others fit
+abbrev pub IsHollow : Tree → Type 0
+IsHollow Empty = Unit {0}
+IsHollow (Fork' p low page height high) = AreFit (pages_in low) × (page ≡ []) × AreFit (pages_in high)
+
+-- the page on top is the lowest
+abbrev pub IsFront : Tree → Type 0
+IsFront Empty = Unit {0}
+IsFront (Fork' p low page height high) = low ≡ Empty
+
+-- pages whose extents are maximal
+pub record ArePages (pages : List (List Extent)) : Type 0 where
   pub fit : AreFit pages
   pub maximal : IsMaximal (all_of pages)
-  pub counted : units ≡ unit_count (all_of pages)
 
--- the page is the highest one that starts at the unit or below it, if there is one
-pub record IsPlace (pages : List (List Extent)) (k u : ℕ) : Type 0 where
-  pub within : k ≤ length pages
-  pub from : k < length pages → start_of (page_at pages k) ≤ u
-  pub above : 0 < k → u < start_of (page_at pages (k - 1))
+-- no page starts at the unit
+abbrev pub IsClear : List (List Extent) → ℕ → Type 0
+IsClear [] u = Unit {0}
+IsClear (page ∷ pages) u = (start_of page ≡ u → ⊥) × IsClear pages u
 
--- the page before the place, which is the next above it, does not start at the unit
-abbrev pub IsClear : List (List Extent) → ℕ → ℕ → Type 0
-IsClear pages k u = 0 < k → start_of (page_at pages (k - 1)) ≡ u → ⊥
+-- the extent that starts at a unit comes out, whole
+pub record TakesNext (old new : List Extent) (u : ℕ) (next : Extent) : Type 0 where
+  pub start : next.start ≡ u
+  pub not_empty : 0 < next.len
+  pub in_range : next.start + next.len ≤ 2 ^ 62
+  pub covered : HasAll old next
+  pub removed : RemovesUnits old new next
+  pub gap : has_unit old (next.start + next.len) ≡ false
+
+-- the pages of a set, the lowest on top, and the number of its units
+pub record IsPaged (front : Tree) (units : ℕ) : Type 0 where
+  pub front_page : IsFront front
+  pub pages : ArePages (pages_in front)
+  pub counted : units ≡ unit_count (all_of (pages_in front))

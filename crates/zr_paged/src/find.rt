@@ -1,36 +1,47 @@
-//! The first units of the pages from a unit on.
-ghost use Rattle.std.specs.Prelude.{◌≡◌, ℕ, ◌≤◌, length, IfSome, IfNone};
+//! The first units of a tree of pages from a unit on, and all of them in order.
+ghost use Rattle.std.specs.Prelude.{◌≡◌, ◌++◌, OnOk, IfSome, IfNone};
 ghost use Rattle.zr_base.specs.Extents.{IsMaximal, HasNoneFrom, IsFirstPart};
-ghost use Rattle.zr_paged.specs.Pages.{all_of, page_at, AreFit};
+ghost use Rattle.zr_paged.specs.Pages.{all_of, pages_in, ArePages};
 
-use crate::page::Page;
-use crate::shape::place_of;
-use zr_base::Extent;
+use crate::page::append_page;
+use crate::tree::Tree;
+use zr_base::{Extent, NoMemory};
+use zr_ranges::RangeSet;
 
 /// The part at or above a unit of the lowest extent that ends above it.
-pub fn part_from(pages: &[Page], u: u64) -> Option<Extent>
-    requires fit { AreFit pages.now }
-    requires maximal { IsMaximal (all_of pages.now) }
-    ensures some { IfSome result (IsFirstPart (all_of pages.now) u) }
-    ensures none { IfNone result (HasNoneFrom (all_of pages.now) u) }
+pub fn part_from(tree: &Tree, u: u64) -> Option<Extent>
+    requires { ArePages (pages_in tree.now) }
+    ensures some { IfSome result (IsFirstPart (all_of (pages_in tree.now)) u) }
+    ensures none { IfNone result (HasNoneFrom (all_of (pages_in tree.now)) u) }
 {
-    let k = place_of(pages, u);
-    if let Some(part) = part_in(pages, k, u) {
-        return Some(part);
+    match tree {
+        Tree::Empty => None,
+        Tree::Fork(node) => {
+            if u < node.page.start() {
+                if let Some(part) = part_from(&node.low, u) {
+                    return Some(part);
+                }
+                return Some(node.page.first());
+            }
+            if u < node.page.stop() {
+                return node.page.first_from(u);
+            }
+            part_from(&node.high, u)
+        }
     }
-    if k == 0 {
-        return None;
-    }
-    Some(pages[k - 1].first())
 }
 
-// The same in a page, which may be past the last.
-fn part_in(pages: &[Page], k: usize, u: u64) -> Option<Extent>
-    ensures some { IfSome result (IsFirstPart (page_at pages.now k) u) }
-    ensures none { IfNone result (HasNoneFrom (page_at pages.now k) u) }
+/// Adds all extents of a tree to a set, above all that it has.
+pub fn append_tree(tree: &Tree, set: &mut RangeSet) -> Result<(), NoMemory>
+    requires { IsMaximal (set.old.extents ++ all_of (pages_in tree.now)) }
+    ensures { OnOk result (set.new.extents ≡ set.old.extents ++ all_of (pages_in tree.now)) }
 {
-    if k >= pages.len() {
-        return None;
+    match tree {
+        Tree::Empty => Ok(()),
+        Tree::Fork(node) => {
+            append_tree(&node.low, set)?;
+            append_page(&node.page, set)?;
+            append_tree(&node.high, set)
+        }
     }
-    pages[k].first_from(u)
 }

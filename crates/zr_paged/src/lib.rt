@@ -1,26 +1,26 @@
 //! A set of units, kept as its maximal extents in pages.
 //!
-//! In one array of extents a change moves all that stand above it. Here they stand in pages of at most 64, so a change is
-//! a search among the pages and a move within one. A page that grows longer is cut in half, into one that stands ready,
-//! so a change that was reserved takes no memory. The pages stand from the highest down: what is emptied from its lowest
-//! unit up gives up its pages at the end of their array, and moves none.
+//! In one array of extents a change moves all that stand above it. Here they stand in pages of at most 64, and the pages in
+//! the nodes of a balanced tree. So a change is a way from the top of the tree to a page, a move of at most 64 extents
+//! within it, and the same way back, on which a few links are moved at each node: no array grows with the set. A page that
+//! grows longer is cut in half, into one of a node that stands ready, so a change that was reserved takes no memory. The
+//! lowest page stands apart from the tree, so what is emptied from its lowest unit up goes down the tree once for a page.
 #![tactic(auto)]
 
 ghost use Rattle.std.specs.Prelude.{◌≡◌, ℕ, ◌+◌, ◌-◌, ◌^◌, ◌<◌, ◌≤◌, ◌∷◌, [], length, min, IfOk, IfSome, IfNone, OnOk, OnErr};
 ghost use Rattle.zr_base.specs.Extents.{IsMaximal, HasAll, HasNone, HasNoneFrom, IsFirstPart, AddsUnits, RemovesUnits, unit_count, extent_at};
-ghost use Rattle.zr_paged.specs.Pages.{all_of};
 
+mod change;
 mod find;
-mod join;
+mod front;
 mod page;
-mod shape;
+mod tree;
 
-use find::part_from;
-use join::add_in;
-use page::{Page, append_page, make_ready};
-use shape::{lowest, place_of, push_in, remove_in, take_in};
+use find::{append_tree, part_from};
+use front::{add_in, lowest, make_ready, push_in, remove_in, take_in};
 use std::alloc::Global;
 use std::marker::Model;
+use tree::{Node, Tree};
 use zr_base::{Extent, NoMemory};
 use zr_ranges::RangeSet;
 
@@ -28,22 +28,21 @@ use zr_ranges::RangeSet;
 #[derive(Drop)]
 pub struct PagedSet {
     alloc: Global,
-    pages: Vec<Page>,
+    front: Tree,
     units: u64,
-    ready: Vec<Page>,
+    ready: Vec<Box<Node>>,
 }
 
 impl Model for PagedSet {
-    ghost use Rattle.std.specs.Prelude.{◌-◌, min, vec_len};
-    ghost use Rattle.std.specs.Vec.{vec_capacity};
+    ghost use Rattle.std.specs.Prelude.{vec_len};
     ghost use Rattle.zr_ranges.specs.Ranges.{Ranges};
-    ghost use Rattle.zr_paged.specs.Pages.{IsPaged, all_of};
+    ghost use Rattle.zr_paged.specs.Pages.{IsPaged, all_of, pages_in};
 
     ghost Value = { Ranges };
 
-    ghost view = { λ a. record { extents = all_of a.pages.items; spare = min (vec_len a.ready) (vec_capacity a.pages - vec_len a.pages) } };
+    ghost view = { λ a. record { extents = all_of (pages_in a.front); spare = vec_len a.ready } };
 
-    ghost invariant = { λ a. IsPaged a.pages.items a.units };
+    ghost invariant = { λ a. IsPaged a.front a.units };
 }
 
 impl PagedSet {
@@ -53,7 +52,7 @@ impl PagedSet {
     {
         PagedSet {
             alloc,
-            pages: Vec::new(alloc),
+            front: Tree::Empty,
             units: 0,
             ready: Vec::new(alloc),
         }
@@ -77,16 +76,18 @@ impl PagedSet {
     pub fn to_set(&self) -> Result<RangeSet, NoMemory>
         ensures { IfOk result (λ set. set.extents ≡ self.now.extents) }
     {
-        all_in_one(self.alloc, self.pages.as_slice())
+        let mut set = RangeSet::new(self.alloc);
+        append_tree(&self.front, &mut set)?;
+        Ok(set)
     }
 
-    /// Puts in an extent below all others. It costs the move of one page.
+    /// Puts in an extent below all others. It costs the move of one page, and a way down the tree for each 64 extents.
     pub fn push_first(&mut self, e: Extent) -> Result<(), NoMemory>
         requires { IsMaximal (e ∷ self.old.extents) }
         ensures ok { OnOk result (self.new.extents ≡ e ∷ self.old.extents) }
         ensures err { OnErr result (self.new.extents ≡ self.old.extents) }
     {
-        push_in(self.alloc, &mut self.pages, e)?;
+        push_in(self.alloc, &mut self.front, e)?;
         self.units += e.len;
         Ok(())
     }
@@ -97,12 +98,11 @@ impl PagedSet {
         ensures extents { self.new.extents ≡ self.old.extents }
         ensures spare { self.old.spare ≤ self.new.spare }
     {
-        self.pages.reserve(n)?;
         make_ready(self.alloc, &mut self.ready, n)
     }
 
-    /// Puts in the units of an extent that has none in the set. It takes no memory. It costs what `remove_reserved` does,
-    /// or twice that where it meets the first extent of a page.
+    /// Puts in the units of an extent that has none in the set. It takes no memory. It costs a search, and what
+    /// `remove_reserved` does, or twice that where it meets the first extent of a page.
     pub fn add_reserved(&mut self, e: Extent)
         requires not_empty { 0 < e.len }
         requires in_range { e.start + e.len ≤ 2 ^ 62 }
@@ -111,12 +111,12 @@ impl PagedSet {
         ensures added { AddsUnits self.old.extents self.new.extents e }
         ensures spare { self.old.spare ≤ self.new.spare + 1 }
     {
-        add_in(&mut self.pages, &mut self.ready, e);
+        add_in(&mut self.front, &mut self.ready, e);
         self.units += e.len;
     }
 
-    /// Takes out the units of an extent that has all in the set. It takes no memory. It costs a search among the pages and
-    /// in one of them, and the move of that page's extents, and where a page comes or goes that of the pages below it.
+    /// Takes out the units of an extent that has all in the set. It takes no memory. It is logarithmic in the extents: a way
+    /// down the tree and back, and the move of a page's extents.
     pub fn remove_reserved(&mut self, e: Extent)
         requires not_empty { 0 < e.len }
         requires covered { HasAll self.old.extents e }
@@ -124,13 +124,12 @@ impl PagedSet {
         ensures removed { RemovesUnits self.old.extents self.new.extents e }
         ensures spare { self.old.spare ≤ self.new.spare + 1 }
     {
-        let k = place_of(self.pages.as_slice(), e.start);
-        remove_in(&mut self.pages, &mut self.ready, k, e);
+        remove_in(&mut self.front, &mut self.ready, e);
         self.units -= e.len;
     }
 
-    /// Takes out the lowest units, `n` or, where the lowest extent has fewer, that extent. It takes no memory and moves
-    /// nothing, whatever the set has.
+    /// Takes out the lowest units, `n` or, where the lowest extent has fewer, that extent. It takes no memory and moves no
+    /// extent, whatever the set has. Where its page has no other, the next one is searched in the tree.
     pub fn take_front(&mut self, n: u64) -> Extent
         requires not_empty { 0 < length self.old.extents }
         requires some { 0 < n }
@@ -142,7 +141,7 @@ impl PagedSet {
         ensures removed { RemovesUnits self.old.extents self.new.extents result }
         ensures spare { self.old.spare ≤ self.new.spare }
     {
-        let taken = take_in(&mut self.pages, n);
+        let taken = take_in(&mut self.front, n);
         self.units -= taken.len;
         taken
     }
@@ -155,7 +154,7 @@ impl PagedSet {
         ensures none { IfNone result (self.now.extents ≡ []) }
         ensures maximal { IsMaximal self.now.extents }
     {
-        lowest(self.pages.as_slice())
+        lowest(&self.front)
     }
 
     /// The part at or above `u` of the lowest extent that ends above `u`. Logarithmic in the extents.
@@ -163,7 +162,7 @@ impl PagedSet {
         ensures some { IfSome result (IsFirstPart self.now.extents u) }
         ensures none { IfNone result (HasNoneFrom self.now.extents u) }
     {
-        part_from(self.pages.as_slice(), u)
+        part_from(&self.front, u)
     }
 
     /// How many units the set has. It is kept, not counted.
@@ -173,20 +172,6 @@ impl PagedSet {
     {
         self.units
     }
-}
-
-// The extents of all pages, from the lowest page up.
-fn all_in_one(alloc: Global, pages: &[Page]) -> Result<RangeSet, NoMemory>
-    requires { IsMaximal (all_of pages.now) }
-    ensures { IfOk result (λ set. set.extents ≡ all_of pages.now) }
-{
-    let mut set = RangeSet::new(alloc);
-    let mut count = pages.len();
-    while count > 0 {
-        count -= 1;
-        append_page(&pages[count], &mut set)?;
-    }
-    Ok(set)
 }
 
 #[cfg(test)]

@@ -1,9 +1,10 @@
 //! A page of a set: at most 65 extents, for which it has room from the start.
 //!
-//! A set keeps at most 64 in a page. With one more it is cut in half, so each change of a page has room.
+//! A set keeps at most 64 in a page. With one more it is cut in half, so each change of a page has room. A page keeps its
+//! first unit and its end beside its extents, so that a search among pages reads none of them.
 ghost use Rattle.std.specs.Prelude.{◌≡◌, ◌+◌, ◌^◌, ◌<◌, ◌≤◌, ◌∷◌, ◌++◌, [], length, min, vec_len, IfOk, IfSome, IfNone, OnOk};
 ghost use Rattle.zr_base.specs.Extents.{IsMaximal, HasAll, HasNone, HasNoneFrom, IsFirstPart, AddsUnits, RemovesUnits, extent_at};
-ghost use Rattle.zr_paged.specs.Pages.{start_of};
+ghost use Rattle.zr_paged.specs.Runs.{start_of, stop_of};
 
 use std::alloc::Global;
 use std::marker::Model;
@@ -17,17 +18,26 @@ pub const PAGE: usize = 64;
 #[derive(Drop)]
 pub struct Page {
     runs: RangeSet,
+    ends: Ends,
+}
+
+// Where extents begin and end. Of none both are 0.
+#[derive(Clone, Copy)]
+struct Ends {
+    start: u64,
+    stop: u64,
 }
 
 impl Model for Page {
-    ghost use Rattle.std.specs.Prelude.{List, ◌+◌, ◌≤◌, length};
+    ghost use Rattle.std.specs.Prelude.{List, ◌≡◌, ◌+◌, ◌≤◌, length};
     ghost use Rattle.zr_base.specs.declared.space.Extent.{Extent};
+    ghost use Rattle.zr_paged.specs.Runs.{start_of, stop_of};
 
     ghost Value = { List Extent };
 
     ghost view = { λ p. p.runs.extents };
 
-    ghost invariant = { λ p. 65 ≤ length p.runs.extents + p.runs.spare };
+    ghost invariant = { λ p. (65 ≤ length p.runs.extents + p.runs.spare) × (p.ends.start ≡ start_of p.runs.extents) × (p.ends.stop ≡ stop_of p.runs.extents) };
 }
 
 impl Page {
@@ -36,13 +46,28 @@ impl Page {
     {
         let mut runs = RangeSet::new(alloc);
         runs.reserve(PAGE + 1)?;
-        Ok(Page { runs })
+        let ends = ends_of(runs.extents());
+        Ok(Page { runs, ends })
     }
 
     pub fn len(&self) -> usize
         ensures { result ≡ length self.now }
     {
         self.runs.extents().len()
+    }
+
+    /// The first unit.
+    pub fn start(&self) -> u64
+        ensures { result ≡ start_of self.now }
+    {
+        self.ends.start
+    }
+
+    /// One past the last unit.
+    pub fn stop(&self) -> u64
+        ensures { result ≡ stop_of self.now }
+    {
+        self.ends.stop
     }
 
     /// The first extent.
@@ -74,6 +99,7 @@ impl Page {
         ensures growth { length self.new ≤ length self.old + 1 }
     {
         self.runs.add_reserved(e);
+        self.ends = ends_of(self.runs.extents());
     }
 
     /// Takes out the units of an extent that has all in the page.
@@ -85,6 +111,7 @@ impl Page {
         ensures growth { length self.new ≤ length self.old + 1 }
     {
         self.runs.remove_reserved(e);
+        self.ends = ends_of(self.runs.extents());
     }
 
     /// Takes out the lowest units, `n` or, where the lowest extent has fewer, that extent.
@@ -99,7 +126,9 @@ impl Page {
         ensures removed { RemovesUnits self.old self.new result }
         ensures growth { length self.new ≤ length self.old }
     {
-        self.runs.take_front(n)
+        let taken = self.runs.take_front(n);
+        self.ends = ends_of(self.runs.extents());
+        taken
     }
 
     /// Takes out the first extent.
@@ -111,7 +140,9 @@ impl Page {
         ensures covered { HasAll self.old result }
         ensures removed { RemovesUnits self.old self.new result }
     {
-        self.runs.take_front(u64::MAX)
+        let taken = self.runs.take_front(u64::MAX);
+        self.ends = ends_of(self.runs.extents());
+        taken
     }
 
     /// Adds an extent at the end.
@@ -122,6 +153,7 @@ impl Page {
     {
         let _runs = self.runs.extents();
         self.runs.add_reserved(e);
+        self.ends = ends_of(self.runs.extents());
     }
 
     /// Adds an extent at the beginning.
@@ -132,6 +164,7 @@ impl Page {
     {
         let _runs = self.runs.extents();
         self.runs.add_reserved(e);
+        self.ends = ends_of(self.runs.extents());
     }
 
     /// Takes all extents out. The page keeps its memory.
@@ -139,6 +172,7 @@ impl Page {
         ensures { self.new ≡ [] }
     {
         self.runs.clear();
+        self.ends = ends_of(self.runs.extents());
     }
 }
 
@@ -163,14 +197,19 @@ fn append_run(set: &mut RangeSet, e: Extent) -> Result<(), NoMemory>
     Ok(())
 }
 
-/// Makes empty pages, until so many stand ready.
-pub fn make_ready(alloc: Global, ready: &mut Vec<Page>, wanted: usize) -> Result<(), NoMemory>
-    ensures ok { OnOk result (wanted ≤ vec_len ready.new) }
-    ensures more { vec_len ready.old ≤ vec_len ready.new }
+// Where maximal extents begin and end.
+fn ends_of(runs: &[Extent]) -> Ends
+    requires { IsMaximal runs.now }
+    ensures start { result.start ≡ start_of runs.now }
+    ensures stop { result.stop ≡ stop_of runs.now }
 {
-    while ready.len() < wanted {
-        let page = Page::new(alloc)?;
-        ready.push(page)?;
+    let count = runs.len();
+    if count == 0 {
+        return Ends { start: 0, stop: 0 };
     }
-    Ok(())
+    let last = runs[count - 1];
+    Ends {
+        start: runs[0].start,
+        stop: last.start + last.len,
+    }
 }

@@ -4,8 +4,8 @@ use Rattle.zr_cli.proofs.file_desk.FileDeskShelf.read.Goals as goal
 
 pub returns-in_err-read_at-clause-sizes : goal.returns-in_err-read_at-clause-sizes
 returns-in_err-read_at-clause-sizes c =
-    same_sizes c.args.self.now.devices.items c.args.slot c.index_mut.result.now (record { size = c.index_mut.result.now.size; file = c.read_at.new.file }) c.index_mut.ensures.value refl
+    same_sizes c.args.self.now.devices.items c.args.slot c.index_mut.result.now (record { size = c.index_mut.result.now.size; path = c.index_mut.result.now.path; make = c.index_mut.result.now.make; file = c.read_at.new.file }) c.index_mut.ensures.value refl
 
 pub returns-clause-sizes : goal.returns-clause-sizes
 returns-clause-sizes c =
-    same_sizes c.args.self.now.devices.items c.args.slot c.index_mut.result.now (record { size = c.index_mut.result.now.size; file = c.read_at.new.file }) c.index_mut.ensures.value refl
+    same_sizes c.args.self.now.devices.items c.args.slot c.index_mut.result.now (record { size = c.index_mut.result.now.size; path = c.index_mut.result.now.path; make = c.index_mut.result.now.make; file = c.read_at.new.file }) c.index_mut.ensures.value refl
