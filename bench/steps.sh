@@ -2,16 +2,18 @@
 # What an extent costs where a checkpoint's kept extents are discarded, 64 at a step, where those that are left of a removal
 # are copied, and where scattered units of it are marked, with 10^4, 10^5 and 10^6 of them. It builds crates/zr_bench and
 # runs each size twelve times, of which the fastest counts: each time in a process of its own, so that all write memory that
-# is new to them. The aim is that from one size to the next what an extent costs grows by less than 2. A mark costs two
-# searches among pages and now and then the move of the array of pages, so it may grow by a little more.
+# is new to them. The aim is that from one size to the next what an extent costs grows by less than 2. A mark costs three
+# ways down a tree of pages: whether it is there, whether a page starts at its end, and where it goes. It moves nothing that
+# grows with the set, but each way reads a node here and a node there, so it grows with what the caches have no room for.
 #
-# Measured on a virtual machine with 4 processors (Intel Xeon, 2.70 GHz, model 167) that other work kept busy:
+# Measured on a virtual machine with 4 processors (Intel Xeon, 2.50 GHz) on which some twenty other programs ran:
 #
 #    extents step(64), ns an extent   copied, ns an extent   marked, ns an extent
-#      10000                    2.1                   11.6                  182.3
-#     100000                    2.6                   13.4                  260.7
-#    1000000                    3.2                   16.0                  553.2
-# most growth from one size to the next: 1.25, 1.19 and 2.12
+#      10000                    4.3                   17.3                  381.3
+#     100000                    4.9                   21.8                 1078.4
+#    1000000                    8.7                   39.9                 2774.4
+# most growth from one size to the next: 1.78, 1.83 and 2.83. With the pages in one array, measured in turns with these, a
+# mark took 233.9, 787.4 and 1418.8, and a copy 21.0, 25.3 and 51.8.
 set -eu
 cd "$(dirname "$0")/../crates/zr_bench"
 rt run > /dev/null 2>&1

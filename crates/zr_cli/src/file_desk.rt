@@ -25,8 +25,8 @@ use std::io::{self, ErrorKind, Read, Seek, SeekFrom, Write};
 use std::path::Path;
 use zr_shelf::{Desk, DeskErr, Shelf};
 
-/// An open device file: the bytes that it had when it was attached, and the path and the size for a new file with which it
-/// was.
+/// An open device file: its bytes when it was attached, the path that it was opened by, and the size in bytes that a new
+/// one was to have, if the call had one.
 #[derive(Drop)]
 pub struct DeviceFile {
     pub size: u64,
@@ -236,14 +236,17 @@ fn open_as<'p>(rt: &HostRuntime, path: &'p str, options: &OpenOptions) -> io::Re
     Ok(Opened { path, file })
 }
 
-/// Asks the system to give a file so many bytes, and answers how many. Nothing else does.
-fn set_size(file: &File, size: u64, faults: &mut u64) -> Result<u64, DeskErr>
+/// Gives a file so many bytes, makes it durable and counts it. It answers how many were asked for. Nothing else sets the
+/// size of a file.
+fn set_size(file: &File, size: u64, synced: &mut u64, faults: &mut u64) -> Result<u64, DeskErr>
     ensures size { IfOk result (λ given. given ≡ size) }
+    ensures moved { OnOk result (synced.new ≡ raised synced.old 1) }
     ensures faults { CountsFault result faults.old faults.new }
 {
     if file.set_len(size).is_err() {
         return Err(fault(faults));
     }
+    sync_file(file, synced, faults)?;
     Ok(size)
 }
 
@@ -289,8 +292,7 @@ fn fill_new<'p>(
     ensures moved { OnOk result (synced.new ≡ raised synced.old 2) }
     ensures faults { CountsFault result faults.old faults.new }
 {
-    let size = set_size(&new.file, size, faults)?;
-    sync_file(&new.file, synced, faults)?;
+    let size = set_size(&new.file, size, synced, faults)?;
     let folder = sync_folder(rt, new.path, synced, faults)?;
     Ok(Made { size, folder })
 }

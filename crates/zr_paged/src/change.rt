@@ -8,9 +8,7 @@ ghost use Rattle.zr_paged.specs.Runs.{start_of, stop_of};
 ghost use Rattle.zr_paged.specs.Pages.{all_of, pages_in, pages_of, AreFit, IsOpen, IsHollow, ArePages, IsClear, TakesNext};
 
 use crate::page::{PAGE, Page};
-use crate::tree::{
-    Node, Tree, balance_high, balance_low, height_of, is_empty, join, push_lowest,
-};
+use crate::tree::{Node, Tree, balance_high, balance_low, height_of, is_empty, join, push_lowest};
 use std::mem;
 use zr_base::Extent;
 
