@@ -1,3 +1,4 @@
 pub mod Lines
 pub mod Numbered
 pub mod Count
+pub mod Spelled

@@ -2,8 +2,10 @@
 //!
 //! Each part of the run is added behind the parts before it. The drawn lines pass the state of the draws from one to
 //! the next, so that a line depends on the number and on the lines before it alone.
-ghost use Rattle.std.specs.Prelude.{◌≡◌, ◌≤◌, ◌<◌, ◌++◌, ◌∷◌, [], ◌+◌, ◌%◌, ◌==◌, if◌then◌else◌, IfOk, OnOk, length, map, codes};
-ghost use Rattle.std.specs.List.{range_with_len};
+ghost use Rattle.std.specs.Prelude.{◌≡◌, ◌≤◌, ◌<◌, ◌++◌, ◌∷◌, [], ◌+◌, ◌%◌, ◌==◌, if◌then◌else◌, IfOk, OnOk, length, map, codes, IsTrue};
+ghost use Rattle.std.specs.List.{range_with_len, list_all, AllByRecursion};
+ghost use Rattle.zr_script.specs.Words.{is_path, are_different};
+ghost use Rattle.zr_gen.specs.Spelled.{HasLine};
 ghost use Rattle.zr_script.specs.declared.command.Command.TheVariants as cmd;
 ghost use Rattle.zr_script.specs.Generated.{drawn, before_line, drawn_lines, makes, first_two, script_of};
 
@@ -17,7 +19,7 @@ const OBJECTS: u64 = 16;
 
 /// All commands of the run of `number` with `count` drawn lines: `count` and 39 of them, where `count` is not 0. The
 /// pool is made on the first two devices, the third is added and the first is removed. It takes memory and time linear
-/// in `count`.
+/// in `count`. Where the devices have different paths each command is one that some line asks for.
 pub fn script_of(
     alloc: Global,
     number: u64,
@@ -27,6 +29,7 @@ pub fn script_of(
     requires { 3 ≤ length devs.now }
     ensures commands { IfOk result (λ commands. commands ≡ script_of number count devs.now) }
     ensures length { IfOk result (λ commands. 0 < count → length commands ≡ count + 39) }
+    ensures lines { IsTrue (list_all is_path devs.now) → IsTrue (are_different devs.now) → IfOk result (λ commands. AllByRecursion HasLine commands) }
 {
     let mut commands = Items::new(alloc);
     commands.push(create_line(alloc, devs)?)?;
