@@ -129,7 +129,6 @@ told_turns : (old new : Stand) (told : Type 0) (is_told : told) (command : Comma
     → TurnsTo on_devices (λ disks state. StandsFor (left_of (is_closing command (Ok (Some answer))) y) disks state) (opened p) old command answer new
 told_turns old new told is_told cmd.Export y p reply.Done a on = record { after = exported p; stands_for = refl; takes = ((a, refl), refl) }
 told_turns old new told is_told cmd.Export y p answer a on = absurd a
-told_turns old new told is_told (cmd.Add dev) y p reply.Done a on = record { after = untold; stands_for = inl refl; takes = ((a, refl), refl) }
 told_turns old new told is_told command y p answer a on = plain_open old new told is_told command y p answer on a refl
 
 plain_no : (p : PoolState) (command : Command) (r : Refusal) → IsPlainRefusal p.objects command r → IsPlainTurn p command (reply.No r) (opened p)

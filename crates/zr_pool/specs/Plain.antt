@@ -64,11 +64,10 @@ untold = record { is_open = true; shelf = Empty }
 abbrev pub exported : PoolState → State
 exported p = record { is_open = false; shelf = Is p }
 
--- What a line makes of the objects of an open pool. Of those behind an added device nothing is told yet.
+-- What a line makes of the objects of an open pool: an export closes it, and all else that is done is a step of plain objects.
 abbrev pub IsPlainTurn : PoolState → Command → Reply → State → Type 0
 IsPlainTurn p command (reply.No r) new = (new ≡ opened p) × IsPlainRefusal p.objects command r
 IsPlainTurn p cmd.Export reply.Done new = new ≡ exported p
-IsPlainTurn p (cmd.Add dev) reply.Done new = new ≡ untold
 IsPlainTurn p command answer new = (q : PoolState) × Acts p command answer q × (needs_lost p command ≡ false) × (new ≡ opened q)
 
 -- A pool that is made has no objects. Of those of one that is imported nothing is told yet.
@@ -89,10 +88,9 @@ pub record IsPlainOn (Holds : Objects → Type 0) (p : PoolState) (command : Com
   pub holds : Holds after.objects
   pub turn : IsPlainTurn p command answer (opened after)
 
--- so was each line but an export and an added device, of whose objects nothing is to be held
+-- so was each line but an export, behind which no pool is open to hold them
 abbrev pub IsPlainOf : (Objects → Type 0) → PoolState → Command → Reply → Type 0
 IsPlainOf Holds p cmd.Export reply.Done = Unit {0}
-IsPlainOf Holds p (cmd.Add dev) reply.Done = Unit {0}
 IsPlainOf Holds p command answer = IsPlainOn Holds p command answer
 
 -- a pool that was made holds no objects

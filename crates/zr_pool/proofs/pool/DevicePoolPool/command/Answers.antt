@@ -17,13 +17,13 @@ pub returns-in_default-clause-outside : goal.returns-in_default-clause-outside
 returns-in_default-clause-outside g c = λ told. keeps_outside _ _ (c.closed_line.ensures.disks told)
 
 pub returns-in_default-clause-may_damage : goal.returns-in_default-clause-may_damage
-returns-in_default-clause-may_damage g c = λ at expected found met. ([], no_pool, Sync, refusal.Damaged at expected found, tt)
+returns-in_default-clause-may_damage g c = λ at expected found met. (record { shelf = record { paths = []; disks = [] }; state = no_pool }, Sync, refusal.Damaged at expected found, tt)
 
 pub returns-clause-outside : goal.returns-clause-outside
 returns-clause-outside g c = λ told. keeps_outside _ _ (c.open_line-done.ensures.disks told)
 
 pub returns-clause-may_damage : goal.returns-clause-may_damage
-returns-clause-may_damage g c = λ at expected found met. ([], no_pool, Sync, refusal.Damaged at expected found, tt)
+returns-clause-may_damage g c = λ at expected found met. (record { shelf = record { paths = []; disks = [] }; state = no_pool }, Sync, refusal.Damaged at expected found, tt)
 
 pub returns-in_default-clause-step : goal.returns-in_default-clause-step
 returns-in_default-clause-step g c = λ told paths before stood.
