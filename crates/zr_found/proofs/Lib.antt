@@ -5,3 +5,4 @@ pub mod Tables
 pub mod Object
 pub mod Joined
 pub mod Nothing
+pub mod Alone

@@ -8,7 +8,10 @@
 
 ghost use Rattle.std.specs.Prelude.{◌≡◌, []};
 ghost use Rattle.std.specs.FinMap as fin;
+ghost use Rattle.zr_bptr.specs.declared.Tree.{Tree};
 ghost use Rattle.zr_store.specs.Store.{Stored};
+ghost use Rattle.zr_model.specs.Objects.{Objects};
+ghost use Rattle.zr_image.specs.StateOf.{AreObjects};
 ghost use Rattle.zr_import.specs.Directories.{IsInPlace};
 ghost use Rattle.zr_moves.specs.Account.{Account};
 ghost use Rattle.zr_held.specs.Steps.{no_tree};
@@ -18,6 +21,11 @@ ghost use Rattle.zr_found.specs.Found.{HasReached, HoldsFound};
 /// for an account with this directory and an empty group.
 pub fn objects_found()
     ensures { (image s : Stored) (a : Account) → a.changes.objects ≡ [] → IsInPlace image a.dir → HasReached image s a.dir → HoldsFound image s a }
+{}
+
+/// A directory means one thing: what it says of each byte and each lost block leaves no choice.
+pub fn one_meaning()
+    ensures { (s : Stored) (dir : Tree) (x y : Objects) → AreObjects s dir x → AreObjects s dir y → x ≡ y }
 {}
 
 /// Without a directory no objects are found.

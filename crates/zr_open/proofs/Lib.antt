@@ -3,3 +3,7 @@ pub mod Rows
 pub mod Units
 pub mod Opening
 pub mod Views
+pub mod Marked
+pub mod Holding
+pub mod Showing
+pub mod Meant

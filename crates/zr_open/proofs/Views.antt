@@ -32,7 +32,7 @@ module _ (disks : List (List ℕ)) (these slots : List (Option ℕ)) (ds : Devic
       ap (λ (o : Option ℕ). unit_bytes disks o p.1 ++ flat_map (place_bytes (record { disks = disks; slots = slots; devices = ds })) ps) (same p.0)
       ∙ ap (λ (xs : List ℕ). place_bytes (record { disks = disks; slots = these; devices = ds }) (Some p) ++ xs) (places_same ps)
 
-  store_same : store_of (record { disks = disks; slots = slots; devices = ds }) ≡ store_of (record { disks = disks; slots = these; devices = ds })
+  pub store_same : store_of (record { disks = disks; slots = slots; devices = ds }) ≡ store_of (record { disks = disks; slots = these; devices = ds })
   store_same = ap with_bytes (fun_ext (λ b. places_same (resolved_units ds b.at)))
     where
       with_bytes : (Bptr → List ℕ) → Stored

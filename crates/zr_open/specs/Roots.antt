@@ -4,6 +4,7 @@ use Rattle.std.specs.List.{flat_map}
 use Rattle.zr_bptr.specs.declared.Bptr.{Bptr}
 use Rattle.zr_label.specs.declared.root.Uber.{Uber}
 use Rattle.zr_image.specs.Reading.{bare_devices, store_of}
+use Rattle.zr_import.specs.Directories.{IsInPlace}
 use Rattle.zr_import.specs.Units.{MarksHeld}
 use Rattle.zr_import.specs.Words.{ReadsMeta, meta_reach}
 use Rattle.zr_import.specs.declared.roots.Root.{Root}
@@ -19,11 +20,12 @@ abbrev pub image_of : List (List ℕ) → List (Option ℕ) → Uber → Stored
 image_of disks slots u = store_of (record { disks = disks; slots = slots; devices = bare_devices u })
 
 -- What stands in the trees of the root: its head, what the words of its streams record, and the addresses of these blocks. The held units are just those to which the
--- directory and its objects lead.
+-- directory and its objects lead, and their leaves stand where they may.
 pub record Stands (s : Stored) (u : Uber) (r : Root) : Type 0 where
   pub reads : ReadsMeta s u r.head r.parts
   pub meta : r.meta ≡ map (λ (b : Bptr). b.at) (meta_reach s u r.head)
   pub held : MarksHeld u.txg r.parts.devs (all_reach s r.head.dir)
+  pub place : IsInPlace s r.head.dir
 
 -- the streams of a device in the order of the head
 abbrev pub streams_in : DeviceStreams → List Stream

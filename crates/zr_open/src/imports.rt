@@ -12,6 +12,9 @@ ghost use Rattle.zr_sync.specs.declared.stop.Stop.TheVariants.{DiskFault};
 ghost use Rattle.zr_open.specs.Found.{FindsOn};
 ghost use Rattle.zr_open.specs.Opened.{CoversOwed, IsFresh, IsNotServed, IsRefusedRoot};
 ghost use Rattle.zr_open.specs.Roots.{IsOfRoot};
+ghost use Rattle.zr_open.specs.Shown.{Shows};
+ghost use Rattle.zr_model.specs.State.{PoolState};
+ghost use Rattle.zr_sync.specs.Objects.{HoldsObjects};
 
 use crate::find::find;
 use crate::pool::{is_served, open};
@@ -36,6 +39,7 @@ pub fn import<S: Shelf>(alloc: Global, shelf: &mut S) -> Result<Option<OpenPool>
     ensures pool { IfOk result (λ o. IfSome o (IsOpen (S.sizes shelf.new))) }
     ensures fresh { IfOk result (λ o. IfSome o (λ pool. (u : Uber) × FindsOn (S.sizes shelf.old) (S.tells shelf.old) (S.world shelf.old).now.seen (Ok u) × IsFresh u pool)) }
     ensures opened { IfOk result (λ o. IfSome o (λ pool. (u : Uber) × (at : FindsOn (S.sizes shelf.old) (S.tells shelf.old) (S.world shelf.old).now.seen (Ok u)) × IsOfRoot (S.tells shelf.old) (S.world shelf.old).now.seen (slots_of u at.seen) u pool)) }
+    ensures objects { S.tells shelf.old → IfOk result (λ o. IfSome o (λ pool. (p : PoolState) × Shows (S.world shelf.old).now.paths (S.world shelf.old).now.seen p × HoldsObjects (S.tells shelf.new) (S.world shelf.new).now.seen pool p.objects)) }
     ensures room { IfOk result (λ o. IfSome o (λ pool. CoversOwed pool.space)) }
     ensures groups { IfOk result (λ o. IfSome o (λ pool. pool.group.txg ≤ 2 ^ 63 + 1)) }
     ensures refused { (r : Refusal) → IsErrOf result (No r) → FindsOn (S.sizes shelf.old) (S.tells shelf.old) (S.world shelf.old).now.seen (Err r) ⊎ IsRefusedRoot r }

@@ -10,8 +10,10 @@
 
 mod find;
 mod imports;
+mod laws;
 mod pool;
 mod read;
 mod room;
 
 pub use imports::import;
+pub use laws::meant_is_shown;

@@ -107,6 +107,7 @@ fn pool_of(alloc: Global, found: &Found, head: &Head, space: Space) -> Result<Op
     ensures open { (sizes : List ℕ) → HasItsDisks sizes found.now.slots found.now.root → IfOk result (IsOpen sizes) }
     ensures fresh { IfOk result (IsFresh found.now.root) }
     ensures same { IfOk result (λ pool. pool.space ≡ space) }
+    ensures slots { IfOk result (λ pool. pool.table.slots ≡ found.now.slots) }
     ensures dir { IfOk result (λ pool. pool.dir ≡ head.now.dir) }
     ensures streams { IfOk result (λ pool. flat_map streams_in pool.streams.items ≡ take (4 * length pool.streams.items) head.now.streams) }
 {
@@ -144,6 +145,7 @@ pub(crate) fn open(alloc: Global, found: &Found, root: &Root) -> Result<OpenPool
     ensures open { (sizes : List ℕ) → HasItsDisks sizes found.now.slots found.now.root → IfOk result (IsOpen sizes) }
     ensures fresh { IfOk result (IsFresh found.now.root) }
     ensures parts { IfOk result (HasParts root.now) }
+    ensures slots { IfOk result (λ pool. pool.table.slots ≡ found.now.slots) }
     ensures room { IfOk result (λ pool. CoversOwed pool.space) }
     ensures groups { IfOk result (λ pool. pool.group.txg ≤ 2 ^ 63 + 1) }
     ensures refused { (r : Refusal) → IsErrOf result (No r) → IsRefusedRoot r }

@@ -8,7 +8,10 @@ use Rattle.zr_script.specs.declared.command.Command.TheVariants as cmd
 use Rattle.zr_script.specs.declared.reply.Reply.{Reply}
 use Rattle.zr_script.specs.declared.reply.Reply.TheVariants as reply
 use Rattle.zr_model.specs.Objects.{Objects}
-use Rattle.zr_model.specs.State.{State, PoolState, ShelfPart, Empty, Is, opened, created}
+use Rattle.zr_model.specs.State.{State, PoolState, ShelfPart, Is, opened, created}
+use Rattle.zr_model.specs.Runs.{Shelf}
+use Rattle.zr_shelf.specs.Disks.{Stand}
+use Rattle.zr_open.specs.Shown.{Shows}
 use Rattle.zr_moves.specs.Answers.{Acts, needs_lost}
 use Rattle.zr_held.specs.Steps.{IsObjectOf}
 use Rattle.zr_objects.specs.Groups.{can_make}
@@ -57,10 +60,6 @@ IsPlainRefusal objects command r = Unit {0}
 
 -- ---- lines
 
--- an open pool of which no objects are told
-abbrev pub untold : State
-untold = record { is_open = true; shelf = Empty }
-
 abbrev pub exported : PoolState → State
 exported p = record { is_open = false; shelf = Is p }
 
@@ -70,17 +69,17 @@ IsPlainTurn p command (reply.No r) new = (new ≡ opened p) × IsPlainRefusal p.
 IsPlainTurn p cmd.Export reply.Done new = new ≡ exported p
 IsPlainTurn p command answer new = (q : PoolState) × Acts p command answer q × (needs_lost p command ≡ false) × (new ≡ opened q)
 
--- A pool that is made has no objects. Of those of one that is imported nothing is told yet.
-abbrev pub IsOpeningTurn : State → Command → Reply → State → Type 0
-IsOpeningTurn old (cmd.Create name guid devs) reply.Done new = new ≡ opened (created name guid devs)
-IsOpeningTurn old cmd.Import reply.Done new = new ≡ untold
-IsOpeningTurn old command answer new = new ≡ old
+-- A pool that is made has no objects, and one that is imported is what the disks show.
+abbrev pub IsOpeningTurn : Shelf → State → Command → Reply → State → Type 0
+IsOpeningTurn shelf old (cmd.Create name guid devs) reply.Done new = new ≡ opened (created name guid devs)
+IsOpeningTurn shelf old cmd.Import reply.Done new = (p : PoolState) × Shows shelf.paths shelf.disks p × (new ≡ opened p)
+IsOpeningTurn shelf old command answer new = new ≡ old
 
--- what a line makes of the objects, where they are told
-abbrev pub IsObjectsTurn : Bool → ShelfPart → State → Command → Reply → State → Type 0
-IsObjectsTurn true (Is p) old command answer new = IsPlainTurn p command answer new
-IsObjectsTurn true part old command answer new = Unit {0}
-IsObjectsTurn false part old command answer new = IsOpeningTurn old command answer new
+-- what a line makes of the objects; a state that is open has a pool
+abbrev pub IsObjectsTurn : Bool → ShelfPart → Shelf → State → Command → Reply → State → Type 0
+IsObjectsTurn true (Is p) shelf old command answer new = IsPlainTurn p command answer new
+IsObjectsTurn true part shelf old command answer new = ⊥
+IsObjectsTurn false part shelf old command answer new = IsOpeningTurn shelf old command answer new
 
 -- The line was answered, and the objects behind it are held.
 pub record IsPlainOn (Holds : Objects → Type 0) (p : PoolState) (command : Command) (answer : Reply) : Type 0 where
@@ -93,7 +92,12 @@ abbrev pub IsPlainOf : (Objects → Type 0) → PoolState → Command → Reply 
 IsPlainOf Holds p cmd.Export reply.Done = Unit {0}
 IsPlainOf Holds p command answer = IsPlainOn Holds p command answer
 
--- a pool that was made holds no objects
-abbrev pub IsMade : (Objects → Type 0) → Command → Type 0
-IsMade Holds (cmd.Create name guid devs) = Holds map.empty
-IsMade Holds command = Unit {0}
+-- a pool that was made holds no objects, and one that was imported those that the disks showed
+abbrev pub IsMade : Shelf → (Objects → Type 0) → Command → Type 0
+IsMade shelf Holds (cmd.Create name guid devs) = Holds map.empty
+IsMade shelf Holds cmd.Import = (p : PoolState) × Shows shelf.paths shelf.disks p × Holds p.objects
+IsMade shelf Holds command = Unit {0}
+
+-- the shelf as it reads
+abbrev pub shelf_of : Stand → Shelf
+shelf_of stand = record { paths = stand.paths; disks = stand.seen }

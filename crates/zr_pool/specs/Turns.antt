@@ -122,7 +122,7 @@ IsTurn false command answer after = IsClosedAnswer command answer × (after ≡ 
 -- pool of plain objects. No line is served that leaves work behind. Of damage that ends a run nothing is said yet.
 abbrev pub on_devices : Meaning
 on_devices = record {
-  takes = λ p t. IsTurn p.state.is_open t.command t.answer t.point.state.is_open × IsObjectsTurn p.state.is_open p.state.shelf p.state t.command t.answer t.point.state;
+  takes = λ p t. IsTurn p.state.is_open t.command t.answer t.point.state.is_open × IsObjectsTurn p.state.is_open p.state.shelf p.shelf p.state t.command t.answer t.point.state;
   serves = λ paths state command. IsServed command;
   damages = λ p command found. Unit {0};
   works = λ state actor. false;

@@ -9,7 +9,7 @@ ghost use Rattle.zr_sync.specs.Writes.{WorksOnDisks};
 ghost use Rattle.zr_sync.specs.declared.fault.Fault.TheVariants.{No, Stops};
 ghost use Rattle.zr_sync.specs.declared.stop.Stop.TheVariants.{DiskFault};
 ghost use Rattle.zr_sync.specs.Objects.{HoldsObjects};
-ghost use Rattle.zr_pool.specs.Plain.{IsMade};
+ghost use Rattle.zr_pool.specs.Plain.{IsMade, shelf_of};
 ghost use Rattle.zr_pool.specs.Turns.{IsServed, IsClosedRefusal, is_opener};
 
 use crate::lines::{is_on_objects, is_on_pool};
@@ -43,7 +43,7 @@ pub fn begin<S: Shelf>(
     ensures disks { S.tells shelf.old → WorksOnDisks (S.world shelf.old) (S.world shelf.new) }
     ensures fault { IsErrOf result (Stops DiskFault) → HasRisen (S.counts shelf.old).disk (S.counts shelf.new).disk }
     ensures pool { IfOk result (λ found. IfSome found (IsOpen (S.sizes shelf.new))) }
-    ensures made { S.tells shelf.old → IfOk result (λ found. IfSome found (λ pool. IsMade (HoldsObjects (S.tells shelf.new) (S.world shelf.new).now.seen pool) command.now)) }
+    ensures made { S.tells shelf.old → IfOk result (λ found. IfSome found (λ pool. IsMade (shelf_of (S.world shelf.old).now) (HoldsObjects (S.tells shelf.new) (S.world shelf.new).now.seen pool) command.now)) }
     ensures opens { IfOk result (λ found. IfSome found (λ pool. is_opener command.now ≡ true)) }
     ensures refused { (r : Refusal) → IsErrOf result (No r) → IsClosedRefusal command.now r }
     ensures none { IfOk result (λ found. IfNone found (IsServed command.now → ⊥)) }

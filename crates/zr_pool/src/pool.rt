@@ -10,7 +10,7 @@ ghost use Rattle.zr_sync.specs.declared.fault.Fault.TheVariants.{No, Stops};
 ghost use Rattle.zr_sync.specs.declared.stop.Stop.TheVariants.{DiskFault};
 ghost use Rattle.zr_model.specs.State.{PoolState};
 ghost use Rattle.zr_sync.specs.Objects.{HoldsObjects};
-ghost use Rattle.zr_pool.specs.Plain.{IsMade, IsPlainOf, IsPlainRefusal};
+ghost use Rattle.zr_pool.specs.Plain.{IsMade, IsPlainOf, IsPlainRefusal, shelf_of};
 ghost use Rattle.zr_pool.specs.Pools.{IsOnShelf};
 ghost use Rattle.zr_pool.specs.Ends.{is_closing};
 ghost use Rattle.zr_pool.specs.Turns.{IsServed, IsTurn, IsClosedRefusal, IsOpenRefusal, IsOpenAnswer, is_opener};
@@ -110,7 +110,7 @@ impl DevicePool {
         ensures fault { IsErrOf result (Stops DiskFault) → HasRisen (S.counts shelf.old).disk (S.counts shelf.new).disk }
         ensures paths { self.new.paths ≡ self.old.paths }
         ensures pool { IfSome self.new.pool (IsOpen (S.sizes shelf.new)) }
-        ensures made { S.tells shelf.old → IfSome self.new.pool (λ pool. IsMade (HoldsObjects (S.tells shelf.new) (S.world shelf.new).now.seen pool) command.now) }
+        ensures made { S.tells shelf.old → IfSome self.new.pool (λ pool. IsMade (shelf_of (S.world shelf.old).now) (HoldsObjects (S.tells shelf.new) (S.world shelf.new).now.seen pool) command.now) }
         ensures turn { IfOk result (λ found. IfSome found (λ reply. IsTurn false command.now reply (is_some self.new.pool))) }
         ensures refused { (r : Refusal) → IsErrOf result (No r) → IsClosedRefusal command.now r }
         ensures closed { OnErr result (self.new.pool ≡ None) }

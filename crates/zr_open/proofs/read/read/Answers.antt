@@ -22,7 +22,7 @@ returns-in-Ok-clause-stands g c = λ t.
     let none = ap (λ (k : Cache). entries k) same.cache ∙ c.in_ok-cache.ensures.empty in
     let holds = holds_image v.slots.now (g.S.Shelf.tells v.shelf.now) (g.S.Shelf.world v.shelf.now).now.seen v.space.now v.cache.now none (subst (λ s. g.S.Shelf.tells s) (sym same.shelf) t) in
     let image = store_of (view_of (g.S.Shelf.world v.shelf.now).now.seen v.slots.now v.space.now) in
-    let raw : Stands (store_of (view_of (g.S.Shelf.world v.shelf.now).now.seen v.slots.now v.space.now)) u r = record { reads = own.reads image holds; meta = own.meta image holds; held = own.live image holds } in
+    let raw : Stands (store_of (view_of (g.S.Shelf.world v.shelf.now).now.seen v.slots.now v.space.now)) u r = record { reads = own.reads image holds; meta = own.meta image holds; held = own.live image holds; place = own.place image holds } in
     bare_stands (g.S.Shelf.world c.args.shelf.now).now.seen c.args.found.now.slots u c.in_ok-space.space r c.in_ok-space.ensures
     (subst (λ (s : Space). Stands (store_of (view_of (g.S.Shelf.world c.args.shelf.now).now.seen c.args.found.now.slots s)) u r) same.space
     (subst (λ (slots : List (Option ℕ)). Stands (store_of (view_of (g.S.Shelf.world c.args.shelf.now).now.seen slots v.space.now)) u r) same.slots
