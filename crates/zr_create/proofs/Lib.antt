@@ -5,3 +5,6 @@ pub mod Taken
 pub mod Going
 pub mod Checking
 pub mod Nothing
+pub mod Beside
+pub mod Grown
+pub mod Keeping

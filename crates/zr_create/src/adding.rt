@@ -2,8 +2,10 @@
 ghost use Rattle.std.specs.Prelude.{◌≡◌, ◌<◌, ◌≤◌, ◌+◌, [], IsErrOf, OnOk, Ok, Err, length};
 ghost use Rattle.zr_base.specs.Counts.{HasRisen};
 ghost use Rattle.zr_base.specs.declared.refusal.Refusal.{Refusal};
+ghost use Rattle.zr_model.specs.Objects.{Objects};
 ghost use Rattle.zr_shelf.specs.Counts.{NoneFell};
 ghost use Rattle.zr_shelf.specs.Moments.{IsStill};
+ghost use Rattle.zr_sync.specs.Objects.{HoldsObjects};
 ghost use Rattle.zr_sync.specs.Pools.{IsOpen};
 ghost use Rattle.zr_sync.specs.Writes.{WorksOnDisks};
 ghost use Rattle.zr_sync.specs.declared.fault.Fault.TheVariants.{No, Stops};
@@ -61,7 +63,7 @@ fn check_next<S: Shelf>(
 }
 
 /// Adds a slot to an open pool as its next device: the group is committed as it is, and then one with the device, which is
-/// a reset. Want of memory is also the answer at the last groups of all.
+/// a reset. The pool holds the objects that it held. Want of memory is also the answer at the last groups of all.
 ///
 /// After a stop the pool is not to be used.
 pub fn add<S: Shelf, P: Place>(
@@ -85,6 +87,7 @@ pub fn add<S: Shelf, P: Place>(
     ensures empty { OnOk result (pool.new.group.objects ≡ []) }
     ensures root { OnOk result (IsResetAt (pool.old.group.txg + 1) pool.new.last) }
     ensures settled { OnOk result (NothingWaits pool.new.space) }
+    ensures objects { (objects : Objects) → HoldsObjects (S.tells shelf.old) (S.world shelf.old).now.seen pool.old objects → OnOk result (HoldsObjects (S.tells shelf.new) (S.world shelf.new).now.seen pool.new objects) }
     ensures refused { (r : Refusal) → IsErrOf result (No r) → ChecksNext (S.sizes shelf.old) (S.tells shelf.old) (S.world shelf.old).now.seen pool.old slot (Err r) }
     ensures allowed { OnOk result (ChecksNext (S.sizes shelf.old) (S.tells shelf.old) (S.world shelf.old).now.seen pool.old slot (Ok tt)) }
     ensures untouched { S.tells shelf.old → (r : Refusal) → IsErrOf result (No r) → IsStill (S.world shelf.old) (S.world shelf.new) }

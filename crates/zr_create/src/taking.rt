@@ -5,9 +5,11 @@ ghost use Rattle.std.specs.Prelude.{◌≡◌, ◌≢◌, ◌<◌, ◌≤◌, �
 ghost use Rattle.zr_base.specs.Counts.{HasRisen};
 ghost use Rattle.zr_label.specs.Blocks.{IsLabel, IsName};
 ghost use Rattle.zr_label.specs.Geometry.{units_of_size};
+ghost use Rattle.zr_model.specs.Objects.{Objects};
 ghost use Rattle.zr_shelf.specs.Counts.{NoneFell};
 ghost use Rattle.zr_slots.specs.Checks.{AreNamed};
 ghost use Rattle.zr_slots.specs.Phases.{IsPrepared};
+ghost use Rattle.zr_sync.specs.Objects.{HoldsObjects};
 ghost use Rattle.zr_sync.specs.Pools.{AreStreams, IsPool, IsOpen};
 ghost use Rattle.zr_sync.specs.Writes.{WorksOnDisks};
 ghost use Rattle.zr_sync.specs.declared.stop.Stop.TheVariants.{DiskFault};
@@ -88,6 +90,7 @@ pub fn take_on<S: Shelf>(
     ensures prepared { S.tells shelf.old → OnOk result (IsPrepared (slice_index (S.sizes shelf.old) slot) slot (next_label pool.old units) (S.world shelf.old) (S.world shelf.new)) }
     ensures pool { OnOk result (IsOpen (S.sizes shelf.new) pool.new) }
     ensures taken { OnOk result (TakesOn slot units pool.old pool.new) }
+    ensures stays { (objects : Objects) → HoldsObjects (S.tells shelf.old) (S.world shelf.old).now.seen pool.old objects → OnOk result (HoldsObjects (S.tells shelf.new) (S.world shelf.new).now.seen pool.new objects) }
 {
     let txg = pool.group.txg();
     let label = label_of(pool.guid, pool.table.count, txg, units, pool.name);

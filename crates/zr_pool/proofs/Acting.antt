@@ -1,5 +1,5 @@
 -- Lines as steps of plain objects.
-use Rattle.std.proofs.Common.{◌≡◌, ◌∙◌, ℕ, zero, List, length, replicate, true, false, Option, Some, None, refl, sym, ap, subst}
+use Rattle.std.proofs.Common.{◌≡◌, ◌∙◌, ℕ, zero, List, [], ◌∷◌, ◌++◌, length, replicate, true, false, Option, Some, None, refl, sym, ap, subst}
 use Rattle.std.specs.Prelude.{unwrap_or, option_map, Bool}
 use Rattle.std.specs.FinMap as map
 use Rattle.std.proofs.lemmas.List.{length-replicate}
@@ -12,8 +12,8 @@ use Rattle.zr_script.specs.declared.reply.ListLine.{ListLine}
 use Rattle.zr_script.specs.declared.reply.StatusLines.{StatusLines}
 use Rattle.zr_script.specs.declared.reply.AuditLine.{AuditLine}
 use Rattle.zr_model.specs.Objects.{Object, Objects, blank, with_bytes, reads_lost, changes_lost, has_lost, object_sum}
-use Rattle.zr_model.specs.State.{PoolState, with_objects}
-use Rattle.zr_moves.specs.Answers.{needs_lost, of_object}
+use Rattle.zr_model.specs.State.{InService, PoolState, with_objects}
+use Rattle.zr_moves.specs.Answers.{needs_lost, of_object, with_devs}
 use Rattle.zr_change.specs.declared.ranges.Edit.{Edit}
 use Rattle.zr_held.specs.Steps.{IsObjectOf}
 use Rattle.zr_objects.specs.Reads.{IsReadOf}
@@ -73,6 +73,11 @@ module _ (Holds : Objects → Type 0) (p : PoolState) where
 
   pub synced_as : (command : Command) (txg : ℕ) → command ≡ cmd.Sync → Holds p.objects → IsPlainOf Holds p command (reply.Synced txg)
   synced_as command txg is h = subst (λ (k : Command). IsPlainOf Holds p k (reply.Synced txg)) (sym is) (record { after = p; holds = h; turn = (p, refl, refl, refl) })
+
+  pub added_as : (command : Command) (dev : List ℕ) → command ≡ cmd.Add dev → Holds p.objects → IsPlainOf Holds p command reply.Done
+  added_as command dev is h =
+      let q = with_devs p (p.devs ++ InService dev ∷ []) in
+      subst (λ (k : Command). IsPlainOf Holds p k reply.Done) (sym is) (record { after = q; holds = h; turn = (q, refl, refl, refl) })
 
   pub listed_as : (command : Command) (lines : List ListLine) → command ≡ cmd.List → Holds p.objects → IsPlainOf Holds p command (reply.List lines)
   listed_as command lines is h = subst (λ (k : Command). IsPlainOf Holds p k (reply.List lines)) (sym is) (record { after = p; holds = h; turn = (p, refl, refl, refl) })

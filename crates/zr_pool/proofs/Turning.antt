@@ -1,6 +1,6 @@
 -- A line to the pool on devices, from the state for which it stood to the one for which it stands.
-use Rattle.std.proofs.Common.{◌≡◌, ◌∙◌, ℕ, List, Bool, true, false, Option, Some, None, Result, Ok, Err, inl, inr, refl, sym, ap, subst}
-use Rattle.std.specs.Prelude.{is_some, not, IfOk, IfSome, OnErr, if◌then◌else◌}
+use Rattle.std.proofs.Common.{◌≡◌, ℕ, List, Bool, true, false, Option, Some, None, Result, Ok, Err, refl, sym, subst}
+use Rattle.std.specs.Prelude.{is_some, IfOk, IfSome, OnErr, if◌then◌else◌}
 use Rattle.std.specs.FinMap as map
 use Rattle.zr_base.specs.declared.refusal.Refusal.{Refusal}
 use Rattle.zr_script.specs.declared.command.Command.{Command}
@@ -8,14 +8,14 @@ use Rattle.zr_script.specs.declared.command.Command.TheVariants as cmd
 use Rattle.zr_script.specs.declared.reply.Reply.{Reply}
 use Rattle.zr_script.specs.declared.reply.Reply.TheVariants as reply
 use Rattle.zr_shelf.specs.Disks.{Stand}
-use Rattle.zr_model.specs.State.{State, PoolState, Empty, opened, created}
+use Rattle.zr_model.specs.State.{State, PoolState, opened, created}
 use Rattle.zr_model.specs.Runs.{Shelf, TurnsTo}
 use Rattle.zr_sync.specs.Objects.{HoldsObjects}
 use Rattle.zr_sync.specs.declared.fault.Fault.{Fault}
 use Rattle.zr_sync.specs.declared.fault.Fault.TheVariants.{No, Stops}
 use Rattle.zr_sync.specs.declared.open.OpenPool.{OpenPool}
 use Rattle.zr_pool.specs.Ends.{answer_of, is_closing}
-use Rattle.zr_pool.specs.Plain.{untold, exported, IsMade, IsPlainRefusal, IsPlainTurn, IsPlainOn, IsPlainOf, IsOpeningTurn, IsObjectsTurn, shelf_of}
+use Rattle.zr_pool.specs.Plain.{exported, IsMade, IsPlainRefusal, IsPlainTurn, IsPlainOn, IsPlainOf, IsOpeningTurn, IsObjectsTurn, shelf_of}
 use Rattle.zr_pool.specs.Pools.{StandsFor}
 use Rattle.zr_pool.specs.Turns.{on_devices, IsTurn, IsOpenAnswer, IsOpenRefusal, IsClosedAnswer, IsClosedRefusal, stays_open, is_opened, is_opener}
 use Rattle.zr_pool.proofs.Staying.{told_anew}
@@ -51,14 +51,14 @@ module _ (old new : Stand) (before : State) (closed : before.is_open ≡ false) 
       let after = opened (created name guid devs) in
       record {
         after = after;
-        stands_for = inr (created name guid devs, refl, told_anew told (Unit {0}) new.seen pool map.empty tt holds);
+        stands_for = (created name guid devs, refl, told_anew told (Unit {0}) new.seen pool map.empty tt holds);
         takes = takes_closed reply.Done after (answer, refl) (subst (λ (k : Command). IsOpeningTurn (shelf_of old) before k reply.Done after) (sym is) refl);
       }
 
   imported_to : (pool : OpenPool) → command ≡ cmd.Import → IsClosedAnswer command reply.Done → IsMade (shelf_of old) (HoldsObjects told new.seen pool) cmd.Import → Turns (Some pool) reply.Done
   imported_to pool is answer (p, shows, holds) = record {
     after = opened p;
-    stands_for = inr (p, refl, told_anew told (Unit {0}) new.seen pool p.objects tt holds);
+    stands_for = (p, refl, told_anew told (Unit {0}) new.seen pool p.objects tt holds);
     takes = takes_closed reply.Done (opened p) (answer, refl) (subst (λ (k : Command). IsOpeningTurn (shelf_of old) before k reply.Done (opened p)) (sym is) (p, shows, refl));
   }
 
@@ -86,11 +86,6 @@ closed_turns old new before closed told is_told command pool (Err (Stops s)) tur
 
 -- ---- where one is open
 
-closes : (command : Command) (answer : Reply) → IsOpenAnswer command answer → is_closing command (Ok (Some answer)) ≡ not (stays_open command answer)
-closes cmd.Export reply.Done a = refl
-closes cmd.Export answer a = absurd a
-closes command answer a = refl
-
 refusal_stays : (command : Command) (r : Refusal) → stays_open command (reply.No r) ≡ true
 refusal_stays cmd.Export r = refl
 refusal_stays command r = refl
@@ -103,25 +98,17 @@ module _ (old new : Stand) (told : Type 0) (is_told : told) (command : Command) 
   abbrev Leads : State → Option OpenPool → Reply → Type 0
   Leads before pool answer = TurnsTo on_devices (λ disks state. StandsFor pool disks state) before old command answer new
 
-  -- nothing was told of the objects
-  untold_on : (answer : Reply) (b : Bool) → stays_open command answer ≡ b → IsOpenAnswer command answer → Leads untold (left_of (not b) y) answer
-  untold_on answer true stays a = record { after = untold; stands_for = inl refl; takes = ((a, sym stays), tt) }
-  untold_on answer false stays a = record { after = record { is_open = false; shelf = Empty }; stands_for = refl; takes = ((a, sym stays), tt) }
-
-  untold_turns : (answer : Reply) → IsOpenAnswer command answer → Leads untold (left_of (is_closing command (Ok (Some answer))) y) answer
-  untold_turns answer a = subst (λ (b : Bool). Leads untold (left_of b y) answer) (sym (closes command answer a)) (untold_on answer (stays_open command answer) refl a)
-
   refused_open : (p : PoolState) (r : Refusal) → HoldsObjects told new.seen y p.objects → IsPlainTurn p command (reply.No r) (opened p) → IsOpenRefusal command r → Leads (opened p) (Some y) (reply.No r)
   refused_open p r holds turn why = record {
     after = opened p;
-    stands_for = inr (p, refl, told_anew told (Unit {0}) new.seen y p.objects tt holds);
+    stands_for = (p, refl, told_anew told (Unit {0}) new.seen y p.objects tt holds);
     takes = ((why, sym (refusal_stays command r)), turn);
   }
 
   plain_open : (p : PoolState) (answer : Reply) → IsPlainOn (HoldsObjects told new.seen y) p command answer → IsOpenAnswer command answer → stays_open command answer ≡ true → Leads (opened p) (Some y) answer
   plain_open p answer on a stays = record {
     after = opened on.after;
-    stands_for = inr (on.after, refl, told_anew told (Unit {0}) new.seen y on.after.objects tt on.holds);
+    stands_for = (on.after, refl, told_anew told (Unit {0}) new.seen y on.after.objects tt on.holds);
     takes = ((a, sym stays), on.turn);
   }
 
@@ -129,7 +116,6 @@ told_turns : (old new : Stand) (told : Type 0) (is_told : told) (command : Comma
     → TurnsTo on_devices (λ disks state. StandsFor (left_of (is_closing command (Ok (Some answer))) y) disks state) (opened p) old command answer new
 told_turns old new told is_told cmd.Export y p reply.Done a on = record { after = exported p; stands_for = refl; takes = ((a, refl), refl) }
 told_turns old new told is_told cmd.Export y p answer a on = absurd a
-told_turns old new told is_told (cmd.Add dev) y p reply.Done a on = record { after = untold; stands_for = inl refl; takes = ((a, refl), refl) }
 told_turns old new told is_told command y p answer a on = plain_open old new told is_told command y p answer on a refl
 
 plain_no : (p : PoolState) (command : Command) (r : Refusal) → IsPlainRefusal p.objects command r → IsPlainTurn p command (reply.No r) (opened p)
@@ -143,14 +129,10 @@ pub open_turns : (old new : Stand) (before : State) (told1 told : Type 0) → to
     → IfOk (answer_of r) (λ found. IfSome found (λ answer. TurnsTo on_devices (λ disks state. StandsFor (left_of (is_closing command r) y) disks state) before old command answer new))
 open_turns old new before told1 told was is_told command x y (Ok None) stood acts stays cause a refused = tt
 open_turns old new before told1 told was is_told command x y (Err (Stops s)) stood acts stays cause a refused = tt
-open_turns old new before told1 told was is_told command x y (Ok (Some answer)) (inl nothing) acts stays cause a refused =
-    subst (λ (s : State). TurnsTo on_devices (λ disks state. StandsFor (left_of (is_closing command (Ok (Some answer))) y) disks state) s old command answer new) (sym nothing) (untold_turns old new told is_told command y answer a)
-open_turns old new before told1 told was is_told command x y (Ok (Some answer)) (inr (p, is, held)) acts stays cause a refused =
+open_turns old new before told1 told was is_told command x y (Ok (Some answer)) (p, is, held) acts stays cause a refused =
     let h = told_anew (Unit {0}) told1 old.seen x p.objects was held in
     subst (λ (s : State). TurnsTo on_devices (λ disks state. StandsFor (left_of (is_closing command (Ok (Some answer))) y) disks state) s old command answer new) (sym is) (told_turns old new told is_told command y p answer a (acts p h))
-open_turns old new before told1 told was is_told command x y (Err (No n)) (inl nothing) acts stays cause a refused =
-    subst (λ (s : State). TurnsTo on_devices (λ disks state. StandsFor (Some y) disks state) s old command (reply.No n) new) (sym nothing) (untold_on old new told is_told command y (reply.No n) true (refusal_stays command n) (refused n refl))
-open_turns old new before told1 told was is_told command x y (Err (No n)) (inr (p, is, held)) acts stays cause a refused =
+open_turns old new before told1 told was is_told command x y (Err (No n)) (p, is, held) acts stays cause a refused =
     let h = told_anew (Unit {0}) told1 old.seen x p.objects was held in
     subst (λ (s : State). TurnsTo on_devices (λ disks state. StandsFor (Some y) disks state) s old command (reply.No n) new) (sym is)
     (refused_open old new told is_told command y p n (stays p h n refl) (plain_no p command n (cause p h n refl)) (refused n refl))

@@ -8,7 +8,7 @@ use Rattle.zr_script.specs.declared.command.Command.TheVariants as cmd
 use Rattle.zr_script.specs.declared.reply.Reply.{Reply}
 use Rattle.zr_script.specs.declared.reply.Reply.TheVariants as reply
 use Rattle.zr_model.specs.Objects.{Objects}
-use Rattle.zr_model.specs.State.{State, PoolState, ShelfPart, Empty, Is, opened, created}
+use Rattle.zr_model.specs.State.{State, PoolState, ShelfPart, Is, opened, created}
 use Rattle.zr_model.specs.Runs.{Shelf}
 use Rattle.zr_shelf.specs.Disks.{Stand}
 use Rattle.zr_open.specs.Shown.{Shows}
@@ -60,18 +60,13 @@ IsPlainRefusal objects command r = Unit {0}
 
 -- ---- lines
 
--- an open pool of which no objects are told
-abbrev pub untold : State
-untold = record { is_open = true; shelf = Empty }
-
 abbrev pub exported : PoolState → State
 exported p = record { is_open = false; shelf = Is p }
 
--- What a line makes of the objects of an open pool. Of those behind an added device nothing is told yet.
+-- What a line makes of the objects of an open pool: an export closes it, and all else that is done is a step of plain objects.
 abbrev pub IsPlainTurn : PoolState → Command → Reply → State → Type 0
 IsPlainTurn p command (reply.No r) new = (new ≡ opened p) × IsPlainRefusal p.objects command r
 IsPlainTurn p cmd.Export reply.Done new = new ≡ exported p
-IsPlainTurn p (cmd.Add dev) reply.Done new = new ≡ untold
 IsPlainTurn p command answer new = (q : PoolState) × Acts p command answer q × (needs_lost p command ≡ false) × (new ≡ opened q)
 
 -- A pool that is made has no objects, and one that is imported is what the disks show.
@@ -80,10 +75,10 @@ IsOpeningTurn shelf old (cmd.Create name guid devs) reply.Done new = new ≡ ope
 IsOpeningTurn shelf old cmd.Import reply.Done new = (p : PoolState) × Shows shelf.paths shelf.disks p × (new ≡ opened p)
 IsOpeningTurn shelf old command answer new = new ≡ old
 
--- what a line makes of the objects, where they are told
+-- what a line makes of the objects; a state that is open has a pool
 abbrev pub IsObjectsTurn : Bool → ShelfPart → Shelf → State → Command → Reply → State → Type 0
 IsObjectsTurn true (Is p) shelf old command answer new = IsPlainTurn p command answer new
-IsObjectsTurn true part shelf old command answer new = Unit {0}
+IsObjectsTurn true part shelf old command answer new = ⊥
 IsObjectsTurn false part shelf old command answer new = IsOpeningTurn shelf old command answer new
 
 -- The line was answered, and the objects behind it are held.
@@ -92,10 +87,9 @@ pub record IsPlainOn (Holds : Objects → Type 0) (p : PoolState) (command : Com
   pub holds : Holds after.objects
   pub turn : IsPlainTurn p command answer (opened after)
 
--- so was each line but an export and an added device, of whose objects nothing is to be held
+-- so was each line but an export, behind which no pool is open to hold them
 abbrev pub IsPlainOf : (Objects → Type 0) → PoolState → Command → Reply → Type 0
 IsPlainOf Holds p cmd.Export reply.Done = Unit {0}
-IsPlainOf Holds p (cmd.Add dev) reply.Done = Unit {0}
 IsPlainOf Holds p command answer = IsPlainOn Holds p command answer
 
 -- a pool that was made holds no objects, and one that was imported those that the disks showed

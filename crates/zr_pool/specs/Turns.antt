@@ -51,6 +51,14 @@ IsFull r = IsNoRoom r ⊎ ((needed longest : ℕ) × (r ≡ refusal.NoRun needed
 abbrev pub IsChangeRefusal : Refusal → Type 0
 IsChangeRefusal r = IsReadRefusal r ⊎ IsFull r
 
+-- what an `add` may be refused for: its path is that of no slot, no pool of the version can have a disk of the size, a slot is in the way, or there are 32 devices
+abbrev pub IsAddRefusal : Refusal → Type 0
+IsAddRefusal refusal.NoSuchDevice = Unit {0}
+IsAddRefusal (refusal.DeviceSize size) = Unit {0}
+IsAddRefusal (refusal.DeviceInUse slot) = Unit {0}
+IsAddRefusal (refusal.TooMany limit) = limit ≡ 32
+IsAddRefusal r = ⊥
+
 -- what a line to an open pool may be refused for
 abbrev pub IsOpenRefusal : Command → Refusal → Type 0
 IsOpenRefusal (cmd.Create name guid devs) r = r ≡ refusal.PoolIsOpen
@@ -62,7 +70,7 @@ IsOpenRefusal (cmd.Fill id off len byte) r = IsChangeRefusal r
 IsOpenRefusal (cmd.Punch id off len) r = IsChangeRefusal r
 IsOpenRefusal (cmd.Read id off len) r = IsReadRefusal r
 IsOpenRefusal (cmd.Sum id) r = IsSumRefusal r
-IsOpenRefusal (cmd.Add dev) r = Unit {0}
+IsOpenRefusal (cmd.Add dev) r = IsAddRefusal r
 IsOpenRefusal cmd.Audit r = IsDamaged r
 IsOpenRefusal _ r = ⊥
 

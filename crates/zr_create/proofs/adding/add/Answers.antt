@@ -3,6 +3,7 @@ use Rattle.zr_sync.specs.declared.open.Table.{Table}
 use Rattle.zr_sync.proofs.Disks.{works_more, works_still}
 use Rattle.zr_create.proofs.Taken.{IsFree}
 use Rattle.zr_create.proofs.Checking.{next_free}
+use Rattle.zr_create.proofs.Keeping.{objects_still}
 use Rattle.zr_create.proofs.adding.add.Goals as goal
 
 pub returns-in_err-check_next-clause-disks : goal.returns-in_err-check_next-clause-disks
@@ -54,3 +55,9 @@ returns-clause-disks g c = λ t.
     let w3 = g.S.Shelf.world c.take_on.new.shelf in
     let w4 = g.S.Shelf.world c.commit-2.new.shelf in
     works_more w0 w1 w4 (works_still w0 w1 (c.check_next.ensures.still t)) (works_more w1 w2 w4 (c.commit.ensures.disks told) (works_more w2 w3 w4 (c.take_on.ensures.disks told2) (c.commit-2.ensures.disks told3)))
+
+pub returns-clause-objects : goal.returns-clause-objects
+returns-clause-objects g c = λ objects h.
+    let told = h.held.told in
+    let before = objects_still (g.S.Shelf.tells c.args.shelf.now) (g.S.Shelf.tells c.check_next.new.shelf) (g.S.Shelf.world c.args.shelf.now) (g.S.Shelf.world c.check_next.new.shelf) c.args.pool.now objects (c.check_next.ensures.told told) (c.check_next.ensures.still told) h in
+    c.in_ok-commit-2.ensures.stays objects (c.in_ok-take_on.ensures.stays objects (c.in_ok-commit.ensures.stays objects before))
