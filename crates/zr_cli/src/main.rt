@@ -1,11 +1,11 @@
-//! `zr DEV..` answers the script on standard input, over the device files that are named.
+//! `zr [--policy NAME] [--auto N] DEV..` answers the script on standard input, over the device files that are named.
 //!
 //! The program makes what `run` is handed: the words, the desk over files and the choosers. All else is `run`'s.
 #![tactic(auto)]
 
 mod file_desk;
 
-ghost use Rattle.std.specs.Prelude.{◌≡◌, ◌⊎◌, ◌<◌, ◌≤◌, map, IfOk};
+ghost use Rattle.std.specs.Prelude.{◌≡◌, ◌⊎◌, ◌∷◌, [], ◌<◌, ◌≤◌, codes, map, IfOk};
 ghost use Rattle.zr_base.specs.declared.space.Policy.{Policy};
 ghost use Rattle.zr_rules.specs.Choices.{AreRuns, IsPick};
 ghost use Rattle.std.specs.String.{string_bytes};
@@ -34,8 +34,8 @@ const PERCENT: u64 = 4;
 /// Makes the choosers and the desk, and runs. It answers the status. The first chooser is used where no other is asked for.
 fn answer(alloc: Global, words: &[String], rt: HostRuntime) -> Result<u8, NoMemory>
     ensures known { IfOk result (λ status. status ≤ 9) }
-    ensures bad_words { IfOk result (λ status. status ≡ 1 → IsNoCommandLine 3 (map string_bytes words.now)) }
-    ensures words { IsNoCommandLine 3 (map string_bytes words.now) → IfOk result (λ status. (status ≡ 1) ⊎ (status ≡ 9)) }
+    ensures bad_words { IfOk result (λ status. status ≡ 1 → IsNoCommandLine (codes "dynamic" ∷ codes "first" ∷ codes "best" ∷ []) (map string_bytes words.now)) }
+    ensures words { IsNoCommandLine (codes "dynamic" ∷ codes "first" ∷ codes "best" ∷ []) (map string_bytes words.now) → IfOk result (λ status. (status ≡ 1) ⊎ (status ≡ 9)) }
 {
     let first = Chooser::new(
         String::from_str(alloc, "first")?,

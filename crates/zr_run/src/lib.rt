@@ -4,7 +4,7 @@
 //! `on_devices` of zr_pool: for now that its answer is one to the line, and that the pool is open where it should be.
 #![tactic(auto)]
 
-ghost use Rattle.std.specs.Prelude.{◌≡◌, ◌⊎◌, [], ◌≤◌, length, map};
+ghost use Rattle.std.specs.Prelude.{◌≡◌, ◌⊎◌, [], ◌≤◌, map};
 ghost use Rattle.std.specs.String.{string_bytes};
 ghost use Rattle.zr_base.specs.Counts.{HasRisen};
 ghost use Rattle.zr_model.specs.Runs.{MayBeDamaged};
@@ -21,39 +21,40 @@ use zr_shelf::Desk;
 /// Runs the program: reads the words, attaches the devices in order and answers the input
 /// line by line. It answers the status.
 ///
-/// The words are 1 to 32 devices, of which no path stands twice, and the first chooser is the pool's. Input is taken in
-/// pieces of at most 65,536 bytes.
+/// The words are options and 1 to 32 devices, of which no path stands twice. The pool's is the first chooser of the
+/// name that `--policy` has, without it the first of all. With `--auto N` there follow N rounds behind each line: a step
+/// of each actor that has work then. Input is taken in pieces of at most 65,536 bytes.
 pub fn run<D: Desk>(alloc: Global, words: &[String], desk: &mut D, choosers: &[Chooser]) -> u8
     requires { D.sizes desk.old ≡ [] }
     // The program ends with one of these statuses.
     ensures known { result ≤ 9 }
     // At status 0 what was sent are the answers of a pool on devices to all lines, or to those before a `quit`.
-    ensures done { D.tells desk.old → result ≡ 0 → RunsTo (IsDone on_devices) (length choosers.now) (map string_bytes words.now) (D.world desk.old).now (D.world desk.new).now }
+    ensures done { D.tells desk.old → result ≡ 0 → RunsTo (IsDone on_devices) (map (λ c. string_bytes c.name) choosers.now) (map string_bytes words.now) (D.world desk.old).now (D.world desk.new).now }
     // At status 1 the words are no command line, and nothing was done at all.
-    ensures bad_words { result ≡ 1 → IsNoCommandLine (length choosers.now) (map string_bytes words.now) × (desk.new ≡ desk.old) }
+    ensures bad_words { result ≡ 1 → IsNoCommandLine (map (λ c. string_bytes c.name) choosers.now) (map string_bytes words.now) × (desk.new ≡ desk.old) }
     // Where the words are no command line, no other status comes, unless memory ran out.
-    ensures words { IsNoCommandLine (length choosers.now) (map string_bytes words.now) → (result ≡ 1) ⊎ (result ≡ 9) }
+    ensures words { IsNoCommandLine (map (λ c. string_bytes c.name) choosers.now) (map string_bytes words.now) → (result ≡ 1) ⊎ (result ≡ 9) }
     // At status 2 a call that takes of the input failed. All lines that were taken whole are answered.
     ensures input_fault { result ≡ 2 → HasRisen (D.counts desk.old).input (D.counts desk.new).input }
-    ensures taken { D.tells desk.old → result ≡ 2 → RunsTo (AnswersTaken on_devices) (length choosers.now) (map string_bytes words.now) (D.world desk.old).now (D.world desk.new).now }
+    ensures taken { D.tells desk.old → result ≡ 2 → RunsTo (AnswersTaken on_devices) (map (λ c. string_bytes c.name) choosers.now) (map string_bytes words.now) (D.world desk.old).now (D.world desk.new).now }
     // At status 3 a call that sends failed. A front of the answers was sent.
     ensures output_fault { result ≡ 3 → HasRisen (D.counts desk.old).output (D.counts desk.new).output }
-    ensures partly { D.tells desk.old → result ≡ 3 → RunsTo (AnswersPartly on_devices) (length choosers.now) (map string_bytes words.now) (D.world desk.old).now (D.world desk.new).now }
+    ensures partly { D.tells desk.old → result ≡ 3 → RunsTo (AnswersPartly on_devices) (map (λ c. string_bytes c.name) choosers.now) (map string_bytes words.now) (D.world desk.old).now (D.world desk.new).now }
     // At status 4 a device failed within a command, and that is told.
     ensures disk_fault { result ≡ 4 → HasRisen (D.counts desk.old).disk (D.counts desk.new).disk }
-    ensures stopped { D.tells desk.old → result ≡ 4 → RunsTo (TellsFault on_devices) (length choosers.now) (map string_bytes words.now) (D.world desk.old).now (D.world desk.new).now }
+    ensures stopped { D.tells desk.old → result ≡ 4 → RunsTo (TellsFault on_devices) (map (λ c. string_bytes c.name) choosers.now) (map string_bytes words.now) (D.world desk.old).now (D.world desk.new).now }
     // At status 5 all lines before a bad one are answered, and that one is told with its number.
-    ensures bad_line { D.tells desk.old → result ≡ 5 → RunsTo (TellsBadLine on_devices) (length choosers.now) (map string_bytes words.now) (D.world desk.old).now (D.world desk.new).now }
+    ensures bad_line { D.tells desk.old → result ≡ 5 → RunsTo (TellsBadLine on_devices) (map (λ c. string_bytes c.name) choosers.now) (map string_bytes words.now) (D.world desk.old).now (D.world desk.new).now }
     // At status 6 a command met damage, and that is told.
     ensures may_be { result ≡ 6 → MayBeDamaged on_devices }
-    ensures damaged { D.tells desk.old → result ≡ 6 → RunsTo (TellsDamage on_devices) (length choosers.now) (map string_bytes words.now) (D.world desk.old).now (D.world desk.new).now }
+    ensures damaged { D.tells desk.old → result ≡ 6 → RunsTo (TellsDamage on_devices) (map (λ c. string_bytes c.name) choosers.now) (map string_bytes words.now) (D.world desk.old).now (D.world desk.new).now }
     // At status 7 a device was not attached, those before it are, and nothing else was done.
     ensures attach_fault { result ≡ 7 → HasRisen (D.counts desk.old).attach (D.counts desk.new).attach }
-    ensures unattached { D.tells desk.old → result ≡ 7 → StopsAtDevice (length choosers.now) (map string_bytes words.now) (D.world desk.old).now (D.world desk.new).now }
+    ensures unattached { D.tells desk.old → result ≡ 7 → StopsAtDevice (map (λ c. string_bytes c.name) choosers.now) (map string_bytes words.now) (D.world desk.old).now (D.world desk.new).now }
     // At status 8 2^32 bytes were taken and no end came, all their whole lines are answered, and that is told.
-    ensures limit { D.tells desk.old → result ≡ 8 → RunsTo (TellsLimit on_devices) (length choosers.now) (map string_bytes words.now) (D.world desk.old).now (D.world desk.new).now }
+    ensures limit { D.tells desk.old → result ≡ 8 → RunsTo (TellsLimit on_devices) (map (λ c. string_bytes c.name) choosers.now) (map string_bytes words.now) (D.world desk.old).now (D.world desk.new).now }
     // At status 9 memory ran out. All that was sent are the answers to first lines.
-    ensures memory { D.tells desk.old → result ≡ 9 → ((D.world desk.new).now ≡ (D.world desk.old).now) ⊎ StopsAtDevice (length choosers.now) (map string_bytes words.now) (D.world desk.old).now (D.world desk.new).now ⊎ RunsTo (AnswersFront on_devices) (length choosers.now) (map string_bytes words.now) (D.world desk.old).now (D.world desk.new).now }
+    ensures memory { D.tells desk.old → result ≡ 9 → ((D.world desk.new).now ≡ (D.world desk.old).now) ⊎ StopsAtDevice (map (λ c. string_bytes c.name) choosers.now) (map string_bytes words.now) (D.world desk.old).now (D.world desk.new).now ⊎ RunsTo (AnswersFront on_devices) (map (λ c. string_bytes c.name) choosers.now) (map string_bytes words.now) (D.world desk.old).now (D.world desk.new).now }
     // Where no call failed, no damage was met and no line is a bad one, the whole input is answered, unless it is too long or memory ran out.
     ensures complete { NoneRose (D.counts desk.old) (D.counts desk.new) → (result ≡ 0) ⊎ (result ≡ 1) ⊎ (result ≡ 5) ⊎ (result ≡ 6) ⊎ (result ≡ 8) ⊎ (result ≡ 9) }
 {

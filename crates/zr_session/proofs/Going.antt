@@ -1,48 +1,36 @@
 -- How a run goes on.
 use Rattle.std.proofs.Common.{min, take, length-take-le, add-zero, ◌≡◌, ◌≢◌, ℕ, ◌==◌, false, List, [], ◌∷◌, ◌++◌, length, ◌+◌, ◌≤◌, ◌<◌, ◌^◌, refl, sym, ap, subst, ◌∙◌, append_assoc, inl, inr, arith, length-append}
-use Rattle.std.specs.List.{AllZip, flat_map}
+use Rattle.std.specs.List.{flat_map}
 use Rattle.std.proofs.lemmas.List.Concat.{flat_map-append}
 use Rattle.std.proofs.lemmas.Bool.Decides.{eqb_tells}
 use Rattle.std.proofs.lemmas.List.{append-nil}
 use Rattle.zr_shelf.specs.Disks.{Stand, taken_to}
 use Rattle.zr_script.specs.Lines.{lines_of, before_lines}
-use Rattle.zr_script.specs.ReplyText.{reply_text}
 use Rattle.zr_model.specs.State.{State, no_pool}
-use Rattle.zr_model.specs.Runs.{Meaning, Point, Turn, point, turn, Run, end_of, texts, Asks, bytes_to}
+use Rattle.zr_model.specs.Runs.{Meaning, Turn, point, Run, end_of, texts, Asks, bytes_to}
+use Rattle.zr_session.specs.Agenda.{Item, Given, rounds_of, agenda, Plays}
 use Rattle.zr_session.specs.Answers.{IsOpenLine}
-use Rattle.zr_session.specs.Lines.{StandsForOne, AnswersLine}
-use Rattle.zr_session.specs.Progress.{HasAnswered, IsAt, IsDue, StandsAt}
+use Rattle.zr_session.specs.Lines.{StandsForOne, DoesItems, AnswersLine}
+use Rattle.zr_session.specs.Progress.{HasDone, IsAt, IsNext, StandsAt}
+use Rattle.zr_session.proofs.Playing.{plays_both, run_both, end_both, texts_both, agenda_more}
 
--- a run goes on by one command
-run_more : (meaning : Meaning) (p : Point) (turns : List Turn) (t : Turn) → Run meaning p turns → meaning.takes (end_of p turns) t → Run meaning p (turns ++ t ∷ [])
-run_more meaning p [] t h k = (k, tt)
-run_more meaning p (u ∷ turns) t h k = (h.0, run_more meaning u.point turns t h.1 k)
-
-end_more : (p : Point) (turns : List Turn) (t : Turn) → end_of p (turns ++ t ∷ []) ≡ t.point
-end_more p [] t = refl
-end_more p (u ∷ turns) t = end_more u.point turns t
-
-zip_more : {A B : Type 0} (R : A → B → Type 0) (xs : List A) (ys : List B) (x : A) (y : B) → AllZip R xs ys → R x y → AllZip R (xs ++ x ∷ []) (ys ++ y ∷ [])
-zip_more R [] [] x y h r = (r, tt)
-zip_more R [] (b ∷ ys) x y h r = absurd h
-zip_more R (a ∷ xs) [] x y h r = absurd h
-zip_more R (a ∷ xs) (b ∷ ys) x y h r = (h.0, zip_more R xs ys x y h.1 r)
-
-texts_more : (turns : List Turn) (t : Turn) → texts (turns ++ t ∷ []) ≡ texts turns ++ reply_text t.answer
-texts_more turns t = flat_map-append (λ u. reply_text u.answer) turns (t ∷ []) ∙ ap (λ x. texts turns ++ x) (append-nil (reply_text t.answer))
+-- items more are done
+pub done_more : (meaning : Meaning) (opening old new : Stand) (before after : State) (items more : List (Item (List ℕ))) (turns : List Turn)
+    → HasDone meaning opening old before items turns → (d : DoesItems (List ℕ) meaning Asks texts more before after old new) → HasDone meaning opening new after (items ++ more) (turns ++ d.turns)
+done_more meaning opening old new before after items more turns h d = record {
+  plays = plays_both (List ℕ) meaning Asks items more (point opening no_pool) turns d.turns h.plays (subst (λ p. Plays meaning Asks more p d.turns) (sym h.ends) d.plays);
+  run = run_both meaning (point opening no_pool) turns d.turns h.run (subst (λ p. Run meaning p d.turns) (sym h.ends) d.run);
+  ends = end_both (point opening no_pool) turns d.turns ∙ (ap (λ p. end_of p d.turns) h.ends ∙ d.ends);
+  sent = d.sends.sent ∙ (ap (λ s. s ++ texts d.turns) h.sent ∙ (append_assoc opening.sent (texts turns) (texts d.turns) ∙ ap (λ s. opening.sent ++ s) (sym (texts_both turns d.turns))));
+}
 
 -- one line more is answered
-pub answered_more : (meaning : Meaning) (opening old new : Stand) (before after : State) (lines : List (List ℕ)) (turns : List Turn) (line : List ℕ)
-    → HasAnswered meaning opening old before lines turns → (a : AnswersLine meaning line before after old new)
-    → HasAnswered meaning opening new after (lines ++ line ∷ []) (turns ++ turn a.command a.does.answer new after ∷ [])
-answered_more meaning opening old new before after lines turns line h a =
-    let t = turn a.command a.does.answer new after in
-    record {
-      asked = zip_more (λ l (u : Turn). Asks l u.command) lines turns line t h.asked a.asks;
-      run = run_more meaning (point opening no_pool) turns t h.run (subst (λ p. meaning.takes p t) (sym h.ends) a.does.takes);
-      ends = end_more (point opening no_pool) turns t;
-      sent = a.does.sends.sent ∙ (ap (λ s. s ++ reply_text a.does.answer) h.sent ∙ (append_assoc opening.sent (texts turns) (reply_text a.does.answer) ∙ ap (λ s. opening.sent ++ s) (sym (texts_more turns t))));
-    }
+pub answered_more : (meaning : Meaning) (rounds : ℕ) (opening old new : Stand) (before after : State) (lines : List (List ℕ)) (turns : List Turn) (line : List ℕ)
+    → HasDone meaning opening old before (agenda rounds lines) turns → (a : AnswersLine meaning rounds line before after old new)
+    → HasDone meaning opening new after (agenda rounds (lines ++ line ∷ [])) (turns ++ a.turns)
+answered_more meaning rounds opening old new before after lines turns line h a =
+    subst (λ items. HasDone meaning opening new after items (turns ++ a.turns)) (sym (agenda_more (List ℕ) rounds lines line))
+    (done_more meaning opening old new before after (agenda rounds lines) (Given line ∷ rounds_of rounds) turns h a)
 
 no_feed : (b : ℕ) → b ≢ 10 → (b == 10) ≡ false
 no_feed b n = elim (eqb_tells b 10) [ inl p ↦ absurd (n p.1) | inr p ↦ p.0 ]
@@ -78,12 +66,12 @@ open_both [] part h k = k
 open_both (b ∷ line) part h k = (h.0, open_both line part h.1 k)
 
 -- nothing is taken yet
-pub at_start : (meaning : Meaning) (opening : Stand) → IsAt meaning opening opening no_pool [] [] 0 0
-at_start meaning opening = record {
+pub at_start : (meaning : Meaning) (rounds : ℕ) (opening : Stand) → IsAt meaning rounds opening opening no_pool [] [] 0 0
+at_start meaning rounds opening = record {
   lines = [];
   turns = [];
   bytes = [];
-  answered = record { asked = tt; run = tt; ends = refl; sent = sym (append-nil opening.sent) };
+  done = record { plays = refl; run = tt; ends = refl; sent = sym (append-nil opening.sent) };
   input = refl;
   whole = refl;
   split = λ more. refl;
@@ -96,18 +84,18 @@ at_start meaning opening = record {
 }
 
 -- a piece is taken
-pub at_taken : (meaning : Meaning) (opening old new : Stand) (state : State) (piece left line : List ℕ) (count taken : ℕ)
-    → IsAt meaning opening old state [] line count taken → old.left ≡ piece ++ left → new ≡ taken_to old left → taken + length piece ≤ 2 ^ 32 → length piece ≤ 65536
-    → IsAt meaning opening new state piece line count (taken + length piece)
-at_taken meaning opening old new state piece left line count taken a e n m f = record {
+pub at_taken : (meaning : Meaning) (rounds : ℕ) (opening old new : Stand) (state : State) (piece left line : List ℕ) (count taken : ℕ)
+    → IsAt meaning rounds opening old state [] line count taken → old.left ≡ piece ++ left → new ≡ taken_to old left → taken + length piece ≤ 2 ^ 32 → length piece ≤ 65536
+    → IsAt meaning rounds opening new state piece line count (taken + length piece)
+at_taken meaning rounds opening old new state piece left line count taken a e n m f = record {
   lines = a.lines;
   turns = a.turns;
   bytes = a.bytes;
-  answered = record {
-    asked = a.answered.asked;
-    run = a.answered.run;
-    ends = a.answered.ends ∙ ap (λ s. point s state) (sym n);
-    sent = ap (λ s. s.sent) n ∙ a.answered.sent;
+  done = record {
+    plays = a.done.plays;
+    run = a.done.run;
+    ends = a.done.ends ∙ ap (λ s. point s state) (sym n);
+    sent = ap (λ s. s.sent) n ∙ a.done.sent;
   };
   input = a.input ∙ ap (λ l. a.bytes ++ l) (e ∙ ap (λ s. piece ++ s.left) (sym n));
   whole = a.whole;
@@ -145,16 +133,16 @@ ended_length bytes part more rest taken e t =
     omega arith
 
 -- the line that a line feed ends within a piece is answered
-pub at_line : (meaning : Meaning) (opening old new : Stand) (before after : State) (rest line part more : List ℕ) (count taken : ℕ)
-    → IsAt meaning opening old before rest line count taken → rest ≡ part ++ 10 ∷ more → IsOpenLine part → AnswersLine meaning (line ++ part) before after old new
-    → IsAt meaning opening new after more [] (count + 1) taken
-at_line meaning opening old new before after rest line part more count taken a e k l = record {
+pub at_line : (meaning : Meaning) (rounds : ℕ) (opening old new : Stand) (before after : State) (rest line part more : List ℕ) (count taken : ℕ)
+    → IsAt meaning rounds opening old before rest line count taken → rest ≡ part ++ 10 ∷ more → IsOpenLine part → AnswersLine meaning rounds (line ++ part) before after old new
+    → IsAt meaning rounds opening new after more [] (count + 1) taken
+at_line meaning rounds opening old new before after rest line part more count taken a e k l = record {
   lines = a.lines ++ (line ++ part) ∷ [];
-  turns = a.turns ++ turn l.command l.does.answer new after ∷ [];
+  turns = a.turns ++ l.turns;
   bytes = a.bytes ++ (part ++ 10 ∷ []);
-  answered = answered_more meaning opening old new before after a.lines a.turns (line ++ part) a.answered l;
+  done = answered_more meaning rounds opening old new before after a.lines a.turns (line ++ part) a.done l;
   input = a.input ∙ (ap (λ r. a.bytes ++ (r ++ old.left)) e ∙ (ap (λ x. a.bytes ++ x) (append_assoc part (10 ∷ more) old.left)
-      ∙ (sym (ended_bytes a.bytes part (more ++ old.left)) ∙ ap (λ x. (a.bytes ++ (part ++ 10 ∷ [])) ++ (more ++ x)) (sym l.does.sends.left))));
+      ∙ (sym (ended_bytes a.bytes part (more ++ old.left)) ∙ ap (λ x. (a.bytes ++ (part ++ 10 ∷ [])) ++ (more ++ x)) (sym l.sends.left))));
   whole = ended_whole a.lines a.bytes line part a.whole;
   split = λ xs. ap lines_of (ended_bytes a.bytes part xs) ∙ (line_split a.bytes line part xs a.lines a.split a.is_open k ∙ sym (append_assoc a.lines ((line ++ part) ∷ []) (lines_of xs)));
   is_open = tt;
@@ -166,13 +154,13 @@ at_line meaning opening old new before after rest line part more count taken a e
 }
 
 -- what no line feed ends is carried over
-pub at_kept : (meaning : Meaning) (opening now : Stand) (state : State) (rest line new : List ℕ) (count taken : ℕ)
-    → IsAt meaning opening now state rest line count taken → IsOpenLine rest → new ≡ line ++ rest → length new ≤ 16384 → IsAt meaning opening now state [] new count taken
-at_kept meaning opening now state rest line new count taken a k e s = record {
+pub at_kept : (meaning : Meaning) (rounds : ℕ) (opening now : Stand) (state : State) (rest line new : List ℕ) (count taken : ℕ)
+    → IsAt meaning rounds opening now state rest line count taken → IsOpenLine rest → new ≡ line ++ rest → length new ≤ 16384 → IsAt meaning rounds opening now state [] new count taken
+at_kept meaning rounds opening now state rest line new count taken a k e s = record {
   lines = a.lines;
   turns = a.turns;
   bytes = a.bytes ++ rest;
-  answered = a.answered;
+  done = a.done;
   input = a.input ∙ sym (append_assoc a.bytes rest now.left);
   whole = ap (λ b. b ++ rest) a.whole ∙ (append_assoc (flat_map (λ l. l ++ 10 ∷ []) a.lines) line rest ∙ ap (λ x. flat_map (λ l. l ++ 10 ∷ []) a.lines ++ x) (sym e));
   split = λ xs. ap lines_of (append_assoc a.bytes rest xs) ∙ (a.split (rest ++ xs) ∙ ap (λ x. a.lines ++ lines_of x) (sym (append_assoc line rest xs) ∙ ap (λ x. x ++ xs) (sym e)));
@@ -197,14 +185,14 @@ taken_prompt lines bytes rest line next more w l r n =
     omega arith
 
 -- the line that a line feed ends is the next
-pub due_line : (meaning : Meaning) (opening now : Stand) (state : State) (rest line part more : List ℕ) (count taken : ℕ)
-    → IsAt meaning opening now state rest line count taken → rest ≡ part ++ 10 ∷ more → IsOpenLine part → IsDue meaning opening now state (line ++ part) (count + 1)
-due_line meaning opening now state rest line part more count taken a e k = record {
+pub due_line : (meaning : Meaning) (rounds : ℕ) (opening now : Stand) (state : State) (rest line part more : List ℕ) (count taken : ℕ)
+    → IsAt meaning rounds opening now state rest line count taken → rest ≡ part ++ 10 ∷ more → IsOpenLine part → IsNext meaning rounds opening now state (line ++ part) (count + 1)
+due_line meaning rounds opening now state rest line part more count taken a e k = record {
   lines = a.lines;
   more = lines_of (more ++ now.left);
   turns = a.turns;
   taken = a.bytes ++ rest;
-  answered = a.answered;
+  done = a.done;
   input = a.input ∙ sym (append_assoc a.bytes rest now.left);
   most = let b = length-append a.bytes rest in let t = a.taken_is in let m = a.most in omega arith;
   front = ap lines_of (a.input ∙ ap (λ r. a.bytes ++ r) (ap (λ r. r ++ now.left) e ∙ append_assoc part (10 ∷ more) now.left))
@@ -213,43 +201,43 @@ due_line meaning opening now state rest line part more count taken a e k = recor
   prompt = taken_prompt a.lines a.bytes rest line (line ++ part) (length part) a.whole a.short a.piece (length-append line part);
 }
 
-pub last_front : (meaning : Meaning) (opening now : Stand) (state : State) (b : ℕ) (line : List ℕ) (count taken : ℕ)
-    → (a : IsAt meaning opening now state [] (b ∷ line) count taken) → now.left ≡ [] → lines_of opening.left ≡ a.lines ++ (b ∷ line) ∷ []
-last_front meaning opening now state b line count taken a e =
+pub last_front : (meaning : Meaning) (rounds : ℕ) (opening now : Stand) (state : State) (b : ℕ) (line : List ℕ) (count taken : ℕ)
+    → (a : IsAt meaning rounds opening now state [] (b ∷ line) count taken) → now.left ≡ [] → lines_of opening.left ≡ a.lines ++ (b ∷ line) ∷ []
+last_front meaning rounds opening now state b line count taken a e =
     ap lines_of (a.input ∙ ap (λ l. a.bytes ++ l) e) ∙ (a.split [] ∙ ap (λ l. a.lines ++ l) (ap lines_of (append-nil (b ∷ line)) ∙ lines_last b line a.is_open))
 
 -- the last line, which no line feed ends
-pub due_last : (meaning : Meaning) (opening now : Stand) (state : State) (b : ℕ) (line : List ℕ) (count taken : ℕ)
-    → IsAt meaning opening now state [] (b ∷ line) count taken → now.left ≡ [] → IsDue meaning opening now state (b ∷ line) (count + 1)
-due_last meaning opening now state b line count taken a e = record {
+pub due_last : (meaning : Meaning) (rounds : ℕ) (opening now : Stand) (state : State) (b : ℕ) (line : List ℕ) (count taken : ℕ)
+    → IsAt meaning rounds opening now state [] (b ∷ line) count taken → now.left ≡ [] → IsNext meaning rounds opening now state (b ∷ line) (count + 1)
+due_last meaning rounds opening now state b line count taken a e = record {
   lines = a.lines;
   more = [];
   turns = a.turns;
   taken = a.bytes;
-  answered = a.answered;
+  done = a.done;
   input = a.input;
   most = let t = a.taken_is in let m = a.most in omega arith;
-  front = last_front meaning opening now state b line count taken a e;
+  front = last_front meaning rounds opening now state b line count taken a e;
   number_is = ap (λ n. n + 1) (sym a.count_is);
   prompt = let p = taken_prompt a.lines a.bytes [] (b ∷ line) (b ∷ line) 0 a.whole a.short a.piece (omega arith) in let n = ap length (append-nil a.bytes) in omega arith;
 }
 
 -- a line that has become too long is the front of the next
-pub record IsLong (meaning : Meaning) (opening now : Stand) (state : State) (count : ℕ) : Type 0 where
+pub record IsLong (meaning : Meaning) (rounds : ℕ) (opening now : Stand) (state : State) (count : ℕ) : Type 0 where
   pub line : List ℕ
-  pub due : IsDue meaning opening now state line (count + 1)
+  pub due : IsNext meaning rounds opening now state line (count + 1)
   pub long : 16384 < length line
 
-long_due : (meaning : Meaning) (opening now : Stand) (state : State) (rest line : List ℕ) (count taken : ℕ)
-    → IsAt meaning opening now state rest line count taken → 16384 < length (line ++ rest) → BeginsWith (line ++ rest) (lines_of ((line ++ rest) ++ now.left)) → IsLong meaning opening now state count
-long_due meaning opening now state rest line count taken a m w = record {
+long_due : (meaning : Meaning) (rounds : ℕ) (opening now : Stand) (state : State) (rest line : List ℕ) (count taken : ℕ)
+    → IsAt meaning rounds opening now state rest line count taken → 16384 < length (line ++ rest) → BeginsWith (line ++ rest) (lines_of ((line ++ rest) ++ now.left)) → IsLong meaning rounds opening now state count
+long_due meaning rounds opening now state rest line count taken a m w = record {
   line = (line ++ rest) ++ w.back;
   due = record {
     lines = a.lines;
     more = w.more;
     turns = a.turns;
     taken = a.bytes ++ rest;
-    answered = a.answered;
+    done = a.done;
     input = a.input ∙ sym (append_assoc a.bytes rest now.left);
     most = let b = length-append a.bytes rest in let t = a.taken_is in let m = a.most in omega arith;
     front = ap lines_of a.input ∙ (a.split (rest ++ now.left) ∙ ap (λ l. a.lines ++ l) (ap lines_of (sym (append_assoc line rest now.left)) ∙ w.is));
@@ -263,82 +251,82 @@ begins_all : (line more : List ℕ) → 16384 < length line → IsOpenLine line 
 begins_all [] more l h = absurd (omega arith)
 begins_all (b ∷ line) more l h = lines_begin b line more h
 
-pub due_long : (meaning : Meaning) (opening now : Stand) (state : State) (rest line : List ℕ) (count taken : ℕ)
-    → IsAt meaning opening now state rest line count taken → IsOpenLine rest → 16384 < length (line ++ rest) → IsLong meaning opening now state count
-due_long meaning opening now state rest line count taken a k l =
-    long_due meaning opening now state rest line count taken a l (begins_all (line ++ rest) now.left l (open_both line rest a.is_open k))
+pub due_long : (meaning : Meaning) (rounds : ℕ) (opening now : Stand) (state : State) (rest line : List ℕ) (count taken : ℕ)
+    → IsAt meaning rounds opening now state rest line count taken → IsOpenLine rest → 16384 < length (line ++ rest) → IsLong meaning rounds opening now state count
+due_long meaning rounds opening now state rest line count taken a k l =
+    long_due meaning rounds opening now state rest line count taken a l (begins_all (line ++ rest) now.left l (open_both line rest a.is_open k))
 
 -- the same, with the line and the count as they are kept
-at_line_as : (meaning : Meaning) (opening old new : Stand) (before after : State) (rest line part more : List ℕ) (count taken : ℕ) (left : List ℕ) (number : ℕ)
-    → IsAt meaning opening old before rest line count taken → rest ≡ part ++ 10 ∷ more → IsOpenLine part → AnswersLine meaning (line ++ part) before after old new → left ≡ [] → number ≡ count + 1
-    → IsAt meaning opening new after more left number taken
-at_line_as meaning opening old new before after rest line part more count taken left number a e k l empty is =
-    subst (λ x. IsAt meaning opening new after more x number taken) (sym empty)
-    (subst (λ x. IsAt meaning opening new after more [] x taken) (sym is) (at_line meaning opening old new before after rest line part more count taken a e k l))
+at_line_as : (meaning : Meaning) (rounds : ℕ) (opening old new : Stand) (before after : State) (rest line part more : List ℕ) (count taken : ℕ) (left : List ℕ) (number : ℕ)
+    → IsAt meaning rounds opening old before rest line count taken → rest ≡ part ++ 10 ∷ more → IsOpenLine part → AnswersLine meaning rounds (line ++ part) before after old new → left ≡ [] → number ≡ count + 1
+    → IsAt meaning rounds opening new after more left number taken
+at_line_as meaning rounds opening old new before after rest line part more count taken left number a e k l empty is =
+    subst (λ x. IsAt meaning rounds opening new after more x number taken) (sym empty)
+    (subst (λ x. IsAt meaning rounds opening new after more [] x taken) (sym is) (at_line meaning rounds opening old new before after rest line part more count taken a e k l))
 
-at_kept_as : (meaning : Meaning) (opening now new : Stand) (state : State) (rest line kept : List ℕ) (count number taken : ℕ)
-    → IsAt meaning opening now state rest line count taken → IsOpenLine rest → new ≡ now → kept ≡ line ++ rest → length kept ≤ 16384 → number ≡ count → IsAt meaning opening new state [] kept number taken
-at_kept_as meaning opening now new state rest line kept count number taken a k same e s is =
-    subst (λ x. IsAt meaning opening x state [] kept number taken) (sym same)
-    (subst (λ x. IsAt meaning opening now state [] kept x taken) (sym is) (at_kept meaning opening now state rest line kept count taken a k e s))
+at_kept_as : (meaning : Meaning) (rounds : ℕ) (opening now new : Stand) (state : State) (rest line kept : List ℕ) (count number taken : ℕ)
+    → IsAt meaning rounds opening now state rest line count taken → IsOpenLine rest → new ≡ now → kept ≡ line ++ rest → length kept ≤ 16384 → number ≡ count → IsAt meaning rounds opening new state [] kept number taken
+at_kept_as meaning rounds opening now new state rest line kept count number taken a k same e s is =
+    subst (λ x. IsAt meaning rounds opening x state [] kept number taken) (sym same)
+    (subst (λ x. IsAt meaning rounds opening now state [] kept x taken) (sym is) (at_kept meaning rounds opening now state rest line kept count taken a k e s))
 
 -- what a call that takes a piece did
 abbrev pub TookPiece : ℕ → List ℕ → Stand → Stand → Type 0
 TookPiece n out old new = (left : List ℕ) × (old.left ≡ take n out ++ left) × (new ≡ taken_to old left)
 
-at_piece : (meaning : Meaning) (opening old new : Stand) (state : State) (out line : List ℕ) (n count taken : ℕ)
-    → IsAt meaning opening old state [] line count taken → TookPiece n out old new → n ≤ length out → taken + length out ≤ 2 ^ 32 → length out ≤ 65536 → IsAt meaning opening new state (take n out) line count (taken + n)
-at_piece meaning opening old new state out line n count taken a t l m f =
+at_piece : (meaning : Meaning) (rounds : ℕ) (opening old new : Stand) (state : State) (out line : List ℕ) (n count taken : ℕ)
+    → IsAt meaning rounds opening old state [] line count taken → TookPiece n out old new → n ≤ length out → taken + length out ≤ 2 ^ 32 → length out ≤ 65536 → IsAt meaning rounds opening new state (take n out) line count (taken + n)
+at_piece meaning rounds opening old new state out line n count taken a t l m f =
     let e : length (take n out) ≡ n = length-take-le n out l in
-    subst (λ x. IsAt meaning opening new state (take n out) line count (taken + x)) e (at_taken meaning opening old new state (take n out) t.0 line count taken a t.1 t.2 (let k = e in omega arith) (let k = e in omega arith))
+    subst (λ x. IsAt meaning rounds opening new state (take n out) line count (taken + x)) e (at_taken meaning rounds opening old new state (take n out) t.0 line count taken a t.1 t.2 (let k = e in omega arith) (let k = e in omega arith))
 
-at_end : (meaning : Meaning) (opening old new : Stand) (state : State) (out line : List ℕ) (n count taken : ℕ)
-    → IsAt meaning opening old state [] line count taken → TookPiece n out old new → n ≡ 0 → taken ≤ 2 ^ 32 → IsAt meaning opening new state [] line count taken
-at_end meaning opening old new state out line n count taken a t z m =
+at_end : (meaning : Meaning) (rounds : ℕ) (opening old new : Stand) (state : State) (out line : List ℕ) (n count taken : ℕ)
+    → IsAt meaning rounds opening old state [] line count taken → TookPiece n out old new → n ≡ 0 → taken ≤ 2 ^ 32 → IsAt meaning rounds opening new state [] line count taken
+at_end meaning rounds opening old new state out line n count taken a t z m =
     let p : take n out ≡ [] = ap (λ k. take k out) z in
-    subst (λ x. IsAt meaning opening new state [] line count x) (add-zero taken)
-    (at_taken meaning opening old new state [] t.0 line count taken a (t.1 ∙ ap (λ x. x ++ t.0) p) t.2 (let k = add-zero taken in omega arith) (omega arith))
+    subst (λ x. IsAt meaning rounds opening new state [] line count x) (add-zero taken)
+    (at_taken meaning rounds opening old new state [] t.0 line count taken a (t.1 ∙ ap (λ x. x ++ t.0) p) t.2 (let k = add-zero taken in omega arith) (omega arith))
 
 pub left_end : (old new : Stand) (out : List ℕ) (n : ℕ) → TookPiece n out old new → n ≡ 0 → old.left ≡ [] → new.left ≡ []
 left_end old new out n t z e = ap (λ s. s.left) t.2 ∙ (sym (t.1 ∙ ap (λ k. take k out ++ t.0) z) ∙ e)
 
-pub start_as : (meaning : Meaning) (stands : List (List ℕ) → State → Type 0) (opening : Stand) (line : List ℕ) (count : ℕ) → ((disks : List (List ℕ)) → stands disks no_pool) → line ≡ [] → count ≡ 0
-    → StandsAt meaning stands opening opening [] line count 0
-start_as meaning stands opening line count closed l n = record {
+pub start_as : (meaning : Meaning) (rounds : ℕ) (stands : List (List ℕ) → State → Type 0) (opening : Stand) (line : List ℕ) (count : ℕ) → ((disks : List (List ℕ)) → stands disks no_pool) → line ≡ [] → count ≡ 0
+    → StandsAt meaning rounds stands opening opening [] line count 0
+start_as meaning rounds stands opening line count closed l n = record {
   state = no_pool;
   stands_for = closed opening.seen;
-  holds = subst (λ x. IsAt meaning opening opening no_pool [] x count 0) (sym l) (subst (λ x. IsAt meaning opening opening no_pool [] [] x 0) (sym n) (at_start meaning opening));
+  holds = subst (λ x. IsAt meaning rounds opening opening no_pool [] x count 0) (sym l) (subst (λ x. IsAt meaning rounds opening opening no_pool [] [] x 0) (sym n) (at_start meaning rounds opening));
 }
 
 -- the same of the state for which the pool stands
-pub stands_line : (meaning : Meaning) (was stands : List (List ℕ) → State → Type 0) (opening old new : Stand) (rest line part more : List ℕ) (count taken : ℕ) (left : List ℕ) (number : ℕ)
-    → StandsAt meaning was opening old rest line count taken → rest ≡ part ++ 10 ∷ more → IsOpenLine part
-    → ((before : State) → was old.seen before → StandsForOne stands new (λ after. AnswersLine meaning (line ++ part) before after old new)) → left ≡ [] → number ≡ count + 1
-    → StandsAt meaning stands opening new more left number taken
-stands_line meaning was stands opening old new rest line part more count taken left number a e k f empty is =
+pub stands_line : (meaning : Meaning) (rounds : ℕ) (was stands : List (List ℕ) → State → Type 0) (opening old new : Stand) (rest line part more : List ℕ) (count taken : ℕ) (left : List ℕ) (number : ℕ)
+    → StandsAt meaning rounds was opening old rest line count taken → rest ≡ part ++ 10 ∷ more → IsOpenLine part
+    → ((before : State) → was old.seen before → StandsForOne stands new (λ after. AnswersLine meaning rounds (line ++ part) before after old new)) → left ≡ [] → number ≡ count + 1
+    → StandsAt meaning rounds stands opening new more left number taken
+stands_line meaning rounds was stands opening old new rest line part more count taken left number a e k f empty is =
     let l = f a.state a.stands_for in
-    record { state = l.state; stands_for = l.stands_for; holds = at_line_as meaning opening old new a.state l.state rest line part more count taken left number a.holds e k l.holds empty is }
+    record { state = l.state; stands_for = l.stands_for; holds = at_line_as meaning rounds opening old new a.state l.state rest line part more count taken left number a.holds e k l.holds empty is }
 
-pub stands_kept : (meaning : Meaning) (stands : List (List ℕ) → State → Type 0) (opening now new : Stand) (rest line kept : List ℕ) (count number taken : ℕ)
-    → StandsAt meaning stands opening now rest line count taken → IsOpenLine rest → new ≡ now → kept ≡ line ++ rest → length kept ≤ 16384 → number ≡ count → StandsAt meaning stands opening new [] kept number taken
-stands_kept meaning stands opening now new rest line kept count number taken a k same e s is = record {
+pub stands_kept : (meaning : Meaning) (rounds : ℕ) (stands : List (List ℕ) → State → Type 0) (opening now new : Stand) (rest line kept : List ℕ) (count number taken : ℕ)
+    → StandsAt meaning rounds stands opening now rest line count taken → IsOpenLine rest → new ≡ now → kept ≡ line ++ rest → length kept ≤ 16384 → number ≡ count → StandsAt meaning rounds stands opening new [] kept number taken
+stands_kept meaning rounds stands opening now new rest line kept count number taken a k same e s is = record {
   state = a.state;
   stands_for = subst (λ (n : Stand). stands n.seen a.state) (sym same) a.stands_for;
-  holds = at_kept_as meaning opening now new a.state rest line kept count number taken a.holds k same e s is;
+  holds = at_kept_as meaning rounds opening now new a.state rest line kept count number taken a.holds k same e s is;
 }
 
-pub stands_piece : (meaning : Meaning) (stands : List (List ℕ) → State → Type 0) (opening old new : Stand) (out line : List ℕ) (n count taken : ℕ)
-    → StandsAt meaning stands opening old [] line count taken → TookPiece n out old new → n ≤ length out → taken + length out ≤ 2 ^ 32 → length out ≤ 65536 → StandsAt meaning stands opening new (take n out) line count (taken + n)
-stands_piece meaning stands opening old new out line n count taken a t l m f = record {
+pub stands_piece : (meaning : Meaning) (rounds : ℕ) (stands : List (List ℕ) → State → Type 0) (opening old new : Stand) (out line : List ℕ) (n count taken : ℕ)
+    → StandsAt meaning rounds stands opening old [] line count taken → TookPiece n out old new → n ≤ length out → taken + length out ≤ 2 ^ 32 → length out ≤ 65536 → StandsAt meaning rounds stands opening new (take n out) line count (taken + n)
+stands_piece meaning rounds stands opening old new out line n count taken a t l m f = record {
   state = a.state;
   stands_for = subst (λ (s : Stand). stands s.seen a.state) (sym t.2) a.stands_for;
-  holds = at_piece meaning opening old new a.state out line n count taken a.holds t l m f;
+  holds = at_piece meaning rounds opening old new a.state out line n count taken a.holds t l m f;
 }
 
-pub stands_end : (meaning : Meaning) (stands : List (List ℕ) → State → Type 0) (opening old new : Stand) (out line : List ℕ) (n count taken : ℕ)
-    → StandsAt meaning stands opening old [] line count taken → TookPiece n out old new → n ≡ 0 → taken ≤ 2 ^ 32 → StandsAt meaning stands opening new [] line count taken
-stands_end meaning stands opening old new out line n count taken a t z m = record {
+pub stands_end : (meaning : Meaning) (rounds : ℕ) (stands : List (List ℕ) → State → Type 0) (opening old new : Stand) (out line : List ℕ) (n count taken : ℕ)
+    → StandsAt meaning rounds stands opening old [] line count taken → TookPiece n out old new → n ≡ 0 → taken ≤ 2 ^ 32 → StandsAt meaning rounds stands opening new [] line count taken
+stands_end meaning rounds stands opening old new out line n count taken a t z m = record {
   state = a.state;
   stands_for = subst (λ (s : Stand). stands s.seen a.state) (sym t.2) a.stands_for;
-  holds = at_end meaning opening old new a.state out line n count taken a.holds t z m;
+  holds = at_end meaning rounds opening old new a.state out line n count taken a.holds t z m;
 }

@@ -3,5 +3,7 @@ pub mod Opening
 pub mod Devices
 pub mod Pools
 pub mod Sending
+pub mod Playing
+pub mod Steps
 pub mod Going
 pub mod Ending

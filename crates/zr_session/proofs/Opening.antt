@@ -2,14 +2,12 @@
 use Rattle.std.proofs.Common.{◌≡◌, ◌≤◌, ◌<◌, ◌+◌, ◌⊎◌, inl, inr, ℕ, zero, suc, List, [], ◌∷◌, ◌++◌, length, map, take, drop, get_or, refl, sym, ap, subst, ◌∙◌, arith, append_assoc, length-append, Result, Ok, Err, IfErr, if◌then◌else◌, ◌==◌}
 use Rattle.std.proofs.lemmas.List.{append-nil, take_more, map-append}
 use Rattle.zr_shelf.specs.Disks.{Stand, with_disk}
+use Rattle.zr_script.specs.CommandLine.{CommandLine}
 use Rattle.zr_model.specs.Runs.{Meaning}
-use Rattle.zr_session.specs.Answers.{IsStarted, IsAttached, IsPartlyAttached, RunsTo, StopsAtDevice, AnswersFront}
-use Rattle.zr_session.specs.declared.device.Device.{Device}
+use Rattle.zr_session.specs.Answers.{IsStarted, paths_in, rounds_in, IsAttached, IsPartlyAttached, RunsTo, StopsAtDevice, AnswersFront}
 use Rattle.zr_session.specs.declared.end.End.{End}
 use Rattle.zr_session.specs.declared.end.End.TheVariants.{Answered, BadWords, InputFault, OutputFault, DiskFault, BadLine, Damaged, AttachFault, InputLimit, NoMemory}
 use Rattle.zr_session.specs.Ends.{status_of, EndsAs, IsOpenedTo}
-use Rattle.zr_session.specs.Headline.{device_of, path_of}
-use Rattle.zr_session.proofs.Devices.{paths_same}
 
 -- one device more is attached
 pub attached_more : (paths : List (List ℕ)) (path : List ℕ) (old mid new : Stand) → IsAttached paths old mid → ((bytes : List ℕ) × (new ≡ with_disk mid path bytes)) → IsAttached (paths ++ path ∷ []) old new
@@ -36,7 +34,7 @@ attached_next f xs i d old mid new l h w =
     let front = ap (map f) (take_more xs i d l) ∙ map-append f (take i xs) (get_or xs i d ∷ []) in
     subst (λ ps. IsAttached ps old new) (sym front) (attached_more (map f (take i xs)) (f (get_or xs i d)) old mid new h w)
 
-split_at : {A : Type 0} (xs : List A) (i : ℕ) (d : A) → i < length xs → take i xs ++ get_or xs i d ∷ drop (suc i) xs ≡ xs
+pub split_at : {A : Type 0} (xs : List A) (i : ℕ) (d : A) → i < length xs → take i xs ++ get_or xs i d ∷ drop (suc i) xs ≡ xs
 split_at [] i d l = absurd (omega arith)
 split_at (y ∷ xs) zero d l = refl
 split_at (y ∷ xs) (suc i) d l = ap (λ ys. y ∷ ys) (split_at xs i d (omega arith))
@@ -56,17 +54,17 @@ pub more_sizes : (old new : List ℕ) (n i : ℕ) → ((size : ℕ) × (new ≡ 
 more_sizes old new n i s e = let l = ap length s.1 ∙ length-append old (s.0 ∷ []) in omega arith
 
 -- a run behind all devices
-pub opened_by : (meaning : Meaning) (end : End) (paths : List (List ℕ)) (old mid new : Stand) → IsAttached paths old mid → EndsAs meaning end mid new → IsOpenedTo meaning end paths old new
-opened_by meaning Answered paths old mid new d h = (mid, d, h)
-opened_by meaning BadWords paths old mid new d h = absurd h
-opened_by meaning InputFault paths old mid new d h = (mid, d, h)
-opened_by meaning OutputFault paths old mid new d h = (mid, d, h)
-opened_by meaning DiskFault paths old mid new d h = (mid, d, h)
-opened_by meaning BadLine paths old mid new d h = (mid, d, h)
-opened_by meaning Damaged paths old mid new d h = (mid, d, h)
-opened_by meaning AttachFault paths old mid new d h = absurd h
-opened_by meaning InputLimit paths old mid new d h = (mid, d, h)
-opened_by meaning NoMemory paths old mid new d h = inr (inr (mid, d, h))
+pub opened_by : (meaning : Meaning) (rounds : ℕ) (end : End) (paths : List (List ℕ)) (old mid new : Stand) → IsAttached paths old mid → EndsAs meaning rounds end mid new → IsOpenedTo meaning rounds end paths old new
+opened_by meaning rounds Answered paths old mid new d h = (mid, d, h)
+opened_by meaning rounds BadWords paths old mid new d h = absurd h
+opened_by meaning rounds InputFault paths old mid new d h = (mid, d, h)
+opened_by meaning rounds OutputFault paths old mid new d h = (mid, d, h)
+opened_by meaning rounds DiskFault paths old mid new d h = (mid, d, h)
+opened_by meaning rounds BadLine paths old mid new d h = (mid, d, h)
+opened_by meaning rounds Damaged paths old mid new d h = (mid, d, h)
+opened_by meaning rounds AttachFault paths old mid new d h = absurd h
+opened_by meaning rounds InputLimit paths old mid new d h = (mid, d, h)
+opened_by meaning rounds NoMemory paths old mid new d h = inr (inr (mid, d, h))
 
 -- an end by its status
 abbrev pub end_from : ℕ → End
@@ -88,8 +86,8 @@ known_end InputLimit = refl
 known_end NoMemory = refl
 
 -- what a run came to by its status
-pub opened_with : (meaning : Meaning) (end : End) (n : ℕ) (paths : List (List ℕ)) (old new : Stand) → status_of end ≡ n → IsOpenedTo meaning end paths old new → IsOpenedTo meaning (end_from n) paths old new
-opened_with meaning end n paths old new s h = subst (λ e. IsOpenedTo meaning e paths old new) (known_end end ∙ ap end_from s) h
+pub opened_with : (meaning : Meaning) (rounds : ℕ) (end : End) (n : ℕ) (paths : List (List ℕ)) (old new : Stand) → status_of end ≡ n → IsOpenedTo meaning rounds end paths old new → IsOpenedTo meaning rounds (end_from n) paths old new
+opened_with meaning rounds end n paths old new s h = subst (λ e. IsOpenedTo meaning rounds e paths old new) (known_end end ∙ ap end_from s) h
 
 pub known_status : (e : End) → status_of e ≤ 9
 known_status Answered = omega arith
@@ -104,20 +102,16 @@ known_status InputLimit = omega arith
 known_status NoMemory = omega arith
 
 -- the same of the words
-pub runs_to : (P : Stand → Stand → Type 0) (choosers : ℕ) (words : List (List ℕ)) (devices : List Device) (paths : List (List ℕ)) (old new : Stand)
-    → IsStarted choosers words (map device_of devices) → paths ≡ map path_of devices → ((opening : Stand) × IsAttached paths old opening × P opening new) → RunsTo P choosers words old new
-runs_to P choosers words devices paths old new s e h = (map device_of devices, h.0, s, subst (λ ps. IsAttached ps old h.0) (e ∙ sym (paths_same devices)) h.1, h.2)
+pub runs_to : (P : ℕ → Stand → Stand → Type 0) (names words : List (List ℕ)) (line : CommandLine) (old new : Stand)
+    → IsStarted names words line → ((opening : Stand) × IsAttached (paths_in line) old opening × P (rounds_in line) opening new) → RunsTo P names words old new
+runs_to P names words line old new s h = (line, h.0, s, h.1, h.2)
 
-pub stops_at : (choosers : ℕ) (words : List (List ℕ)) (devices : List Device) (paths : List (List ℕ)) (old new : Stand)
-    → IsStarted choosers words (map device_of devices) → paths ≡ map path_of devices → IsPartlyAttached paths old new → StopsAtDevice choosers words old new
-stops_at choosers words devices paths old new s e h = (map device_of devices, s, subst (λ ps. IsPartlyAttached ps old new) (e ∙ sym (paths_same devices)) h)
-
-pub memory_at : (meaning : Meaning) (choosers : ℕ) (words : List (List ℕ)) (devices : List Device) (paths : List (List ℕ)) (old new : Stand)
-    → IsStarted choosers words (map device_of devices) → paths ≡ map path_of devices → IsOpenedTo meaning NoMemory paths old new
-    → (new ≡ old) ⊎ StopsAtDevice choosers words old new ⊎ RunsTo (AnswersFront meaning) choosers words old new
-memory_at meaning choosers words devices paths old new s e (inl same) = inl same
-memory_at meaning choosers words devices paths old new s e (inr (inl h)) = inr (inl (stops_at choosers words devices paths old new s e h))
-memory_at meaning choosers words devices paths old new s e (inr (inr h)) = inr (inr (runs_to (AnswersFront meaning) choosers words devices paths old new s e h))
+pub memory_at : (meaning : Meaning) (names words : List (List ℕ)) (line : CommandLine) (old new : Stand)
+    → IsStarted names words line → IsOpenedTo meaning (rounds_in line) NoMemory (paths_in line) old new
+    → (new ≡ old) ⊎ StopsAtDevice names words old new ⊎ RunsTo (AnswersFront meaning) names words old new
+memory_at meaning names words line old new s (inl same) = inl same
+memory_at meaning names words line old new s (inr (inl h)) = inr (inl (line, s, h))
+memory_at meaning names words line old new s (inr (inr h)) = inr (inr (runs_to (AnswersFront meaning) names words line old new s h))
 
 -- what holds of any error
 pub of_any_error : {T E : Type 0} (r : Result T E) (X : Type 0) → X → IfErr r (λ e. X)

@@ -1,27 +1,31 @@
 -- What has been answered when a run ends.
-use Rattle.std.specs.Prelude.{◌≡◌, ◌≢◌, ◌⊎◌, ℕ, ◌+◌, ◌^◌, ◌≤◌, ◌<◌, min, List, [], ◌∷◌, ◌++◌, length, map, IsTrue, Option}
-use Rattle.std.specs.List.{AllZip, AllByRecursion, flat_map}
+use Rattle.std.specs.Prelude.{◌≡◌, ◌≢◌, ◌⊎◌, ℕ, ◌+◌, ◌^◌, ◌≤◌, ◌<◌, List, [], ◌∷◌, ◌++◌, length, map, Option, None, unwrap_or}
+use Rattle.std.specs.List.{AllByRecursion, flat_map}
 use Rattle.zr_shelf.specs.Disks.{Stand, with_disk}
 use Rattle.zr_base.specs.declared.refusal.Refusal.{Refusal}
 use Rattle.zr_script.specs.declared.command.Command.{Command}
 use Rattle.zr_script.specs.declared.command.Command.TheVariants as cmd
-use Rattle.zr_script.specs.CommandLine.{IsDevice}
-use Rattle.zr_script.specs.Words.{are_paths}
+use Rattle.zr_script.specs.CommandLine.{CommandLine, IsCommandLine}
 use Rattle.zr_script.specs.Grammar.{IsLine}
 use Rattle.zr_script.specs.Lines.{lines_of}
 use Rattle.zr_script.specs.ReplyText.{reply_text, BadLine, InputLimit, DiskFault, Damage, last_line}
 use Rattle.zr_model.specs.State.{no_pool}
 use Rattle.zr_model.specs.Runs.{Point, Turn, point, Meaning, Run, end_of, texts, Asks, IsBad, bytes_to}
+use Rattle.zr_words.specs.Choosing.{chosen}
+use Rattle.zr_session.specs.Agenda.{Item, agenda, Plays, IsDue}
 
--- each word is a device, and they are 1 to 32 different ones
-pub record AreDevices (words : List (List ℕ)) (devs : List (List ℕ × Option ℕ)) : Type 0 where
-  pub each : AllZip (λ word dev. IsDevice word dev.0 dev.1) words devs
-  pub paths : IsTrue (are_paths (map (λ dev. dev.0) devs))
+-- the words are a command line that asks for one of the choosers with these names, and its script is the input
+pub record IsStarted (names : List (List ℕ)) (words : List (List ℕ)) (line : CommandLine) : Type 0 where
+  pub is_line : IsCommandLine words line
+  pub chooser : chosen (λ name. name) line.policy names ≢ None
+  pub input : line.generate ≡ None
 
--- the words are devices, and there is a chooser
-pub record IsStarted (choosers : ℕ) (words : List (List ℕ)) (devs : List (List ℕ × Option ℕ)) : Type 0 where
-  pub some : choosers ≢ 0
-  pub are : AreDevices words devs
+abbrev pub paths_in : CommandLine → List (List ℕ)
+paths_in line = map (λ (dev : List ℕ × Option ℕ). dev.0) line.devs
+
+-- how many rounds of steps follow each line
+abbrev pub rounds_in : CommandLine → ℕ
+rounds_in line = unwrap_or line.auto 0
 
 -- devices with these paths were attached, in order
 abbrev pub IsAttached : List (List ℕ) → Stand → Stand → Type 0
@@ -32,20 +36,24 @@ IsAttached (path ∷ paths) old now = (bytes : List ℕ) × IsAttached paths (wi
 abbrev pub IsPartlyAttached : List (List ℕ) → Stand → Stand → Type 0
 IsPartlyAttached paths old now = (front : List (List ℕ)) × (path : List ℕ) × (back : List (List ℕ)) × (front ++ path ∷ back ≡ paths) × IsAttached front old now
 
--- how far a run has come: the lines that are answered and those that are not, the turns, and what was taken of the input
+-- how far a run has come: the lines that were taken up and those that were not, what is done of what is due for the first and what is not, the turns, and what was taken of the input
 pub record Reach : Type 0 where
   pub lines : List (List ℕ)
-  pub rest : List (List ℕ)
+  pub more : List (List ℕ)
+  pub front : List (Item (List ℕ))
+  pub rest : List (Item (List ℕ))
   pub turns : List Turn
   pub taken : List ℕ
 
--- The first lines of the input are answered by a run of the pool, and all that was sent is their replies and this text. No more than 2 ^ 32 bytes are taken.
-pub record HasReached (m : Meaning) (opening now : Stand) (r : Reach) (text : List ℕ) : Type 0 where
-  pub asked : AllZip (λ line t. Asks line t.command) r.lines r.turns
+-- The first lines of the input are taken up, each with so many rounds behind it. What is done of that is a run of the pool, and all that was sent is its replies and this text.
+-- No more than 2 ^ 32 bytes are taken.
+pub record HasReached (m : Meaning) (rounds : ℕ) (opening now : Stand) (r : Reach) (text : List ℕ) : Type 0 where
+  pub begins : lines_of opening.left ≡ r.lines ++ r.more
+  pub due : agenda rounds r.lines ≡ r.front ++ r.rest
+  pub plays : Plays m Asks r.front (point opening no_pool) r.turns
   pub run : Run m (point opening no_pool) r.turns
   pub input : opening.left ≡ r.taken ++ now.left
   pub most : length r.taken ≤ 2 ^ 32
-  pub front : lines_of opening.left ≡ r.lines ++ r.rest
   pub sent : now.sent ≡ opening.sent ++ (texts r.turns ++ text)
 
 -- how things stand then
@@ -56,91 +64,96 @@ point_at opening r = end_of (point opening no_pool) r.turns
 abbrev pub IsOpenLine : List ℕ → Type 0
 IsOpenLine line = AllByRecursion (λ b. b ≢ 10) line
 
--- every line that was taken whole is answered, and what was taken behind them is no more than a line
-abbrev pub IsBetween : Reach → Type 0
-IsBetween r = (line : List ℕ) × (r.taken ≡ flat_map (λ l. l ++ 10 ∷ []) r.lines ++ line) × IsOpenLine line × (length line ≤ 16384)
+-- every line that was taken whole is answered, with its rounds, and what was taken behind them is no more than a line
+pub record IsBetween (r : Reach) : Type 0 where
+  pub answered : r.rest ≡ []
+  pub line : List ℕ
+  pub whole : r.taken ≡ flat_map (λ l. l ++ 10 ∷ []) r.lines ++ line
+  pub is_open : IsOpenLine line
+  pub short : length line ≤ 16384
 
--- what was taken behind the line is less than a piece
-abbrev pub IsPrompt : Reach → List ℕ → Type 0
-IsPrompt r line = length r.taken < bytes_to r.lines line + 65536
+-- all lines before this one are answered, with their rounds, and it is the next
+pub record IsAtLine (r : Reach) (line : List ℕ) : Type 0 where
+  pub answered : r.rest ≡ []
+  pub after : List (List ℕ)
+  pub next : r.more ≡ line ∷ after
 
--- the next line is a bad one, and nothing more was taken once that could be known
+-- the next line is a bad one, and what was taken behind it is less than a piece: nothing was, once that could be known
 abbrev pub IsAtBadLine : Meaning → Stand → Reach → Type 0
-IsAtBadLine m opening r = (line : List ℕ) × (more : List (List ℕ)) × (r.rest ≡ line ∷ more) × IsBad m (point_at opening r) line × IsPrompt r line
+IsAtBadLine m opening r = (line : List ℕ) × IsAtLine r line × IsBad m (point_at opening r) line × (length r.taken < bytes_to r.lines line + 65536)
 
 -- 2 ^ 32 bytes were taken
 abbrev pub IsAtLimit : Reach → Type 0
 IsAtLimit r = (length r.taken ≡ 2 ^ 32) × IsBetween r
 
--- the next line is due
-abbrev pub IsAtLine : Reach → Type 0
-IsAtLine r = (line : List ℕ) × (more : List (List ℕ)) × (r.rest ≡ line ∷ more) × ((command : _) × Asks line command)
+-- the command is due, of the line that was taken up last or of a round behind it
+abbrev pub IsAtCommand : Meaning → Stand → Reach → Command → Type 0
+IsAtCommand m opening r command = IsDue m Asks r.rest (point_at opening r) command
 
--- the line asks for a command that may meet this damage
-abbrev pub MeetsDamage : Meaning → Point → List ℕ → Refusal → Type 0
-MeetsDamage m p line found = (command : Command) × Asks line command × m.damages p command found
-
--- the next line is due, and its command may meet this damage
+-- a command is due that may meet this damage
 abbrev pub IsAtDamage : Meaning → Stand → Reach → Refusal → Type 0
-IsAtDamage m opening r found = (line : List ℕ) × (more : List (List ℕ)) × (r.rest ≡ line ∷ more) × MeetsDamage m (point_at opening r) line found
+IsAtDamage m opening r found = (command : Command) × IsAtCommand m opening r command × m.damages (point_at opening r) command found
 
--- the input has ended, and no line is left
-abbrev pub IsAtEnd : Stand → Reach → Type 0
-IsAtEnd now r = (r.rest ≡ []) × (now.left ≡ []) × (length r.taken < 2 ^ 32)
+-- the input has ended, and all its lines are answered
+pub record IsAtEnd (now : Stand) (r : Reach) : Type 0 where
+  pub answered : r.rest ≡ []
+  pub none : r.more ≡ []
+  pub left : now.left ≡ []
+  pub most : length r.taken < 2 ^ 32
 
 -- the next line is `quit`
 abbrev pub IsAtQuit : Reach → Type 0
-IsAtQuit r = (line : List ℕ) × (more : List (List ℕ)) × (r.rest ≡ line ∷ more) × IsLine line cmd.Quit
+IsAtQuit r = (line : List ℕ) × IsAtLine r line × IsLine line cmd.Quit
 
 -- the text that tells of a bad line
 abbrev pub bad_text : Reach → List ℕ
 bad_text r = last_line (BadLine (length r.lines + 1))
 
--- what is to be sent next: the reply to the next line, or a last line
+-- what is to be sent next: the reply to the command that is due, or a last line
 pub data IsNextText (m : Meaning) (opening : Stand) (r : Reach) : List ℕ → Type 0 where
-  reply : (line : List ℕ) (more : List (List ℕ)) (t : Turn) → r.rest ≡ line ∷ more → Asks line t.command → m.takes (point_at opening r) t → IsNextText m opening r (reply_text t.answer)
+  reply : (t : Turn) → IsAtCommand m opening r t.command → m.takes (point_at opening r) t → IsNextText m opening r (reply_text t.answer)
   bad_line : IsAtBadLine m opening r → IsNextText m opening r (bad_text r)
   limit : IsAtLimit r → IsNextText m opening r (last_line InputLimit)
-  fault : IsAtLine r → IsNextText m opening r (last_line DiskFault)
+  fault : (command : Command) → IsAtCommand m opening r command → IsNextText m opening r (last_line DiskFault)
   damage : (found : Refusal) → IsAtDamage m opening r found → IsNextText m opening r (last_line (Damage found))
 
 -- all lines are answered up to the end of the input, or all before a `quit`
-abbrev pub IsDone : Meaning → Stand → Stand → Type 0
-IsDone m opening now = (r : Reach) × HasReached m opening now r [] × (IsAtEnd now r ⊎ IsAtQuit r)
+abbrev pub IsDone : Meaning → ℕ → Stand → Stand → Type 0
+IsDone m rounds opening now = (r : Reach) × HasReached m rounds opening now r [] × (IsAtEnd now r ⊎ IsAtQuit r)
 
 -- all lines before a bad one are answered, and that one is told with its number
-abbrev pub TellsBadLine : Meaning → Stand → Stand → Type 0
-TellsBadLine m opening now = (r : Reach) × HasReached m opening now r (bad_text r) × IsAtBadLine m opening r
+abbrev pub TellsBadLine : Meaning → ℕ → Stand → Stand → Type 0
+TellsBadLine m rounds opening now = (r : Reach) × HasReached m rounds opening now r (bad_text r) × IsAtBadLine m opening r
 
 -- all lines that were taken whole are answered, and it is told that the input is too long
-abbrev pub TellsLimit : Meaning → Stand → Stand → Type 0
-TellsLimit m opening now = (r : Reach) × HasReached m opening now r (last_line InputLimit) × IsAtLimit r
+abbrev pub TellsLimit : Meaning → ℕ → Stand → Stand → Type 0
+TellsLimit m rounds opening now = (r : Reach) × HasReached m rounds opening now r (last_line InputLimit) × IsAtLimit r
 
--- all lines before the one at which a device failed are answered, and that is told
-abbrev pub TellsFault : Meaning → Stand → Stand → Type 0
-TellsFault m opening now = (r : Reach) × HasReached m opening now r (last_line DiskFault) × IsAtLine r
+-- all commands before the one at which a device failed are answered, and that is told
+abbrev pub TellsFault : Meaning → ℕ → Stand → Stand → Type 0
+TellsFault m rounds opening now = (r : Reach) × (command : Command) × HasReached m rounds opening now r (last_line DiskFault) × IsAtCommand m opening r command
 
--- all lines before the one at which damage was met are answered, and that is told
-abbrev pub TellsDamage : Meaning → Stand → Stand → Type 0
-TellsDamage m opening now = (r : Reach) × (found : Refusal) × HasReached m opening now r (last_line (Damage found)) × IsAtDamage m opening r found
+-- all commands before the one at which damage was met are answered, and that is told
+abbrev pub TellsDamage : Meaning → ℕ → Stand → Stand → Type 0
+TellsDamage m rounds opening now = (r : Reach) × (found : Refusal) × HasReached m rounds opening now r (last_line (Damage found)) × IsAtDamage m opening r found
 
 -- all lines that were taken whole are answered
-abbrev pub AnswersTaken : Meaning → Stand → Stand → Type 0
-AnswersTaken m opening now = (r : Reach) × HasReached m opening now r [] × IsBetween r
+abbrev pub AnswersTaken : Meaning → ℕ → Stand → Stand → Type 0
+AnswersTaken m rounds opening now = (r : Reach) × HasReached m rounds opening now r [] × IsBetween r
 
--- first lines are answered
-abbrev pub AnswersFront : Meaning → Stand → Stand → Type 0
-AnswersFront m opening now = (r : Reach) × HasReached m opening now r []
+-- first commands are answered
+abbrev pub AnswersFront : Meaning → ℕ → Stand → Stand → Type 0
+AnswersFront m rounds opening now = (r : Reach) × HasReached m rounds opening now r []
 
--- first lines are answered, and a front of what is to be sent next
-abbrev pub AnswersPartly : Meaning → Stand → Stand → Type 0
-AnswersPartly m opening now = (r : Reach) × (front back next : List ℕ) × (front ++ back ≡ next) × IsNextText m opening r next × HasReached m opening now r front
+-- first commands are answered, and a front of what is to be sent next
+abbrev pub AnswersPartly : Meaning → ℕ → Stand → Stand → Type 0
+AnswersPartly m rounds opening now = (r : Reach) × (front back next : List ℕ) × (front ++ back ≡ next) × IsNextText m opening r next × HasReached m rounds opening now r front
 
--- the words are devices, which were attached, and then the run came to what is said
-abbrev pub RunsTo : (Stand → Stand → Type 0) → ℕ → List (List ℕ) → Stand → Stand → Type 0
-RunsTo P choosers words old new =
-    (devs : List (List ℕ × Option ℕ)) × (opening : Stand) × IsStarted choosers words devs × IsAttached (map (λ dev. dev.0) devs) old opening × P opening new
+-- the words are a command line, its devices were attached, and then the run with so many rounds came to what is said
+abbrev pub RunsTo : (ℕ → Stand → Stand → Type 0) → List (List ℕ) → List (List ℕ) → Stand → Stand → Type 0
+RunsTo P names words old new =
+    (line : CommandLine) × (opening : Stand) × IsStarted names words line × IsAttached (paths_in line) old opening × P (rounds_in line) opening new
 
--- the words are devices, of which the first were attached, and not all
-abbrev pub StopsAtDevice : ℕ → List (List ℕ) → Stand → Stand → Type 0
-StopsAtDevice choosers words old new = (devs : List (List ℕ × Option ℕ)) × IsStarted choosers words devs × IsPartlyAttached (map (λ dev. dev.0) devs) old new
+-- the words are a command line, of whose devices the first were attached, and not all
+abbrev pub StopsAtDevice : List (List ℕ) → List (List ℕ) → Stand → Stand → Type 0
+StopsAtDevice names words old new = (line : CommandLine) × IsStarted names words line × IsPartlyAttached (paths_in line) old new

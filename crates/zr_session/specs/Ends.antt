@@ -31,20 +31,20 @@ HasCause damage before now BadWords = ⊥
 HasCause damage before now _ = Unit {0}
 
 -- what a run over an input has answered when it ends so
-abbrev pub EndsAs : Meaning → End → Stand → Stand → Type 0
-EndsAs m Answered opening now = IsDone m opening now
-EndsAs m InputFault opening now = AnswersTaken m opening now
-EndsAs m OutputFault opening now = AnswersPartly m opening now
-EndsAs m DiskFault opening now = TellsFault m opening now
-EndsAs m BadLine opening now = TellsBadLine m opening now
-EndsAs m Damaged opening now = TellsDamage m opening now
-EndsAs m InputLimit opening now = TellsLimit m opening now
-EndsAs m NoMemory opening now = AnswersFront m opening now
-EndsAs m BadWords opening now = ⊥
-EndsAs m AttachFault opening now = ⊥
+abbrev pub EndsAs : Meaning → ℕ → End → Stand → Stand → Type 0
+EndsAs m rounds Answered opening now = IsDone m rounds opening now
+EndsAs m rounds InputFault opening now = AnswersTaken m rounds opening now
+EndsAs m rounds OutputFault opening now = AnswersPartly m rounds opening now
+EndsAs m rounds DiskFault opening now = TellsFault m rounds opening now
+EndsAs m rounds BadLine opening now = TellsBadLine m rounds opening now
+EndsAs m rounds Damaged opening now = TellsDamage m rounds opening now
+EndsAs m rounds InputLimit opening now = TellsLimit m rounds opening now
+EndsAs m rounds NoMemory opening now = AnswersFront m rounds opening now
+EndsAs m rounds BadWords opening now = ⊥
+EndsAs m rounds AttachFault opening now = ⊥
 
 -- what a run came to whose devices were to be attached
-abbrev pub IsOpenedTo : Meaning → End → List (List ℕ) → Stand → Stand → Type 0
-IsOpenedTo m AttachFault paths old now = IsPartlyAttached paths old now
-IsOpenedTo m NoMemory paths old now = (now ≡ old) ⊎ IsPartlyAttached paths old now ⊎ ((opening : Stand) × IsAttached paths old opening × EndsAs m NoMemory opening now)
-IsOpenedTo m end paths old now = (opening : Stand) × IsAttached paths old opening × EndsAs m end opening now
+abbrev pub IsOpenedTo : Meaning → ℕ → End → List (List ℕ) → Stand → Stand → Type 0
+IsOpenedTo m rounds AttachFault paths old now = IsPartlyAttached paths old now
+IsOpenedTo m rounds NoMemory paths old now = (now ≡ old) ⊎ IsPartlyAttached paths old now ⊎ ((opening : Stand) × IsAttached paths old opening × EndsAs m rounds NoMemory opening now)
+IsOpenedTo m rounds end paths old now = (opening : Stand) × IsAttached paths old opening × EndsAs m rounds end opening now

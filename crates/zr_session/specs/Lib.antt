@@ -1,3 +1,4 @@
+pub mod Agenda
 pub mod Answers
 pub mod Ends
 pub mod Lines

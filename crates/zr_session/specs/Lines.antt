@@ -1,5 +1,5 @@
 -- One line, and what is sent for it.
-use Rattle.std.specs.Prelude.{◌≡◌, ℕ, ◌<◌, List, [], ◌++◌, length}
+use Rattle.std.specs.Prelude.{◌≡◌, ℕ, ◌<◌, List, [], ◌∷◌, ◌++◌, length}
 use Rattle.zr_shelf.specs.Disks.{Stand}
 use Rattle.zr_base.specs.declared.refusal.Refusal.{Refusal}
 use Rattle.zr_script.specs.declared.command.Command.{Command}
@@ -9,7 +9,8 @@ use Rattle.zr_script.specs.Grammar.{IsLine}
 use Rattle.zr_script.specs.ReplyText as text
 use Rattle.zr_script.specs.ReplyText.{reply_text, last_line}
 use Rattle.zr_model.specs.State.{State}
-use Rattle.zr_model.specs.Runs.{Meaning, Point, point, turn, Asks}
+use Rattle.zr_model.specs.Runs.{Meaning, Point, Turn, point, turn, Run, end_of, texts, Asks}
+use Rattle.zr_session.specs.Agenda.{Item, Given, rounds_of, Plays, IsDue}
 use Rattle.zr_session.specs.declared.end.End.{End}
 use Rattle.zr_session.specs.declared.end.End.TheVariants.{Answered, OutputFault, DiskFault, BadLine, Damaged, NoMemory}
 
@@ -58,18 +59,45 @@ StopsAtCommand m command number before old new Damaged = (found : Refusal) × m.
 StopsAtCommand m command number before old new NoMemory = Sends old new []
 StopsAtCommand m command number before old new _ = ⊥
 
--- the line is answered
-pub record AnswersLine (m : Meaning) (line : List ℕ) (before after : State) (old new : Stand) : Type 0 where
-  pub command : Command
-  pub asks : Asks line command
-  pub does : DoesCommand m command before after old new
+-- These items are done one after another, and so much is sent of their answers; nothing is taken.
+pub record DoesItems (A : Type 0) (m : Meaning) (Means : A → Command → Type 0) (told : List Turn → List ℕ) (items : List (Item A)) (before after : State) (old new : Stand) : Type 0 where
+  pub turns : List Turn
+  pub plays : Plays m Means items (point old before) turns
+  pub run : Run m (point old before) turns
+  pub ends : end_of (point old before) turns ≡ point new after
+  pub sends : Sends old new (told turns)
 
--- no command, or it ends at this one
-pub data StopsAtLine (m : Meaning) (line : List ℕ) (number : ℕ) (before : State) (old new : Stand) (end : End) : Type 0 where
-  outside : ((command : Command) → IsLine line command → ⊥) → Tells BadLine (last_line (text.BadLine number)) end old new → StopsAtLine m line number before old new end
-  quit : IsLine line cmd.Quit → end ≡ Answered → new ≡ old → StopsAtLine m line number before old new end
-  command : (command : Command) → Asks line command → StopsAtCommand m command number before old new end → StopsAtLine m line number before old new end
-  memory : end ≡ NoMemory → new ≡ old → StopsAtLine m line number before old new end
+-- The run ends at the next command that is due of these items, which the pool serves; those before it are done.
+pub record StopsWithin (A : Type 0) (m : Meaning) (Means : A → Command → Type 0) (told : List Turn → List ℕ) (items : List (Item A)) (number : ℕ) (before : State) (old new : Stand) (end : End) : Type 0 where
+  pub front : List (Item A)
+  pub rest : List (Item A)
+  pub split : items ≡ front ++ rest
+  pub state : State
+  pub mid : Stand
+  pub does : DoesItems A m Means told front before state old mid
+  pub command : Command
+  pub due : IsDue m Means rest (point mid state) command
+  pub served : m.serves mid.paths state command
+  pub stops : StopsAtCommand m command number state mid new end
+
+-- the same of the steps that are put in, whose answers are all sent
+abbrev pub DoesSteps : Meaning → List (Item (List ℕ)) → State → State → Stand → Stand → Type 0
+DoesSteps m items before after old new = DoesItems (List ℕ) m Asks texts items before after old new
+
+abbrev pub StopsWithinSteps : Meaning → List (Item (List ℕ)) → ℕ → State → Stand → Stand → End → Type 0
+StopsWithinSteps m items number before old new end = StopsWithin (List ℕ) m Asks texts items number before old new end
+
+-- the line is answered, with so many rounds behind it
+abbrev pub AnswersLine : Meaning → ℕ → List ℕ → State → State → Stand → Stand → Type 0
+AnswersLine m rounds line before after old new = DoesItems (List ℕ) m Asks texts (Given line ∷ rounds_of rounds) before after old new
+
+-- no command, or it ends at this one, or within the rounds behind it
+pub data StopsAtLine (m : Meaning) (rounds : ℕ) (line : List ℕ) (number : ℕ) (before : State) (old new : Stand) (end : End) : Type 0 where
+  outside : ((command : Command) → IsLine line command → ⊥) → Tells BadLine (last_line (text.BadLine number)) end old new → StopsAtLine m rounds line number before old new end
+  quit : IsLine line cmd.Quit → end ≡ Answered → new ≡ old → StopsAtLine m rounds line number before old new end
+  command : (command : Command) → Asks line command → StopsAtCommand m command number before old new end → StopsAtLine m rounds line number before old new end
+  within : (state : State) (mid : Stand) → DoesItems (List ℕ) m Asks texts (Given line ∷ []) before state old mid → StopsWithinSteps m (rounds_of rounds) number state mid new end → StopsAtLine m rounds line number before old new end
+  memory : end ≡ NoMemory → new ≡ old → StopsAtLine m rounds line number before old new end
 
 -- A line that has become too long is told, or memory ran out.
 pub data StopsAtRest (line : List ℕ) (number : ℕ) (old new : Stand) (end : End) : Type 0 where

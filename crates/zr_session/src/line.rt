@@ -1,26 +1,21 @@
-//! Lines within a piece of the input, and what is sent for one.
-ghost use Rattle.std.specs.Prelude.{◌≡◌, ◌⊎◌, length, ◌∷◌, ◌++◌, ◌+◌, ◌<◌, ◌^◌, ℕ, List, IfOk, IfNone, IfSome, IfErr, OnOk};
-ghost use Rattle.std.specs.List.{AllByRecursion};
+//! Lines within a piece of the input, and what is done for one.
+ghost use Rattle.std.specs.Prelude.{◌≡◌, ◌∷◌, ◌++◌, ℕ, List, IfNone, IfSome, IfErr, OnOk};
 ghost use Rattle.zr_shelf.specs.Counts.{NoneFell};
-ghost use Rattle.zr_shelf.specs.Disks.{sent_more};
 ghost use Rattle.zr_session.specs.Answers.{IsOpenLine};
-ghost use Rattle.zr_base.specs.declared.refusal.Refusal.TheVariants as refusal;
-ghost use Rattle.zr_script.specs.Grammar.{IsLine};
-ghost use Rattle.zr_script.specs.ReplyText.{last_line, BadLine, InputLimit, DiskFault, Damage};
 ghost use Rattle.zr_model.specs.State.{State};
 ghost use Rattle.zr_model.specs.Runs.{MayBeDamaged};
 ghost use Rattle.zr_session.specs.Ends.{HasCause};
-ghost use Rattle.zr_session.specs.Lines.{StandsForOne, AnswersLine, StopsAtLine, DoesCommand, StopsAtCommand, SendsPartly, Tells};
-ghost use Rattle.zr_session.specs.declared.end.End.TheVariants as is_end;
+ghost use Rattle.zr_session.specs.Lines.{StandsForOne, AnswersLine, StopsAtLine};
 
+use crate::command::{do_command, refuse_line};
+use crate::course::Course;
 use crate::end::End;
+use crate::rounds::do_rounds;
 use memchr::memchr;
 use std::alloc::Global;
-use zr_base::{Dva, NoMemory};
-use zr_choose::Chooser;
-use zr_model::{Pool, Stop};
-use zr_script::{Command, Word, parse_line, put_line, reply_bytes};
-use zr_shelf::{Desk, DeskErr};
+use zr_model::Pool;
+use zr_script::{Command, parse_line};
+use zr_shelf::Desk;
 
 const LINE_FEED: u8 = b'\n';
 
@@ -34,150 +29,18 @@ pub fn split_line(bytes: &[u8]) -> Option<(&[u8], &[u8])>
     Some((line, &more[1..]))
 }
 
-/// Sends all the bytes.
-fn send<D: Desk>(desk: &mut D, bytes: &[u8]) -> Result<(), End>
-    ensures sent { D.tells desk.old → OnOk result ((D.world desk.new).now ≡ sent_more (D.world desk.old).now bytes.now) }
-    ensures partly { D.tells desk.old → IfErr result (SendsPartly bytes.now (D.world desk.old).now (D.world desk.new).now) }
-    ensures cause { IfErr result (HasCause ⊥ (D.counts desk.old) (D.counts desk.new)) }
-    ensures sizes { D.sizes desk.new ≡ D.sizes desk.old }
-    ensures none_fell { NoneFell (D.counts desk.old) (D.counts desk.new) }
-    ensures told { D.tells desk.old → D.tells desk.new }
-{
-    match desk.give(bytes) {
-        Ok(()) => Ok(()),
-        Err(DeskErr::Failed) => Err(End::OutputFault),
-        Err(DeskErr::NoMemory) => Err(End::NoMemory),
-    }
-}
-
-/// Sends the last line of a run, which then ends as said, unless that was not sent.
-pub fn tell<D: Desk>(desk: &mut D, text: &[u8], end: End) -> End
-    ensures told_it { D.tells desk.old → Tells end text.now result (D.world desk.old).now (D.world desk.new).now }
-    ensures cause { (result ≡ end) ⊎ HasCause ⊥ (D.counts desk.old) (D.counts desk.new) result }
-    ensures sizes { D.sizes desk.new ≡ D.sizes desk.old }
-    ensures none_fell { NoneFell (D.counts desk.old) (D.counts desk.new) }
-    ensures told { D.tells desk.old → D.tells desk.new }
-{
-    match send(desk, text) {
-        Ok(()) => end,
-        Err(other) => other,
-    }
-}
-
-/// Tells that a line is a bad one.
-pub fn refuse_line<D: Desk>(alloc: Global, number: u64, desk: &mut D) -> End
-    ensures told_it { D.tells desk.old → Tells is_end.BadLine (last_line (BadLine number)) result (D.world desk.old).now (D.world desk.new).now }
-    ensures cause { HasCause ⊥ (D.counts desk.old) (D.counts desk.new) result }
-    ensures sizes { D.sizes desk.new ≡ D.sizes desk.old }
-    ensures none_fell { NoneFell (D.counts desk.old) (D.counts desk.new) }
-    ensures told { D.tells desk.old → D.tells desk.new }
-{
-    let Ok(text) = format!(in alloc; "bad line {number}\n") else {
-        return End::NoMemory;
-    };
-    tell(desk, text.as_bytes(), End::BadLine)
-}
-
-/// The last line where damage was met, with the sum that the block should have and the one that it has.
-fn damage_text<'a>(
-    alloc: Global,
-    at: &Dva,
-    expected: &'a [u8; 32],
-    found: &'a [u8; 32],
-) -> Result<Vec<u8>, NoMemory>
-    ensures { IfOk result (λ text. text.items ≡ last_line (Damage (refusal.Damaged at.now expected.now found.now))) }
-{
-    let mut text = Vec::new(alloc);
-    put_line(
-        alloc,
-        &mut text,
-        &[
-            Word::Text(b"stopped"),
-            Word::Text(b"damaged"),
-            Word::Text(b"device"),
-            Word::Number(u64::from(at.dev)),
-            Word::Text(b"unit"),
-            Word::Number(at.start),
-            Word::Text(b"expected"),
-            Word::Hex(expected),
-            Word::Text(b"found"),
-            Word::Hex(found),
-        ],
-    )?;
-    Ok(text)
-}
-
-/// Tells that damage was met.
-fn tell_damage<'a, D: Desk>(
-    alloc: Global,
-    at: &Dva,
-    expected: &'a [u8; 32],
-    found: &'a [u8; 32],
-    desk: &mut D,
-) -> End
-    ensures told_it { D.tells desk.old → Tells is_end.Damaged (last_line (Damage (refusal.Damaged at.now expected.now found.now))) result (D.world desk.old).now (D.world desk.new).now }
-    ensures cause { (result ≡ is_end.Damaged) ⊎ HasCause ⊥ (D.counts desk.old) (D.counts desk.new) result }
-    ensures sizes { D.sizes desk.new ≡ D.sizes desk.old }
-    ensures none_fell { NoneFell (D.counts desk.old) (D.counts desk.new) }
-    ensures told { D.tells desk.old → D.tells desk.new }
-{
-    let Ok(text) = damage_text(alloc, at, expected, found) else {
-        return End::NoMemory;
-    };
-    tell(desk, text.as_slice(), End::Damaged)
-}
-
-/// Has the pool do a command, and sends its reply. Where a device failed or damage was met, that is told.
-fn do_command<P: Pool, D: Desk>(
-    alloc: Global,
-    command: &Command,
-    number: u64,
-    pick: &Chooser,
-    pool: &mut P,
-    desk: &mut D,
-) -> Result<(), End>
-    requires fits { P.fits pool.old (D.sizes desk.old) }
-    requires grammar { (line : List ℕ) × IsLine line command.now }
-    ensures done { D.tells desk.old → (D.world desk.old).now.paths ≡ P.paths pool.old → (before : State) → P.stands pool.old (D.world desk.old).now.seen before → OnOk result (StandsForOne (P.stands pool.new) (D.world desk.new).now (λ after. DoesCommand P.meaning command.now before after (D.world desk.old).now (D.world desk.new).now)) }
-    ensures stopped { D.tells desk.old → (D.world desk.old).now.paths ≡ P.paths pool.old → (before : State) → P.stands pool.old (D.world desk.old).now.seen before → IfErr result (StopsAtCommand P.meaning command.now number before (D.world desk.old).now (D.world desk.new).now) }
-    ensures named { D.tells desk.old → OnOk result ((D.world desk.new).now.paths ≡ (D.world desk.old).now.paths) }
-    ensures cause { IfErr result (HasCause (MayBeDamaged P.meaning) (D.counts desk.old) (D.counts desk.new)) }
-    ensures fits { P.fits pool.new (D.sizes desk.new) }
-    ensures paths { P.paths pool.new ≡ P.paths pool.old }
-    ensures sizes { D.sizes desk.new ≡ D.sizes desk.old }
-    ensures none_fell { NoneFell (D.counts desk.old) (D.counts desk.new) }
-    ensures told { D.tells desk.old → D.tells desk.new }
-{
-    match pool.command(alloc, desk, pick, command) {
-        Ok(Some(reply)) => {
-            let text = reply_bytes(alloc, &reply)?;
-            send(desk, text.as_slice())
-        }
-        Ok(None) => Err(refuse_line(alloc, number, desk)),
-        Err(Stop::DiskFault) => Err(tell(desk, b"stopped disk fault\n", End::DiskFault)),
-        Err(
-            Stop::Damaged {
-                at,
-                expected,
-                found,
-            },
-        ) => Err(tell_damage(alloc, &at, &expected, &found, desk)),
-        Err(Stop::NoMemory) => Err(End::NoMemory),
-    }
-}
-
-/// Answers a line, the `number`th of the script from 1.
+/// Answers a line, the `number`th of the script from 1, and does the rounds behind it.
 pub fn answer_line<P: Pool, D: Desk>(
     alloc: Global,
     line: &[u8],
     number: u64,
-    pick: &Chooser,
+    course: &Course,
     pool: &mut P,
     desk: &mut D,
 ) -> Result<(), End>
     requires fits { P.fits pool.old (D.sizes desk.old) }
-    ensures answered { D.tells desk.old → (D.world desk.old).now.paths ≡ P.paths pool.old → (before : State) → P.stands pool.old (D.world desk.old).now.seen before → OnOk result (StandsForOne (P.stands pool.new) (D.world desk.new).now (λ after. AnswersLine P.meaning line.now before after (D.world desk.old).now (D.world desk.new).now)) }
-    ensures stopped { D.tells desk.old → (D.world desk.old).now.paths ≡ P.paths pool.old → (before : State) → P.stands pool.old (D.world desk.old).now.seen before → IfErr result (StopsAtLine P.meaning line.now number before (D.world desk.old).now (D.world desk.new).now) }
+    ensures answered { D.tells desk.old → (D.world desk.old).now.paths ≡ P.paths pool.old → (before : State) → P.stands pool.old (D.world desk.old).now.seen before → OnOk result (StandsForOne (P.stands pool.new) (D.world desk.new).now (λ after. AnswersLine P.meaning course.now.rounds line.now before after (D.world desk.old).now (D.world desk.new).now)) }
+    ensures stopped { D.tells desk.old → (D.world desk.old).now.paths ≡ P.paths pool.old → (before : State) → P.stands pool.old (D.world desk.old).now.seen before → IfErr result (StopsAtLine P.meaning course.now.rounds line.now number before (D.world desk.old).now (D.world desk.new).now) }
     ensures named { D.tells desk.old → OnOk result ((D.world desk.new).now.paths ≡ (D.world desk.old).now.paths) }
     ensures cause { IfErr result (HasCause (MayBeDamaged P.meaning) (D.counts desk.old) (D.counts desk.new)) }
     ensures fits { P.fits pool.new (D.sizes desk.new) }
@@ -192,5 +55,6 @@ pub fn answer_line<P: Pool, D: Desk>(
     if let Command::Quit = command {
         return Err(End::Answered);
     }
-    do_command(alloc, &command, number, pick, pool, desk)
+    do_command(alloc, &command, number, course.pick, pool, desk)?;
+    do_rounds(alloc, number, course, pool, desk)
 }

@@ -12,10 +12,11 @@ ghost use Rattle.zr_session.specs.Ends.{HasCause, EndsAs};
 ghost use Rattle.zr_session.specs.Lines.{StandsForOne, AnswersLine, StopsAtLine, StopsAtRest};
 ghost use Rattle.zr_session.specs.Progress.{StandsAt};
 
+use crate::command::refuse_line;
+use crate::course::Course;
 use crate::end::End;
-use crate::line::{answer_line, refuse_line, split_line};
+use crate::line::{answer_line, split_line};
 use std::alloc::{AllocError, Global};
-use zr_choose::Chooser;
 use zr_model::Pool;
 use zr_script::MAX_LINE;
 use zr_shelf::{Desk, DeskErr};
@@ -43,14 +44,14 @@ impl Script {
         &mut self,
         alloc: Global,
         part: &[u8],
-        pick: &Chooser,
+        course: &Course,
         pool: &mut P,
         desk: &mut D,
     ) -> Result<(), End>
         requires lines { self.old.lines + 1 < 2 ^ 64 }
         requires fits { P.fits pool.old (D.sizes desk.old) }
-        ensures answered { D.tells desk.old → (D.world desk.old).now.paths ≡ P.paths pool.old → (before : State) → P.stands pool.old (D.world desk.old).now.seen before → OnOk result (StandsForOne (P.stands pool.new) (D.world desk.new).now (λ after. AnswersLine P.meaning (self.old.line.items ++ part.now) before after (D.world desk.old).now (D.world desk.new).now)) }
-        ensures stopped { D.tells desk.old → (D.world desk.old).now.paths ≡ P.paths pool.old → (before : State) → P.stands pool.old (D.world desk.old).now.seen before → IfErr result (StopsAtLine P.meaning (self.old.line.items ++ part.now) (self.old.lines + 1) before (D.world desk.old).now (D.world desk.new).now) }
+        ensures answered { D.tells desk.old → (D.world desk.old).now.paths ≡ P.paths pool.old → (before : State) → P.stands pool.old (D.world desk.old).now.seen before → OnOk result (StandsForOne (P.stands pool.new) (D.world desk.new).now (λ after. AnswersLine P.meaning course.now.rounds (self.old.line.items ++ part.now) before after (D.world desk.old).now (D.world desk.new).now)) }
+        ensures stopped { D.tells desk.old → (D.world desk.old).now.paths ≡ P.paths pool.old → (before : State) → P.stands pool.old (D.world desk.old).now.seen before → IfErr result (StopsAtLine P.meaning course.now.rounds (self.old.line.items ++ part.now) (self.old.lines + 1) before (D.world desk.old).now (D.world desk.new).now) }
         ensures named { D.tells desk.old → OnOk result ((D.world desk.new).now.paths ≡ (D.world desk.old).now.paths) }
         ensures line { OnOk result (self.new.line.items ≡ []) }
         ensures lines { OnOk result (self.new.lines ≡ self.old.lines + 1) }
@@ -63,10 +64,10 @@ impl Script {
     {
         self.lines += 1;
         if self.line.is_empty() {
-            return answer_line(alloc, part, self.lines, pick, pool, desk);
+            return answer_line(alloc, part, self.lines, course, pool, desk);
         }
         self.line.extend_from_slice(part).map_err(AllocError::from)?;
-        answer_line(alloc, self.line.as_slice(), self.lines, pick, pool, desk)?;
+        answer_line(alloc, self.line.as_slice(), self.lines, course, pool, desk)?;
         self.line.clear();
         Ok(())
     }
@@ -97,7 +98,7 @@ impl Script {
         &mut self,
         alloc: Global,
         piece: &[u8],
-        pick: &Chooser,
+        course: &Course,
         pool: &mut P,
         desk: &mut D,
     ) -> Result<(), End>
@@ -105,11 +106,11 @@ impl Script {
         requires short { length self.old.line.items ≤ 16384 }
         requires fits { P.fits pool.old (D.sizes desk.old) }
         ensures at { D.tells desk.old → (D.world desk.old).now.paths ≡ P.paths pool.old → OnOk result ((opening : Stand) (taken : ℕ)
-            → StandsAt P.meaning (P.stands pool.old) opening (D.world desk.old).now piece.now self.old.line.items self.old.lines taken
-            → StandsAt P.meaning (P.stands pool.new) opening (D.world desk.new).now [] self.new.line.items self.new.lines taken) }
+            → StandsAt P.meaning course.now.rounds (P.stands pool.old) opening (D.world desk.old).now piece.now self.old.line.items self.old.lines taken
+            → StandsAt P.meaning course.now.rounds (P.stands pool.new) opening (D.world desk.new).now [] self.new.line.items self.new.lines taken) }
         ensures ends { D.tells desk.old → (D.world desk.old).now.paths ≡ P.paths pool.old → IfErr result (λ end. (opening : Stand) (taken : ℕ)
-            → StandsAt P.meaning (P.stands pool.old) opening (D.world desk.old).now piece.now self.old.line.items self.old.lines taken
-            → EndsAs P.meaning end opening (D.world desk.new).now) }
+            → StandsAt P.meaning course.now.rounds (P.stands pool.old) opening (D.world desk.old).now piece.now self.old.line.items self.old.lines taken
+            → EndsAs P.meaning course.now.rounds end opening (D.world desk.new).now) }
         ensures named { D.tells desk.old → OnOk result ((D.world desk.new).now.paths ≡ (D.world desk.old).now.paths) }
         ensures lines { OnOk result (self.new.lines ≤ self.old.lines + length piece.now) }
         ensures short { OnOk result (length self.new.line.items ≤ 16384) }
@@ -122,7 +123,7 @@ impl Script {
     {
         let mut rest = piece;
         while let Some((part, more)) = split_line(rest) {
-            self.end_line(alloc, part, pick, pool, desk)?;
+            self.end_line(alloc, part, course, pool, desk)?;
             rest = more;
         }
         self.carry_over(alloc, rest, desk)
@@ -132,15 +133,15 @@ impl Script {
     pub fn finish<P: Pool, D: Desk>(
         &self,
         alloc: Global,
-        pick: &Chooser,
+        course: &Course,
         pool: &mut P,
         desk: &mut D,
     ) -> End
         requires lines { self.now.lines + 1 < 2 ^ 64 }
         requires fits { P.fits pool.old (D.sizes desk.old) }
         ensures ends { D.tells desk.old → (D.world desk.old).now.paths ≡ P.paths pool.old → (D.world desk.old).now.left ≡ [] → (opening : Stand) (taken : ℕ) → taken < 2 ^ 32
-            → StandsAt P.meaning (P.stands pool.old) opening (D.world desk.old).now [] self.now.line.items self.now.lines taken
-            → EndsAs P.meaning result opening (D.world desk.new).now }
+            → StandsAt P.meaning course.now.rounds (P.stands pool.old) opening (D.world desk.old).now [] self.now.line.items self.now.lines taken
+            → EndsAs P.meaning course.now.rounds result opening (D.world desk.new).now }
         ensures cause { HasCause (MayBeDamaged P.meaning) (D.counts desk.old) (D.counts desk.new) result }
         ensures fits { P.fits pool.new (D.sizes desk.new) }
         ensures paths { P.paths pool.new ≡ P.paths pool.old }
@@ -152,7 +153,7 @@ impl Script {
         if line.is_empty() {
             return End::Answered;
         }
-        match answer_line(alloc, line, self.lines + 1, pick, pool, desk) {
+        match answer_line(alloc, line, self.lines + 1, course, pool, desk) {
             Ok(()) => End::Answered,
             Err(end) => end,
         }

@@ -10,11 +10,11 @@ ghost use Rattle.zr_model.specs.Runs.{MayBeDamaged};
 ghost use Rattle.zr_session.specs.Ends.{HasCause, EndsAs};
 ghost use Rattle.zr_session.specs.Progress.{StandsAt};
 
+use crate::command::tell;
+use crate::course::Course;
 use crate::end::End;
-use crate::line::tell;
 use crate::script::Script;
 use std::alloc::Global;
-use zr_choose::Chooser;
 use zr_model::Pool;
 use zr_shelf::{Desk, DeskErr};
 
@@ -29,7 +29,7 @@ fn take_piece<P: Pool, D: Desk>(
     alloc: Global,
     room: &mut [u8],
     script: &mut Script,
-    pick: &Chooser,
+    course: &Course,
     pool: &mut P,
     desk: &mut D,
 ) -> Result<usize, End>
@@ -40,11 +40,11 @@ fn take_piece<P: Pool, D: Desk>(
     requires fits { P.fits pool.old (D.sizes desk.old) }
     ensures count { IfOk result (λ n. (0 < n) × (n ≤ length room.old)) }
     ensures at { D.tells desk.old → (D.world desk.old).now.paths ≡ P.paths pool.old → IfOk result (λ n. (opening : Stand) (taken : ℕ) → taken + length room.old ≤ 2 ^ 32
-        → StandsAt P.meaning (P.stands pool.old) opening (D.world desk.old).now [] script.old.line.items script.old.lines taken
-        → StandsAt P.meaning (P.stands pool.new) opening (D.world desk.new).now [] script.new.line.items script.new.lines (taken + n)) }
+        → StandsAt P.meaning course.now.rounds (P.stands pool.old) opening (D.world desk.old).now [] script.old.line.items script.old.lines taken
+        → StandsAt P.meaning course.now.rounds (P.stands pool.new) opening (D.world desk.new).now [] script.new.line.items script.new.lines (taken + n)) }
     ensures ends { D.tells desk.old → (D.world desk.old).now.paths ≡ P.paths pool.old → IfErr result (λ end. (opening : Stand) (taken : ℕ) → taken + length room.old ≤ 2 ^ 32
-        → StandsAt P.meaning (P.stands pool.old) opening (D.world desk.old).now [] script.old.line.items script.old.lines taken
-        → EndsAs P.meaning end opening (D.world desk.new).now) }
+        → StandsAt P.meaning course.now.rounds (P.stands pool.old) opening (D.world desk.old).now [] script.old.line.items script.old.lines taken
+        → EndsAs P.meaning course.now.rounds end opening (D.world desk.new).now) }
     ensures named { D.tells desk.old → OnOk result ((D.world desk.new).now.paths ≡ (D.world desk.old).now.paths) }
     ensures lines { IfOk result (λ n. script.new.lines ≤ script.old.lines + n) }
     ensures short { OnOk result (length script.new.line.items ≤ 16384) }
@@ -61,17 +61,17 @@ fn take_piece<P: Pool, D: Desk>(
         Err(DeskErr::NoMemory) => return Err(End::NoMemory),
     };
     if count == 0 {
-        return Err(script.finish(alloc, pick, pool, desk));
+        return Err(script.finish(alloc, course, pool, desk));
     }
-    script.take_up(alloc, &room[..count], pick, pool, desk)?;
+    script.take_up(alloc, &room[..count], course, pool, desk)?;
     Ok(count)
 }
 
 /// Answers the whole input.
-pub fn serve<P: Pool, D: Desk>(alloc: Global, pick: &Chooser, pool: &mut P, desk: &mut D) -> End
+pub fn serve<P: Pool, D: Desk>(alloc: Global, course: &Course, pool: &mut P, desk: &mut D) -> End
     requires fits { P.fits pool.old (D.sizes desk.old) }
     requires closed { (disks : List (List ℕ)) → P.stands pool.old disks no_pool }
-    ensures ends { D.tells desk.old → (D.world desk.old).now.paths ≡ P.paths pool.old → EndsAs P.meaning result (D.world desk.old).now (D.world desk.new).now }
+    ensures ends { D.tells desk.old → (D.world desk.old).now.paths ≡ P.paths pool.old → EndsAs P.meaning course.now.rounds result (D.world desk.old).now (D.world desk.new).now }
     ensures cause { HasCause (MayBeDamaged P.meaning) (D.counts desk.old) (D.counts desk.new) result }
     ensures none_fell { NoneFell (D.counts desk.old) (D.counts desk.new) }
     ensures told { D.tells desk.old → D.tells desk.new }
@@ -81,7 +81,7 @@ pub fn serve<P: Pool, D: Desk>(alloc: Global, pick: &Chooser, pool: &mut P, desk
     let mut taken = 0;
     while taken < MAX_INPUT {
         let most = (MAX_INPUT - taken).min(PIECE as u64) as usize;
-        match take_piece(alloc, &mut piece[..most], &mut script, pick, pool, desk) {
+        match take_piece(alloc, &mut piece[..most], &mut script, course, pool, desk) {
             Ok(count) => taken += count as u64,
             Err(end) => return end,
         }

@@ -114,12 +114,81 @@ impl Pool for DamagedPool {
     }
 }
 
-// The status that the words and the desk come to, with one chooser, over a pool in memory or a damaged one.
+// A pool that has so many steps of work left, whichever actor makes them: as many as the GUID of the `create` line.
+#[derive(Drop)]
+struct BusyPool {
+    paths: Items<Blob>,
+    left: u64,
+}
+
+impl BusyPool {
+    fn act(&mut self, command: &Command) -> Reply
+        ensures { self.new.paths ≡ self.old.paths }
+    {
+        match command {
+            Command::Create { guid, .. } => self.left = *guid,
+            Command::StepEvac | Command::StepDiscard | Command::StepCondense => {
+                self.left = self.left.saturating_sub(1);
+            }
+            _ => {}
+        }
+        match command {
+            Command::StepEvac => Reply::Copied(self.left),
+            Command::StepDiscard => Reply::Freed(self.left),
+            Command::StepCondense => Reply::Kept(self.left),
+            _ => Reply::Synced(self.left),
+        }
+    }
+}
+
+impl Pool for BusyPool {
+    ghost use Rattle.std.specs.Prelude.{◌≡◌, nat_lt, length};
+
+    ghost paths = { λ p. p.paths };
+
+    ghost stands = { λ p disks state. state.is_open ≡ nat_lt 0 p.left };
+
+    ghost fits = { λ p sizes. length sizes ≡ length p.paths };
+
+    ghost meaning = { record { takes = λ p t. Unit {0}; serves = λ paths state command. Unit {0}; damages = λ p command found. ⊥; works = λ state actor. state.is_open } };
+
+    fn closed(_alloc: Global, devs: Items<Blob>) -> Result<BusyPool, NoMemory> {
+        Ok(BusyPool {
+            paths: devs,
+            left: 0,
+        })
+    }
+
+    fn command<S: Shelf>(
+        &mut self,
+        _alloc: Global,
+        _shelf: &mut S,
+        _pick: &Chooser,
+        command: &Command,
+    ) -> Result<Option<Reply>, Stop> {
+        let reply = self.act(command);
+        Ok(Some(reply))
+    }
+
+    fn has_work(&self, _actor: Actor) -> bool {
+        self.left > 0
+    }
+}
+
+// Which pool a run is over.
+#[derive(Clone, Copy)]
+enum Kind {
+    Plain,
+    Damaged,
+    Busy,
+}
+
+// The status that the words and the desk come to, with one chooser, over a pool of the kind.
 fn status_over<D: Desk>(
     alloc: Global,
     words: &[&str],
     desk: &mut D,
-    damaged: bool,
+    kind: Kind,
 ) -> Result<u8, Fail> {
     let first = Chooser::new(
         String::from_str(alloc, "first")?,
@@ -140,14 +209,15 @@ fn status_over<D: Desk>(
         return Ok(255);
     }
     let choosers = [first];
-    if damaged {
-        return Ok(run_on::<DamagedPool, D>(alloc, strings.as_slice(), desk, &choosers));
-    }
-    Ok(run_in_memory(alloc, strings.as_slice(), desk, &choosers))
+    Ok(match kind {
+        Kind::Plain => run_in_memory(alloc, strings.as_slice(), desk, &choosers),
+        Kind::Damaged => run_on::<DamagedPool, D>(alloc, strings.as_slice(), desk, &choosers),
+        Kind::Busy => run_on::<BusyPool, D>(alloc, strings.as_slice(), desk, &choosers),
+    })
 }
 
 fn status<D: Desk>(alloc: Global, words: &[&str], desk: &mut D) -> Result<u8, Fail> {
-    status_over(alloc, words, desk, false)
+    status_over(alloc, words, desk, Kind::Plain)
 }
 
 const WORDS: [&str; 1] = ["a:4096"];
@@ -239,10 +309,67 @@ fn a_device_that_fails_leaves_those_before_it(rt: HostRuntime) -> Result<(), Fai
 }
 
 #[test]
+fn steps_follow_each_line_while_there_is_work(rt: HostRuntime) -> Result<(), Fail> {
+    let input = "create p 4 a\nsync\nquit\n";
+    for (option, sent) in [
+        ("--auto=0", "synced 4\nsynced 4\n"),
+        (
+            "--auto=1",
+            "synced 4\ncopied 3\nfreed 2\nkept 1\nsynced 1\ncopied 0\n",
+        ),
+        (
+            "--auto=2",
+            "synced 4\ncopied 3\nfreed 2\nkept 1\ncopied 0\nsynced 0\n",
+        ),
+    ] {
+        let mut desk = MemDesk::new(
+            rt.alloc(),
+            Vec::from_slice(rt.alloc(), input.as_bytes())?,
+            Vec::new(rt.alloc()),
+        );
+        assert!(rt; status_over(rt.alloc(), &[option, "a:4096"], &mut desk, Kind::Busy)? == 0);
+        assert!(rt; desk.sent() == sent.as_bytes());
+    }
+    Ok(())
+}
+
+#[test]
+fn a_run_may_stop_within_a_round(rt: HostRuntime) -> Result<(), Fail> {
+    // attach, take, give of the reply, give of the first step's, give of the second's
+    let input = Vec::from_slice(rt.alloc(), b"create p 4 a\n")?;
+    let mut desk = MemDesk::new(rt.alloc(), input, Vec::from_slice(rt.alloc(), &[5])?);
+    let words = ["--auto", "1", "a:4096"];
+    assert!(rt; status_over(rt.alloc(), &words, &mut desk, Kind::Busy)? == 3);
+    assert!(rt; desk.sent().starts_with(b"synced 4\ncopied 3\n".as_slice()));
+    Ok(())
+}
+
+#[test]
+fn words_say_what_is_run(rt: HostRuntime) -> Result<(), Fail> {
+    let made = "create p 1 a\n";
+    assert!(rt;
+        is_answered(
+            rt.alloc(),
+            &["--policy", "first", "a:4096"],
+            made,
+            "ok\n",
+            0
+        )?
+    );
+    assert!(rt; is_answered(rt.alloc(), &["a:4096", "--auto=1000"], made, "ok\n", 0)?);
+    assert!(rt; is_answered(rt.alloc(), &["--", "a:4096"], made, "ok\n", 0)?);
+    assert!(rt; is_answered(rt.alloc(), &["--policy=best", "a:4096"], made, "", 1)?);
+    assert!(rt; is_answered(rt.alloc(), &["--auto", "1001", "a:4096"], made, "", 1)?);
+    assert!(rt; is_answered(rt.alloc(), &["--auto=1", "--auto=1", "a:4096"], made, "", 1)?);
+    assert!(rt; is_answered(rt.alloc(), &["--help"], made, "", 1)?);
+    Ok(())
+}
+
+#[test]
 fn damage_is_told_with_both_sums(rt: HostRuntime) -> Result<(), Fail> {
     let input = Vec::from_slice(rt.alloc(), b"sync\nquit\n")?;
     let mut desk = MemDesk::new(rt.alloc(), input, Vec::new(rt.alloc()));
-    assert!(rt; status_over(rt.alloc(), &WORDS, &mut desk, true)? == 6);
+    assert!(rt; status_over(rt.alloc(), &WORDS, &mut desk, Kind::Damaged)? == 6);
     let expected = "0101010101010101010101010101010101010101010101010101010101010101";
     let found = "fefefefefefefefefefefefefefefefefefefefefefefefefefefefefefefefe";
     let text = format!(in rt.alloc();

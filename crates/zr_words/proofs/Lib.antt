@@ -4,3 +4,4 @@ pub mod Options
 pub mod Reading
 pub mod Fronts
 pub mod Whole
+pub mod Finding

@@ -1,5 +1,6 @@
 //! The chooser that the command line names.
 ghost use Rattle.std.specs.Prelude.{◌≡◌, option_map, string_bytes};
+ghost use Rattle.std.specs.List.{find};
 ghost use Rattle.std.specs.Str.{bytes_eq};
 ghost use Rattle.zr_words.specs.Views.{line_of};
 ghost use Rattle.zr_words.specs.Choosing.{chosen};
@@ -13,11 +14,18 @@ pub fn chooser_named<'a>(choosers: &'a [Chooser], line: &CommandLine) -> Option<
 {
     match line.policy {
         None => choosers.first(),
-        Some(name) => choosers.iter().find(
-            move |chooser: &&Chooser| -> bool
-                ensures is_named { result ≡ bytes_eq (string_bytes chooser.entry.now.now.name) name.entry.now }
-                ensures same { name.exit ≡ name.entry }
-            { chooser.name() == name },
-        ),
+        Some(name) => first_named(choosers, name),
     }
+}
+
+/// The first chooser of this name.
+fn first_named<'a>(choosers: &'a [Chooser], name: &str) -> Option<&'a Chooser>
+    ensures { option_map (λ chooser. chooser.now) result ≡ find (λ chooser. bytes_eq (string_bytes chooser.name) name.now) choosers.now }
+{
+    for chooser in choosers {
+        if chooser.name() == name {
+            return Some(chooser);
+        }
+    }
+    None
 }

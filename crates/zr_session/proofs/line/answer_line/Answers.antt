@@ -1,21 +1,41 @@
-use Rattle.std.proofs.lemmas.Result.{IfErr-weaker, on_ok_weaker}
-use Rattle.zr_model.specs.Runs.{Asks}
-use Rattle.zr_session.specs.Lines.{command}
+use Rattle.std.proofs.Common.{ℕ, List, ◌∙◌, sym, subst}
+use Rattle.std.proofs.lemmas.Result.{IfErr-weaker, on_ok_weaker, err_from_is_err_and}
+use Rattle.zr_model.specs.Runs.{Asks, texts}
+use Rattle.zr_session.specs.Lines.{StopsAtLine, command, within}
 use Rattle.zr_session.proofs.Sending.{for_one}
+use Rattle.zr_session.proofs.Playing.{does_both, does_given, texts_in_order}
 use Rattle.zr_session.proofs.line.answer_line.Goals as goal
 
-pub returns : goal.returns
-returns g c =
+pub returns-in_err-do_command-clause-stopped : goal.returns-in_err-do_command-clause-stopped
+returns-in_err-do_command-clause-stopped g c = λ t n before s.
     let reads = rw c.in-Some.is at c.in_ok-command.ensures in
     let asks : Asks c.args.line.now c.in-Some.command = (reads, c.in_default-command.not-Quit) in
-    record {
-      answered = λ t n before s. on_ok_weaker c.do_command.result (for_one _ _ _ _ (λ after d. record { command = c.in-Some.command; asks = asks; does = d })) (c.do_command.ensures.done t n before s);
-      stopped = λ t n before s. IfErr-weaker c.do_command.result _ _ (λ end h. command c.in-Some.command asks h) (c.do_command.ensures.stopped t n before s);
-      named = c.do_command.ensures.named;
-      cause = c.do_command.ensures.cause;
-      fits = c.do_command.ensures.fits;
-      paths = c.do_command.ensures.paths;
-      sizes = c.do_command.ensures.sizes;
-      none_fell = c.do_command.ensures.none_fell;
-      told = c.do_command.ensures.told;
-    }
+    let p = err_from_is_err_and c.from_residual-in_err-do_command.result c.from_residual-in_err-do_command.ensures.1 in
+    rw p.1 (
+    let stop : StopsAtLine g.P.Pool.meaning c.args.course.now.rounds c.args.line.now c.args.number before (g.D.Shelf.world c.args.desk.now).now (g.D.Shelf.world c.do_command.new.desk).now c.in_err-do_command.field-0.0 =
+    command c.in-Some.command asks (c.in_err-do_command.ensures.stopped t n before s) in
+    subst (λ e. StopsAtLine g.P.Pool.meaning c.args.course.now.rounds c.args.line.now c.args.number before (g.D.Shelf.world c.args.desk.now).now (g.D.Shelf.world c.do_command.new.desk).now e) (sym p.2) stop)
+
+pub returns-clause-answered : goal.returns-clause-answered
+returns-clause-answered g c = λ t n before s.
+    let reads = rw c.in-Some.is at c.in_ok-command.ensures in
+    let asks : Asks c.args.line.now c.in-Some.command = (reads, c.in_default-command.not-Quit) in
+    let o = c.in_ok-do_command.ensures in
+    let d = o.done t n before s in
+    let given = does_given (List ℕ) g.P.Pool.meaning Asks c.args.line.now c.in-Some.command before d.state _ _ asks d.holds in
+    on_ok_weaker c.do_rounds.result (for_one _ _ _ _ (λ after r. does_both (List ℕ) g.P.Pool.meaning Asks texts _ _ before d.state after _ _ _ texts_in_order given r))
+    (c.do_rounds.ensures.done (o.told t) (o.named t ∙ (n ∙ sym o.paths)) d.state d.stands_for)
+
+pub returns-clause-stopped : goal.returns-clause-stopped
+returns-clause-stopped g c = λ t n before s.
+    let reads = rw c.in-Some.is at c.in_ok-command.ensures in
+    let asks : Asks c.args.line.now c.in-Some.command = (reads, c.in_default-command.not-Quit) in
+    let o = c.in_ok-do_command.ensures in
+    let d = o.done t n before s in
+    let given = does_given (List ℕ) g.P.Pool.meaning Asks c.args.line.now c.in-Some.command before d.state _ _ asks d.holds in
+    IfErr-weaker c.do_rounds.result _ _ (λ end h. within d.state _ given h) (c.do_rounds.ensures.stopped (o.told t) (o.named t ∙ (n ∙ sym o.paths)) d.state d.stands_for)
+
+pub returns-clause-named : goal.returns-clause-named
+returns-clause-named g c = λ t.
+    let o = c.in_ok-do_command.ensures in
+    on_ok_weaker c.do_rounds.result (λ same. same ∙ o.named t) (c.do_rounds.ensures.named (o.told t))

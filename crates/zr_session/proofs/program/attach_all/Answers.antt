@@ -1,5 +1,5 @@
 use Rattle.std.proofs.Common.{[], None}
-use Rattle.zr_session.specs.Headline.{path_of}
+use Rattle.zr_words.specs.Views.{path_of}
 use Rattle.zr_session.proofs.Sending.{fell_more}
 use Rattle.zr_session.proofs.Opening.{attached_next, attached_partly, more_sizes, of_any_error}
 use Rattle.zr_session.proofs.program.attach_all.Goals as goal

@@ -1,7 +1,7 @@
 use Rattle.std.proofs.Common.{◌≡◌, ◌+◌, map, take, length}
 use Rattle.zr_shelf.specs.Counts.{NoneFell}
 use Rattle.zr_session.specs.Answers.{IsAttached}
-use Rattle.zr_session.specs.Headline.{path_of}
+use Rattle.zr_words.specs.Views.{path_of}
 use Rattle.zr_session.proofs.program.attach_all.Given as goal
 
 abbrev pub invariant-loop-device : goal.invariant-loop-device

@@ -1,5 +1,5 @@
 use Rattle.std.proofs.Common.{◌≡◌, map, take}
-use Rattle.zr_session.specs.Headline.{path_of}
+use Rattle.zr_words.specs.Views.{path_of}
 use Rattle.zr_session.proofs.program.paths_of.Given as goal
 
 abbrev pub invariant-loop-device : goal.invariant-loop-device

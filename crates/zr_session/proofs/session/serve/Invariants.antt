@@ -9,7 +9,7 @@ invariant-loop-taken g l =
     let pool = g.P.Pool in
     record {
       at : desk.tells l.fn.desk → (desk.world l.fn.desk).now.paths ≡ pool.paths l.fn.pool
-          → StandsAt pool.meaning (pool.stands l.pool) (desk.world l.fn.desk).now (desk.world l.desk).now [] l.script.line.items l.script.lines l.taken;
+          → StandsAt pool.meaning l.course.rounds (pool.stands l.pool) (desk.world l.fn.desk).now (desk.world l.desk).now [] l.script.line.items l.script.lines l.taken;
       named : desk.tells l.fn.desk → (desk.world l.desk).now.paths ≡ (desk.world l.fn.desk).now.paths;
       told : desk.tells l.fn.desk → desk.tells l.desk;
       lines : l.script.lines ≤ l.taken;

@@ -12,10 +12,10 @@ returns-in_err-end_line-clause-ends g c = λ t n.
     let p = err_from_is_err_and c.from_residual.result c.from_residual.ensures.1 in
     rw p.1 (λ opening taken a.
     let s = i.at t n opening taken a in
-    let ended : EndsAs g.P.Pool.meaning c.in_err-end_line.field-0.0 opening (g.D.Shelf.world c.end_line.new.desk).now =
-    ends_part _ opening _ _ s.state _ _ c.in-Some.part.now c.in-Some.more.now _ taken _ s.holds c.in-Some.ensures.some.0 c.in-Some.ensures.some.1
+    let ended : EndsAs g.P.Pool.meaning c.args.course.now.rounds c.in_err-end_line.field-0.0 opening (g.D.Shelf.world c.end_line.new.desk).now =
+    ends_part _ _ opening _ _ s.state _ _ c.in-Some.part.now c.in-Some.more.now _ taken _ s.holds c.in-Some.ensures.some.0 c.in-Some.ensures.some.1
     (c.in_err-end_line.ensures.stopped (i.told t) (i.named t ∙ (n ∙ sym i.paths)) s.state s.stands_for) in
-    subst (λ e. EndsAs g.P.Pool.meaning e opening (g.D.Shelf.world c.end_line.new.desk).now) (sym p.2) ended)
+    subst (λ e. EndsAs g.P.Pool.meaning c.args.course.now.rounds e opening (g.D.Shelf.world c.end_line.new.desk).now) (sym p.2) ended)
 
 pub loop-part-preserved : goal.loop-part-preserved
 loop-part-preserved g c =
@@ -24,7 +24,7 @@ loop-part-preserved g c =
     let o = c.in_ok-end_line.ensures in
     let parts = ap length s.0 ∙ length-append c.in-Some.part.now _ in
     record {
-      at = λ t n opening taken a. stands_line _ _ _ opening _ _ _ _ c.in-Some.part.now _ _ taken _ _ (i.at t n opening taken a) s.0 s.1 (o.answered (i.told t) (i.named t ∙ (n ∙ sym i.paths))) o.line o.lines;
+      at = λ t n opening taken a. stands_line _ _ _ _ opening _ _ _ _ c.in-Some.part.now _ _ taken _ _ (i.at t n opening taken a) s.0 s.1 (o.answered (i.told t) (i.named t ∙ (n ∙ sym i.paths))) o.line o.lines;
       named = λ t. o.named (i.told t) ∙ i.named t;
       told = λ t. o.told (i.told t);
       lines = let l = i.lines in let e = o.lines in omega arith;
@@ -40,12 +40,12 @@ returns-clause-at g c = λ t n.
     let i = c.loop-part.invariant in
     from_three c.carry_over.result _ _ _ _ c.carry_over.ensures.same c.carry_over.ensures.line c.carry_over.ensures.short
     (λ same line short opening taken a.
-    stands_kept _ _ opening _ _ _ _ _ _ _ taken (i.at t n opening taken a) c.in_default.ensures.none (ap (λ d. (g.D.Shelf.world d).now) same) line short c.carry_over.ensures.lines)
+    stands_kept _ _ _ opening _ _ _ _ _ _ _ taken (i.at t n opening taken a) c.in_default.ensures.none (ap (λ d. (g.D.Shelf.world d).now) same) line short c.carry_over.ensures.lines)
 
 pub returns-clause-ends : goal.returns-clause-ends
 returns-clause-ends g c = λ t n.
     let i = c.loop-part.invariant in
-    IfErr-weaker c.carry_over.result _ _ (λ end h opening taken a. let s = i.at t n opening taken a in ends_rest _ opening _ _ s.state _ _ _ taken end s.holds c.in_default.ensures.none h) (c.carry_over.ensures.stopped (i.told t))
+    IfErr-weaker c.carry_over.result _ _ (λ end h opening taken a. let s = i.at t n opening taken a in ends_rest _ _ opening _ _ s.state _ _ _ taken end s.holds c.in_default.ensures.none h) (c.carry_over.ensures.stopped (i.told t))
 
 pub returns-clause-named : goal.returns-clause-named
 returns-clause-named g c = λ t.

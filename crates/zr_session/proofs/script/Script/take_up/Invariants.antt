@@ -10,8 +10,8 @@ invariant-loop-part g l =
     let pool = g.P.Pool in
     record {
       at : desk.tells l.fn.desk → (desk.world l.fn.desk).now.paths ≡ pool.paths l.fn.pool → (opening : Stand) (taken : ℕ)
-          → StandsAt pool.meaning (pool.stands l.fn.pool) opening (desk.world l.fn.desk).now l.piece l.fn.self.line.items l.fn.self.lines taken
-          → StandsAt pool.meaning (pool.stands l.pool) opening (desk.world l.desk).now l.rest l.self.line.items l.self.lines taken;
+          → StandsAt pool.meaning l.course.rounds (pool.stands l.fn.pool) opening (desk.world l.fn.desk).now l.piece l.fn.self.line.items l.fn.self.lines taken
+          → StandsAt pool.meaning l.course.rounds (pool.stands l.pool) opening (desk.world l.desk).now l.rest l.self.line.items l.self.lines taken;
       named : desk.tells l.fn.desk → (desk.world l.desk).now.paths ≡ (desk.world l.fn.desk).now.paths;
       told : desk.tells l.fn.desk → desk.tells l.desk;
       lines : l.self.lines + length l.rest ≤ l.fn.self.lines + length l.piece;

@@ -5,4 +5,4 @@ use Rattle.zr_model.specs.State.{no_pool}
 use Rattle.zr_session.proofs.tests.DamagedPoolPool.command.Goals as goal
 
 pub returns-clause-may_damage : goal.returns-clause-may_damage
-returns-clause-may_damage g c = λ at expected found met. ([], no_pool, Sync, refusal.Damaged at expected found, tt)
+returns-clause-may_damage g c = λ at expected found met. (record { shelf = record { paths = []; disks = [] }; state = no_pool }, Sync, refusal.Damaged at expected found, tt)

@@ -3,7 +3,7 @@ use Rattle.std.proofs.lemmas.Result.{IfErr-weaker, on_ok_weaker}
 use Rattle.zr_model.specs.Runs.{MayBeDamaged}
 use Rattle.zr_session.specs.declared.end.End.TheVariants.{DiskFault, Damaged}
 use Rattle.zr_session.proofs.Sending.{does_by, stops_reply, stops_unserved, stops_fault, stops_damage, cause_told, cause_from}
-use Rattle.zr_session.proofs.line.do_command.Goals as goal
+use Rattle.zr_session.proofs.command.do_command.Goals as goal
 
 pub returns-in_ok-text-in-Ok-Some-clause-done : goal.returns-in_ok-text-in-Ok-Some-clause-done
 returns-in_ok-text-in-Ok-Some-clause-done g c = λ t n before s.

@@ -1,6 +1,0 @@
-use Rattle.std.proofs.Common.{◌≡◌, map, take}
-use Rattle.zr_session.specs.Headline.{path_of}
-use Rattle.zr_session.proofs.device.are_different.Given as goal
-
-abbrev pub invariant-loop-device : goal.invariant-loop-device
-invariant-loop-device l = map (λ w. w.now) l.paths.items ≡ map path_of (take l.device-index l.devices)
