@@ -66,10 +66,13 @@ joined_length word (next ∷ more) w h =
 
 -- few words are a line
 line_by_words : (word : List ℕ) (more : List (List ℕ)) (c : Command) → IsWord word → AllByRecursion IsWord more → length more ≤ 32 → IsCommand (word ∷ more) c → HasLine c
-line_by_words word more c w h few is = (joined word more, record {
-  short = let l = joined_length word more w h in omega arith;
-  words = subst (λ ws. IsCommand ws c) (sym (split_joined word more w h)) is;
-})
+line_by_words word more c w h few is = (
+  joined word more,
+  record {
+    short = let l = joined_length word more w h in omega arith;
+    words = subst (λ ws. IsCommand ws c) (sym (split_joined word more w h)) is;
+  },
+)
 
 -- ---- numbers and paths are words
 
