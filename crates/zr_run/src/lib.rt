@@ -1,7 +1,8 @@
 //! The program over the pool on devices.
 //!
 //! This is what `zr` does with its words, its devices and its input. What a line means to the pool on devices is said by
-//! `on_devices` of zr_pool: for now that its answer is one to the line, and that the pool is open where it should be.
+//! `on_devices` of zr_pool: its answer is one to the line, the pool is open where it should be, and its objects are those
+//! of a pool of plain objects, from what the disks show where it is imported.
 #![tactic(auto)]
 
 ghost use Rattle.std.specs.Prelude.{◌≡◌, ◌⊎◌, [], ◌≤◌, map};
