@@ -12,7 +12,7 @@ use Rattle.zr_base.specs.declared.space.Dva.{Dva}
 use Rattle.zr_base.specs.Extents.{has_unit, unit_count}
 use Rattle.zr_bptr.specs.declared.Bptr.{Bptr}
 use Rattle.zr_rules.specs.Placement.{Free}
-use Rattle.zr_rules.specs.Space.{Space}
+use Rattle.zr_rules.specs.Space.{Space, nothing_opened}
 
 -- a device that was removed by this group
 abbrev pub gone_at : ℕ → List Entry → DevPart
@@ -103,7 +103,7 @@ freed_on version deferred late = record {
     cond = None;
     ckpt = ckpt.Clear;
   };
-  opened = record { born = []; deferred = deferred; dropped = [] } ∷ [];
+  opened = record nothing_opened { deferred = deferred } ∷ [];
   synced = 0;
   meta = [];
   saved_meta = [];

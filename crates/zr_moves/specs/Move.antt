@@ -13,6 +13,7 @@ use Rattle.zr_bptr.specs.declared.Ptr.TheVariants.{Hole}
 use Rattle.zr_label.specs.declared.root.Uber.{Uber}
 use Rattle.zr_label.specs.declared.root.Seen.{Seen}
 use Rattle.zr_label.specs.Geometry.{units_of_size}
+use Rattle.zr_rules.specs.Space.{nothing_opened}
 use Rattle.zr_model.specs.State.{PoolState, ShelfPart, Is}
 use Rattle.zr_model.specs.Runs.{Shelf}
 use Rattle.zr_image.specs.Current.{IsGroup, IsInWindow}
@@ -31,7 +32,7 @@ blank_account shelf version paths =
     record {
       space = record {
         parts = record { version = version; devs = map (λ path. new_part 1 (unwrap_or (units_of_size (size_of shelf path) version) 0)) paths; cond = None; ckpt = ckpt.Clear };
-        opened = map (λ path. record { born = []; deferred = []; dropped = [] }) paths;
+        opened = map (λ path. nothing_opened) paths;
         synced = 0;
         meta = [];
         saved_meta = [];

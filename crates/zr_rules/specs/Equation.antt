@@ -11,12 +11,12 @@ use Rattle.zr_rules.specs.Mappings.{has_source, entry_at}
 use Rattle.zr_rules.specs.Devices.{Devices, devices_of}
 use Rattle.zr_rules.specs.Resolve.{resolve_hits, pass_hits, leads_to}
 use Rattle.zr_rules.specs.Roles.{is_live_role, is_copy_role, is_kept_role, is_meta_role}
-use Rattle.zr_rules.specs.Space.{Space, role_at, frontier}
+use Rattle.zr_rules.specs.Space.{Space, nothing_opened, role_at, frontier}
 
 -- the space of a root
 abbrev pub root_space : SpaceParts → List Dva → List Dva → Space
 root_space parts meta saved_meta =
-    record { parts = parts; opened = map (λ (p : DevPart). record { born = []; deferred = []; dropped = [] }) parts.devs; synced = 0; meta = meta; saved_meta = saved_meta }
+    record { parts = parts; opened = map (λ (p : DevPart). nothing_opened) parts.devs; synced = 0; meta = meta; saved_meta = saved_meta }
 
 abbrev pub devices_in : Space → Devices
 devices_in s = devices_of s.parts.devs

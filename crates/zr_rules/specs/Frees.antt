@@ -12,7 +12,7 @@ use Rattle.zr_rules.specs.Resolve.{leads_to, passes}
 use Rattle.zr_rules.specs.Placement.{IsPlacement}
 use Rattle.zr_rules.specs.Roles.{Role, freed, kept_of, dropped}
 use Rattle.zr_rules.specs.Roles.Role.{FreshLive, Meta}
-use Rattle.zr_rules.specs.Space.{Space, role_at, frontier, is_copy_by, IsLawful}
+use Rattle.zr_rules.specs.Space.{Space, role_at, frontier, is_copy_by, was_held, was_kept, was_fresh, IsLawful}
 use Rattle.zr_rules.specs.Columns.{free_of}
 use Rattle.zr_rules.specs.Equation.{devices_in}
 
@@ -29,7 +29,13 @@ pub record IsSamePart (old new : DevPart) : Type 0 where
   pub late1 : new.late1 ≡ old.late1
   pub late2 : new.late2 ≡ old.late2
 
--- Each device, the checkpoint, the condensing and the frontier are the same, and what was lawful stays so.
+-- what the current root has as held, as kept and as obsolete is the same
+pub record IsSameRoot (old new : Space) : Type 0 where
+  pub held : (d u : ℕ) → was_held new d u ≡ was_held old d u
+  pub kept : (d u : ℕ) → was_kept new d u ≡ was_kept old d u
+  pub fresh : (d u : ℕ) → was_fresh new d u ≡ was_fresh old d u
+
+-- Each device, the checkpoint, the condensing, the frontier and the current root's sets are the same, and what was lawful stays so.
 pub record IsSameFrame (old new : Space) : Type 0 where
   pub version : new.parts.version ≡ old.parts.version
   pub cond : new.parts.cond ≡ old.parts.cond
@@ -38,6 +44,7 @@ pub record IsSameFrame (old new : Space) : Type 0 where
   pub saved_meta : new.saved_meta ≡ old.saved_meta
   pub devices : length new.parts.devs ≡ length old.parts.devs
   pub each : (d : ℕ) → IsSamePart (part_of old.parts.devs d) (part_of new.parts.devs d)
+  pub root : IsSameRoot old new
   pub lawful : IsLawful old → IsLawful new
 
 -- nothing is marked obsolete

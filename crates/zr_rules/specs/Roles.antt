@@ -71,9 +71,9 @@ freed FreshCopy = Free
 freed Copy = DeferredBlock
 freed r = r
 
--- a block that the checkpoint has is freed
+-- A block that the checkpoint may have is freed. What the open group allocated no saved root has, so it is free at once.
 abbrev pub kept_of : Role → Role
-kept_of FreshLive = Kept
+kept_of FreshLive = Free
 kept_of Live = Kept
 kept_of r = r
 

@@ -7,17 +7,30 @@ use Rattle.zr_base.specs.declared.space.LateRun.{LateRun}
 use Rattle.zr_base.specs.declared.space.DevPart.{DevPart}
 use Rattle.zr_base.specs.declared.space.SpaceParts.{SpaceParts}
 use Rattle.zr_base.specs.Extents.{in_extent, has_unit, IsMaximal, EndsBy}
-use Rattle.zr_rules.specs.Places.{one_if, is_leaving, is_gone, part_of, state_of_dev, units_of_dev, is_held, is_kept, hits_late, address_hits}
+use Rattle.zr_rules.specs.Places.{one_if, is_leaving, is_gone, part_of, state_of_dev, units_of_dev, is_held, is_kept, is_fresh, hits_late, address_hits}
 use Rattle.zr_rules.specs.Mappings.{end_of_last}
 use Rattle.zr_rules.specs.Roles.{Role}
 use Rattle.zr_rules.specs.Roles.Role.{Absent, Free, FreshLive, Live, FreshCopy, Copy, Kept, DeferredBlock, DeferredMeta, Late1Block, Late1Meta, Late2Block, Late2Meta, Meta, SavedMeta}
 
--- What the open group did on a device: the units that it allocated and still has, the block units of earlier groups that it freed, and the metadata units
--- that its commit gave back.
+-- what the open group changed in a set whose log a root keeps: the units that came to it, and those that went
+pub record Gained : Type 0 where
+  pub came : List Extent
+  pub went : List Extent
+
+abbrev pub nothing_gained : Gained
+nothing_gained = record { came = []; went = [] }
+
+-- What the open group did on a device: the units that it allocated and still has, the block units of earlier groups that it freed, the metadata units that
+-- its commit gave back, and what it changed in the set of kept units and in that of fresh obsolete units.
 pub record OpenSets : Type 0 where
   pub born : List Extent
   pub deferred : List Extent
   pub dropped : List Extent
+  pub kept : Gained
+  pub fresh : Gained
+
+abbrev pub nothing_opened : OpenSets
+nothing_opened = record { born = []; deferred = []; dropped = []; kept = nothing_gained; fresh = nothing_gained }
 
 -- The space of an open pool: what the next root records, what the open group did on each device, the end of the last committed entry of the device that is
 -- leaving, and the metadata units of the current and of the saved root.
@@ -29,11 +42,27 @@ pub record Space : Type 0 where
   pub saved_meta : List Dva
 
 abbrev pub opened_of : Space → ℕ → OpenSets
-opened_of s d = slice_index_or s.opened d (record { born = []; deferred = []; dropped = [] })
+opened_of s d = slice_index_or s.opened d nothing_opened
 
 -- the unit was allocated in the open group
 abbrev pub is_born : Space → ℕ → ℕ → Bool
 is_born s d u = has_unit (opened_of s d).born u
+
+-- the current root has the unit as held: the open group did not allocate it, and may have freed it
+abbrev pub was_held : Space → ℕ → ℕ → Bool
+was_held s d u = (is_held s.parts.devs d u && not (is_born s d u)) || has_unit (opened_of s d).deferred u
+
+-- a unit that is or is not in the set now was in it at the group's start
+abbrev pub was_in : Bool → Gained → ℕ → Bool
+was_in now g u = (now && not (has_unit g.came u)) || has_unit g.went u
+
+-- the current root has the unit as kept
+abbrev pub was_kept : Space → ℕ → ℕ → Bool
+was_kept s d u = was_in (is_kept s.parts.devs d u) (opened_of s d).kept u
+
+-- it has it as obsolete and not counted yet
+abbrev pub was_fresh : Space → ℕ → ℕ → Bool
+was_fresh s d u = was_in (is_fresh s.parts.devs d u) (opened_of s d).fresh u
 
 -- up to where the device is copied, synced or not
 abbrev pub frontier : Space → ℕ → ℕ
@@ -103,6 +132,10 @@ pub record HasSets (p : DevPart) (o : OpenSets) : Type 0 where
   pub born : IsSet p.row.units o.born
   pub deferred : IsSet p.row.units o.deferred
   pub dropped : IsSet p.row.units o.dropped
+  pub kept_came : IsSet p.row.units o.kept.came
+  pub kept_went : IsSet p.row.units o.kept.went
+  pub fresh_came : IsSet p.row.units o.fresh.came
+  pub fresh_went : IsSet p.row.units o.fresh.went
 
 -- Each unit has one use at most, so that its role tells all. Kept units, copies and what the open group allocated are held, and no copy is kept or there twice.
 pub record IsLawful (s : Space) : Type 0 where

@@ -19,7 +19,7 @@ use Rattle.zr_rules.specs.Condense.{is_due, folded, condensed}
 use Rattle.zr_rules.specs.Placement.{IsPlacement}
 use Rattle.zr_rules.specs.Roles.{given_up, taken_over, discarded, aged, cleared, saved}
 use Rattle.zr_rules.specs.Roles.Role.{Absent, Free, FreshCopy}
-use Rattle.zr_rules.specs.Space.{Space, opened_of, role_at, frontier, IsLawful}
+use Rattle.zr_rules.specs.Space.{Space, opened_of, nothing_opened, role_at, frontier, IsLawful}
 use Rattle.zr_rules.specs.Columns.{free_of}
 use Rattle.zr_rules.specs.Frees.{IsSamePart, IsSameFrame, MarksNothing}
 
@@ -148,7 +148,7 @@ DiscardsSome old units new =
 -- A commit ends the group. Its entries are synced, and what the group two before it freed is free, at a reset all that was freed.
 pub record Commits (reset : Bool) (old new : Space) : Type 0 where
   pub roles : (d u : ℕ) → role_at new d u ≡ (if reset then cleared (role_at old d u) else aged (role_at old d u))
-  pub opened : (d : ℕ) → opened_of new d ≡ record { born = []; deferred = []; dropped = [] }
+  pub opened : (d : ℕ) → opened_of new d ≡ nothing_opened
   pub fresh : MarksNothing old new
   pub rows : (d : ℕ) → (part_of new.parts.devs d).row ≡ (part_of old.parts.devs d).row
   pub entries : (d : ℕ) → (part_of new.parts.devs d).entries ≡ (part_of old.parts.devs d).entries

@@ -13,6 +13,7 @@ use Rattle.zr_space.specs.Views.{Kept, kept_of, part_in, space_of, role_in, IsSp
 use Rattle.zr_space.proofs.Roles.{roles_are}
 use Rattle.zr_space.proofs.Accounts.{account_as}
 use Rattle.zr_space.proofs.Keeps.{lawful}
+use Rattle.zr_space.specs.declared.whole.Whole.{Whole}
 
 kept_last : (devs : List Kept) (k : Kept) → kept_of (devs ++ k ∷ []) (length devs) ≡ k
 kept_last [] k = refl
@@ -55,9 +56,15 @@ module _ (s t : Devices) (devs : List Kept) (units txg : ℕ) (h : IsAdded s t d
   new_account = record {
     once = λ u. let f = h.slabs.free (length devs) u in grind (arith, nat_tests, f);
     born = λ u is. absurd (grind (arith, nat_tests, is));
+    keeping = record {
+      held = λ u is. absurd (grind (arith, nat_tests, is));
+      settled = λ u is. refl;
+      came = λ u is. absurd (grind (arith, nat_tests, is));
+      went = λ u is. absurd (grind (arith, nat_tests, is));
+    };
     sum = let c = h.slabs.counted in omega (arith, c);
     small = h.small;
-    lists = record { held = tt; born = tt; freed = record { blocks = tt; meta = tt }; late1 = record { blocks = tt; meta = tt }; late2 = record { blocks = tt; meta = tt }; meta = tt; saved = tt };
+    lists = record { held = tt; born = tt; kept = tt; came = tt; went = tt; freed = record { blocks = tt; meta = tt }; late1 = record { blocks = tt; meta = tt }; late2 = record { blocks = tt; meta = tt }; meta = tt; saved = tt };
   }
 
   pub added_space : IsSpace t (devs ++ fresh_device units txg ∷ [])
@@ -72,24 +79,24 @@ module _ (s t : Devices) (devs : List Kept) (units txg : ℕ) (h : IsAdded s t d
         (λ d ne. account_as (free_at s d) (free_at t d) (count_at s d) (count_at t d) (kept_of devs d).uses (λ u. let f = h.slabs.free d u in grind (arith, nat_tests, f, ne)) (h.slabs.counts d ne) (h.space.account d));
   }
 
-  pub adds : (version : ℕ) → steps.AddsDevice (space_of version devs) (space_of version (devs ++ fresh_device units txg ∷ [])) units txg
-  adds version = record {
+  pub adds : (whole : Whole) → steps.AddsDevice (space_of whole devs) (space_of whole (devs ++ fresh_device units txg ∷ [])) units txg
+  adds whole = record {
     devs = map_last devs (fresh_device units txg);
     roles = λ d u.
         let l = length-map devs part_in in
-        roles_are version (devs ++ fresh_device units txg ∷ []) d u added_space.on added_space.rows
+        roles_are whole (devs ++ fresh_device units txg ∷ []) d u added_space.on added_space.rows
         ∙ (on_all devs (fresh_device units txg) (λ i k. role_in k.uses u ≡ (if (i == length (map part_in devs)) && nat_lt u units then Free else role_in (kept_of devs i).uses u))
         (let o = h.space.account (length devs) in let none = beyond devs in grind (arith, nat_tests, l, none))
         (λ i ne. grind (arith, nat_tests, l, ne))
         d
-        ∙ ap (λ r. if (d == length (map part_in devs)) && nat_lt u units then Free else r) (sym (roles_are version devs d u h.space.on h.space.rows)));
+        ∙ ap (λ r. if (d == length (map part_in devs)) && nat_lt u units then Free else r) (sym (roles_are whole devs d u h.space.on h.space.rows)));
     version = refl;
     cond = refl;
     ckpt = refl;
     synced = refl;
     meta = meta_last 0 devs units txg;
     saved_meta = saved_last 0 devs units txg;
-    lawful = λ was. lawful version t (devs ++ fresh_device units txg ∷ []) added_space;
+    lawful = λ was. lawful whole t (devs ++ fresh_device units txg ∷ []) added_space;
   }
     where
       beyond : (devs : List Kept) → (kept_of devs (length devs)).uses.units ≡ 0

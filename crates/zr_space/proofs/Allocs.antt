@@ -15,12 +15,14 @@ use Rattle.zr_units.specs.Uses.{Uses, IsAccount}
 use Rattle.zr_units.specs.Changes.{Holds, HoldsMeta}
 use Rattle.zr_space.specs.Views.{Kept, kept_of, space_of, IsSpace}
 use Rattle.zr_space.proofs.Accounts.{account_as, holds_account, holds_roles, holds_meta_account, holds_meta_roles}
+use Rattle.zr_space.proofs.Rooted.{SameUses, holds_root, holds_meta_root}
 use Rattle.zr_space.proofs.Frames.{roles_set, same_fresh, same_frame, meta_set}
 use Rattle.zr_space.proofs.Keeps.{IsChange, on_each, stays_space, same_free}
 use Rattle.zr_space.proofs.Sums.{extent_hits, once_in}
 use Rattle.zr_space.proofs.Views.{meta_is}
 use Rattle.zr_rules.specs.Places.{one_if, in_address}
 use Rattle.zr_space.proofs.Placing.{placed, not_placed}
+use Rattle.zr_space.specs.declared.whole.Whole.{Whole}
 
 -- units of a device were taken from the allocator
 pub record IsTaken (s t : Devices) (devs : List Kept) (a : Dva) (k : Kept) : Type 0 where
@@ -63,20 +65,21 @@ module _ (s t : Devices) (devs : List Kept) (a : Dva) (k : Kept) (h : IsTaken s 
       stays_space s t devs a.dev (record { row = k.row; uses = y }) h.space
       (change y (ap (λ (x : Uses). x.units) holds.others) (holds_meta_account (free_at s a.dev) (free_at t a.dev) (count_at s a.dev) (count_at t a.dev) k.uses y (extent_of a) account holds h.takes.were_free taken fewer))
 
-  pub allocates : (version want : ℕ) (policy : Policy) (y : Uses) → Holds k.uses y (extent_of a) → IsPlacement (slab.free_of s) policy want a → Allocates policy want (space_of version devs) (space_of version (set devs a.dev (record { row = k.row; uses = y }))) a
-  allocates version want policy y holds place =
+  pub allocates : (whole : Whole) (want : ℕ) (policy : Policy) (y : Uses) → Holds k.uses y (extent_of a) → IsPlacement (slab.free_of s) policy want a → Allocates policy want (space_of whole devs) (space_of whole (set devs a.dev (record { row = k.row; uses = y }))) a
+  allocates whole want policy y holds place =
       let x : Kept = record { row = k.row; uses = y } in
       let new = block_space y holds in
       let was : (kept_of devs a.dev).uses ≡ k.uses = ap (λ (z : Kept). z.uses) (sym h.kept) in
       record {
-        place = placed (slab.free_of s) (columns.free_of (space_of version devs)) policy want a (same_free version s devs h.space) place;
-        roles = roles_set version s t devs a.dev x h.space new there (λ r. FreshLive) a refl (λ u. rw was (holds_roles (free_at s a.dev) (count_at s a.dev) k.uses y (extent_of a) account holds h.takes.were_free u));
-        fresh = same_fresh version s t devs a.dev x h.space new there;
+        place = placed (slab.free_of s) (columns.free_of (space_of whole devs)) policy want a (same_free whole s devs h.space) place;
+        roles = roles_set whole s t devs a.dev x h.space new there (λ r. FreshLive) a refl (λ u. rw was (holds_roles (free_at s a.dev) (count_at s a.dev) k.uses y (extent_of a) account holds h.takes.were_free u));
+        fresh = same_fresh whole s t devs a.dev x h.space new there;
         meta = meta_set 0 a.dev devs x (ap (λ (z : Uses). z.meta) holds.others ∙ ap (λ (z : Uses). z.meta) (sym was));
-        frame = same_frame version s t devs a.dev x h.space new there (ap (λ (z : Kept). z.row) h.kept)
+        frame = same_frame whole s t devs a.dev x h.space new there (ap (λ (z : Kept). z.row) h.kept)
             (ap (λ (z : Uses). z.late1) holds.others ∙ ap (λ (z : Uses). z.late1) (sym was))
             (ap (λ (z : Uses). z.late2) holds.others ∙ ap (λ (z : Uses). z.late2) (sym was))
-            (ap (λ (z : Uses). z.saved) holds.others ∙ ap (λ (z : Uses). z.saved) (sym was));
+            (ap (λ (z : Uses). z.saved) holds.others ∙ ap (λ (z : Uses). z.saved) (sym was))
+            (rw was (holds_root (free_at s a.dev) (count_at s a.dev) k.uses y (extent_of a) account holds h.takes.were_free));
       }
 
   -- ---- metadata
@@ -95,21 +98,22 @@ module _ (s t : Devices) (devs : List Kept) (a : Dva) (k : Kept) (h : IsTaken s 
       (λ i ne. grind (arith, nat_tests, ne))
       j
 
-  pub allocates_meta : (version want : ℕ) (policy : Policy) (y : Uses) → HoldsMeta k.uses y (extent_of a) → IsPlacement (slab.free_of s) policy want a → AllocatesMeta policy want (space_of version devs) (space_of version (set devs a.dev (record { row = k.row; uses = y }))) a
-  allocates_meta version want policy y holds place =
+  pub allocates_meta : (whole : Whole) (want : ℕ) (policy : Policy) (y : Uses) → HoldsMeta k.uses y (extent_of a) → IsPlacement (slab.free_of s) policy want a → AllocatesMeta policy want (space_of whole devs) (space_of whole (set devs a.dev (record { row = k.row; uses = y }))) a
+  allocates_meta whole want policy y holds place =
       let x : Kept = record { row = k.row; uses = y } in
       let new = meta_space y holds in
       let was : (kept_of devs a.dev).uses ≡ k.uses = ap (λ (z : Kept). z.uses) (sym h.kept) in
       let after : IsAccount (free_at t a.dev) (count_at t a.dev) y = holds_meta_account (free_at s a.dev) (free_at t a.dev) (count_at s a.dev) (count_at t a.dev) k.uses y (extent_of a) account holds h.takes.were_free taken fewer in
       record {
-        place = placed (slab.free_of s) (columns.free_of (space_of version devs)) policy want a (same_free version s devs h.space) place;
-        roles = roles_set version s t devs a.dev x h.space new there (λ r. Meta) a refl (λ u. rw was (holds_meta_roles (free_at s a.dev) (count_at s a.dev) k.uses y (extent_of a) account holds h.takes.were_free u));
-        fresh = same_fresh version s t devs a.dev x h.space new there;
+        place = placed (slab.free_of s) (columns.free_of (space_of whole devs)) policy want a (same_free whole s devs h.space) place;
+        roles = roles_set whole s t devs a.dev x h.space new there (λ r. Meta) a refl (λ u. rw was (holds_meta_roles (free_at s a.dev) (count_at s a.dev) k.uses y (extent_of a) account holds h.takes.were_free u));
+        fresh = same_fresh whole s t devs a.dev x h.space new there;
         meta = λ d u. let m = meta_is devs d u in let n = meta_is (set devs a.dev x) d u in let e = meta_more y holds after d u in omega (arith, m, n, e);
-        frame = same_frame version s t devs a.dev x h.space new there (ap (λ (z : Kept). z.row) h.kept)
+        frame = same_frame whole s t devs a.dev x h.space new there (ap (λ (z : Kept). z.row) h.kept)
             (ap (λ (z : Uses). z.late1) holds.others ∙ ap (λ (z : Uses). z.late1) (sym was))
             (ap (λ (z : Uses). z.late2) holds.others ∙ ap (λ (z : Uses). z.late2) (sym was))
-            (ap (λ (z : Uses). z.saved) holds.others ∙ ap (λ (z : Uses). z.saved) (sym was));
+            (ap (λ (z : Uses). z.saved) holds.others ∙ ap (λ (z : Uses). z.saved) (sym was))
+            (rw was (holds_meta_root k.uses y (extent_of a) holds));
       }
 
 -- units that were taken are given back
@@ -135,5 +139,5 @@ given_back s t v devs a k h g =
         (λ u. let f = h.takes.free a.dev u in let r = g.free a.dev u in let w = h.takes.were_free u in grind (arith, nat_tests, f, r, w))
         (let c = h.takes.count a.dev in let r = g.count a.dev in grind (arith, nat_tests, c, r)) was
 
-pub no_run : (version : ℕ) (s : Devices) (devs : List Kept) (want longest : ℕ) → IsSpace s devs → HasNoPlacement (slab.free_of s) want longest → HasNoPlacement (columns.free_of (space_of version devs)) want longest
-no_run version s devs want longest a none = not_placed (slab.free_of s) (columns.free_of (space_of version devs)) want longest (same_free version s devs a) none
+pub no_run : (whole : Whole) (s : Devices) (devs : List Kept) (want longest : ℕ) → IsSpace s devs → HasNoPlacement (slab.free_of s) want longest → HasNoPlacement (columns.free_of (space_of whole devs)) want longest
+no_run whole s devs want longest a none = not_placed (slab.free_of s) (columns.free_of (space_of whole devs)) want longest (same_free whole s devs a) none

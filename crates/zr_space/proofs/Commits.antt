@@ -8,6 +8,7 @@ use Rattle.zr_base.specs.declared.space.DevPart.{DevPart}
 use Rattle.zr_base.specs.Extents.{has_unit}
 use Rattle.zr_rules.specs.Places.{part_of, is_leaving}
 use Rattle.zr_rules.specs.Roles.{aged, cleared}
+use Rattle.zr_rules.specs.Space.{nothing_opened}
 use Rattle.zr_rules.specs.Steps as steps
 use Rattle.zr_metaslab.specs.Devices.{Devices, free_at, count_at}
 use Rattle.zr_units.specs.Uses.{Uses, IsAccount, freed_count}
@@ -17,6 +18,7 @@ use Rattle.zr_space.proofs.Views.{part_is, opened_is, kept_other, kept_same}
 use Rattle.zr_space.proofs.Roles.{roles_are}
 use Rattle.zr_space.proofs.Accounts.{aged_account, aged_roles, cleared_account, cleared_roles}
 use Rattle.zr_space.proofs.Keeps.{IsChange, stays_space, lawful}
+use Rattle.zr_space.specs.declared.whole.Whole.{Whole}
 
 -- one device is settled, whose index is the next
 pub record IsNext (s t : Devices) (devs : List Kept) (d : ℕ) (k : Kept) : Type 0 where
@@ -59,7 +61,7 @@ settled_more reset first devs n x there is so d =
     (λ other. let ne : (d == n) ≡ false = grind (arith, nat_tests, other) in let b : nat_lt d (n + 1) ≡ nat_lt d n = grind (arith, nat_tests, other) in rw b (kept_other devs n d x ne ∙ so d))
     (cases_eq d n)
 
-none_beyond : (devs : List Kept) (d : ℕ) → length devs ≤ d → (kept_of devs d).uses ≡ record { units = 0; held = []; born = []; freed = record { blocks = []; meta = [] }; late1 = record { blocks = []; meta = [] }; late2 = record { blocks = []; meta = [] }; meta = []; saved = [] }
+none_beyond : (devs : List Kept) (d : ℕ) → length devs ≤ d → (kept_of devs d).uses ≡ record { units = 0; held = []; born = []; kept = []; came = []; went = []; freed = record { blocks = []; meta = [] }; late1 = record { blocks = []; meta = [] }; late2 = record { blocks = []; meta = [] }; meta = []; saved = [] }
 none_beyond [] zero le = refl
 none_beyond [] (suc d) le = refl
 none_beyond (x ∷ xs) zero le = absurd (omega (arith, le))
@@ -100,18 +102,18 @@ settled_role false f n k a u = aged_roles f n k.uses a u
 settled_row : (reset : Bool) (k : Kept) → (settled reset k).row ≡ k.row
 settled_row reset k = refl
 
-settled_opened : (reset : Bool) (k : Kept) → opened_in (settled reset k) ≡ record { born = []; deferred = []; dropped = [] }
+settled_opened : (reset : Bool) (k : Kept) → opened_in (settled reset k) ≡ nothing_opened
 settled_opened true k = refl
 settled_opened false k = refl
 
-pub commits : (reset : Bool) (version : ℕ) (s t : Devices) (devs : List Kept) → IsSpace s devs → IsSpace t (map (settled reset) devs) → steps.Commits reset (space_of version devs) (space_of version (map (settled reset) devs))
-commits reset version s t devs old new = record {
+pub commits : (reset : Bool) (whole : Whole) (s t : Devices) (devs : List Kept) → IsSpace s devs → IsSpace t (map (settled reset) devs) → steps.Commits reset (space_of whole devs) (space_of whole (map (settled reset) devs))
+commits reset whole s t devs old new = record {
   roles = λ d u.
-      roles_are version (map (settled reset) devs) d u new.on new.rows
+      roles_are whole (map (settled reset) devs) d u new.on new.rows
       ∙ (ap (λ (k : Kept). role_in k.uses u) (settled_at reset devs d)
       ∙ (settled_role reset (free_at s d) (count_at s d) (kept_of devs d) (old.account d) u
-      ∙ ap (λ r. if reset then cleared r else aged r) (sym (roles_are version devs d u old.on old.rows))));
-  opened = λ d. opened_is version (map (settled reset) devs) d ∙ (ap opened_in (settled_at reset devs d) ∙ settled_opened reset (kept_of devs d));
+      ∙ ap (λ r. if reset then cleared r else aged r) (sym (roles_are whole devs d u old.on old.rows))));
+  opened = λ d. opened_is whole (map (settled reset) devs) d ∙ (ap opened_in (settled_at reset devs d) ∙ settled_opened reset (kept_of devs d));
   fresh = λ d u. ap (λ (p : DevPart). has_unit p.fresh u) (part_is (map (settled reset) devs) d) ∙ sym (ap (λ (p : DevPart). has_unit p.fresh u) (part_is devs d));
   rows = λ d. ap (λ (p : DevPart). p.row) (part_is (map (settled reset) devs) d) ∙ (ap (λ (k : Kept). k.row) (settled_at reset devs d) ∙ sym (ap (λ (p : DevPart). p.row) (part_is devs d)));
   entries = λ d. ap (λ (p : DevPart). p.entries) (part_is (map (settled reset) devs) d) ∙ sym (ap (λ (p : DevPart). p.entries) (part_is devs d));
@@ -123,7 +125,7 @@ commits reset version s t devs old new = record {
   synced = λ d leaving.
       let on : is_leaving (part_of (map part_in devs) d).row.state ≡ false = ap (λ (p : DevPart). is_leaving p.row.state) (part_is devs d) ∙ ap is_leaving (old.on d) in
       absurd (grind (arith, on, leaving));
-  lawful = λ was. lawful version t (map (settled reset) devs) new;
+  lawful = λ was. lawful whole t (map (settled reset) devs) new;
 }
 
 -- the next device is settled

@@ -38,17 +38,13 @@ partition zero f x once = refl
 partition (suc n) f x once = let r = partition n f x (λ u lt. once u (omega (arith, lt))) in let o = once n (omega arith) in omega (arith, r, o)
 
 -- a kind of units that are those of some of the sets
-pub allocated_below : (n : ℕ) (x : Uses) → ((u : ℕ) → u < n → one_if (is_allocated_role (role_in x u)) ≡ one_if (has_unit x.held u) + one_if (has_unit x.meta u) + one_if (has_unit x.saved u)) → count_below n (λ u. is_allocated_role (role_in x u)) ≡ count_below n (has_unit x.held) + count_below n (has_unit x.meta) + count_below n (has_unit x.saved)
+pub allocated_below : (n : ℕ) (x : Uses) → ((u : ℕ) → u < n → one_if (is_allocated_role (role_in x u)) + one_if (has_unit x.kept u) ≡ one_if (has_unit x.held u) + one_if (has_unit x.meta u) + one_if (has_unit x.saved u)) → count_below n (λ u. is_allocated_role (role_in x u)) + count_below n (has_unit x.kept) ≡ count_below n (has_unit x.held) + count_below n (has_unit x.meta) + count_below n (has_unit x.saved)
 allocated_below zero x same = refl
 allocated_below (suc n) x same = let r = allocated_below n x (λ u lt. same u (omega (arith, lt))) in let s = same n (omega arith) in omega (arith, r, s)
 
 pub deferred_below : (n : ℕ) (x : Uses) → ((u : ℕ) → u < n → one_if (is_deferred_role (role_in x u)) + (one_if (has_unit x.held u) + one_if (has_unit x.meta u) + one_if (has_unit x.saved u)) ≡ use_hits x u) → count_below n (λ u. is_deferred_role (role_in x u)) + (count_below n (has_unit x.held) + count_below n (has_unit x.meta) + count_below n (has_unit x.saved)) ≡ use_below n x
 deferred_below zero x same = refl
 deferred_below (suc n) x same = let r = deferred_below n x (λ u lt. same u (omega (arith, lt))) in let s = same n (omega arith) in omega (arith, r, s)
-
-pub none_below : (n : ℕ) (f : ℕ → Bool) → ((u : ℕ) → f u ≡ false) → count_below n f ≡ 0
-none_below zero f none = refl
-none_below (suc n) f none = let r = none_below n f none in let s = ap one_if (none n) in omega (arith, r, s)
 
 module _ (f : ℕ → Bool) (m : ℕ) (x : Uses) (a : IsAccount f m x) where
   once_below : (u : ℕ) → u < x.units → one_if (f u) + use_hits x u ≡ 1
@@ -87,6 +83,12 @@ module _ (f : ℕ → Bool) (m : ℕ) (x : Uses) (a : IsAccount f m x) where
   count_held : count_below x.units (has_unit x.held) ≡ unit_count x.held
   count_held = count_within x.units x.held a.lists.held held_in small
 
+  kept_in : IsWithin x.kept x.units
+  kept_in u is = held_in u (a.keeping.held u is)
+
+  count_kept : count_below x.units (has_unit x.kept) ≡ unit_count x.kept
+  count_kept = count_within x.units x.kept a.lists.kept kept_in small
+
   count_meta : count_below x.units (has_unit x.meta) ≡ unit_count x.meta
   count_meta = count_within x.units x.meta a.lists.meta meta_in small
 
@@ -107,18 +109,19 @@ module _ (f : ℕ → Bool) (m : ℕ) (x : Uses) (a : IsAccount f m x) where
   pub free_count : count_below x.units f ≡ m
   free_count = let p = partition x.units f x once_below in let c = counted in let s = a.sum in omega (arith, p, c, s)
 
-  pub allocated_count : count_below x.units (λ u. is_allocated_role (role_in x u)) ≡ unit_count x.held + unit_count x.meta + unit_count x.saved
+  -- kept units are in use, and not allocated
+  pub allocated_count : count_below x.units (λ u. is_allocated_role (role_in x u)) + unit_count x.kept ≡ unit_count x.held + unit_count x.meta + unit_count x.saved
   allocated_count =
-      let p = allocated_below x.units x (λ u lt. let o = a.once u in grind (arith, nat_tests, o, lt)) in
-      omega (arith, p, count_held, count_meta, count_saved)
+      let p = allocated_below x.units x (λ u lt. let o = a.once u in let k = a.keeping.held u in grind (arith, nat_tests, o, k, lt)) in
+      omega (arith, p, count_held, count_kept, count_meta, count_saved)
 
   pub deferred_count : count_below x.units (λ u. is_deferred_role (role_in x u)) ≡ freed_count x.freed + freed_count x.late1 + freed_count x.late2
   deferred_count =
       let p = deferred_below x.units x (λ u lt. let o = a.once u in grind (arith, nat_tests, o, lt)) in
       omega (arith, p, count_held, count_meta, count_saved, counted)
 
-  none_kept : (u : ℕ) → is_kept_role (role_in x u) ≡ false
-  none_kept u = grind (arith, nat_tests)
+  kept_is : (u : ℕ) → is_kept_role (role_in x u) ≡ has_unit x.kept u
+  kept_is u = let o = a.once u in let k = a.keeping.held u in grind (arith, nat_tests, o, k)
 
-  pub kept_count : count_below x.units (λ u. is_kept_role (role_in x u)) ≡ 0
-  kept_count = none_below x.units (λ u. is_kept_role (role_in x u)) none_kept
+  pub kept_count : count_below x.units (λ u. is_kept_role (role_in x u)) ≡ unit_count x.kept
+  kept_count = count_as x.units (λ u. is_kept_role (role_in x u)) (has_unit x.kept) kept_is ∙ count_kept

@@ -21,13 +21,15 @@ use Rattle.zr_space.proofs.Sums.{extent_hits, once_in}
 use Rattle.zr_space.proofs.Views.{part_is, meta_is, saved_is}
 use Rattle.zr_space.proofs.Roles.{roles_are}
 use Rattle.zr_space.proofs.Accounts.{drops_account, drops_roles, drops_saved_account, drops_saved_roles}
+use Rattle.zr_space.proofs.Rooted.{SameUses, same_root, drops_root, drops_saved_root}
 use Rattle.zr_space.proofs.Frames.{roles_set, same_fresh, same_part}
 use Rattle.zr_space.proofs.Keeps.{IsChange, on_each, stays_space, lawful}
 use Rattle.std.proofs.lemmas.List.{length-set}
+use Rattle.zr_space.specs.declared.whole.Whole.{Whole}
 
-pub record IsDropped (version : ℕ) (s : Devices) (devs : List Kept) (a : Dva) (k : Kept) : Type 0 where
+pub record IsDropped (whole : Whole) (s : Devices) (devs : List Kept) (a : Dva) (k : Kept) : Type 0 where
   pub space : IsSpace s devs
-  pub meta : IsMeta (space_of version devs) a
+  pub meta : IsMeta (space_of whole devs) a
   pub kept : k ≡ kept_of devs a.dev
 
 meta_unit : (x : Uses) (u : ℕ) → role_in x u ≡ Meta → (has_unit x.meta u ≡ true) × (has_unit x.freed.meta u ≡ false)
@@ -36,7 +38,7 @@ meta_unit x u is = (grind (arith, nat_tests, is), grind (arith, nat_tests, is))
 saved_unit : (x : Uses) (u : ℕ) → role_in x u ≡ SavedMeta → (has_unit x.saved u ≡ true) × (has_unit x.freed.meta u ≡ false) × (has_unit x.meta u ≡ false)
 saved_unit x u is = (grind (arith, nat_tests, is), grind (arith, nat_tests, is), grind (arith, nat_tests, is))
 
-module _ (version : ℕ) (s : Devices) (devs : List Kept) (a : Dva) (k : Kept) (h : IsDropped version s devs a k) where
+module _ (whole : Whole) (s : Devices) (devs : List Kept) (a : Dva) (k : Kept) (h : IsDropped whole s devs a k) where
   pub there : a.dev < length devs
   there = let l = h.meta.known in let e = length-map devs part_in in omega (arith, l, e)
 
@@ -50,12 +52,12 @@ module _ (version : ℕ) (s : Devices) (devs : List Kept) (a : Dva) (k : Kept) (
       let m = (h.space.account a.dev).small in
       omega (arith, units, w, m)
 
-  role_of : (r : Role) → HasRole (space_of version devs) a r → (u : ℕ) → in_extent (extent_of a) u ≡ true → role_in k.uses u ≡ r
+  role_of : (r : Role) → HasRole (space_of whole devs) a r → (u : ℕ) → in_extent (extent_of a) u ≡ true → role_in k.uses u ≡ r
   role_of r has u is =
       let at : in_address a a.dev u ≡ true = grind (arith, nat_tests, is) in
-      ap (λ (x : Kept). role_in x.uses u) h.kept ∙ (sym (roles_are version devs a.dev u h.space.on h.space.rows) ∙ has u at)
+      ap (λ (x : Kept). role_in x.uses u) h.kept ∙ (sym (roles_are whole devs a.dev u h.space.on h.space.rows) ∙ has u at)
 
-  none_freed_of : (h' : HasRole (space_of version devs) a Meta ⊎ HasRole (space_of version devs) a SavedMeta) → HasNone k.uses.freed.meta (extent_of a)
+  none_freed_of : (h' : HasRole (space_of whole devs) a Meta ⊎ HasRole (space_of whole devs) a SavedMeta) → HasNone k.uses.freed.meta (extent_of a)
   none_freed_of (inl has) u is = (meta_unit k.uses u (role_of Meta has u is)).1
   none_freed_of (inr has) u is = (saved_unit k.uses u (role_of SavedMeta has u is)).1
 
@@ -63,7 +65,7 @@ module _ (version : ℕ) (s : Devices) (devs : List Kept) (a : Dva) (k : Kept) (
   none_freed = none_freed_of h.meta.used
 
   -- where the metadata set does not have all of it, the saved one does
-  saved_of : (h' : HasRole (space_of version devs) a Meta ⊎ HasRole (space_of version devs) a SavedMeta) → (HasAll k.uses.meta (extent_of a) → ⊥) → HasAll k.uses.saved (extent_of a)
+  saved_of : (h' : HasRole (space_of whole devs) a Meta ⊎ HasRole (space_of whole devs) a SavedMeta) → (HasAll k.uses.meta (extent_of a) → ⊥) → HasAll k.uses.saved (extent_of a)
   saved_of (inl has) not_all u is = absurd (not_all (λ v at. (meta_unit k.uses v (role_of Meta has v at)).0))
   saved_of (inr has) not_all u is = (saved_unit k.uses u (role_of SavedMeta has u is)).0
 
@@ -105,15 +107,15 @@ module _ (version : ℕ) (s : Devices) (devs : List Kept) (a : Dva) (k : Kept) (
   gives_back : (y : Uses) (new : IsSpace s (set devs a.dev (record { row = k.row; uses = y })))
       → ((u : ℕ) → role_in y u ≡ (if in_extent (extent_of a) u then dropped (role_in k.uses u) else role_in k.uses u))
       → ((u : ℕ) → extent_hits y.meta u + extent_hits y.saved u + one_if (in_extent (extent_of a) u) ≡ extent_hits k.uses.meta u + extent_hits k.uses.saved u)
-      → rules.DropsMeta (space_of version devs) (space_of version (set devs a.dev (record { row = k.row; uses = y }))) (a ∷ [])
+      → rules.DropsMeta (space_of whole devs) (space_of whole (set devs a.dev (record { row = k.row; uses = y }))) (a ∷ [])
   gives_back y new roles hits =
       let x : Kept = record { row = k.row; uses = y } in
       let was : (kept_of devs a.dev).uses ≡ k.uses = ap (λ (z : Kept). z.uses) (sym h.kept) in
       record {
         roles = λ d u.
-            let r = roles_set version s s devs a.dev x h.space new there dropped a refl (λ v. rw was (roles v)) d u in
+            let r = roles_set whole s s devs a.dev x h.space new there dropped a refl (λ v. rw was (roles v)) d u in
             grind (arith, nat_tests, r);
-        fresh = same_fresh version s s devs a.dev x h.space new there;
+        fresh = same_fresh whole s s devs a.dev x h.space new there;
         meta = λ d u.
             let m = meta_is devs d u in let n = meta_is (set devs a.dev x) d u in
             let p = saved_is devs d u in let q = saved_is (set devs a.dev x) d u in
@@ -122,7 +124,7 @@ module _ (version : ℕ) (s : Devices) (devs : List Kept) (a : Dva) (k : Kept) (
             omega (arith, m, n, p, q, f, one);
       }
 
-  pub drops_meta : (y : Uses) → DropsMeta k.uses y (extent_of a) → HasAll k.uses.meta (extent_of a) → rules.DropsMeta (space_of version devs) (space_of version (set devs a.dev (record { row = k.row; uses = y }))) (a ∷ [])
+  pub drops_meta : (y : Uses) → DropsMeta k.uses y (extent_of a) → HasAll k.uses.meta (extent_of a) → rules.DropsMeta (space_of whole devs) (space_of whole (set devs a.dev (record { row = k.row; uses = y }))) (a ∷ [])
   drops_meta y d all =
       let after = drops_account (free_at s a.dev) (count_at s a.dev) k.uses y (extent_of a) account d all in
       gives_back y (meta_space y d all) (drops_roles (free_at s a.dev) (count_at s a.dev) k.uses y (extent_of a) account d all)
@@ -131,7 +133,7 @@ module _ (version : ℕ) (s : Devices) (devs : List Kept) (a : Dva) (k : Kept) (
       let m = d.meta.members u in let t = all u in let e : extent_hits y.saved u ≡ extent_hits k.uses.saved u = ap (λ (z : Uses). extent_hits z.saved u) d.others in
       grind (arith, nat_tests, o, n, m, t, e))
 
-  pub drops_saved : (y : Uses) → DropsSaved k.uses y (extent_of a) → HasAll k.uses.saved (extent_of a) → rules.DropsMeta (space_of version devs) (space_of version (set devs a.dev (record { row = k.row; uses = y }))) (a ∷ [])
+  pub drops_saved : (y : Uses) → DropsSaved k.uses y (extent_of a) → HasAll k.uses.saved (extent_of a) → rules.DropsMeta (space_of whole devs) (space_of whole (set devs a.dev (record { row = k.row; uses = y }))) (a ∷ [])
   drops_saved y d all =
       let after = drops_saved_account (free_at s a.dev) (count_at s a.dev) k.uses y (extent_of a) account d all in
       gives_back y (saved_space y d all) (drops_saved_roles (free_at s a.dev) (count_at s a.dev) k.uses y (extent_of a) account d all)
@@ -140,24 +142,26 @@ module _ (version : ℕ) (s : Devices) (devs : List Kept) (a : Dva) (k : Kept) (
       let m = d.saved.members u in let t = all u in let e : extent_hits y.meta u ≡ extent_hits k.uses.meta u = ap (λ (z : Uses). extent_hits z.meta u) d.others in
       grind (arith, nat_tests, o, n, m, t, e))
 
-  keeps : (y : Uses) → IsSpace s (set devs a.dev (record { row = k.row; uses = y })) → y.late1 ≡ k.uses.late1 → y.late2 ≡ k.uses.late2 → KeepsParts (space_of version devs) (space_of version (set devs a.dev (record { row = k.row; uses = y })))
-  keeps y new late1 late2 =
+  keeps : (y : Uses) → IsSpace s (set devs a.dev (record { row = k.row; uses = y })) → y.late1 ≡ k.uses.late1 → y.late2 ≡ k.uses.late2 → SameUses k.uses y → KeepsParts (space_of whole devs) (space_of whole (set devs a.dev (record { row = k.row; uses = y })))
+  keeps y new late1 late2 root =
       let x : Kept = record { row = k.row; uses = y } in
+      let was : (kept_of devs a.dev).uses ≡ k.uses = ap (λ (z : Kept). z.uses) (sym h.kept) in
       record {
         version = refl;
         cond = refl;
         ckpt = refl;
         synced = refl;
         devices = length-map (set devs a.dev x) part_in ∙ (length-set devs a.dev x ∙ sym (length-map devs part_in));
-        each = same_part version s s devs a.dev x h.space new there (ap (λ (z : Kept). z.row) h.kept) (late1 ∙ ap (λ (z : Kept). z.uses.late1) h.kept) (late2 ∙ ap (λ (z : Kept). z.uses.late2) h.kept);
-        lawful = lawful version s (set devs a.dev x) new;
+        each = same_part whole s s devs a.dev x h.space new there (ap (λ (z : Kept). z.row) h.kept) (late1 ∙ ap (λ (z : Kept). z.uses.late1) h.kept) (late2 ∙ ap (λ (z : Kept). z.uses.late2) h.kept);
+        root = same_root whole devs a.dev x there (rw was root);
+        lawful = lawful whole s (set devs a.dev x) new;
       }
 
-  pub meta_keeps : (y : Uses) → DropsMeta k.uses y (extent_of a) → HasAll k.uses.meta (extent_of a) → KeepsParts (space_of version devs) (space_of version (set devs a.dev (record { row = k.row; uses = y })))
-  meta_keeps y d all = keeps y (meta_space y d all) (ap (λ (z : Uses). z.late1) d.others) (ap (λ (z : Uses). z.late2) d.others)
+  pub meta_keeps : (y : Uses) → DropsMeta k.uses y (extent_of a) → HasAll k.uses.meta (extent_of a) → KeepsParts (space_of whole devs) (space_of whole (set devs a.dev (record { row = k.row; uses = y })))
+  meta_keeps y d all = keeps y (meta_space y d all) (ap (λ (z : Uses). z.late1) d.others) (ap (λ (z : Uses). z.late2) d.others) (drops_root k.uses y (extent_of a) d)
 
-  pub saved_keeps : (y : Uses) → DropsSaved k.uses y (extent_of a) → HasAll k.uses.saved (extent_of a) → KeepsParts (space_of version devs) (space_of version (set devs a.dev (record { row = k.row; uses = y })))
-  saved_keeps y d all = keeps y (saved_space y d all) (ap (λ (z : Uses). z.late1) d.others) (ap (λ (z : Uses). z.late2) d.others)
+  pub saved_keeps : (y : Uses) → DropsSaved k.uses y (extent_of a) → HasAll k.uses.saved (extent_of a) → KeepsParts (space_of whole devs) (space_of whole (set devs a.dev (record { row = k.row; uses = y })))
+  saved_keeps y d all = keeps y (saved_space y d all) (ap (λ (z : Uses). z.late1) d.others) (ap (λ (z : Uses). z.late2) d.others) (drops_saved_root k.uses y (extent_of a) d)
 
 pub never : false ≡ true → ⊥
 never e = cc

@@ -1,12 +1,12 @@
 -- What the log of the held set gains.
-use Rattle.std.proofs.Common.{◌≡◌, ◌⊎◌, ⊎_elim, ℕ, Bool, List, [], sym, ap, arith, subst, Result, Ok, Err}
+use Rattle.std.proofs.Common.{◌≡◌, ℕ, Bool, List, [], sym, ap, arith, subst, Result, Ok, Err}
 use Rattle.std.specs.Prelude.{IfOk}
 use Rattle.std.proofs.lemmas.Bool.Decides.{nat_tests}
 use Rattle.zr_base.specs.declared.space.Change.{Change}
 use Rattle.zr_base.specs.declared.space.DevPart.{DevPart}
 use Rattle.zr_base.specs.Extents.{has_unit}
-use Rattle.zr_rules.specs.Places.{is_held}
-use Rattle.zr_rules.specs.Space.{OpenSets, opened_of, is_born}
+use Rattle.zr_rules.specs.Places.{is_held, is_kept}
+use Rattle.zr_rules.specs.Space.{OpenSets, opened_of, is_born, was_held, was_kept}
 use Rattle.zr_metaslab.specs.Devices.{Devices}
 use Rattle.zr_units.specs.Apart.{AreSetsApart}
 use Rattle.zr_units.specs.Uses.{Uses, IsAccount}
@@ -14,19 +14,20 @@ use Rattle.zr_units.specs.Differences.{IsMerged, IsDifference}
 use Rattle.zr_units.proofs.Differences.{replays, merged_difference}
 use Rattle.zr_space.specs.declared.records.SetKind.{SetKind}
 use Rattle.zr_space.specs.declared.records.SetKind.TheVariants as kinds
-use Rattle.zr_space.specs.Records.{was_held, GainsHeld, Gains}
+use Rattle.zr_space.specs.Records.{GainsHeld, GainsKept, Gains}
 use Rattle.zr_space.specs.Views.{Kept, kept_of, space_of, IsSpace}
 use Rattle.zr_space.proofs.Views.{part_is, opened_is}
+use Rattle.zr_space.specs.declared.whole.Whole.{Whole}
 
 pub born_apart : (f : ℕ → Bool) (n : ℕ) (x : Uses) → IsAccount f n x → AreSetsApart x.born x.freed.blocks
 born_apart f n x a u is = let o = a.once u in let b = a.born u is in grind (arith, nat_tests, o, b)
 
-pub gains_held : (version : ℕ) (slabs : Devices) (devs : List Kept) (d : ℕ) (k : Kept) (cs : List Change) → IsSpace slabs devs → k ≡ kept_of devs d → IsMerged k.uses.born k.uses.freed.blocks cs → GainsHeld (space_of version devs) d cs
-gains_held version slabs devs d k cs s is m =
-    let sp = space_of version devs in
+pub gains_held : (whole : Whole) (slabs : Devices) (devs : List Kept) (d : ℕ) (k : Kept) (cs : List Change) → IsSpace slabs devs → k ≡ kept_of devs d → IsMerged k.uses.born k.uses.freed.blocks cs → GainsHeld (space_of whole devs) d cs
+gains_held whole slabs devs d k cs s is m =
+    let sp = space_of whole devs in
     let x = (kept_of devs d).uses in
     let acc = s.account d in
-    let opened = opened_is version devs d in
+    let opened = opened_is whole devs d in
     let m1 : IsMerged x.born x.freed.blocks cs = subst (λ (z : Kept). IsMerged z.uses.born z.uses.freed.blocks cs) is m in
     let held : (u : ℕ) → is_held sp.parts.devs d u ≡ has_unit x.held u = λ u. ap (λ (p : DevPart). has_unit p.held u) (part_is devs d) in
     let born : (u : ℕ) → is_born sp d u ≡ has_unit x.born u = λ u. ap (λ (o : OpenSets). has_unit o.born u) opened in
@@ -45,10 +46,28 @@ pub ok_as : {T E : Type 0} (r : Result T E) (P Q : T → Type 0) → ((x : T) �
 ok_as (Ok x) P Q f h = f x h
 ok_as (Err e) P Q f h = tt
 
--- no unit is kept, and none is obsolete
-pub gains_none : (version : ℕ) (devs : List Kept) (d : ℕ) (set : SetKind) (cs : List Change) → (set ≡ kinds.Kept) ⊎ (set ≡ kinds.Fresh) → cs ≡ [] → Gains (space_of version devs) d set cs
-gains_none version devs d set cs which none =
-    ⊎_elim
-    (λ is. subst (λ (k : SetKind). Gains (space_of version devs) d k cs) (sym is) (ap (λ (p : DevPart). p.kept) (part_is devs d), none))
-    (λ is. subst (λ (k : SetKind). Gains (space_of version devs) d k cs) (sym is) (ap (λ (p : DevPart). p.fresh) (part_is devs d), none))
-    which
+pub came_apart : (f : ℕ → Bool) (n : ℕ) (x : Uses) → IsAccount f n x → AreSetsApart x.came x.went
+came_apart f n x a u is = let o = a.once u in let c = a.keeping.came u in let h = a.keeping.held u in let w = a.keeping.went u in grind (arith, nat_tests, o, c, h, w, is)
+
+pub gains_kept : (whole : Whole) (slabs : Devices) (devs : List Kept) (d : ℕ) (k : Kept) (cs : List Change) → IsSpace slabs devs → k ≡ kept_of devs d → IsMerged k.uses.came k.uses.went cs → GainsKept (space_of whole devs) d cs
+gains_kept whole slabs devs d k cs s is m =
+    let sp = space_of whole devs in
+    let x = (kept_of devs d).uses in
+    let acc = s.account d in
+    let opened = opened_is whole devs d in
+    let m1 : IsMerged x.came x.went cs = subst (λ (z : Kept). IsMerged z.uses.came z.uses.went cs) is m in
+    let kept : (u : ℕ) → is_kept sp.parts.devs d u ≡ has_unit x.kept u = λ u. ap (λ (p : DevPart). has_unit p.kept u) (part_is devs d) in
+    let came : (u : ℕ) → has_unit (opened_of sp d).kept.came u ≡ has_unit x.came u = λ u. ap (λ (o : OpenSets). has_unit o.kept.came u) opened in
+    let went : (u : ℕ) → has_unit (opened_of sp d).kept.went u ≡ has_unit x.went u = λ u. ap (λ (o : OpenSets). has_unit o.kept.went u) opened in
+    let diff : IsDifference (was_kept sp d) (is_kept sp.parts.devs d) cs = merged_difference (was_kept sp d) (is_kept sp.parts.devs d) x.came x.went cs acc.lists.came acc.lists.went m1
+    (λ u. let h = kept u in let b = came u in let e = went u in let o = acc.once u in let i = acc.keeping.came u in let j = acc.keeping.held u in let l = acc.keeping.went u in grind (arith, nat_tests, h, b, e, o, i, j, l))
+    (λ u. let h = kept u in let b = came u in let e = went u in let o = acc.once u in let i = acc.keeping.came u in let j = acc.keeping.held u in let l = acc.keeping.went u in grind (arith, nat_tests, h, b, e, o, i, j, l)) in
+    record {
+      merged = subst (λ (o : OpenSets). IsMerged o.kept.came o.kept.went cs) (sym opened) m1;
+      difference = diff;
+      replays = replays (was_kept sp d) (is_kept sp.parts.devs d) cs diff;
+    }
+
+-- no unit is obsolete
+pub gains_none : (whole : Whole) (devs : List Kept) (d : ℕ) (set : SetKind) (cs : List Change) → set ≡ kinds.Fresh → cs ≡ [] → Gains (space_of whole devs) d set cs
+gains_none whole devs d set cs is none = subst (λ (k : SetKind). Gains (space_of whole devs) d k cs) (sym is) (ap (λ (p : DevPart). p.fresh) (part_is devs d), none)

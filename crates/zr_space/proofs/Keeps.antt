@@ -23,10 +23,11 @@ use Rattle.zr_space.proofs.Roles.{roles_are, place_is, no_copies}
 use Rattle.zr_space.proofs.Accounts.{account_as, free_in}
 use Rattle.zr_space.proofs.Counts.{count_as, free_count, held_in, freed_blocks_in, freed_meta_in}
 use Rattle.zr_space.proofs.Placing.{IsSameFree}
+use Rattle.zr_space.specs.declared.whole.Whole.{Whole}
 
 -- the allocator sees what the space says
-pub same_free : (version : ℕ) (slabs : Devices) (devs : List Kept) → IsSpace slabs devs → IsSameFree (slab.free_of slabs) (columns.free_of (space_of version devs))
-same_free version slabs devs s = record {
+pub same_free : (whole : Whole) (slabs : Devices) (devs : List Kept) → IsSpace slabs devs → IsSameFree (slab.free_of slabs) (columns.free_of (space_of whole devs))
+same_free whole slabs devs s = record {
   devs = length-map devs part_in ∙ sym s.devices;
   serves = λ d lt.
       let on : is_on (part_of (map part_in devs) d).row.state ≡ true = ap (λ (p : DevPart). is_on p.row.state) (part_is devs d) ∙ ap is_on (s.on d) in
@@ -34,10 +35,10 @@ same_free version slabs devs s = record {
       on ∙ sym (s.serves d ∙ known);
   count = λ d.
       let units : units_of_dev (map part_in devs) d ≡ (kept_of devs d).uses.units = ap (λ (p : DevPart). p.row.units) (part_is devs d) ∙ s.rows d in
-      ap (λ n. count_below n (λ u. is_free_role (role_at (space_of version devs) d u))) units
-      ∙ (count_as (kept_of devs d).uses.units (λ u. is_free_role (role_at (space_of version devs) d u)) (free_at slabs d) (λ u. ap is_free_role (roles_are version devs d u s.on s.rows) ∙ free_in (free_at slabs d) (count_at slabs d) (kept_of devs d).uses (s.account d) u)
+      ap (λ n. count_below n (λ u. is_free_role (role_at (space_of whole devs) d u))) units
+      ∙ (count_as (kept_of devs d).uses.units (λ u. is_free_role (role_at (space_of whole devs) d u)) (free_at slabs d) (λ u. ap is_free_role (roles_are whole devs d u s.on s.rows) ∙ free_in (free_at slabs d) (count_at slabs d) (kept_of devs d).uses (s.account d) u)
       ∙ free_count (free_at slabs d) (count_at slabs d) (kept_of devs d).uses (s.account d));
-  is_free = λ d u. ap is_free_role (roles_are version devs d u s.on s.rows) ∙ free_in (free_at slabs d) (count_at slabs d) (kept_of devs d).uses (s.account d) u;
+  is_free = λ d u. ap is_free_role (roles_are whole devs d u s.on s.rows) ∙ free_in (free_at slabs d) (count_at slabs d) (kept_of devs d).uses (s.account d) u;
 }
 
 -- what a change of one device is for the account
@@ -91,23 +92,27 @@ empty_set m = record { maximal = tt; within = tt }
 has_sets : (f : ℕ → Bool) (n : ℕ) (k : Kept) → k.row.units ≡ k.uses.units → IsAccount f n k.uses → HasSets (part_in k) (opened_in k)
 has_sets f n k is a = record {
   held = set_of k.uses.units k.row.units k.uses.held is a.lists.held (held_in f n k.uses a);
-  kept = empty_set k.row.units;
+  kept = set_of k.uses.units k.row.units k.uses.kept is a.lists.kept (λ u b. held_in f n k.uses a u (a.keeping.held u b));
   fresh = empty_set k.row.units;
   born = set_of k.uses.units k.row.units k.uses.born is a.lists.born (λ u b. held_in f n k.uses a u (a.born u b));
   deferred = set_of k.uses.units k.row.units k.uses.freed.blocks is a.lists.freed.blocks (freed_blocks_in f n k.uses a);
   dropped = set_of k.uses.units k.row.units k.uses.freed.meta is a.lists.freed.meta (freed_meta_in f n k.uses a);
+  kept_came = set_of k.uses.units k.row.units k.uses.came is a.lists.came (λ u b. held_in f n k.uses a u (a.keeping.held u (a.keeping.came u b)));
+  kept_went = set_of k.uses.units k.row.units k.uses.went is a.lists.went (λ u b. freed_blocks_in f n k.uses a u (a.keeping.went u b));
+  fresh_came = empty_set k.row.units;
+  fresh_went = empty_set k.row.units;
 }
 
-module _ (version : ℕ) (slabs : Devices) (devs : List Kept) (s : IsSpace slabs devs) where
-  hits_are : (d u : ℕ) → set_hits (space_of version devs) d u ≡ use_hits (kept_of devs d).uses u
+module _ (whole : Whole) (slabs : Devices) (devs : List Kept) (s : IsSpace slabs devs) where
+  hits_are : (d u : ℕ) → set_hits (space_of whole devs) d u ≡ use_hits (kept_of devs d).uses u
   hits_are d u =
       let x = (kept_of devs d).uses in
       let a = s.account d in
       let part = part_is devs d in
-      let opened = opened_is version devs d in
+      let opened = opened_is whole devs d in
       let held : one_if (is_held (map part_in devs) d u) ≡ one_if (has_unit x.held u) = ap (λ (p : DevPart). one_if (has_unit p.held u)) part in
-      let deferred : one_if (has_unit (opened_of (space_of version devs) d).deferred u) ≡ one_if (has_unit x.freed.blocks u) = ap (λ (o : OpenSets). one_if (has_unit o.deferred u)) opened in
-      let dropped : one_if (has_unit (opened_of (space_of version devs) d).dropped u) ≡ one_if (has_unit x.freed.meta u) = ap (λ (o : OpenSets). one_if (has_unit o.dropped u)) opened in
+      let deferred : one_if (has_unit (opened_of (space_of whole devs) d).deferred u) ≡ one_if (has_unit x.freed.blocks u) = ap (λ (o : OpenSets). one_if (has_unit o.deferred u)) opened in
+      let dropped : one_if (has_unit (opened_of (space_of whole devs) d).dropped u) ≡ one_if (has_unit x.freed.meta u) = ap (λ (o : OpenSets). one_if (has_unit o.dropped u)) opened in
       let late1 : hits_late (part_of (map part_in devs) d).late1 u ≡ extent_hits x.late1.blocks u + extent_hits x.late1.meta u = ap (λ (p : DevPart). hits_late p.late1 u) part ∙ late_hits_are x.late1 u in
       let late2 : hits_late (part_of (map part_in devs) d).late2 u ≡ extent_hits x.late2.blocks u + extent_hits x.late2.meta u = ap (λ (p : DevPart). hits_late p.late2 u) part ∙ late_hits_are x.late2 u in
       let meta = meta_is devs d u in
@@ -120,21 +125,23 @@ module _ (version : ℕ) (slabs : Devices) (devs : List Kept) (s : IsSpace slabs
       let o6 = once_in 0 u x.saved a.lists.saved in
       omega (arith, held, deferred, dropped, late1, late2, meta, saved, o1, o2, o3, o4, o5, o6)
 
-  pub lawful : IsLawful (space_of version devs)
+  pub lawful : IsLawful (space_of whole devs)
   lawful = record {
     devices = length-map devs opened_in ∙ sym (length-map devs part_in);
-    sets = λ d. subst (λ p. HasSets p (opened_of (space_of version devs) d)) (sym (part_is devs d)) (subst (λ o. HasSets (part_in (kept_of devs d)) o) (sym (opened_is version devs d)) (has_sets (free_at slabs d) (count_at slabs d) (kept_of devs d) (s.rows d) (s.account d)));
+    sets = λ d. subst (λ p. HasSets p (opened_of (space_of whole devs) d)) (sym (part_is devs d)) (subst (λ o. HasSets (part_in (kept_of devs d)) o) (sym (opened_is whole devs d)) (has_sets (free_at slabs d) (count_at slabs d) (kept_of devs d) (s.rows d) (s.account d)));
     once = λ d u.
         let h = hits_are d u in
         let o = (s.account d).once u in
-        let p = ap one_if (place_is version devs d u (s.on d) (s.rows d)) in
+        let p = ap one_if (place_is whole devs d u (s.on d) (s.rows d)) in
         omega (arith, h, o, p);
     copies = λ d u.
         let c = no_copies devs d u s.on in
-        let k : one_if (is_kept (map part_in devs) d u) ≡ 0 = ap (λ (p : DevPart). one_if (has_unit p.kept u)) (part_is devs d) in
-        omega (arith, c, k);
+        let k : is_kept (map part_in devs) d u ≡ has_unit (kept_of devs d).uses.kept u = ap (λ (p : DevPart). has_unit p.kept u) (part_is devs d) in
+        let h : is_held (map part_in devs) d u ≡ has_unit (kept_of devs d).uses.held u = ap (λ (p : DevPart). has_unit p.held u) (part_is devs d) in
+        let i = (s.account d).keeping.held u in
+        grind (arith, nat_tests, c, k, h, i);
     born = λ d u b.
         let held : is_held (map part_in devs) d u ≡ has_unit (kept_of devs d).uses.held u = ap (λ (p : DevPart). has_unit p.held u) (part_is devs d) in
-        let born : is_born (space_of version devs) d u ≡ has_unit (kept_of devs d).uses.born u = ap (λ (o : OpenSets). has_unit o.born u) (opened_is version devs d) in
+        let born : is_born (space_of whole devs) d u ≡ has_unit (kept_of devs d).uses.born u = ap (λ (o : OpenSets). has_unit o.born u) (opened_is whole devs d) in
         held ∙ (s.account d).born u (sym born ∙ b);
   }

@@ -15,6 +15,7 @@ use Rattle.zr_rules.specs.Space.{Space}
 use Rattle.zr_rules.specs.Frees.{copy_from, is_copy_of, marks}
 use Rattle.zr_space.specs.Views.{Kept, kept_of, part_in, space_of}
 use Rattle.zr_space.proofs.Views.{part_is}
+use Rattle.zr_space.specs.declared.whole.Whole.{Whole}
 
 pub leads_within : (n : ℕ) (ds : Devices) (d u : ℕ) → 0 < n → is_gone (state_at ds d) ≡ false → is_there ds d u ≡ true → resolve n ds d u ≡ Some (d, u)
 leads_within zero ds d u some on there = absurd (omega (arith, some))
@@ -48,7 +49,7 @@ no_copy_from s a source (x ∷ xs) d u on =
     let first : is_leaving x.row.state ≡ false = ap is_leaving (on 0) in
     grind (arith, nat_tests, rest, first)
 
-module _ (version : ℕ) (devs : List Kept) (on : (k : ℕ) → (kept_of devs k).row.state ≡ On) (rows : (k : ℕ) → (kept_of devs k).row.units ≡ (kept_of devs k).uses.units) where
+module _ (whole : Whole) (devs : List Kept) (on : (k : ℕ) → (kept_of devs k).row.state ≡ On) (rows : (k : ℕ) → (kept_of devs k).row.units ≡ (kept_of devs k).uses.units) where
   ds : Devices
   ds = devices_of (map part_in devs)
 
@@ -66,12 +67,12 @@ module _ (version : ℕ) (devs : List Kept) (on : (k : ℕ) → (kept_of devs k)
       let units : (part_of (map part_in devs) a.dev).row.units ≡ (kept_of devs a.dev).uses.units = ap (λ (p : DevPart). p.row.units) (part_is devs a.dev) ∙ rows a.dev in
       any_at ds a.dev a.start a.len d u (λ v le lt. leads_within ds.count ds a.dev v (omega (arith, known, count)) (in_service a.dev) (grind (arith, nat_tests, known, count, units, lt, within)))
 
-  pub marks_none : (a : Dva) (d u : ℕ) → marks (space_of version devs) a d u ≡ false
+  pub marks_none : (a : Dva) (d u : ℕ) → marks (space_of whole devs) a d u ≡ false
   unfolding ds
   marks_none a d u =
       let p = hits_none ds a.dev a.start a.len d u (in_service a.dev) in
       let l = not_leaving d in
       grind (arith, nat_tests, p, l)
 
-  pub copy_none : (a : Dva) (d u : ℕ) → is_copy_of (space_of version devs) a d u ≡ false
-  copy_none a d u = no_copy_from (space_of version devs) a 0 devs d u on
+  pub copy_none : (a : Dva) (d u : ℕ) → is_copy_of (space_of whole devs) a d u ≡ false
+  copy_none a d u = no_copy_from (space_of whole devs) a 0 devs d u on

@@ -5,6 +5,7 @@ pub mod Accounts
 pub mod Counts
 pub mod Placing
 pub mod Keeps
+pub mod Rooted
 pub mod Frames
 pub mod Allocs
 pub mod Leads

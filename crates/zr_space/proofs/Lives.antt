@@ -17,16 +17,17 @@ use Rattle.zr_space.specs.Live.{IsLive}
 use Rattle.zr_space.specs.Drops.{IsMeta, HasRole}
 use Rattle.zr_space.proofs.Views.{part_is}
 use Rattle.zr_space.proofs.Leads.{leads_here}
+use Rattle.zr_space.specs.declared.whole.Whole.{Whole}
 
 -- the address lies on a device of the pool, within what it has
-pub record IsPlaced (version : ℕ) (t : Devices) (devs : List Kept) (a : Dva) : Type 0 where
+pub record IsPlaced (whole : Whole) (t : Devices) (devs : List Kept) (a : Dva) : Type 0 where
   pub space : IsSpace t devs
   pub known : a.dev < length devs
   pub some : 0 < a.len
   pub within : a.start + a.len ≤ units_at t a.dev
 
-module _ (version : ℕ) (t : Devices) (devs : List Kept) (a : Dva) (h : IsPlaced version t devs a) where
-  there : a.dev < length (space_of version devs).parts.devs
+module _ (whole : Whole) (t : Devices) (devs : List Kept) (a : Dva) (h : IsPlaced whole t devs a) where
+  there : a.dev < length (space_of whole devs).parts.devs
   there = let k = h.known in let e = length-map devs part_in in omega (arith, k, e)
 
   kept_within : a.start + a.len ≤ (kept_of devs a.dev).uses.units
@@ -38,15 +39,15 @@ module _ (version : ℕ) (t : Devices) (devs : List Kept) (a : Dva) (h : IsPlace
       let w = kept_within in
       omega (arith, units, w)
 
-  pub is_live : ((d u : ℕ) → in_address a d u ≡ true → role_at (space_of version devs) d u ≡ FreshLive) → IsLive (space_of version devs) a
+  pub is_live : ((d u : ℕ) → in_address a d u ≡ true → role_at (space_of whole devs) d u ≡ FreshLive) → IsLive (space_of whole devs) a
   is_live roles = record {
     known = there;
     some = h.some;
     within = part_within;
-    used = λ d u leads. ap is_live_role (roles d u (sym (leads_here version devs h.space.on h.space.rows a d u h.known kept_within) ∙ leads));
+    used = λ d u leads. ap is_live_role (roles d u (sym (leads_here whole devs h.space.on h.space.rows a d u h.known kept_within) ∙ leads));
   }
 
-  pub is_meta : ((d u : ℕ) → in_address a d u ≡ true → role_at (space_of version devs) d u ≡ Meta) → IsMeta (space_of version devs) a
+  pub is_meta : ((d u : ℕ) → in_address a d u ≡ true → role_at (space_of whole devs) d u ≡ Meta) → IsMeta (space_of whole devs) a
   is_meta roles = record {
     known = there;
     some = h.some;
@@ -68,9 +69,9 @@ saved_settled_role : (reset : Bool) → (if reset then cleared SavedMeta else ag
 saved_settled_role true = refl
 saved_settled_role false = refl
 
-module _ (reset : Bool) (version : ℕ) (s t : Devices) (devs : List Kept) (a : Dva) (old : IsSpace s devs) (new : IsSpace t (map (settled reset) devs)) where
-  moved : Commits reset (space_of version devs) (space_of version (map (settled reset) devs))
-  moved = commits reset version s t devs old new
+module _ (reset : Bool) (whole : Whole) (s t : Devices) (devs : List Kept) (a : Dva) (old : IsSpace s devs) (new : IsSpace t (map (settled reset) devs)) where
+  moved : Commits reset (space_of whole devs) (space_of whole (map (settled reset) devs))
+  moved = commits reset whole s t devs old new
 
   same_units : units_of_dev (map part_in (map (settled reset) devs)) a.dev ≡ units_of_dev (map part_in devs) a.dev
   same_units = ap (λ (r : DevRow). r.units) (moved.rows a.dev)
@@ -86,7 +87,7 @@ module _ (reset : Bool) (version : ℕ) (s t : Devices) (devs : List Kept) (a : 
       let units : units_of_dev (map part_in (map (settled reset) devs)) a.dev ≡ (kept_of (map (settled reset) devs) a.dev).uses.units = ap (λ (p : DevPart). p.row.units) (part_is (map (settled reset) devs) a.dev) ∙ new.rows a.dev in
       omega (arith, units, e, w)
 
-  pub stays_live : IsLive (space_of version devs) a → IsLive (space_of version (map (settled reset) devs)) a
+  pub stays_live : IsLive (space_of whole devs) a → IsLive (space_of whole (map (settled reset) devs)) a
   stays_live l =
       let count : length (map part_in devs) ≡ length devs = length-map devs part_in in
       let count2 : length (map (settled reset) devs) ≡ length devs = length-map devs (settled reset) in
@@ -96,12 +97,12 @@ module _ (reset : Bool) (version : ℕ) (s t : Devices) (devs : List Kept) (a : 
         some = l.some;
         within = let w = l.within in let e = same_units in omega (arith, w, e);
         used = λ d u leads.
-            let at = sym (leads_here version (map (settled reset) devs) new.on new.rows a d u (omega (arith, known, count2)) (new_within l.within)) ∙ leads in
-            let was = l.used d u (leads_here version devs old.on old.rows a d u known (old_within l.within) ∙ at) in
-            ap is_live_role (moved.roles d u) ∙ live_settled reset (role_at (space_of version devs) d u) was;
+            let at = sym (leads_here whole (map (settled reset) devs) new.on new.rows a d u (omega (arith, known, count2)) (new_within l.within)) ∙ leads in
+            let was = l.used d u (leads_here whole devs old.on old.rows a d u known (old_within l.within) ∙ at) in
+            ap is_live_role (moved.roles d u) ∙ live_settled reset (role_at (space_of whole devs) d u) was;
       }
 
-  pub stays_meta : IsMeta (space_of version devs) a → IsMeta (space_of version (map (settled reset) devs)) a
+  pub stays_meta : IsMeta (space_of whole devs) a → IsMeta (space_of whole (map (settled reset) devs)) a
   stays_meta m = record {
     known = let k = m.known in let e = moved.devices in omega (arith, k, e);
     some = m.some;
@@ -109,6 +110,6 @@ module _ (reset : Bool) (version : ℕ) (s t : Devices) (devs : List Kept) (a : 
     used = again m.used;
   }
     where
-      again : HasRole (space_of version devs) a Meta ⊎ HasRole (space_of version devs) a SavedMeta → HasRole (space_of version (map (settled reset) devs)) a Meta ⊎ HasRole (space_of version (map (settled reset) devs)) a SavedMeta
+      again : HasRole (space_of whole devs) a Meta ⊎ HasRole (space_of whole devs) a SavedMeta → HasRole (space_of whole (map (settled reset) devs)) a Meta ⊎ HasRole (space_of whole (map (settled reset) devs)) a SavedMeta
       again (inl has) = inl (λ u is. moved.roles a.dev u ∙ (ap (λ r. if reset then cleared r else aged r) (has u is) ∙ meta_settled_role reset))
       again (inr has) = inr (λ u is. moved.roles a.dev u ∙ (ap (λ r. if reset then cleared r else aged r) (has u is) ∙ saved_settled_role reset))

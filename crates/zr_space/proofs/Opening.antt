@@ -12,17 +12,18 @@ use Rattle.zr_base.specs.declared.space.DevState.TheVariants.{On}
 use Rattle.zr_base.specs.declared.space.CkptPart.TheVariants.{Clear}
 use Rattle.zr_base.specs.Extents.{has_unit, unit_count}
 use Rattle.zr_rules.specs.Places.{one_if, address_hits}
-use Rattle.zr_rules.specs.Space.{Space, OpenSets, opened_of, role_at}
+use Rattle.zr_rules.specs.Space.{Space, OpenSets, nothing_opened, opened_of, role_at}
 use Rattle.zr_rules.specs.Equation.{root_space}
 use Rattle.zr_metaslab.specs.Devices as slab
 use Rattle.zr_metaslab.specs.Devices.{Devices, free_at, count_at, units_at}
 use Rattle.zr_units.specs.Uses.{Uses, IsAccount}
 use Rattle.zr_space.specs.Views.{Kept, kept_of, part_in, opened_in, space_of, IsSpace, meta_from, saved_from, addresses}
 use Rattle.zr_space.specs.Reads.{IsRead, ReadsMeta}
-use Rattle.zr_space.specs.Opens.{IsOpened, IsQuiet, OpensDevice, nothing_opened}
+use Rattle.zr_space.specs.Opens.{IsOpened, IsQuiet, OpensDevice}
 use Rattle.zr_space.proofs.Accounts.{account_as}
 use Rattle.zr_space.proofs.Adding.{on_all}
 use Rattle.zr_space.proofs.Sums.{extent_hits, once_in, addresses_hits, hits_append}
+use Rattle.zr_space.specs.declared.whole.Whole.{Whole}
 
 -- ---- a device with its metadata
 
@@ -32,12 +33,15 @@ with_meta k x list dev used used2 r none m = rw m.others (record {
   on = r.on;
   small = r.small;
   born = r.born;
+  kept = r.kept;
+  came = r.came;
+  went = r.went;
   freed = r.freed;
   saved = r.saved;
   once = λ u. let o = r.once u in let s = m.used.members u in let a = m.apart u in let n = none_has u in grind (arith, nat_tests, o, s, a, n);
   within = λ u is. let w = r.within u in let s = m.used.members u in let i = m.within u in grind (arith, nat_tests, w, s, i, is);
   count = let c = r.count in let d = m.used.count in let n = ap unit_count none in omega (arith, c, d, n);
-  lists = record { held = r.lists.held; born = r.lists.born; freed = r.lists.freed; late1 = r.lists.late1; late2 = r.lists.late2; meta = m.maximal; saved = r.lists.saved };
+  lists = record { held = r.lists.held; born = r.lists.born; kept = r.lists.kept; came = r.lists.came; went = r.lists.went; freed = r.lists.freed; late1 = r.lists.late1; late2 = r.lists.late2; meta = m.maximal; saved = r.lists.saved };
 })
   where
     none_has : (u : ℕ) → has_unit k.uses.meta u ≡ false
@@ -77,6 +81,12 @@ module _ (s t : Devices) (devs : List Kept) (k : Kept) (used : List Extent) (spa
   new_account = record {
     once = λ u. let f = slabs.free (length devs) u in let o = r.once u in let w = r.within u in grind (arith, nat_tests, f, o, w);
     born = λ u is. absurd (false_true (sym (ap (λ (es : List Extent). has_unit es u) r.born) ∙ is));
+    keeping = record {
+      held = λ u is. absurd (false_true (sym (ap (λ (es : List Extent). has_unit es u) r.kept) ∙ is));
+      settled = λ u is. absurd (false_true (sym (ap (λ (es : List Extent). has_unit es u) r.kept) ∙ is));
+      came = λ u is. absurd (false_true (sym (ap (λ (es : List Extent). has_unit es u) r.came) ∙ is));
+      went = λ u is. absurd (false_true (sym (ap (λ (es : List Extent). has_unit es u) r.went) ∙ is));
+    };
     sum = let c = slabs.counted in let n = r.count in omega (arith, c, n);
     small = r.small;
     lists = r.lists;
@@ -97,9 +107,9 @@ module _ (s t : Devices) (devs : List Kept) (k : Kept) (used : List Extent) (spa
         (λ d ne. account_as (free_at s d) (free_at t d) (count_at s d) (count_at t d) (kept_of devs d).uses (λ u. let f = slabs.free d u in grind (arith, nat_tests, f, ne)) (slabs.counts d ne) (space.account d));
   }
 
-  pub opens : (version : ℕ) (part : DevPart) (meta : List Dva) → part_in k ≡ part → ((u : ℕ) → address_hits meta (length devs) u ≡ one_if (has_unit k.uses.meta u)) → OpensDevice (space_of version devs) (space_of version (devs ++ k ∷ [])) part meta
-  opens version part meta is hits = record {
-    parts = ap (λ (ps : List DevPart). record { version = version; devs = ps; cond = None; ckpt = Clear }) (part_last devs k ∙ ap (λ (p : DevPart). map part_in devs ++ p ∷ []) is);
+  pub opens : (whole : Whole) (part : DevPart) (meta : List Dva) → part_in k ≡ part → ((u : ℕ) → address_hits meta (length devs) u ≡ one_if (has_unit k.uses.meta u)) → OpensDevice (space_of whole devs) (space_of whole (devs ++ k ∷ [])) part meta
+  opens whole part meta is hits = record {
+    parts = ap (λ (ps : List DevPart). record { version = whole.version; devs = ps; cond = None; ckpt = whole.ckpt }) (part_last devs k ∙ ap (λ (p : DevPart). map part_in devs ++ p ∷ []) is);
     opened = opened_last devs k ∙ ap (λ (o : OpenSets). map opened_in devs ++ o ∷ []) nothing;
     synced = refl;
     meta_is = λ d u.
@@ -112,7 +122,7 @@ module _ (s t : Devices) (devs : List Kept) (k : Kept) (used : List Extent) (spa
   }
     where
       nothing : opened_in k ≡ nothing_opened
-      nothing = rw r.born rw r.freed refl
+      nothing = rw r.born rw r.freed rw r.came rw r.went refl
 
       same_hits : (d u : ℕ) → length (map part_in devs) ≡ length devs → address_hits (meta_from 0 (devs ++ k ∷ [])) d u ≡ address_hits (meta_from 0 devs) d u + (if (0 + length devs) == d then extent_hits k.uses.meta u else 0)
           → extent_hits k.uses.meta u ≡ one_if (has_unit k.uses.meta u) → address_hits meta (length devs) u ≡ one_if (has_unit k.uses.meta u)
@@ -138,7 +148,7 @@ pub record IsOpening (parts : SpaceParts) (meta : List Dva) (i : ℕ) (s : Space
   pub meta_is : (d u : ℕ) → address_hits s.meta d u ≡ (if nat_lt d i then address_hits meta d u else 0)
   pub saved : s.saved_meta ≡ []
 
-pub starts_opening : (parts : SpaceParts) (meta : List Dva) → IsQuiet parts → IsOpening parts meta 0 (space_of parts.version [])
+pub starts_opening : (parts : SpaceParts) (meta : List Dva) → IsQuiet parts → IsOpening parts meta 0 (space_of (record { version = parts.version; ckpt = Clear }) [])
 starts_opening parts meta q = record {
   parts_are = rw q.cond rw q.ckpt refl;
   opened = λ d. none_there d;
@@ -148,7 +158,7 @@ starts_opening parts meta q = record {
   saved = refl;
 }
   where
-    none_there : (d : ℕ) → opened_of (space_of parts.version []) d ≡ nothing_opened
+    none_there : (d : ℕ) → opened_of (space_of (record { version = parts.version; ckpt = Clear }) []) d ≡ nothing_opened
     none_there zero = refl
     none_there (suc d) = refl
 

@@ -19,6 +19,7 @@ use Rattle.zr_space.specs.Views.{Kept, space_of, IsSpace}
 use Rattle.zr_space.proofs.Views.{part_is}
 use Rattle.zr_space.specs.Paths.{AreInService}
 use Rattle.zr_space.proofs.Leads.{leads_within, passes_none, hits_none}
+use Rattle.zr_space.specs.declared.whole.Whole.{Whole}
 
 -- a unit past the end of its device leads nowhere
 pub nowhere : (n : ℕ) (ds : Devices) (d u : ℕ) → is_gone (state_at ds d) ≡ false → is_there ds d u ≡ false → resolve n ds d u ≡ None
@@ -104,8 +105,8 @@ no_visit ds a none v = record {
   touched = λ lt. absurd (omega (arith, lt, none));
 }
 
-pub in_service : (version : ℕ) (slabs : Slabs) (devs : List Kept) → IsSpace slabs devs → AreInService (devices_in (space_of version devs))
-in_service version slabs devs s = record {
+pub in_service : (whole : Whole) (slabs : Slabs) (devs : List Kept) → IsSpace slabs devs → AreInService (devices_in (space_of whole devs))
+in_service whole slabs devs s = record {
   there = λ d. ap (λ (p : DevPart). is_gone p.row.state) (part_is devs d) ∙ ap is_gone (s.on d);
   stays = λ d. ap (λ (p : DevPart). is_leaving p.row.state) (part_is devs d) ∙ ap is_leaving (s.on d);
 }

@@ -28,6 +28,9 @@ device_read row held l1 l2 u0 u1 u2 u3 on small none ch mh c1 m1 c2 m2 = record 
   on = on;
   small = small;
   born = refl;
+  kept = refl;
+  came = refl;
+  went = refl;
   freed = refl;
   saved = refl;
   once = λ u. first u (in_two u (in_one u));
@@ -41,7 +44,7 @@ device_read row held l1 l2 u0 u1 u2 u3 on small none ch mh c1 m1 c2 m2 = record 
       let wm2 = ends_in row.units l2.meta c2.meta.within u in
       grind (arith, nat_tests, a, b, d, n, w, wb1, wm1, wb2, wm2, is);
   count = let a = mh.count in let b = m1.count in let d = m2.count in let n = ap unit_count none in omega (arith, a, b, d, n);
-  lists = record { held = ch.maximal; born = tt; freed = record { blocks = tt; meta = tt }; late1 = record { blocks = c1.blocks.maximal; meta = c1.meta.maximal }; late2 = record { blocks = c2.blocks.maximal; meta = c2.meta.maximal }; meta = tt; saved = tt };
+  lists = record { held = ch.maximal; born = tt; kept = tt; came = tt; went = tt; freed = record { blocks = tt; meta = tt }; late1 = record { blocks = c1.blocks.maximal; meta = c1.meta.maximal }; late2 = record { blocks = c2.blocks.maximal; meta = c2.meta.maximal }; meta = tt; saved = tt };
 }
   where
     none_has : (u : ℕ) → has_unit u0 u ≡ false

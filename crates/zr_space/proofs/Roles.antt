@@ -13,6 +13,7 @@ use Rattle.zr_rules.specs.Space.{OpenSets, role_at, copy_hits, is_copy_by, has_l
 use Rattle.zr_space.specs.Views.{Kept, kept_of, part_in, space_of, role_in}
 use Rattle.zr_space.proofs.Sums.{some_in, late_blocks_are, late_meta_are}
 use Rattle.zr_space.proofs.Views.{part_is, opened_is, meta_is, saved_is}
+use Rattle.zr_space.specs.declared.whole.Whole.{Whole}
 
 -- no device is leaving, so there are no copies
 pub no_copies : (devs : List Kept) (d u : ℕ) → ((k : ℕ) → (kept_of devs k).row.state ≡ On) → copy_hits (map part_in devs) d u ≡ 0
@@ -29,23 +30,23 @@ past_units (x ∷ xs) zero u h = omega arith
 past_units (x ∷ xs) (suc d) u h = let r = past_units xs d u h in omega (arith, r)
 
 -- a unit of a device that is in service is there
-pub place_is : (version : ℕ) (devs : List Kept) (d u : ℕ) → (kept_of devs d).row.state ≡ On → (kept_of devs d).row.units ≡ (kept_of devs d).uses.units → has_place (space_of version devs) d u ≡ nat_lt u (kept_of devs d).uses.units
-place_is version devs d u on rows =
+pub place_is : (whole : Whole) (devs : List Kept) (d u : ℕ) → (kept_of devs d).row.state ≡ On → (kept_of devs d).row.units ≡ (kept_of devs d).uses.units → has_place (space_of whole devs) d u ≡ nat_lt u (kept_of devs d).uses.units
+place_is whole devs d u on rows =
     let part = part_is devs d in
     let count : length (map part_in devs) ≡ length devs = length-map devs part_in in
     let gone : is_gone (part_of (map part_in devs) d).row.state ≡ false = ap (λ (p : DevPart). is_gone p.row.state) part ∙ ap is_gone on in
     let units : (part_of (map part_in devs) d).row.units ≡ (kept_of devs d).uses.units = ap (λ (p : DevPart). p.row.units) part ∙ rows in
     grind (arith, nat_tests, count, gone, units, past_units devs d u)
 
-pub roles_are : (version : ℕ) (devs : List Kept) (d u : ℕ) → ((k : ℕ) → (kept_of devs k).row.state ≡ On) → ((k : ℕ) → (kept_of devs k).row.units ≡ (kept_of devs k).uses.units) → role_at (space_of version devs) d u ≡ role_in (kept_of devs d).uses u
+pub roles_are : (whole : Whole) (devs : List Kept) (d u : ℕ) → ((k : ℕ) → (kept_of devs k).row.state ≡ On) → ((k : ℕ) → (kept_of devs k).row.units ≡ (kept_of devs k).uses.units) → role_at (space_of whole devs) d u ≡ role_in (kept_of devs d).uses u
 unfolding role_at
-roles_are version devs d u on rows =
-    let s = space_of version devs in
+roles_are whole devs d u on rows =
+    let s = space_of whole devs in
     let part = part_is devs d in
-    let opened = opened_is version devs d in
-    let place = place_is version devs d u (on d) (rows d) in
+    let opened = opened_is whole devs d in
+    let place = place_is whole devs d u (on d) (rows d) in
     let held : has_unit (part_of s.parts.devs d).held u ≡ has_unit (kept_of devs d).uses.held u = ap (λ (p : DevPart). has_unit p.held u) part in
-    let kept : has_unit (part_of s.parts.devs d).kept u ≡ false = ap (λ (p : DevPart). has_unit p.kept u) part in
+    let kept : has_unit (part_of s.parts.devs d).kept u ≡ has_unit (kept_of devs d).uses.kept u = ap (λ (p : DevPart). has_unit p.kept u) part in
     let copies : copy_hits s.parts.devs d u ≡ 0 = no_copies devs d u on in
     let born : has_unit (opened_of s d).born u ≡ has_unit (kept_of devs d).uses.born u = ap (λ (o : OpenSets). has_unit o.born u) opened in
     let deferred : has_unit (opened_of s d).deferred u ≡ has_unit (kept_of devs d).uses.freed.blocks u = ap (λ (o : OpenSets). has_unit o.deferred u) opened in

@@ -19,7 +19,7 @@ use Rattle.zr_rules.specs.Space.{Space, OpenSets, frontier, role_at}
 use Rattle.zr_rules.specs.Columns as columns
 use Rattle.zr_rules.specs.Equation.{devices_in}
 use Rattle.zr_rules.specs.Steps.{touch}
-use Rattle.zr_metaslab.specs.Devices.{Devices, count_at}
+use Rattle.zr_metaslab.specs.Devices.{Devices, count_at, free_at}
 use Rattle.zr_units.specs.Uses.{Uses, Freed}
 use Rattle.zr_space.specs.Views.{Kept, kept_of, part_in, opened_in, late_runs, addresses, meta_from, space_of, IsSpace}
 use Rattle.zr_space.specs.Totals.{AreFew, total_by, current_meta, late1_meta, late2_meta, words_in}
@@ -27,6 +27,8 @@ use Rattle.zr_space.proofs.Sums.{as_runs}
 use Rattle.zr_space.proofs.Views.{part_is, opened_is}
 use Rattle.zr_space.proofs.Keeps.{same_free}
 use Rattle.zr_space.proofs.Paths.{one_piece, in_service}
+use Rattle.zr_space.proofs.Counts.{allocated_count}
+use Rattle.zr_space.specs.declared.whole.Whole.{Whole}
 
 -- ---- sums
 
@@ -205,67 +207,71 @@ words_by version p o =
     set_words version p.held + 3 * set_words version p.kept + 8 * length p.entries + set_words version p.fresh
     + set_words version o.deferred + set_words version (columns.late_blocks p.late1) + set_words version (columns.late_blocks p.late2)
 
-words_are : (version : ℕ) (devs : List Kept) (d : ℕ) → columns.device_words (space_of version devs) d ≡ words_in version (kept_of devs d).uses
-words_are version devs d =
+words_are : (whole : Whole) (devs : List Kept) (d : ℕ) → columns.device_words (space_of whole devs) d ≡ words_in whole.version (kept_of devs d).uses
+words_are whole devs d =
     let k = kept_of devs d in
-    let both : columns.device_words (space_of version devs) d ≡ words_by version (part_in k) (opened_in k) = ap₂ (words_by version) (part_is devs d) (opened_is version devs d) in
-    let one : set_words version (columns.late_blocks (late_runs k.uses.late1)) ≡ set_words version k.uses.late1.blocks = ap (set_words version) (late_blocks_of k.uses.late1.blocks k.uses.late1.meta) in
-    let two : set_words version (columns.late_blocks (late_runs k.uses.late2)) ≡ set_words version k.uses.late2.blocks = ap (set_words version) (late_blocks_of k.uses.late2.blocks k.uses.late2.meta) in
-    let none : words_by version (part_in k) (opened_in k) ≡ words_in version k.uses = omega (arith, one, two) in
+    let both : columns.device_words (space_of whole devs) d ≡ words_by whole.version (part_in k) (opened_in k) = ap₂ (words_by whole.version) (part_is devs d) (opened_is whole devs d) in
+    let one : set_words whole.version (columns.late_blocks (late_runs k.uses.late1)) ≡ set_words whole.version k.uses.late1.blocks = ap (set_words whole.version) (late_blocks_of k.uses.late1.blocks k.uses.late1.meta) in
+    let two : set_words whole.version (columns.late_blocks (late_runs k.uses.late2)) ≡ set_words whole.version k.uses.late2.blocks = ap (set_words whole.version) (late_blocks_of k.uses.late2.blocks k.uses.late2.meta) in
+    let none : words_by whole.version (part_in k) (opened_in k) ≡ words_in whole.version k.uses = omega (arith, one, two) in
     both ∙ none
 
-module _ (version : ℕ) (slabs : Devices) (devs : List Kept) (s : IsSpace slabs devs) where
+module _ (whole : Whole) (slabs : Devices) (devs : List Kept) (s : IsSpace slabs devs) where
   count_is : length (map part_in devs) ≡ length devs
   count_is = length-map devs part_in
 
-  on_are : columns.on_devices (space_of version devs) ≡ range_with_len 0 (length devs)
+  on_are : columns.on_devices (space_of whole devs) ≡ range_with_len 0 (length devs)
   on_are =
       all_pass (λ (d : ℕ). is_on (state_of_dev (map part_in devs) d)) (range_with_len 0 (length (map part_in devs))) (λ d. ap (λ (p : DevPart). is_on p.row.state) (part_is devs d) ∙ ap is_on (s.on d))
       ∙ ap (range_with_len 0) count_is
 
-  pub free_units_are : sum_by (count_at slabs) (range_with_len 0 (length devs)) ≡ columns.free_units (space_of version devs)
+  pub free_units_are : sum_by (count_at slabs) (range_with_len 0 (length devs)) ≡ columns.free_units (space_of whole devs)
   free_units_are =
-      sum_as (count_at slabs) (λ (d : ℕ). (columns.columns (space_of version devs) d).free) (range_with_len 0 (length devs)) (λ d. sym ((same_free version slabs devs s).count d))
-      ∙ ap (sum_by (λ (d : ℕ). (columns.columns (space_of version devs) d).free)) (sym on_are)
+      sum_as (count_at slabs) (λ (d : ℕ). (columns.columns (space_of whole devs) d).free) (range_with_len 0 (length devs)) (λ d. sym ((same_free whole slabs devs s).count d))
+      ∙ ap (sum_by (λ (d : ℕ). (columns.columns (space_of whole devs) d).free)) (sym on_are)
 
   pub free_at_most : (d : ℕ) → count_at slabs d < 2 ^ 40
   free_at_most d = let a = (s.account d).sum in let m = (s.account d).small in omega (arith, a, m)
 
-  pub one_touched : (a : Dva) → 1 ≡ touch (devices_in (space_of version devs)) a
-  one_touched a = sym (one_piece (length (map part_in devs)) (devices_in (space_of version devs)) a.dev a.start a.len (in_service version slabs devs s))
+  pub one_touched : (a : Dva) → 1 ≡ touch (devices_in (space_of whole devs)) a
+  one_touched a = sym (one_piece (length (map part_in devs)) (devices_in (space_of whole devs)) a.dev a.start a.len (in_service whole slabs devs s))
 
-  pub on_units_are : total_by (λ (x : Uses). x.units) devs ≡ columns.on_units (space_of version devs)
+  pub on_units_are : total_by (λ (x : Uses). x.units) devs ≡ columns.on_units (space_of whole devs)
   on_units_are =
       sym (from_range (units_of_dev (map part_in devs)) (λ (k : Kept). k.uses.units) 0 devs (λ i. ap (units_of_dev (map part_in devs)) (let z : 0 + i ≡ i = omega arith in z) ∙ (ap (λ (p : DevPart). p.row.units) (part_is devs i) ∙ s.rows i)))
       ∙ ap (sum_by (units_of_dev (map part_in devs))) (sym on_are)
 
-  pub units_here : (items : List Kept) → items ≡ devs → total_by (λ (x : Uses). x.units) items ≡ columns.on_units (space_of version devs)
+  pub units_here : (items : List Kept) → items ≡ devs → total_by (λ (x : Uses). x.units) items ≡ columns.on_units (space_of whole devs)
   units_here items is = ap (λ (xs : List Kept). total_by (λ (x : Uses). x.units) xs) is ∙ on_units_are
 
-  words_total : sum_by (columns.device_words (space_of version devs)) (range_with_len 0 (length (map part_in devs))) ≡ total_by (words_in version) devs
+  words_total : sum_by (columns.device_words (space_of whole devs)) (range_with_len 0 (length (map part_in devs))) ≡ total_by (words_in whole.version) devs
   words_total =
-      ap (λ n. sum_by (columns.device_words (space_of version devs)) (range_with_len 0 n)) count_is
-      ∙ from_range (columns.device_words (space_of version devs)) (λ (k : Kept). words_in version k.uses) 0 devs (λ i. ap (columns.device_words (space_of version devs)) (let z : 0 + i ≡ i = omega arith in z) ∙ words_are version devs i)
+      ap (λ n. sum_by (columns.device_words (space_of whole devs)) (range_with_len 0 n)) count_is
+      ∙ from_range (columns.device_words (space_of whole devs)) (λ (k : Kept). words_in whole.version k.uses) 0 devs (λ i. ap (columns.device_words (space_of whole devs)) (let z : 0 + i ≡ i = omega arith in z) ∙ words_are whole devs i)
 
-  turning_meta : sum_by (columns.units_on (meta_from 0 devs)) (columns.on_devices (space_of version devs)) ≡ total_by current_meta devs
+  turning_meta : sum_by (columns.units_on (meta_from 0 devs)) (columns.on_devices (space_of whole devs)) ≡ total_by current_meta devs
   turning_meta =
       ap (sum_by (columns.units_on (meta_from 0 devs))) on_are
       ∙ from_range (columns.units_on (meta_from 0 devs)) (λ (k : Kept). current_meta k.uses) 0 devs (λ i. units_at 0 i devs)
 
-  none_uncopied : columns.uncopied_units (space_of version devs) ≡ 0
-  none_uncopied = sum_none (λ (d : ℕ). if is_leaving (part_of (map part_in devs) d).row.state then sum_by (columns.units_from (frontier (space_of version devs) d)) (part_of (map part_in devs) d).held else 0) (range_with_len 0 (length (map part_in devs)))
+  none_uncopied : columns.uncopied_units (space_of whole devs) ≡ 0
+  none_uncopied = sum_none (λ (d : ℕ). if is_leaving (part_of (map part_in devs) d).row.state then sum_by (columns.units_from (frontier (space_of whole devs) d)) (part_of (map part_in devs) d).held else 0) (range_with_len 0 (length (map part_in devs)))
       (λ d. let l : is_leaving (part_of (map part_in devs) d).row.state ≡ false = ap (λ (p : DevPart). is_leaving p.row.state) (part_is devs d) ∙ ap is_leaving (s.on d) in rw l refl)
 
   pub are_few : AreFew devs
   are_few = record {
     few = s.few;
-    within = λ d. record { held = within d; freed = freed d; late1 = late1 d; late2 = late2 d };
+    within = λ d. record { held = within d; kept = kept d; freed = freed d; late1 = late1 d; late2 = late2 d };
     used = λ d. let a = (s.account d).sum in omega (arith, a);
     small = λ d. (s.account d).small;
+    kept = λ d. let c = allocated_count (free_at slabs d) (count_at slabs d) (kept_of devs d).uses (s.account d) in let a = (s.account d).sum in omega (arith, c, a);
   }
     where
       within : (d u : ℕ) → has_unit (kept_of devs d).uses.held u ≡ true → u < (kept_of devs d).uses.units
       within d u is = let o = (s.account d).once u in grind (arith, nat_tests, o, is)
+
+      kept : (d u : ℕ) → has_unit (kept_of devs d).uses.kept u ≡ true → u < (kept_of devs d).uses.units
+      kept d u is = within d u ((s.account d).keeping.held u is)
 
       freed : (d u : ℕ) → has_unit (kept_of devs d).uses.freed.blocks u ≡ true → u < (kept_of devs d).uses.units
       freed d u is = let o = (s.account d).once u in grind (arith, nat_tests, o, is)
@@ -276,16 +282,16 @@ module _ (version : ℕ) (slabs : Devices) (devs : List Kept) (s : IsSpace slabs
       late2 : (d u : ℕ) → has_unit (kept_of devs d).uses.late2.blocks u ≡ true → u < (kept_of devs d).uses.units
       late2 d u is = let o = (s.account d).once u in grind (arith, nat_tests, o, is)
 
-  pub sizes_are : (words streams current late1 late2 turning past : ℕ) → words ≡ total_by (words_in version) devs → streams ≡ 2 + 4 * length devs
+  pub sizes_are : (words streams current late1 late2 turning past : ℕ) → words ≡ total_by (words_in whole.version) devs → streams ≡ 2 + 4 * length devs
       → current ≡ total_by current_meta devs → late1 ≡ total_by late1_meta devs → late2 ≡ total_by late2_meta devs → turning ≡ current + late1 + late2 → past ≡ max current (max late1 late2)
-      → record { blocks = 0; objects = 0; words = words; streams = streams; gone = 0; uncopied = 0; turning = turning; past = past; snaps = false } ≡ columns.sizes (space_of version devs) 0 0
+      → record { blocks = 0; objects = 0; words = words; streams = streams; gone = 0; uncopied = 0; turning = turning; past = past; snaps = false } ≡ columns.sizes (space_of whole devs) 0 0
   sizes_are words streams current late1 late2 turning past w st c a b t p =
       let on = on_parts_are devs s.on in
-      let e1 : sum_by (columns.device_words (space_of version devs)) (range_with_len 0 (length (map part_in devs))) ≡ words = words_total ∙ sym w in
+      let e1 : sum_by (columns.device_words (space_of whole devs)) (range_with_len 0 (length (map part_in devs))) ≡ words = words_total ∙ sym w in
       let e2 : sum_by (λ (q : DevPart). columns.device_streams q.row.state) (map part_in devs) ≡ 4 * length devs = streams_total devs s.on in
       let e3 = none_gone devs s.on in
       let e4 = none_uncopied in
-      let e5 : sum_by (columns.units_on (meta_from 0 devs)) (columns.on_devices (space_of version devs)) ≡ current = turning_meta ∙ sym c in
+      let e5 : sum_by (columns.units_on (meta_from 0 devs)) (columns.on_devices (space_of whole devs)) ≡ current = turning_meta ∙ sym c in
       let e6 : columns.late1_meta (map part_in devs) ≡ late1 = late1_total devs ∙ sym a in
       let e7 : columns.late2_meta (map part_in devs) ≡ late2 = late2_total devs ∙ sym b in
       let e8 : sum_by (λ (d : Dva). d.len) (meta_from 0 devs) ≡ current = meta_len 0 devs ∙ sym c in

@@ -8,6 +8,7 @@ use Rattle.zr_rules.specs.Places.{part_of, address_hits}
 use Rattle.zr_rules.specs.Space.{opened_of}
 use Rattle.zr_space.specs.Views.{Kept, kept_of, nothing_kept, part_in, opened_in, addresses, meta_from, saved_from, space_of}
 use Rattle.zr_space.proofs.Sums.{extent_hits, addresses_hits, hits_append}
+use Rattle.zr_space.specs.declared.whole.Whole.{Whole}
 
 pub part_is : (devs : List Kept) (d : ℕ) → part_of (map part_in devs) d ≡ part_in (kept_of devs d)
 part_is [] zero = refl
@@ -15,11 +16,11 @@ part_is [] (suc d) = refl
 part_is (k ∷ ks) zero = refl
 part_is (k ∷ ks) (suc d) = part_is ks d
 
-pub opened_is : (version : ℕ) (devs : List Kept) (d : ℕ) → opened_of (space_of version devs) d ≡ opened_in (kept_of devs d)
-opened_is version [] zero = refl
-opened_is version [] (suc d) = refl
-opened_is version (k ∷ ks) zero = refl
-opened_is version (k ∷ ks) (suc d) = opened_is version ks d
+pub opened_is : (whole : Whole) (devs : List Kept) (d : ℕ) → opened_of (space_of whole devs) d ≡ opened_in (kept_of devs d)
+opened_is whole [] zero = refl
+opened_is whole [] (suc d) = refl
+opened_is whole (k ∷ ks) zero = refl
+opened_is whole (k ∷ ks) (suc d) = opened_is whole ks d
 
 meta_below : (k d u : ℕ) (devs : List Kept) → d < k → address_hits (meta_from k devs) d u ≡ 0
 meta_below k d u [] lt = refl

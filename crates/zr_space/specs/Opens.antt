@@ -5,12 +5,9 @@ use Rattle.zr_base.specs.declared.space.DevPart.{DevPart}
 use Rattle.zr_base.specs.declared.space.SpaceParts.{SpaceParts}
 use Rattle.zr_base.specs.declared.space.CkptPart.TheVariants.{Clear}
 use Rattle.zr_rules.specs.Places.{address_hits, part_of}
-use Rattle.zr_rules.specs.Space.{Space, OpenSets, opened_of, role_at, IsLawful}
+use Rattle.zr_rules.specs.Space.{Space, nothing_opened, opened_of, role_at, IsLawful}
 use Rattle.zr_rules.specs.Equation.{root_space}
 use Rattle.zr_space.specs.Reads.{IsPlain, IsLateSet}
-
-abbrev pub nothing_opened : OpenSets
-nothing_opened = record { born = []; deferred = []; dropped = [] }
 
 -- The space has these parts and this metadata, and nothing is opened.
 pub record IsOpened (parts : SpaceParts) (meta : List Dva) (s : Space) : Type 0 where

@@ -80,6 +80,9 @@ pub record IsRead (k : Kept) (used : List Extent) : Type 0 where
   pub on : k.row.state ≡ On
   pub small : k.uses.units < 2 ^ 40
   pub born : k.uses.born ≡ []
+  pub kept : k.uses.kept ≡ []
+  pub came : k.uses.came ≡ []
+  pub went : k.uses.went ≡ []
   pub freed : k.uses.freed ≡ none_freed
   pub saved : k.uses.saved ≡ []
   pub once : (u : ℕ) → use_hits k.uses u ≡ one_if (has_unit used u)

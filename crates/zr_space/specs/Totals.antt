@@ -27,3 +27,4 @@ pub record AreFew (devs : List Kept) : Type 0 where
   pub within : (d : ℕ) → HasWithin (kept_of devs d).uses
   pub used : (d : ℕ) → use_count (kept_of devs d).uses ≤ (kept_of devs d).uses.units
   pub small : (d : ℕ) → (kept_of devs d).uses.units < 2 ^ 40
+  pub kept : (d : ℕ) → unit_count (kept_of devs d).uses.kept ≤ (kept_of devs d).uses.units

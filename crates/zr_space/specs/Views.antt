@@ -6,14 +6,14 @@ use Rattle.zr_base.specs.declared.space.DevRow.{DevRow}
 use Rattle.zr_base.specs.declared.space.DevPart.{DevPart}
 use Rattle.zr_base.specs.declared.space.LateRun.{LateRun}
 use Rattle.zr_base.specs.declared.space.DevState.TheVariants.{On}
-use Rattle.zr_base.specs.declared.space.CkptPart.TheVariants.{Clear}
 use Rattle.zr_base.specs.Extents.{has_unit}
 use Rattle.zr_rules.specs.Roles.{Role}
-use Rattle.zr_rules.specs.Roles.Role.{Absent, Free, FreshLive, Live, DeferredBlock, DeferredMeta, Late1Block, Late1Meta, Late2Block, Late2Meta, Meta, SavedMeta}
-use Rattle.zr_rules.specs.Space.{Space, OpenSets}
+use Rattle.zr_rules.specs.Roles.Role.{Absent, Free, FreshLive, Live, Kept as KeptRole, DeferredBlock, DeferredMeta, Late1Block, Late1Meta, Late2Block, Late2Meta, Meta, SavedMeta}
+use Rattle.zr_rules.specs.Space.{Space, OpenSets, nothing_gained}
 use Rattle.zr_metaslab.specs.Devices.{Devices, free_at, count_at, units_at, serves_at}
 use Rattle.zr_units.specs.Uses.{Uses, Freed, unused, IsAccount}
-use Rattle.zr_units.specs.Changes.{aged_uses, cleared_uses}
+use Rattle.zr_units.specs.Changes.{aged_uses, cleared_uses, saved_uses}
+use Rattle.zr_space.specs.declared.whole.Whole.{Whole}
 
 -- a device: its row, and what its units are used for
 pub record Kept : Type 0 where
@@ -33,11 +33,11 @@ late_runs f = map (λ (e : Extent). record { at = e; meta = false }) f.blocks ++
 
 -- what a root records of the device
 abbrev pub part_in : Kept → DevPart
-part_in k = record { row = k.row; held = k.uses.held; kept = []; entries = []; counts = []; fresh = []; late1 = late_runs k.uses.late1; late2 = late_runs k.uses.late2 }
+part_in k = record { row = k.row; held = k.uses.held; kept = k.uses.kept; entries = []; counts = []; fresh = []; late1 = late_runs k.uses.late1; late2 = late_runs k.uses.late2 }
 
 -- what the open group did on it
 abbrev pub opened_in : Kept → OpenSets
-opened_in k = record { born = k.uses.born; deferred = k.uses.freed.blocks; dropped = k.uses.freed.meta }
+opened_in k = record { born = k.uses.born; deferred = k.uses.freed.blocks; dropped = k.uses.freed.meta; kept = record { came = k.uses.came; went = k.uses.went }; fresh = nothing_gained }
 
 abbrev pub addresses : ℕ → List Extent → List Dva
 addresses d es = map (λ (e : Extent). record { dev = d; start = e.start; len = e.len }) es
@@ -52,10 +52,10 @@ saved_from d [] = []
 saved_from d (k ∷ ks) = addresses d k.uses.saved ++ saved_from (d + 1) ks
 
 -- the space of a pool of these devices
-abbrev pub space_of : ℕ → List Kept → Space
-space_of version devs =
+abbrev pub space_of : Whole → List Kept → Space
+space_of whole devs =
     record {
-      parts = record { version = version; devs = map part_in devs; cond = None; ckpt = Clear };
+      parts = record { version = whole.version; devs = map part_in devs; cond = None; ckpt = whole.ckpt };
       opened = map opened_in devs;
       synced = 0;
       meta = meta_from 0 devs;
@@ -66,7 +66,7 @@ space_of version devs =
 abbrev pub role_in : Uses → ℕ → Role
 role_in x u =
     if not (nat_lt u x.units) then Absent
-    else (if has_unit x.held u then (if has_unit x.born u then FreshLive else Live)
+    else (if has_unit x.held u then (if has_unit x.kept u then KeptRole else (if has_unit x.born u then FreshLive else Live))
     else (if has_unit x.freed.blocks u then DeferredBlock
     else (if has_unit x.freed.meta u then DeferredMeta
     else (if has_unit x.late1.blocks u then Late1Block
@@ -90,6 +90,10 @@ pub record IsSpace (slabs : Devices) (devs : List Kept) : Type 0 where
 -- the device once a commit, or a reset, has settled what the open group did
 abbrev pub settled : Bool → Kept → Kept
 settled reset k = record { row = k.row; uses = if reset then cleared_uses k.uses else aged_uses k.uses }
+
+-- the device once the metadata of the current root is the saved root's
+abbrev pub with_saved : Kept → Kept
+with_saved k = record { row = k.row; uses = saved_uses k.uses }
 
 -- a device in service of which no unit is used
 abbrev pub fresh_device : ℕ → ℕ → Kept

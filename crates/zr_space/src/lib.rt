@@ -14,9 +14,11 @@ mod remap;
 mod room;
 mod service;
 mod space;
+mod whole;
 #[cfg(test)]
 mod tests;
 
 pub use records::SetKind;
 pub use space::{Space, SpaceErr};
+pub use whole::Whole;
 pub use zr_units::FreedSets;

@@ -7,7 +7,7 @@ use crate::space::{Space, extent_of};
 use zr_base::Dva;
 
 impl Space {
-    /// Whether each unit of an address is in use by a block, so that it may be freed. Logarithmic in the extents of the
+    /// Whether each unit of an address is in use by a block, and not for the checkpoint alone, so that it may be freed. Logarithmic in the extents of the
     /// device.
     pub fn live(&self, a: Dva) -> bool
         ensures { IsTrue result ↔ IsLive self.now a }
@@ -16,7 +16,11 @@ impl Space {
             return false;
         }
         let device = &self.devs[a.dev as usize];
-        device.units.held().covers(extent_of(&a))
+        let e = extent_of(&a);
+        if !device.units.held().covers(e) {
+            return false;
+        }
+        device.units.kept().is_apart(e)
     }
 
     /// Whether an address has metadata of the current root alone, or of the saved one, so that it may be given back.

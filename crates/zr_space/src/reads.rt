@@ -181,6 +181,6 @@ pub fn read_device(
     };
     Ok(Some(Device {
         row: part.row,
-        units: Units::of_sets(alloc, units, held, late1, late2),
+        units: Units::of_sets(alloc, units, held, RangeSet::new(alloc), late1, late2),
     }))
 }

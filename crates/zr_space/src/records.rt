@@ -12,7 +12,7 @@ ghost use Rattle.zr_space.specs.Views.{late_runs, part_in};
 use crate::device::Device;
 use crate::space::Space;
 use std::alloc::Global;
-use zr_base::{Change, CkptPart, DevPart, Extent, Items, LateRun, NoMemory, SpaceParts};
+use zr_base::{Change, DevPart, Extent, Items, LateRun, NoMemory, SpaceParts};
 use zr_ranges::RangeSet;
 use zr_units::FreedSets;
 
@@ -58,12 +58,13 @@ fn part_of(alloc: Global, device: &Device) -> Result<DevPart, NoMemory>
     ensures { IfOk result (λ p. p ≡ part_in device.now) }
 {
     let held = copy_of(alloc, device.units.held())?;
+    let kept = copy_of(alloc, device.units.kept())?;
     let late1 = late_of(alloc, device.units.late1())?;
     let late2 = late_of(alloc, device.units.late2())?;
     Ok(DevPart {
         row: device.row,
         held,
-        kept: Items::new(alloc),
+        kept,
         entries: Items::new(alloc),
         counts: Items::new(alloc),
         fresh: Items::new(alloc),
@@ -90,6 +91,14 @@ impl Space {
         ensures { result.now.extents ≡ (part_of self.now.parts.devs dev).held }
     {
         self.devs[dev as usize].units.held()
+    }
+
+    /// The units of a device that only the checkpoint has. It costs nothing.
+    pub fn kept(&self, dev: u32) -> &RangeSet
+        requires { dev < length self.now.parts.devs }
+        ensures { result.now.extents ≡ (part_of self.now.parts.devs dev).kept }
+    {
+        self.devs[dev as usize].units.kept()
     }
 
     /// What the open group has freed on a device of earlier groups' units, which is the next root's first late set. At a
@@ -119,7 +128,8 @@ impl Space {
     {
         match set {
             SetKind::Held => self.devs[dev as usize].units.changes(self.alloc),
-            SetKind::Kept | SetKind::Fresh => Ok(Vec::new(self.alloc)),
+            SetKind::Kept => self.devs[dev as usize].units.kept_changes(self.alloc),
+            SetKind::Fresh => Ok(Vec::new(self.alloc)),
         }
     }
 
@@ -129,10 +139,10 @@ impl Space {
     {
         let devs = parts_of(self.alloc, self.devs.as_slice())?;
         Ok(SpaceParts {
-            version: self.version,
+            version: self.whole.version,
             devs,
             cond: None,
-            ckpt: CkptPart::Clear,
+            ckpt: self.whole.ckpt,
         })
     }
 }

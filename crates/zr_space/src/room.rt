@@ -45,7 +45,7 @@ fn meta_units(devs: &[Device]) -> MetaUnits
 fn words(devs: &[Device], version: u64) -> u64
     requires { AreFew devs.now }
     ensures words { result ≡ total_by (words_in version) devs.now }
-    ensures few { result ≤ total_by (λ x. x.units) devs.now }
+    ensures few { result ≤ 4 * total_by (λ x. x.units) devs.now }
 {
     let mut words = 0;
     for device in devs {
@@ -100,7 +100,7 @@ impl Space {
     /// goes over the devices alone; of a larger one it goes over the extents of four sets.
     pub fn sizes(&self) -> Sizes
         ensures sizes { result ≡ sizes self.now 0 0 }
-        ensures words { result.words ≤ on_units self.now }
+        ensures words { result.words ≤ 4 * on_units self.now }
         ensures past { result.past ≤ on_units self.now }
         ensures turning { result.turning ≤ 3 * result.past }
         ensures streams { result.streams ≤ 130 }
@@ -113,7 +113,7 @@ impl Space {
         Sizes {
             blocks: 0,
             objects: 0,
-            words: words(devs, self.version),
+            words: words(devs, self.whole.version),
             streams: 2 + 4 * devs.len() as u64,
             gone: 0,
             uncopied: 0,

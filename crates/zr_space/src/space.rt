@@ -5,7 +5,7 @@ ghost use Rattle.zr_base.specs.declared.space.Dva.{Dva};
 ghost use Rattle.zr_rules.specs.Columns.{columns};
 ghost use Rattle.zr_rules.specs.Places.{state_of_dev, units_of_dev};
 ghost use Rattle.zr_space.specs.Drops.{IsMeta, KeepsParts};
-ghost use Rattle.zr_rules.specs.Frees.{Allocates, AllocatesMeta, Frees, DropsMeta};
+ghost use Rattle.zr_rules.specs.Frees.{Allocates, AllocatesMeta, Frees, DropsMeta, keeps};
 ghost use Rattle.zr_rules.specs.Steps.{AddsDevice, Commits};
 ghost use Rattle.zr_space.specs.Live.{IsLive};
 ghost use Rattle.zr_metaslab.specs.Devices.{extent_of};
@@ -13,9 +13,10 @@ ghost use Rattle.zr_space.specs.Views.{space_of, fresh_device};
 ghost use Rattle.zr_space.specs.Causes.{HasCause};
 
 use crate::device::Device;
+use crate::whole::Whole;
 use std::alloc::Global;
 use std::marker::Model;
-use zr_base::{Columns, DevRow, DevState, Dva, Extent, NoMemory};
+use zr_base::{CkptPart, Columns, DevRow, DevState, Dva, Extent, NoMemory};
 use zr_choose::Chooser;
 use zr_metaslab::{NoRun, Slabs};
 use zr_ranges::RangeSet;
@@ -34,7 +35,7 @@ pub enum SpaceErr {
 #[derive(Drop)]
 pub struct Space {
     pub(crate) alloc: Global,
-    pub(crate) version: u64,
+    pub(crate) whole: Whole,
     pub(crate) slabs: Slabs,
     pub(crate) devs: Vec<Device>,
 }
@@ -45,7 +46,7 @@ impl Model for Space {
 
     ghost Value = { account.Space };
 
-    ghost view = { λ a. space_of a.version a.devs.items };
+    ghost view = { λ a. space_of a.whole a.devs.items };
 
     ghost invariant = { λ a. IsSpace a.slabs a.devs.items };
 }
@@ -90,11 +91,14 @@ pub fn push_reserved(devs: &mut Vec<Device>, device: Device)
 impl Space {
     /// The space of a pool without devices. It takes no memory.
     pub fn new(alloc: Global, version: u64) -> Space
-        ensures { result ≡ space_of version [] }
+        ensures { result ≡ space_of (record { version = version; ckpt = CkptPart.Clear }) [] }
     {
         Space {
             alloc,
-            version,
+            whole: Whole {
+                version,
+                ckpt: CkptPart::Clear,
+            },
             slabs: Slabs::new(alloc),
             devs: Vec::new(alloc),
         }
@@ -165,11 +169,47 @@ impl Space {
         }
     }
 
-    /// Frees a block that was born in this transaction group. What the open group allocated is free at once, and the
-    /// rest is deferred. Memory is taken first. It is logarithmic in the extents of the device, for each run of the
-    /// address that the open group has or has not allocated.
-    pub fn free(&mut self, a: Dva, _birth: u64) -> Result<(), NoMemory>
+    /// Frees a block that was born in this transaction group. What the open group allocated is free at once. The rest is
+    /// kept where a checkpoint is held that may have the block, and else deferred. Memory is taken first. It is logarithmic
+    /// in the extents of the device, for each run of the address that the open group has or has not allocated.
+    pub fn free(&mut self, a: Dva, birth: u64) -> Result<(), NoMemory>
         requires live { IsLive self.old a }
+        ensures ok { OnOk result (Frees self.old self.new a birth) }
+        ensures err { OnErr result (self.new ≡ self.old) }
+    {
+        if self.keeps(birth) {
+            return self.keep(a, birth);
+        }
+        self.give_up(a, birth)
+    }
+
+    // Whether the units of a block that was born in this transaction group are kept when it is freed.
+    fn keeps(&self, birth: u64) -> bool
+        ensures { result ≡ keeps self.now.parts.ckpt birth }
+    {
+        match self.whole.ckpt {
+            CkptPart::Held(txg) => birth <= txg,
+            CkptPart::Clear | CkptPart::Discarding => false,
+        }
+    }
+
+    // Frees a block that the checkpoint may have.
+    fn keep(&mut self, a: Dva, _birth: u64) -> Result<(), NoMemory>
+        requires live { IsLive self.old a }
+        requires kept { keeps self.old.parts.ckpt _birth ≡ true }
+        ensures ok { OnOk result (Frees self.old self.new a _birth) }
+        ensures err { OnErr result (self.new ≡ self.old) }
+    {
+        let e = extent_of(&a);
+        let device = &mut self.devs[a.dev as usize];
+        device.units.keep(&mut self.slabs, a.dev, e)?;
+        Ok(())
+    }
+
+    // Frees a block that no checkpoint has.
+    fn give_up(&mut self, a: Dva, _birth: u64) -> Result<(), NoMemory>
+        requires live { IsLive self.old a }
+        requires free { keeps self.old.parts.ckpt _birth ≡ false }
         ensures ok { OnOk result (Frees self.old self.new a _birth) }
         ensures err { OnErr result (self.new ≡ self.old) }
     {
@@ -203,9 +243,10 @@ impl Space {
         ensures { result ≡ columns self.now dev }
     {
         let device = &self.devs[dev as usize];
+        let kept = device.units.kept().units();
         Columns {
-            allocated: device.units.in_use(),
-            checkpointed: 0,
+            allocated: device.units.in_use() - kept,
+            checkpointed: kept,
             deferred: device.units.waiting(),
             free: self.slabs.free_units(dev),
         }

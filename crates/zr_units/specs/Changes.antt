@@ -1,5 +1,5 @@
 -- What happens to the units of a device.
-use Rattle.std.specs.Prelude.{◌≡◌, ℕ, ◌+◌, Bool, false, not, ◌&&◌, ◌||◌, ◌==◌, List, [], if◌then◌else◌}
+use Rattle.std.specs.Prelude.{◌≡◌, ◌⊎◌, ℕ, ◌+◌, ◌≤◌, ◌<◌, Bool, false, not, ◌&&◌, ◌||◌, ◌==◌, List, [], if◌then◌else◌}
 use Rattle.zr_base.specs.declared.space.Extent.{Extent}
 use Rattle.zr_base.specs.Extents.{has_unit, in_extent, unit_count, AddsUnits, RemovesUnits, IsMaximal}
 use Rattle.zr_metaslab.specs.Devices.{Devices, free_at, count_at, KeepsDevices}
@@ -35,13 +35,51 @@ pub record FreesUnits (old new : Uses) (e : Extent) : Type 0 where
   pub deferred : (u : ℕ) → has_unit new.freed.blocks u ≡ (has_unit old.freed.blocks u || (in_extent e u && not (has_unit old.born u)))
   pub others : new ≡ record old { held = new.held; born = new.born; freed = record { blocks = new.freed.blocks; meta = old.freed.meta } }
 
+-- units of a block that the checkpoint may have are freed: those that the open group allocated are used no more, and the others are kept
+pub record KeepsUnits (old new : Uses) (e : Extent) : Type 0 where
+  pub held : (u : ℕ) → has_unit new.held u ≡ (has_unit old.held u && not (in_extent e u && has_unit old.born u))
+  pub born : (u : ℕ) → has_unit new.born u ≡ (has_unit old.born u && not (in_extent e u))
+  pub kept : (u : ℕ) → has_unit new.kept u ≡ (has_unit old.kept u || (in_extent e u && not (has_unit old.born u)))
+  pub came : (u : ℕ) → has_unit new.came u ≡ (has_unit old.came u || (in_extent e u && not (has_unit old.born u)))
+  pub others : new ≡ record old { held = new.held; born = new.born; kept = new.kept; came = new.came }
+
+-- What becomes of the sets of a device where units are kept, and of the allocator's.
+pub record KeepsBorn (held held_new born born_new kept kept_new came came_new : List Extent) (old new : Devices) (dev : ℕ) (e : Extent) : Type 0 where
+  pub free : (d u : ℕ) → free_at new d u ≡ (free_at old d u || ((d == dev) && (in_extent e u && has_unit born u)))
+  pub held_is : (u : ℕ) → has_unit held_new u ≡ (has_unit held u && not (in_extent e u && has_unit born u))
+  pub born_is : (u : ℕ) → has_unit born_new u ≡ (has_unit born u && not (in_extent e u))
+  pub kept_is : (u : ℕ) → has_unit kept_new u ≡ (has_unit kept u || (in_extent e u && not (has_unit born u)))
+  pub came_is : (u : ℕ) → has_unit came_new u ≡ (has_unit came u || (in_extent e u && not (has_unit born u)))
+  pub count : count_at new dev + unit_count held_new ≡ count_at old dev + unit_count held
+  pub others : (d : ℕ) → (d == dev) ≡ false → count_at new d ≡ count_at old d
+  pub devices : KeepsDevices old new
+  pub held_maximal : IsMaximal held_new
+  pub born_maximal : IsMaximal born_new
+  pub kept_maximal : IsMaximal kept_new
+  pub came_maximal : IsMaximal came_new
+
+-- kept units are given up: they are deferred
+pub record DiscardsUnits (old new : Uses) (e : Extent) : Type 0 where
+  pub held : RemovesUnits old.held new.held e
+  pub kept : RemovesUnits old.kept new.kept e
+  pub came : (u : ℕ) → has_unit new.came u ≡ (has_unit old.came u && not (in_extent e u))
+  pub went : (u : ℕ) → has_unit new.went u ≡ (has_unit old.went u || (in_extent e u && not (has_unit old.came u)))
+  pub deferred : AddsUnits old.freed.blocks new.freed.blocks e
+  pub came_maximal : IsMaximal old.came → IsMaximal new.came
+  pub went_maximal : IsMaximal old.went → IsMaximal new.went
+  pub others : new ≡ record old { held = new.held; kept = new.kept; came = new.came; went = new.went; freed = record { blocks = new.freed.blocks; meta = old.freed.meta } }
+
+-- nothing of the extent is given up, or a front of it
+abbrev pub DiscardsFront : Uses → Uses → Extent → Type 0
+DiscardsFront old new e = (new ≡ old) ⊎ ((n : ℕ) × (0 < n) × (n ≤ e.len) × DiscardsUnits old new (record { start = e.start; len = n }))
+
 -- a commit ages what is freed, and the oldest of it is used no more
 abbrev pub aged_uses : Uses → Uses
-aged_uses x = record x { born = []; freed = none_freed; late1 = x.freed; late2 = x.late1 }
+aged_uses x = record x { born = []; came = []; went = []; freed = none_freed; late1 = x.freed; late2 = x.late1 }
 
 -- a reset lets go of all that is freed
 abbrev pub cleared_uses : Uses → Uses
-cleared_uses x = record x { born = []; freed = none_freed; late1 = none_freed; late2 = none_freed }
+cleared_uses x = record x { born = []; came = []; went = []; freed = none_freed; late1 = none_freed; late2 = none_freed }
 
 -- the metadata of the current root is the saved root's from now on
 abbrev pub saved_uses : Uses → Uses

@@ -1,16 +1,16 @@
 //! The sets of one device, and what happens to them.
-ghost use Rattle.std.specs.Prelude.{◌≡◌, ℕ, ◌+◌, ◌^◌, ◌<◌, ◌≤◌, ◌||◌, true, false, OnOk, OnErr, IfOk, length, []};
+ghost use Rattle.std.specs.Prelude.{◌≡◌, ℕ, ◌+◌, ◌*◌, ◌^◌, ◌<◌, ◌≤◌, ◌||◌, true, false, OnOk, OnErr, IfOk, length, []};
 ghost use Rattle.zr_base.specs.Extents.{HasAll, HasNone, in_extent, has_unit, unit_count};
 ghost use Rattle.zr_metaslab.specs.Devices.{Devices, free_at, count_at, units_at};
-ghost use Rattle.zr_units.specs.Uses.{IsAccount, unused, use_count, freed_count};
+ghost use Rattle.zr_units.specs.Uses.{IsAccount, IsKeeping, unused, use_count, freed_count};
 ghost use Rattle.zr_units.specs.Apart.{AreSetsApart};
 ghost use Rattle.zr_units.specs.Differences.{IsMerged};
 ghost use Rattle.zr_units.specs.Words.{HasWithin, use_words};
-ghost use Rattle.zr_units.specs.Changes.{Holds, HoldsMeta, DropsMeta, DropsSaved, FreesUnits, TakesBack, FreesBorn, aged_uses, cleared_uses, saved_uses, has_freed};
+ghost use Rattle.zr_units.specs.Changes.{Holds, HoldsMeta, DropsMeta, DropsSaved, FreesUnits, KeepsUnits, KeepsBorn, DiscardsUnits, DiscardsFront, TakesBack, FreesBorn, aged_uses, cleared_uses, saved_uses, has_freed};
 
 use crate::changes::merged;
 use crate::freed::FreedSets;
-use crate::parts::free_parts;
+use crate::parts::{free_parts, keep_parts, uniform_front};
 use crate::words::set_words;
 use std::alloc::Global;
 use std::marker::Model;
@@ -25,6 +25,9 @@ pub struct Units {
     units: u64,
     held: RangeSet,
     born: RangeSet,
+    kept: RangeSet,
+    came: RangeSet,
+    went: RangeSet,
     freed: FreedSets,
     late1: FreedSets,
     late2: FreedSets,
@@ -37,7 +40,7 @@ impl Model for Units {
 
     ghost Value = { Uses };
 
-    ghost view = { λ a. record { units = a.units; held = a.held.extents; born = a.born.extents; freed = a.freed; late1 = a.late1; late2 = a.late2; meta = a.meta.extents; saved = a.saved.extents } };
+    ghost view = { λ a. record { units = a.units; held = a.held.extents; born = a.born.extents; kept = a.kept.extents; came = a.came.extents; went = a.went.extents; freed = a.freed; late1 = a.late1; late2 = a.late2; meta = a.meta.extents; saved = a.saved.extents } };
 }
 
 impl Units {
@@ -49,6 +52,9 @@ impl Units {
             units,
             held: RangeSet::new(alloc),
             born: RangeSet::new(alloc),
+            kept: RangeSet::new(alloc),
+            came: RangeSet::new(alloc),
+            went: RangeSet::new(alloc),
             freed: FreedSets::new(alloc),
             late1: FreedSets::new(alloc),
             late2: FreedSets::new(alloc),
@@ -62,15 +68,19 @@ impl Units {
         alloc: Global,
         units: u64,
         held: RangeSet,
+        kept: RangeSet,
         late1: FreedSets,
         late2: FreedSets,
     ) -> Units
-        ensures { result ≡ record (unused units) { held = held.extents; late1 = late1; late2 = late2 } }
+        ensures { result ≡ record (unused units) { held = held.extents; kept = kept.extents; late1 = late1; late2 = late2 } }
     {
         Units {
             units,
             held,
             born: RangeSet::new(alloc),
+            kept,
+            came: RangeSet::new(alloc),
+            went: RangeSet::new(alloc),
             freed: FreedSets::new(alloc),
             late1,
             late2,
@@ -98,6 +108,13 @@ impl Units {
         ensures { result.now.extents ≡ self.now.born }
     {
         &self.born
+    }
+
+    /// The held units that only the checkpoint has.
+    pub fn kept(&self) -> &RangeSet
+        ensures { result.now.extents ≡ self.now.kept }
+    {
+        &self.kept
     }
 
     /// The metadata units of the current root.
@@ -135,16 +152,18 @@ impl Units {
         &self.late2
     }
 
-    /// The words of the sets that a space map or a late set records, were each written anew: the held units, and the
-    /// block units that are freed and not free yet. On a device of at most 32,768 units it costs nothing, and on a larger
+    /// The words of the sets that a space map or a late set records, were each written anew: the held units, the kept
+    /// ones three times, and the block units that are freed and not free yet. On a device of at most 32,768 units it costs nothing, and on a larger
     /// one it goes over their extents.
     pub fn words(&self, version: u64) -> u64
         requires within { HasWithin self.now }
         requires small { use_count self.now < 2 ^ 40 }
+        requires kept { unit_count self.now.kept < 2 ^ 40 }
         ensures words { result ≡ use_words version self.now }
-        ensures few { result ≤ use_count self.now }
+        ensures few { result ≤ use_count self.now + 3 * unit_count self.now.kept }
     {
         set_words(&self.held, self.units, version)
+            + 3 * set_words(&self.kept, self.units, version)
             + set_words(&self.freed.blocks, self.units, version)
             + set_words(&self.late1.blocks, self.units, version)
             + set_words(&self.late2.blocks, self.units, version)
@@ -157,6 +176,14 @@ impl Units {
         ensures { IfOk result (λ cs. IsMerged self.now.born self.now.freed.blocks cs.items) }
     {
         merged(alloc, self.born.extents(), self.freed.blocks.extents())
+    }
+
+    /// What the open group changed in the kept set, as changes by rising place. It goes over what changed alone.
+    pub fn kept_changes(&self, alloc: Global) -> Result<Vec<Change>, NoMemory>
+        requires { AreSetsApart self.now.came self.now.went }
+        ensures { IfOk result (λ cs. IsMerged self.now.came self.now.went cs.items) }
+    {
+        merged(alloc, self.came.extents(), self.went.extents())
     }
 
     /// How many units are in use: held, or of metadata.
@@ -253,6 +280,90 @@ impl Units {
         Ok(())
     }
 
+    /// Frees held units of a block that the checkpoint may have: those that the open group allocated go back to the
+    /// allocator, and the others are kept. The memory is taken first.
+    pub fn keep(&mut self, slabs: &mut Slabs, dev: u32, e: Extent) -> Result<(), NoMemory>
+        requires device { dev < length slabs.old }
+        requires units { units_at slabs.old dev ≡ self.old.units }
+        requires not_empty { 0 < e.len }
+        requires held { HasAll self.old.held e }
+        requires unkept { HasNone self.old.kept e }
+        requires account { IsAccount (free_at slabs.old dev) (count_at slabs.old dev) self.old }
+        ensures ok { OnOk result (KeepsUnits self.old self.new e) }
+        ensures given { OnOk result (KeepsBorn self.old.held self.new.held self.old.born self.new.born self.old.kept self.new.kept self.old.came self.new.came slabs.old slabs.new dev e) }
+        ensures err { OnErr result (self.new ≡ self.old) }
+        ensures err_slabs { OnErr result (slabs.new ≡ slabs.old) }
+    {
+        let pieces = e.len as usize;
+        self.held.reserve(pieces)?;
+        self.born.reserve(pieces)?;
+        self.kept.reserve(pieces)?;
+        self.came.reserve(pieces)?;
+        keep_parts(
+            &mut self.held,
+            &mut self.born,
+            &mut self.kept,
+            &mut self.came,
+            slabs,
+            dev,
+            e,
+        );
+        Ok(())
+    }
+
+    // Gives up a front of kept units: those that came to them in the open group, or those that did not. It answers how
+    // many. An error leaves all as it was.
+    fn discard_front(&mut self, e: Extent) -> Result<u64, NoMemory>
+        requires not_empty { 0 < e.len }
+        requires in_range { e.start + e.len ≤ 2 ^ 62 }
+        requires kept { HasAll self.old.kept e }
+        requires keeping { IsKeeping self.old }
+        requires apart { AreSetsApart self.old.held self.old.freed.blocks }
+        ensures ok { IfOk result (λ n. DiscardsUnits self.old self.new (record { start = e.start; len = n })) }
+        ensures some { IfOk result (λ n. 0 < n) }
+        ensures most { IfOk result (λ n. n ≤ e.len) }
+        ensures err { OnErr result (self.new ≡ self.old) }
+    {
+        self.held.reserve(1)?;
+        self.kept.reserve(1)?;
+        self.came.reserve(1)?;
+        self.went.reserve(1)?;
+        self.freed.blocks.reserve(1)?;
+        let front = uniform_front(&self.came, e);
+        self.held.remove_reserved(front.at);
+        self.kept.remove_reserved(front.at);
+        self.freed.blocks.add_reserved(front.at);
+        if front.inside {
+            self.came.remove_reserved(front.at);
+        } else {
+            self.went.add_reserved(front.at);
+        }
+        Ok(front.at.len)
+    }
+
+    /// Gives up kept units: they are deferred, and free two commits later. It takes a change of each set for each run of
+    /// them that came to the kept ones in the open group, or did not. After an `Err` some may have been given up.
+    pub fn discard(&mut self, e: Extent) -> Result<(), NoMemory>
+        requires not_empty { 0 < e.len }
+        requires in_range { e.start + e.len ≤ 2 ^ 62 }
+        requires kept { HasAll self.old.kept e }
+        requires keeping { IsKeeping self.old }
+        requires apart { AreSetsApart self.old.held self.old.freed.blocks }
+        ensures ok { OnOk result (DiscardsUnits self.old self.new e) }
+        ensures err { OnErr result (DiscardsFront self.old self.new e) }
+    {
+        let end = e.start + e.len;
+        let mut at = e.start;
+        while at < end {
+            let rest = Extent {
+                start: at,
+                len: end - at,
+            };
+            at += self.discard_front(rest)?;
+        }
+        Ok(())
+    }
+
     /// Ages what is freed by one commit. What was late twice goes back to the allocator.
     pub fn age(&mut self, slabs: &mut Slabs, dev: u32)
         requires device { dev < length slabs.old }
@@ -262,6 +373,8 @@ impl Units {
         ensures taken { TakesBack slabs.old slabs.new dev (has_freed self.old.late2) (freed_count self.old.late2) }
     {
         self.born.clear();
+        self.came.clear();
+        self.went.clear();
         self.late2.let_go(slabs, dev);
         mem::swap(&mut self.late2, &mut self.late1);
         mem::swap(&mut self.late1, &mut self.freed);
@@ -276,6 +389,8 @@ impl Units {
         ensures taken { TakesBack slabs.old slabs.new dev (λ u. has_freed self.old.freed u || (has_freed self.old.late1 u || has_freed self.old.late2 u)) (freed_count self.old.freed + freed_count self.old.late1 + freed_count self.old.late2) }
     {
         self.born.clear();
+        self.came.clear();
+        self.went.clear();
         self.late2.let_go(slabs, dev);
         self.late1.let_go(slabs, dev);
         self.freed.let_go(slabs, dev);

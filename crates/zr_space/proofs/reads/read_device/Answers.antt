@@ -1,6 +1,6 @@
-use Rattle.std.proofs.Common.{sym, subst, List, refl}
+use Rattle.std.proofs.Common.{sym, subst, ap, ◌∙◌, List, refl}
 use Rattle.zr_base.specs.declared.space.Extent.{Extent}
-use Rattle.zr_units.specs.Uses.{Uses, Freed}
+use Rattle.zr_units.specs.Uses.{Uses, Freed, unused}
 use Rattle.zr_space.specs.Reads.{IsRead, IsPlain, CanRead, Marks, CanReadLate}
 use Rattle.zr_base.specs.declared.space.LateRun.{LateRun}
 use Rattle.zr_space.specs.Reads.{IsListed}
@@ -19,7 +19,7 @@ returns-clause-some c =
     let marks1 = rw c.in-Some-2.is at c.in_ok-late1.ensures.used in
     let late2 = rw c.in-Some-3.is at c.in_ok-late2.ensures.some in
     let marks2 = rw c.in-Some-3.is at c.in_ok-late2.ensures.used in
-    subst (λ (x : Uses). IsRead (record { row = row; uses = x }) c.read_late-2.new.used.extents) (sym c.of_sets.ensures)
+    subst (λ (x : Uses). IsRead (record { row = row; uses = x }) c.read_late-2.new.used.extents) (sym (c.of_sets.ensures ∙ ap (λ (es : List Extent). record (unused row.units) { held = c.in-Some.held.extents; kept = es; late1 = c.in-Some-2.late1; late2 = c.in-Some-3.late2 }) c.new.ensures))
     (device_read row c.in-Some.held.extents c.in-Some-2.late1 c.in-Some-3.late2 c.args.used.now.extents c.read_set.new.used.extents c.read_late.new.used.extents c.read_late-2.new.used.extents
     plain.on plain.small c.requires
     (subst (λ (es : List Extent). CanRead es c.args.used.now.extents row.units) (sym set) held)

@@ -36,4 +36,4 @@ returns-clause-ok c =
           (subst (λ n. slab.AddsDevice c.self.inside.slabs c.add_dev.new.self n c.args.units c.new-none.result.extents) len c.in_ok-add_dev.ensures.ok);
     } in
     rw (← c.self.view_is)
-    (subst (λ (xs : List Kept). AddsDevice (space_of c.self.inside.version devs) (space_of c.self.inside.version xs) c.args.units c.args.txg) (sym items) (adds c.self.inside.slabs c.add_dev.new.self devs c.args.units c.args.txg added c.self.inside.version))
+    (subst (λ (xs : List Kept). AddsDevice (space_of c.self.inside.whole devs) (space_of c.self.inside.whole xs) c.args.units c.args.txg) (sym items) (adds c.self.inside.slabs c.add_dev.new.self devs c.args.units c.args.txg added c.self.inside.whole))

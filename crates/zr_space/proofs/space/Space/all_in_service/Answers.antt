@@ -19,10 +19,10 @@ small_units slabs devs d s =
     omega (arith, units, small)
 
 pub returns-clause-lawful : goal.returns-clause-lawful
-returns-clause-lawful c = subst IsLawful c.self.view_is (lawful c.self.inside.version c.self.inside.slabs c.self.inside.devs.items c.self.invariant)
+returns-clause-lawful c = subst IsLawful c.self.view_is (lawful c.self.inside.whole c.self.inside.slabs c.self.inside.devs.items c.self.invariant)
 
 pub returns-clause-service : goal.returns-clause-service
-returns-clause-service c = subst (λ (s : Space). AreInService (devices_in s)) c.self.view_is (in_service c.self.inside.version c.self.inside.slabs c.self.inside.devs.items c.self.invariant)
+returns-clause-service c = subst (λ (s : Space). AreInService (devices_in s)) c.self.view_is (in_service c.self.inside.whole c.self.inside.slabs c.self.inside.devs.items c.self.invariant)
 
 pub returns-clause-small : goal.returns-clause-small
 returns-clause-small c = subst (λ (s : Space). (d : ℕ) → units_of_dev s.parts.devs d < 2 ^ 40) c.self.view_is (λ d. small_units c.self.inside.slabs c.self.inside.devs.items d c.self.invariant)

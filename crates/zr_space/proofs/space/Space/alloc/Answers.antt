@@ -10,7 +10,7 @@ use Rattle.zr_space.proofs.space.Space.alloc.Goals as goal
 
 pub returns-in-Err-clause-cause : goal.returns-in-Err-clause-cause
 returns-in-Err-clause-cause g c =
-    rw (← c.self.view_is) (c.in-Err.ensures.needed, no_run c.self.inside.version c.self.inside.slabs c.self.inside.devs.items c.args.want c.in-Err.field-0.longest c.self.invariant c.in-Err.ensures.none)
+    rw (← c.self.view_is) (c.in-Err.ensures.needed, no_run c.self.inside.whole c.self.inside.slabs c.self.inside.devs.items c.args.want c.in-Err.field-0.longest c.self.invariant c.in-Err.ensures.none)
 
 pub invariant_of-self-in-Ok-hold : goal.invariant_of-self-in-Ok-hold
 invariant_of-self-in-Ok-hold g c =
@@ -54,7 +54,7 @@ returns-in-Ok-hold-clause-ok g c =
       kept = c.device.view_is ∙ here;
     } in
     rw (← c.self.view_is)
-    (allocates c.self.inside.slabs c.alloc.new.self c.self.inside.devs.items c.in-Ok.at k taken c.self.inside.version c.args.want _ c.hold.new.self (rw c.extent_of-e.ensures at c.in-Ok-hold.ensures.ok) c.in-Ok.ensures.placed)
+    (allocates c.self.inside.slabs c.alloc.new.self c.self.inside.devs.items c.in-Ok.at k taken c.self.inside.whole c.args.want _ c.hold.new.self (rw c.extent_of-e.ensures at c.in-Ok-hold.ensures.ok) c.in-Ok.ensures.placed)
 
 pub returns-in-Ok-hold-clause-live : goal.returns-in-Ok-hold-clause-live
 returns-in-Ok-hold-clause-live g c =
@@ -71,8 +71,8 @@ returns-in-Ok-hold-clause-live g c =
     let y = rw c.extent_of-e.ensures at c.in-Ok-hold.ensures.ok in
     let devs : List Kept = set c.self.inside.devs.items c.in-Ok.at.dev (record { row = k.row; uses = c.hold.new.self }) in
     let space = block_space c.self.inside.slabs c.alloc.new.self c.self.inside.devs.items c.in-Ok.at k taken c.hold.new.self y in
-    let moved = allocates c.self.inside.slabs c.alloc.new.self c.self.inside.devs.items c.in-Ok.at k taken c.self.inside.version c.args.want _ c.hold.new.self y c.in-Ok.ensures.placed in
-    is_live c.self.inside.version c.alloc.new.self devs c.in-Ok.at
+    let moved = allocates c.self.inside.slabs c.alloc.new.self c.self.inside.devs.items c.in-Ok.at k taken c.self.inside.whole c.args.want _ c.hold.new.self y c.in-Ok.ensures.placed in
+    is_live c.self.inside.whole c.alloc.new.self devs c.in-Ok.at
     (record {
       space = space;
       known = let l = length-set c.self.inside.devs.items c.in-Ok.at.dev (record { row = k.row; uses = c.hold.new.self }) in omega (arith, there, l);

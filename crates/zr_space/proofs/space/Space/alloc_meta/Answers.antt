@@ -10,7 +10,7 @@ use Rattle.zr_space.proofs.space.Space.alloc_meta.Goals as goal
 
 pub returns-in-Err-clause-cause : goal.returns-in-Err-clause-cause
 returns-in-Err-clause-cause g c =
-    rw (← c.self.view_is) (c.in-Err.ensures.needed, no_run c.self.inside.version c.self.inside.slabs c.self.inside.devs.items c.args.want c.in-Err.field-0.longest c.self.invariant c.in-Err.ensures.none)
+    rw (← c.self.view_is) (c.in-Err.ensures.needed, no_run c.self.inside.whole c.self.inside.slabs c.self.inside.devs.items c.args.want c.in-Err.field-0.longest c.self.invariant c.in-Err.ensures.none)
 
 pub invariant_of-self-in-Ok-hold_meta : goal.invariant_of-self-in-Ok-hold_meta
 invariant_of-self-in-Ok-hold_meta g c =
@@ -54,7 +54,7 @@ returns-in-Ok-hold_meta-clause-ok g c =
       kept = c.device.view_is ∙ here;
     } in
     rw (← c.self.view_is)
-    (allocates_meta c.self.inside.slabs c.alloc.new.self c.self.inside.devs.items c.in-Ok.at k taken c.self.inside.version c.args.want _ c.hold_meta.new.self (rw c.extent_of-e.ensures at c.in-Ok-hold_meta.ensures.ok) c.in-Ok.ensures.placed)
+    (allocates_meta c.self.inside.slabs c.alloc.new.self c.self.inside.devs.items c.in-Ok.at k taken c.self.inside.whole c.args.want _ c.hold_meta.new.self (rw c.extent_of-e.ensures at c.in-Ok-hold_meta.ensures.ok) c.in-Ok.ensures.placed)
 
 pub returns-in-Ok-hold_meta-clause-meta : goal.returns-in-Ok-hold_meta-clause-meta
 returns-in-Ok-hold_meta-clause-meta g c =
@@ -71,8 +71,8 @@ returns-in-Ok-hold_meta-clause-meta g c =
     let y = rw c.extent_of-e.ensures at c.in-Ok-hold_meta.ensures.ok in
     let devs : List Kept = set c.self.inside.devs.items c.in-Ok.at.dev (record { row = k.row; uses = c.hold_meta.new.self }) in
     let space = meta_space c.self.inside.slabs c.alloc.new.self c.self.inside.devs.items c.in-Ok.at k taken c.hold_meta.new.self y in
-    let moved = allocates_meta c.self.inside.slabs c.alloc.new.self c.self.inside.devs.items c.in-Ok.at k taken c.self.inside.version c.args.want _ c.hold_meta.new.self y c.in-Ok.ensures.placed in
-    is_meta c.self.inside.version c.alloc.new.self devs c.in-Ok.at
+    let moved = allocates_meta c.self.inside.slabs c.alloc.new.self c.self.inside.devs.items c.in-Ok.at k taken c.self.inside.whole c.args.want _ c.hold_meta.new.self y c.in-Ok.ensures.placed in
+    is_meta c.self.inside.whole c.alloc.new.self devs c.in-Ok.at
     (record {
       space = space;
       known = let l = length-set c.self.inside.devs.items c.in-Ok.at.dev (record { row = k.row; uses = c.hold_meta.new.self }) in omega (arith, there, l);

@@ -19,7 +19,7 @@ loop-dev-preserved-then-reset c =
     let next : IsNext c.loop-dev.self-inside.slabs c.reset.new.slabs c.loop-dev.self-inside.devs.items c.loop-dev.dev k = record { space = i.space; there = there; kept = is } in
     record {
       space = rw c.reset.ensures.cleared (clear_space c.loop-dev.self-inside.slabs c.reset.new.slabs c.loop-dev.self-inside.devs.items c.loop-dev.dev k next c.reset.ensures.taken);
-      version = i.version;
+      whole = i.whole;
       devices = length-set c.loop-dev.self-inside.devs.items c.loop-dev.dev _ ∙ i.devices;
       end = i.end;
       so_far = settled_next c.args.reset c.self.inside.devs.items c.loop-dev.self-inside.devs.items c.loop-dev.dev k c.reset.new.self there is (rw c.if-reset.true c.reset.ensures.cleared) i.so_far;
@@ -34,7 +34,7 @@ loop-dev-preserved c =
     let next : IsNext c.loop-dev.self-inside.slabs c.age.new.slabs c.loop-dev.self-inside.devs.items c.loop-dev.dev k = record { space = i.space; there = there; kept = is } in
     record {
       space = rw c.age.ensures.aged (age_space c.loop-dev.self-inside.slabs c.age.new.slabs c.loop-dev.self-inside.devs.items c.loop-dev.dev k next c.age.ensures.taken);
-      version = i.version;
+      whole = i.whole;
       devices = length-set c.loop-dev.self-inside.devs.items c.loop-dev.dev _ ∙ i.devices;
       end = i.end;
       so_far = settled_next c.args.reset c.self.inside.devs.items c.loop-dev.self-inside.devs.items c.loop-dev.dev k c.age.new.self there is (rw c.if-reset.false c.age.ensures.aged) i.so_far;
@@ -48,9 +48,9 @@ returns-clause-commits c =
     let n : c.loop-dev.dev ≡ length devs = let e = i.end in let l = i.devices in let t = c.loop-dev-test.false in let a = c.loop-dev.auto.dev-end in omega (arith, e, l, t, a) in
     let e : devs ≡ map (settled c.args.reset) first = settled_all c.args.reset first devs i.devices (subst (λ k. (d : ℕ) → kept_of devs d ≡ (if nat_lt d k then settled c.args.reset (kept_of first d) else kept_of first d)) n i.so_far) in
     rw (← c.self.view_is)
-    (subst (λ w. Commits c.args.reset (space_of c.self.inside.version first) (space_of w devs)) (sym i.version)
-    (subst (λ (xs : List Kept). Commits c.args.reset (space_of c.self.inside.version first) (space_of c.self.inside.version xs)) (sym e)
-    (commits c.args.reset c.self.inside.version c.self.inside.slabs c.loop-dev.self-inside.slabs first c.self.invariant (subst (λ (xs : List Kept). IsSpace c.loop-dev.self-inside.slabs xs) e i.space))))
+    (subst (λ w. Commits c.args.reset (space_of c.self.inside.whole first) (space_of w devs)) (sym i.whole)
+    (subst (λ (xs : List Kept). Commits c.args.reset (space_of c.self.inside.whole first) (space_of c.self.inside.whole xs)) (sym e)
+    (commits c.args.reset c.self.inside.whole c.self.inside.slabs c.loop-dev.self-inside.slabs first c.self.invariant (subst (λ (xs : List Kept). IsSpace c.loop-dev.self-inside.slabs xs) e i.space))))
 
 pub returns-clause-meta : goal.returns-clause-meta
 returns-clause-meta c =
@@ -77,10 +77,10 @@ returns-clause-live c = λ a l.
     let i = c.loop-dev.invariant in
     let n : c.loop-dev.dev ≡ length devs = let e = i.end in let l = i.devices in let t = c.loop-dev-test.false in let a = c.loop-dev.auto.dev-end in omega (arith, e, l, t, a) in
     let e : devs ≡ map (settled c.args.reset) first = settled_all c.args.reset first devs i.devices (subst (λ k. (d : ℕ) → kept_of devs d ≡ (if nat_lt d k then settled c.args.reset (kept_of first d) else kept_of first d)) n i.so_far) in
-    let was : IsLive (space_of c.self.inside.version first) a = subst (λ x. IsLive x a) (sym c.self.view_is) l in
-    subst (λ w. IsLive (space_of w devs) a) (sym i.version)
-    (subst (λ (xs : List Kept). IsLive (space_of c.self.inside.version xs) a) (sym e)
-    (stays_live c.args.reset c.self.inside.version c.self.inside.slabs c.loop-dev.self-inside.slabs first a c.self.invariant (subst (λ (xs : List Kept). IsSpace c.loop-dev.self-inside.slabs xs) e i.space) was))
+    let was : IsLive (space_of c.self.inside.whole first) a = subst (λ x. IsLive x a) (sym c.self.view_is) l in
+    subst (λ w. IsLive (space_of w devs) a) (sym i.whole)
+    (subst (λ (xs : List Kept). IsLive (space_of c.self.inside.whole xs) a) (sym e)
+    (stays_live c.args.reset c.self.inside.whole c.self.inside.slabs c.loop-dev.self-inside.slabs first a c.self.invariant (subst (λ (xs : List Kept). IsSpace c.loop-dev.self-inside.slabs xs) e i.space) was))
 
 pub returns-clause-metadata : goal.returns-clause-metadata
 returns-clause-metadata c = λ a l.
@@ -89,7 +89,7 @@ returns-clause-metadata c = λ a l.
     let i = c.loop-dev.invariant in
     let n : c.loop-dev.dev ≡ length devs = let e = i.end in let l = i.devices in let t = c.loop-dev-test.false in let a = c.loop-dev.auto.dev-end in omega (arith, e, l, t, a) in
     let e : devs ≡ map (settled c.args.reset) first = settled_all c.args.reset first devs i.devices (subst (λ k. (d : ℕ) → kept_of devs d ≡ (if nat_lt d k then settled c.args.reset (kept_of first d) else kept_of first d)) n i.so_far) in
-    let was : IsMeta (space_of c.self.inside.version first) a = subst (λ x. IsMeta x a) (sym c.self.view_is) l in
-    subst (λ w. IsMeta (space_of w devs) a) (sym i.version)
-    (subst (λ (xs : List Kept). IsMeta (space_of c.self.inside.version xs) a) (sym e)
-    (stays_meta c.args.reset c.self.inside.version c.self.inside.slabs c.loop-dev.self-inside.slabs first a c.self.invariant (subst (λ (xs : List Kept). IsSpace c.loop-dev.self-inside.slabs xs) e i.space) was))
+    let was : IsMeta (space_of c.self.inside.whole first) a = subst (λ x. IsMeta x a) (sym c.self.view_is) l in
+    subst (λ w. IsMeta (space_of w devs) a) (sym i.whole)
+    (subst (λ (xs : List Kept). IsMeta (space_of c.self.inside.whole xs) a) (sym e)
+    (stays_meta c.args.reset c.self.inside.whole c.self.inside.slabs c.loop-dev.self-inside.slabs first a c.self.invariant (subst (λ (xs : List Kept). IsSpace c.loop-dev.self-inside.slabs xs) e i.space) was))

@@ -6,7 +6,7 @@ use Rattle.zr_space.proofs.space.Space.commit_done.Given as goal
 abbrev pub invariant-loop-dev : goal.invariant-loop-dev
 invariant-loop-dev l = record {
   space : IsSpace l.self-inside.slabs l.self-inside.devs.items;
-  version : l.self-inside.version ≡ l.initial.self-inside.version;
+  whole : l.self-inside.whole ≡ l.initial.self-inside.whole;
   devices : length l.self-inside.devs.items ≡ length l.initial.self-inside.devs.items;
   end : l.dev-end ≡ length l.initial.self-inside.devs.items;
   so_far : (d : ℕ) → kept_of l.self-inside.devs.items d ≡ (if nat_lt d l.dev then settled l.reset (kept_of l.initial.self-inside.devs.items d) else kept_of l.initial.self-inside.devs.items d);

@@ -11,102 +11,102 @@ use Rattle.zr_space.proofs.space.Space.drop_meta.Goals as goal
 pub drop_saved-requires-clause-in_range : goal.drop_saved-requires-clause-in_range
 drop_saved-requires-clause-in_range c =
     let k : Kept = record { row = c.device.inside.row; uses = c.device.inside.units } in
-    let meta : IsMeta (space_of c.self.inside.version c.self.inside.devs.items) c.args.a = rw c.self.view_is c.requires.meta in
+    let meta : IsMeta (space_of c.self.inside.whole c.self.inside.devs.items) c.args.a = rw c.self.view_is c.requires.meta in
     let there : c.args.a.dev < length c.self.inside.devs.items = let l = meta.known in let e = length-map c.self.inside.devs.items part_in in omega (arith, l, e) in
-    let dropped : IsDropped c.self.inside.version c.self.inside.slabs c.self.inside.devs.items c.args.a k = record {
+    let dropped : IsDropped c.self.inside.whole c.self.inside.slabs c.self.inside.devs.items c.args.a k = record {
       space = c.self.invariant;
       meta = meta;
       kept = c.device.view_is ∙ kept_read c.self.inside.devs.items c.args.a.dev c.index_mut-device.result.now there c.index_mut-device.ensures.value;
     } in
-    let r = in_range c.self.inside.version c.self.inside.slabs c.self.inside.devs.items c.args.a k dropped in
+    let r = in_range c.self.inside.whole c.self.inside.slabs c.self.inside.devs.items c.args.a k dropped in
     rw c.extent_of-e.ensures r
 
 pub drop_saved-requires-clause-there : goal.drop_saved-requires-clause-there
 drop_saved-requires-clause-there c =
     let k : Kept = record { row = c.device.inside.row; uses = c.device.inside.units } in
-    let meta : IsMeta (space_of c.self.inside.version c.self.inside.devs.items) c.args.a = rw c.self.view_is c.requires.meta in
+    let meta : IsMeta (space_of c.self.inside.whole c.self.inside.devs.items) c.args.a = rw c.self.view_is c.requires.meta in
     let there : c.args.a.dev < length c.self.inside.devs.items = let l = meta.known in let e = length-map c.self.inside.devs.items part_in in omega (arith, l, e) in
-    let dropped : IsDropped c.self.inside.version c.self.inside.slabs c.self.inside.devs.items c.args.a k = record {
+    let dropped : IsDropped c.self.inside.whole c.self.inside.slabs c.self.inside.devs.items c.args.a k = record {
       space = c.self.invariant;
       meta = meta;
       kept = c.device.view_is ∙ kept_read c.self.inside.devs.items c.args.a.dev c.index_mut-device.result.now there c.index_mut-device.ensures.value;
     } in
-    let all : HasAll c.device.inside.units.saved (extent_of c.args.a) = all_saved c.self.inside.version c.self.inside.slabs c.self.inside.devs.items c.args.a k dropped (λ h. never (c.if-covers.ensures.1 (rw c.extent_of-e.ensures rw c.meta.ensures h))) in
+    let all : HasAll c.device.inside.units.saved (extent_of c.args.a) = all_saved c.self.inside.whole c.self.inside.slabs c.self.inside.devs.items c.args.a k dropped (λ h. never (c.if-covers.ensures.1 (rw c.extent_of-e.ensures rw c.meta.ensures h))) in
     rw c.extent_of-e.ensures all
 
 pub drop_saved-requires-clause-apart : goal.drop_saved-requires-clause-apart
 drop_saved-requires-clause-apart c =
     let k : Kept = record { row = c.device.inside.row; uses = c.device.inside.units } in
-    let meta : IsMeta (space_of c.self.inside.version c.self.inside.devs.items) c.args.a = rw c.self.view_is c.requires.meta in
+    let meta : IsMeta (space_of c.self.inside.whole c.self.inside.devs.items) c.args.a = rw c.self.view_is c.requires.meta in
     let there : c.args.a.dev < length c.self.inside.devs.items = let l = meta.known in let e = length-map c.self.inside.devs.items part_in in omega (arith, l, e) in
-    let dropped : IsDropped c.self.inside.version c.self.inside.slabs c.self.inside.devs.items c.args.a k = record {
+    let dropped : IsDropped c.self.inside.whole c.self.inside.slabs c.self.inside.devs.items c.args.a k = record {
       space = c.self.invariant;
       meta = meta;
       kept = c.device.view_is ∙ kept_read c.self.inside.devs.items c.args.a.dev c.index_mut-device.result.now there c.index_mut-device.ensures.value;
     } in
-    rw c.extent_of-e.ensures (none_freed c.self.inside.version c.self.inside.slabs c.self.inside.devs.items c.args.a k dropped)
+    rw c.extent_of-e.ensures (none_freed c.self.inside.whole c.self.inside.slabs c.self.inside.devs.items c.args.a k dropped)
 
 pub invariant_of-self-2 : goal.invariant_of-self-2
 invariant_of-self-2 c =
     let k : Kept = record { row = c.device.inside.row; uses = c.device.inside.units } in
-    let meta : IsMeta (space_of c.self.inside.version c.self.inside.devs.items) c.args.a = rw c.self.view_is c.requires.meta in
+    let meta : IsMeta (space_of c.self.inside.whole c.self.inside.devs.items) c.args.a = rw c.self.view_is c.requires.meta in
     let there : c.args.a.dev < length c.self.inside.devs.items = let l = meta.known in let e = length-map c.self.inside.devs.items part_in in omega (arith, l, e) in
-    let dropped : IsDropped c.self.inside.version c.self.inside.slabs c.self.inside.devs.items c.args.a k = record {
+    let dropped : IsDropped c.self.inside.whole c.self.inside.slabs c.self.inside.devs.items c.args.a k = record {
       space = c.self.invariant;
       meta = meta;
       kept = c.device.view_is ∙ kept_read c.self.inside.devs.items c.args.a.dev c.index_mut-device.result.now there c.index_mut-device.ensures.value;
     } in
-    let all : HasAll c.device.inside.units.saved (extent_of c.args.a) = all_saved c.self.inside.version c.self.inside.slabs c.self.inside.devs.items c.args.a k dropped (λ h. never (c.if-covers.ensures.1 (rw c.extent_of-e.ensures rw c.meta.ensures h))) in
-    saved_space c.self.inside.version c.self.inside.slabs c.self.inside.devs.items c.args.a k dropped c.drop_saved.new.self (rw c.extent_of-e.ensures at c.in_ok-drop_saved.ensures.ok) all
+    let all : HasAll c.device.inside.units.saved (extent_of c.args.a) = all_saved c.self.inside.whole c.self.inside.slabs c.self.inside.devs.items c.args.a k dropped (λ h. never (c.if-covers.ensures.1 (rw c.extent_of-e.ensures rw c.meta.ensures h))) in
+    saved_space c.self.inside.whole c.self.inside.slabs c.self.inside.devs.items c.args.a k dropped c.drop_saved.new.self (rw c.extent_of-e.ensures at c.in_ok-drop_saved.ensures.ok) all
 
 pub returns-clause-ok : goal.returns-clause-ok
 returns-clause-ok c =
     let k : Kept = record { row = c.device.inside.row; uses = c.device.inside.units } in
-    let meta : IsMeta (space_of c.self.inside.version c.self.inside.devs.items) c.args.a = rw c.self.view_is c.requires.meta in
+    let meta : IsMeta (space_of c.self.inside.whole c.self.inside.devs.items) c.args.a = rw c.self.view_is c.requires.meta in
     let there : c.args.a.dev < length c.self.inside.devs.items = let l = meta.known in let e = length-map c.self.inside.devs.items part_in in omega (arith, l, e) in
-    let dropped : IsDropped c.self.inside.version c.self.inside.slabs c.self.inside.devs.items c.args.a k = record {
+    let dropped : IsDropped c.self.inside.whole c.self.inside.slabs c.self.inside.devs.items c.args.a k = record {
       space = c.self.invariant;
       meta = meta;
       kept = c.device.view_is ∙ kept_read c.self.inside.devs.items c.args.a.dev c.index_mut-device.result.now there c.index_mut-device.ensures.value;
     } in
-    let all : HasAll c.device.inside.units.saved (extent_of c.args.a) = all_saved c.self.inside.version c.self.inside.slabs c.self.inside.devs.items c.args.a k dropped (λ h. never (c.if-covers.ensures.1 (rw c.extent_of-e.ensures rw c.meta.ensures h))) in
-    rw (← c.self.view_is) (drops_saved c.self.inside.version c.self.inside.slabs c.self.inside.devs.items c.args.a k dropped c.drop_saved.new.self (rw c.extent_of-e.ensures at c.in_ok-drop_saved.ensures.ok) all)
+    let all : HasAll c.device.inside.units.saved (extent_of c.args.a) = all_saved c.self.inside.whole c.self.inside.slabs c.self.inside.devs.items c.args.a k dropped (λ h. never (c.if-covers.ensures.1 (rw c.extent_of-e.ensures rw c.meta.ensures h))) in
+    rw (← c.self.view_is) (drops_saved c.self.inside.whole c.self.inside.slabs c.self.inside.devs.items c.args.a k dropped c.drop_saved.new.self (rw c.extent_of-e.ensures at c.in_ok-drop_saved.ensures.ok) all)
 
 pub returns-clause-parts : goal.returns-clause-parts
 returns-clause-parts c =
     let k : Kept = record { row = c.device.inside.row; uses = c.device.inside.units } in
-    let meta : IsMeta (space_of c.self.inside.version c.self.inside.devs.items) c.args.a = rw c.self.view_is c.requires.meta in
+    let meta : IsMeta (space_of c.self.inside.whole c.self.inside.devs.items) c.args.a = rw c.self.view_is c.requires.meta in
     let there : c.args.a.dev < length c.self.inside.devs.items = let l = meta.known in let e = length-map c.self.inside.devs.items part_in in omega (arith, l, e) in
-    let dropped : IsDropped c.self.inside.version c.self.inside.slabs c.self.inside.devs.items c.args.a k = record {
+    let dropped : IsDropped c.self.inside.whole c.self.inside.slabs c.self.inside.devs.items c.args.a k = record {
       space = c.self.invariant;
       meta = meta;
       kept = c.device.view_is ∙ kept_read c.self.inside.devs.items c.args.a.dev c.index_mut-device.result.now there c.index_mut-device.ensures.value;
     } in
-    let all : HasAll c.device.inside.units.saved (extent_of c.args.a) = all_saved c.self.inside.version c.self.inside.slabs c.self.inside.devs.items c.args.a k dropped (λ h. never (c.if-covers.ensures.1 (rw c.extent_of-e.ensures rw c.meta.ensures h))) in
-    rw (← c.self.view_is) (saved_keeps c.self.inside.version c.self.inside.slabs c.self.inside.devs.items c.args.a k dropped c.drop_saved.new.self (rw c.extent_of-e.ensures at c.in_ok-drop_saved.ensures.ok) all)
+    let all : HasAll c.device.inside.units.saved (extent_of c.args.a) = all_saved c.self.inside.whole c.self.inside.slabs c.self.inside.devs.items c.args.a k dropped (λ h. never (c.if-covers.ensures.1 (rw c.extent_of-e.ensures rw c.meta.ensures h))) in
+    rw (← c.self.view_is) (saved_keeps c.self.inside.whole c.self.inside.slabs c.self.inside.devs.items c.args.a k dropped c.drop_saved.new.self (rw c.extent_of-e.ensures at c.in_ok-drop_saved.ensures.ok) all)
 
 pub returns-then-covers-clause-ok : goal.returns-then-covers-clause-ok
 returns-then-covers-clause-ok c =
     let k : Kept = record { row = c.device.inside.row; uses = c.device.inside.units } in
-    let meta : IsMeta (space_of c.self.inside.version c.self.inside.devs.items) c.args.a = rw c.self.view_is c.requires.meta in
+    let meta : IsMeta (space_of c.self.inside.whole c.self.inside.devs.items) c.args.a = rw c.self.view_is c.requires.meta in
     let there : c.args.a.dev < length c.self.inside.devs.items = let l = meta.known in let e = length-map c.self.inside.devs.items part_in in omega (arith, l, e) in
-    let dropped : IsDropped c.self.inside.version c.self.inside.slabs c.self.inside.devs.items c.args.a k = record {
+    let dropped : IsDropped c.self.inside.whole c.self.inside.slabs c.self.inside.devs.items c.args.a k = record {
       space = c.self.invariant;
       meta = meta;
       kept = c.device.view_is ∙ kept_read c.self.inside.devs.items c.args.a.dev c.index_mut-device.result.now there c.index_mut-device.ensures.value;
     } in
     let all : HasAll c.device.inside.units.meta (extent_of c.args.a) = rw c.meta.ensures at (rw c.extent_of-e.ensures at (c.if-covers.ensures.0 refl)) in
-    rw (← c.self.view_is) (drops_meta c.self.inside.version c.self.inside.slabs c.self.inside.devs.items c.args.a k dropped c.drop_meta.new.self (rw c.extent_of-e.ensures at c.in_ok-drop_meta.ensures.ok) all)
+    rw (← c.self.view_is) (drops_meta c.self.inside.whole c.self.inside.slabs c.self.inside.devs.items c.args.a k dropped c.drop_meta.new.self (rw c.extent_of-e.ensures at c.in_ok-drop_meta.ensures.ok) all)
 
 pub returns-then-covers-clause-parts : goal.returns-then-covers-clause-parts
 returns-then-covers-clause-parts c =
     let k : Kept = record { row = c.device.inside.row; uses = c.device.inside.units } in
-    let meta : IsMeta (space_of c.self.inside.version c.self.inside.devs.items) c.args.a = rw c.self.view_is c.requires.meta in
+    let meta : IsMeta (space_of c.self.inside.whole c.self.inside.devs.items) c.args.a = rw c.self.view_is c.requires.meta in
     let there : c.args.a.dev < length c.self.inside.devs.items = let l = meta.known in let e = length-map c.self.inside.devs.items part_in in omega (arith, l, e) in
-    let dropped : IsDropped c.self.inside.version c.self.inside.slabs c.self.inside.devs.items c.args.a k = record {
+    let dropped : IsDropped c.self.inside.whole c.self.inside.slabs c.self.inside.devs.items c.args.a k = record {
       space = c.self.invariant;
       meta = meta;
       kept = c.device.view_is ∙ kept_read c.self.inside.devs.items c.args.a.dev c.index_mut-device.result.now there c.index_mut-device.ensures.value;
     } in
     let all : HasAll c.device.inside.units.meta (extent_of c.args.a) = rw c.meta.ensures at (rw c.extent_of-e.ensures at (c.if-covers.ensures.0 refl)) in
-    rw (← c.self.view_is) (meta_keeps c.self.inside.version c.self.inside.slabs c.self.inside.devs.items c.args.a k dropped c.drop_meta.new.self (rw c.extent_of-e.ensures at c.in_ok-drop_meta.ensures.ok) all)
+    rw (← c.self.view_is) (meta_keeps c.self.inside.whole c.self.inside.slabs c.self.inside.devs.items c.args.a k dropped c.drop_meta.new.self (rw c.extent_of-e.ensures at c.in_ok-drop_meta.ensures.ok) all)

@@ -10,7 +10,7 @@ use Rattle.zr_space.proofs.space.Space.on_units.Goals as goal
 pub returns-clause-units : goal.returns-clause-units
 returns-clause-units c =
     subst (λ (s : Space). c.units.result ≡ on_units s) c.self.view_is
-    (c.units.ensures.units ∙ (ap (λ (xs : List Kept). total_by (λ (x : Uses). x.units) xs) c.as_slice.ensures.value ∙ on_units_are c.self.inside.version c.self.inside.slabs c.self.inside.devs.items c.self.invariant))
+    (c.units.ensures.units ∙ (ap (λ (xs : List Kept). total_by (λ (x : Uses). x.units) xs) c.as_slice.ensures.value ∙ on_units_are c.self.inside.whole c.self.inside.slabs c.self.inside.devs.items c.self.invariant))
 
 pub units-requires : goal.units-requires
-units-requires c = subst AreFew (sym c.as_slice.ensures.value) (are_few c.self.inside.version c.self.inside.slabs c.self.inside.devs.items c.self.invariant)
+units-requires c = subst AreFew (sym c.as_slice.ensures.value) (are_few c.self.inside.whole c.self.inside.slabs c.self.inside.devs.items c.self.invariant)

@@ -49,8 +49,8 @@ returns-clause-yes c =
     subst (λ n. slab.AddsDevice c.self.inside.slabs c.add_dev.new.self (length devs) n c.read_meta.new.used.extents) units
     (subst (λ n. slab.AddsDevice c.self.inside.slabs c.add_dev.new.self n c.args.part.now.row.units c.read_meta.new.used.extents) len c.in_ok-add_dev.ensures.ok) in
     λ _. rw (← c.self.view_is)
-    (subst (λ (xs : List Kept). OpensDevice (space_of c.self.inside.version devs) (space_of c.self.inside.version xs) c.args.part.now c.args.meta.now) (sym items)
-    (opens c.self.inside.slabs c.add_dev.new.self devs k c.read_meta.new.used.extents c.self.invariant few all slabs c.self.inside.version c.args.part.now c.args.meta.now
+    (subst (λ (xs : List Kept). OpensDevice (space_of c.self.inside.whole devs) (space_of c.self.inside.whole xs) c.args.part.now c.args.meta.now) (sym items)
+    (opens c.self.inside.slabs c.add_dev.new.self devs k c.read_meta.new.used.extents c.self.invariant few all slabs c.self.inside.whole c.args.part.now c.args.meta.now
     (same_part k0 k.uses c.args.meta.now (length devs) c.read_device.new.used.extents c.read_meta.new.used.extents meta ∙ part) meta.hits))
 
 pub returns-in_default-clause-no : goal.returns-in_default-clause-no

@@ -6,7 +6,7 @@ use Rattle.zr_space.proofs.Paths.{in_service}
 use Rattle.zr_space.proofs.space.Space.room_of.Goals as goal
 
 pub returns-in-Some-clause-service : goal.returns-in-Some-clause-service
-returns-in-Some-clause-service c = subst (λ (s : Space). AreInService (devices_in s)) c.self.view_is (in_service c.self.inside.version c.self.inside.slabs c.self.inside.devs.items c.self.invariant)
+returns-in-Some-clause-service c = subst (λ (s : Space). AreInService (devices_in s)) c.self.view_is (in_service c.self.inside.whole c.self.inside.slabs c.self.inside.devs.items c.self.invariant)
 
 pub returns-in-None-clause-service : goal.returns-in-None-clause-service
-returns-in-None-clause-service c = subst (λ (s : Space). AreInService (devices_in s)) c.self.view_is (in_service c.self.inside.version c.self.inside.slabs c.self.inside.devs.items c.self.invariant)
+returns-in-None-clause-service c = subst (λ (s : Space). AreInService (devices_in s)) c.self.view_is (in_service c.self.inside.whole c.self.inside.slabs c.self.inside.devs.items c.self.invariant)
