@@ -21,7 +21,7 @@ use Rattle.zr_rules.specs.Roles.{given_up, taken_over, discarded, aged, cleared,
 use Rattle.zr_rules.specs.Roles.Role.{Absent, Free, FreshCopy}
 use Rattle.zr_rules.specs.Space.{Space, opened_of, nothing_opened, role_at, frontier, IsLawful}
 use Rattle.zr_rules.specs.Columns.{free_of}
-use Rattle.zr_rules.specs.Frees.{IsSamePart, IsSameFrame, MarksNothing}
+use Rattle.zr_rules.specs.Frees.{IsSamePart, IsSameFrame, IsSameRoot, MarksNothing}
 
 -- the part of the n units at u that the entry has, where it went
 abbrev pub moved_part : ℕ → ℕ → Entry → Dva
@@ -167,7 +167,13 @@ pub record HoldsCheckpoint (old new : Space) (txg : ℕ) : Type 0 where
   pub ckpt_is : new.parts.ckpt ≡ ckpt.Held txg
   pub meta : new.meta ≡ []
   pub saved_meta : new.saved_meta ≡ old.meta
+  pub version : new.parts.version ≡ old.parts.version
+  pub cond : new.parts.cond ≡ old.parts.cond
+  pub synced : new.synced ≡ old.synced
+  pub devices : length new.parts.devs ≡ length old.parts.devs
   pub each : (d : ℕ) → IsSamePart (part_of old.parts.devs d) (part_of new.parts.devs d)
+  pub root : IsSameRoot old new
+  pub lawful : IsLawful old → IsLawful new
 
 abbrev pub with_cond : Space → Option CondPart → Space
 with_cond s c = record s { parts = record s.parts { cond = c } }

@@ -1,12 +1,12 @@
 -- What changes of a device keep: each unit is once free or in one of its sets.
-use Rattle.std.proofs.Common.{◌≡◌, refl, ℕ, ◌+◌, Bool, true, ◌&&◌, ◌||◌, not, arith, if◌then◌else◌}
+use Rattle.std.proofs.Common.{◌≡◌, refl, ap, List, [], ℕ, ◌+◌, Bool, true, ◌&&◌, ◌||◌, not, arith, if◌then◌else◌}
 use Rattle.std.proofs.lemmas.Bool.Decides.{nat_tests}
 use Rattle.zr_base.specs.declared.space.Extent.{Extent}
 use Rattle.zr_base.specs.Extents.{in_extent, has_unit, unit_count, IsMaximal, HasAll, HasNone}
-use Rattle.zr_rules.specs.Roles.{is_free_role, freed, kept_of, discarded, aged, cleared, dropped}
+use Rattle.zr_rules.specs.Roles.{is_free_role, freed, kept_of, discarded, aged, cleared, dropped, saved}
 use Rattle.zr_rules.specs.Roles.Role.{FreshLive, Meta}
 use Rattle.zr_units.specs.Uses.{Uses, IsAccount}
-use Rattle.zr_units.specs.Changes.{Holds, HoldsMeta, DropsMeta, DropsSaved, FreesUnits, KeepsUnits, DiscardsUnits, aged_uses, cleared_uses, has_freed}
+use Rattle.zr_units.specs.Changes.{Holds, HoldsMeta, DropsMeta, DropsSaved, FreesUnits, KeepsUnits, DiscardsUnits, aged_uses, cleared_uses, saved_uses, has_freed}
 use Rattle.zr_space.specs.Views.{role_in}
 
 -- the same units are free
@@ -163,6 +163,21 @@ drops_saved_account f m x y e a h there = record {
 
 pub drops_saved_roles : (f : ℕ → Bool) (m : ℕ) (x y : Uses) (e : Extent) → IsAccount f m x → DropsSaved x y e → ((u : ℕ) → in_extent e u ≡ true → has_unit x.saved u ≡ true) → (u : ℕ) → role_in y u ≡ (if in_extent e u then dropped (role_in x u) else role_in x u)
 drops_saved_roles f m x y e a h there u = rw h.others (grind (arith, nat_tests, a.once u, h.saved.members u, h.dropped.members u, there u))
+
+-- ---- a checkpoint
+
+pub saved_account : (f : ℕ → Bool) (m : ℕ) (x : Uses) → IsAccount f m x → x.saved ≡ [] → IsAccount f m (saved_uses x)
+saved_account f m x a none = record {
+  once = λ u. let o = a.once u in let n = ap (λ (es : List Extent). has_unit es u) none in grind (arith, nat_tests, o, n);
+  born = a.born;
+  keeping = record { held = a.keeping.held; settled = a.keeping.settled; came = a.keeping.came; went = a.keeping.went };
+  sum = let s = a.sum in let n = ap unit_count none in omega (arith, s, n);
+  small = a.small;
+  lists = record { held = a.lists.held; born = a.lists.born; kept = a.lists.kept; came = a.lists.came; went = a.lists.went; freed = a.lists.freed; late1 = a.lists.late1; late2 = a.lists.late2; meta = tt; saved = a.lists.meta };
+}
+
+pub saved_roles : (f : ℕ → Bool) (m : ℕ) (x : Uses) → IsAccount f m x → x.saved ≡ [] → (u : ℕ) → role_in (saved_uses x) u ≡ saved (role_in x u)
+saved_roles f m x a none u = let o = a.once u in let n = ap (λ (es : List Extent). has_unit es u) none in grind (arith, nat_tests, o, n)
 
 -- ---- commits
 

@@ -120,7 +120,7 @@ module _ (f : ℕ → Bool) (m : ℕ) (x : Uses) (a : IsAccount f m x) where
       let p = deferred_below x.units x (λ u lt. let o = a.once u in grind (arith, nat_tests, o, lt)) in
       omega (arith, p, count_held, count_meta, count_saved, counted)
 
-  kept_is : (u : ℕ) → is_kept_role (role_in x u) ≡ has_unit x.kept u
+  pub kept_is : (u : ℕ) → is_kept_role (role_in x u) ≡ has_unit x.kept u
   kept_is u = let o = a.once u in let k = a.keeping.held u in grind (arith, nat_tests, o, k)
 
   pub kept_count : count_below x.units (λ u. is_kept_role (role_in x u)) ≡ unit_count x.kept

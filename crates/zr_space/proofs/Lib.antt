@@ -24,3 +24,7 @@ pub mod ReadDevices
 pub mod Opening
 pub mod Refusing
 pub mod InUse
+pub mod Discards
+pub mod Lowest
+pub mod Giving
+pub mod Holding

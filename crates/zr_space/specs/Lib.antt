@@ -2,6 +2,7 @@ pub mod Views
 pub mod Live
 pub mod Causes
 pub mod Drops
+pub mod Discards
 pub mod Paths
 pub mod Totals
 pub mod Records

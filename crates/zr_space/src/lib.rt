@@ -5,6 +5,7 @@
 //! in the sets of each device, and the two add up to the device's units at every moment.
 #![tactic(auto)]
 
+mod ckpt;
 mod device;
 mod live;
 mod open;
