@@ -1,5 +1,5 @@
 -- What the units of a root, or of an open pool, add up to. A root is a space of which nothing is open.
-use Rattle.std.specs.Prelude.{◌≡◌, ℕ, ◌+◌, ◌<◌, ◌≤◌, Bool, false, true, not, ◌&&◌, nat_lt, List, [], map, length, slice_index, if◌then◌else◌, sum_by, Option, Some, None}
+use Rattle.std.specs.Prelude.{◌≡◌, ℕ, ◌+◌, ◌<◌, ◌≤◌, Bool, false, true, not, ◌&&◌, nat_lt, List, map, length, slice_index, if◌then◌else◌, sum_by, Option, Some, None}
 use Rattle.std.specs.List.{list_any}
 use Rattle.zr_base.specs.declared.space.Dva.{Dva}
 use Rattle.zr_base.specs.declared.space.Entry.{Entry}

@@ -15,7 +15,7 @@ use Rattle.zr_units.specs.Uses.{Uses, IsAccount}
 use Rattle.zr_units.specs.Changes.{Holds, HoldsMeta}
 use Rattle.zr_space.specs.Views.{Kept, kept_of, space_of, IsSpace}
 use Rattle.zr_space.proofs.Accounts.{account_as, holds_account, holds_roles, holds_meta_account, holds_meta_roles}
-use Rattle.zr_space.proofs.Rooted.{SameUses, holds_root, holds_meta_root}
+use Rattle.zr_space.proofs.Rooted.{holds_root, holds_meta_root}
 use Rattle.zr_space.proofs.Frames.{roles_set, same_fresh, same_frame, meta_set}
 use Rattle.zr_space.proofs.Keeps.{IsChange, on_each, stays_space, same_free}
 use Rattle.zr_space.proofs.Sums.{extent_hits, once_in}

@@ -1,26 +1,22 @@
 -- What giving up kept units does to the space.
-use Rattle.std.proofs.Common.{◌≡◌, ◌⊎◌, inl, inr, ℕ, zero, suc, ◌+◌, ◌-◌, ◌≤◌, ◌<◌, ◌^◌, Bool, true, false, ◌==◌, ◌&&◌, ◌||◌, not, List, [], ◌∷◌, map, length, refl, ◌∙◌, sym, ap, subst, arith, ⊎_elim, if◌then◌else◌}
+use Rattle.std.proofs.Common.{◌≡◌, ◌⊎◌, inl, inr, ℕ, zero, suc, ◌+◌, ◌-◌, ◌≤◌, ◌<◌, ◌^◌, Bool, true, false, List, [], ◌∷◌, length, refl, ◌∙◌, sym, ap, subst, arith, if◌then◌else◌}
 use Rattle.std.proofs.Common.{Result, Ok, Err}
 use Rattle.std.specs.Prelude.{OnErr}
 use Rattle.std.proofs.Math.ListN.{set}
-use Rattle.std.proofs.lemmas.List.{length-map}
 use Rattle.std.proofs.lemmas.Bool.Decides.{nat_tests}
 use Rattle.zr_base.specs.declared.space.Dva.{Dva}
-use Rattle.zr_base.specs.declared.space.DevPart.{DevPart}
 use Rattle.zr_base.specs.declared.space.Extent.{Extent}
 use Rattle.zr_base.specs.Extents.{has_unit, in_extent, HasAll}
-use Rattle.zr_rules.specs.Places.{in_address}
 use Rattle.zr_rules.specs.Roles.{Role, discarded, is_kept_role}
-use Rattle.zr_rules.specs.Space.{Space, role_at, IsLawful}
+use Rattle.zr_rules.specs.Space.{Space, role_at}
 use Rattle.zr_rules.specs.Frees.{IsSameFrame}
 use Rattle.zr_rules.specs.Steps.{Discards, is_among}
-use Rattle.zr_metaslab.specs.Devices.{Devices, free_at, count_at, KeepsDevices, extent_of}
+use Rattle.zr_metaslab.specs.Devices.{Devices, free_at, count_at, KeepsDevices}
 use Rattle.zr_units.specs.Apart.{AreSetsApart}
 use Rattle.zr_units.specs.Uses.{Uses, IsAccount}
 use Rattle.zr_units.specs.Changes.{DiscardsUnits, DiscardsFront}
-use Rattle.zr_space.specs.Views.{Kept, kept_of, part_in, space_of, role_in, IsSpace}
+use Rattle.zr_space.specs.Views.{Kept, kept_of, space_of, role_in, IsSpace}
 use Rattle.zr_space.specs.Discards.{DiscardsPart}
-use Rattle.zr_space.proofs.Views.{part_is, kept_same}
 use Rattle.zr_space.proofs.Accounts.{discards_account, discards_roles}
 use Rattle.zr_space.proofs.Rooted.{discards_root}
 use Rattle.zr_space.proofs.Frames.{roles_set, same_fresh, same_frame, meta_set}

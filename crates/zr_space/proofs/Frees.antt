@@ -5,7 +5,7 @@ use Rattle.std.proofs.lemmas.List.{length-map}
 use Rattle.std.proofs.lemmas.Bool.Decides.{nat_tests}
 use Rattle.zr_base.specs.declared.space.Dva.{Dva}
 use Rattle.zr_base.specs.declared.space.DevPart.{DevPart}
-use Rattle.zr_base.specs.Extents.{has_unit, in_extent, unit_count, HasAll, HasNone}
+use Rattle.zr_base.specs.Extents.{has_unit, in_extent, HasAll, HasNone}
 use Rattle.zr_rules.specs.Places.{in_address, units_of_dev}
 use Rattle.zr_rules.specs.Roles.{freed, kept_of as kept_role, is_live_role}
 use Rattle.zr_rules.specs.Space.{role_at}

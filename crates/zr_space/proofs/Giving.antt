@@ -1,14 +1,14 @@
 -- Kept extents are given back one after the other.
-use Rattle.std.proofs.Common.{◌≡◌, ◌⊎◌, inl, inr, ℕ, zero, suc, ◌+◌, ◌*◌, ◌^◌, ◌≤◌, ◌<◌, Bool, true, false, ◌==◌, ◌&&◌, ◌||◌, not, List, [], ◌∷◌, length, refl, ◌∙◌, sym, ap, subst, arith, if◌then◌else◌, sum_by}
+use Rattle.std.proofs.Common.{◌≡◌, ◌⊎◌, inl, inr, ℕ, Bool, true, false, ◌==◌, ◌&&◌, ◌||◌, not, List, [], ◌∷◌, length, refl, ◌∙◌, sym, ap, subst, arith, if◌then◌else◌}
 use Rattle.std.proofs.lemmas.Bool.Decides.{nat_tests}
 use Rattle.zr_base.specs.declared.space.Extent.{Extent}
-use Rattle.zr_base.specs.Extents.{has_unit, in_extent}
+use Rattle.zr_base.specs.Extents.{in_extent}
 use Rattle.zr_rules.specs.Places.{is_fresh}
 use Rattle.zr_rules.specs.Roles.{Role, discarded, is_kept_role}
 use Rattle.zr_rules.specs.Space.{Space, role_at}
 use Rattle.zr_rules.specs.Frees.{IsSameFrame}
 use Rattle.zr_rules.specs.Steps.{Discards, is_among}
-use Rattle.zr_space.specs.Discards.{AreApart, AreKnown, CanDiscard, DiscardsPart}
+use Rattle.zr_space.specs.Discards.{AreKnown, CanDiscard, DiscardsPart}
 use Rattle.zr_space.proofs.Discards.{frame_itself}
 
 frames_join : (a b c : Space) → IsSameFrame a b → IsSameFrame b c → IsSameFrame a c

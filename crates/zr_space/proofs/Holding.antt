@@ -1,5 +1,5 @@
 -- What holding a checkpoint does to the space.
-use Rattle.std.proofs.Common.{◌≡◌, ℕ, zero, suc, ◌+◌, ◌≤◌, ◌<◌, true, false, ◌==◌, nat_lt, List, [], ◌∷◌, ◌++◌, map, length, refl, ◌∙◌, sym, ap, subst, arith, ⊎_elim, if◌then◌else◌}
+use Rattle.std.proofs.Common.{◌≡◌, ℕ, zero, suc, ◌+◌, ◌<◌, true, false, ◌==◌, nat_lt, List, [], ◌∷◌, ◌++◌, map, length, refl, ◌∙◌, sym, ap, subst, arith, ⊎_elim, if◌then◌else◌}
 use Rattle.std.proofs.Math.ListN.{set}
 use Rattle.std.proofs.lemmas.Bool.{cases_eq}
 use Rattle.std.proofs.lemmas.Bool.Decides.{nat_tests}
@@ -13,14 +13,14 @@ use Rattle.zr_rules.specs.Places.{part_of}
 use Rattle.zr_rules.specs.Roles.{saved}
 use Rattle.zr_rules.specs.Frees.{IsSamePart}
 use Rattle.zr_rules.specs.Steps as steps
-use Rattle.zr_metaslab.specs.Devices.{Devices, free_at, count_at, KeepsDevices}
+use Rattle.zr_metaslab.specs.Devices.{Devices, free_at, count_at}
 use Rattle.zr_units.specs.Uses.{Uses, IsAccount}
 use Rattle.zr_units.specs.Changes.{saved_uses}
-use Rattle.zr_space.specs.Views.{Kept, kept_of, part_in, opened_in, space_of, role_in, IsSpace, with_saved, meta_from, saved_from, addresses}
-use Rattle.zr_space.proofs.Views.{part_is, opened_is, kept_other, kept_same}
+use Rattle.zr_space.specs.Views.{Kept, kept_of, part_in, space_of, role_in, IsSpace, with_saved, meta_from, saved_from, addresses}
+use Rattle.zr_space.proofs.Views.{part_is, kept_other, kept_same}
 use Rattle.zr_space.proofs.Roles.{roles_are}
 use Rattle.zr_space.proofs.Accounts.{saved_account, saved_roles}
-use Rattle.zr_space.proofs.Keeps.{IsChange, stays_space, lawful}
+use Rattle.zr_space.proofs.Keeps.{stays_space, lawful}
 use Rattle.zr_space.proofs.Rooted.{was_held_is, was_kept_is, was_fresh_is, was_held_in, was_kept_in}
 use Rattle.zr_space.specs.declared.whole.Whole.{Whole}
 

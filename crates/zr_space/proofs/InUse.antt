@@ -1,5 +1,5 @@
 -- An address is live where the held units of its device cover it, and metadata where a metadata set does.
-use Rattle.std.proofs.Common.{◌≡◌, ◌⊎◌, inl, inr, ℕ, ◌+◌, ◌-◌, ◌≤◌, ◌<◌, true, false, List, map, length, refl, ◌∙◌, sym, ap, arith}
+use Rattle.std.proofs.Common.{◌≡◌, ◌⊎◌, inl, inr, ℕ, ◌+◌, ◌-◌, ◌≤◌, ◌<◌, true, false, List, map, length, ◌∙◌, sym, ap, arith}
 use Rattle.std.proofs.lemmas.Bool.Decides.{nat_tests}
 use Rattle.std.proofs.lemmas.List.{length-map}
 use Rattle.zr_base.specs.declared.space.Dva.{Dva}
@@ -7,7 +7,7 @@ use Rattle.zr_base.specs.declared.space.DevPart.{DevPart}
 use Rattle.zr_base.specs.declared.space.Extent.{Extent}
 use Rattle.zr_base.specs.Extents.{in_extent, has_unit, HasAll, HasNone}
 use Rattle.zr_rules.specs.Places.{in_address, units_of_dev}
-use Rattle.zr_rules.specs.Roles.{Role, is_live_role}
+use Rattle.zr_rules.specs.Roles.{is_live_role}
 use Rattle.zr_rules.specs.Roles.Role.{Meta, SavedMeta}
 use Rattle.zr_rules.specs.Space.{role_at}
 use Rattle.zr_metaslab.specs.Devices.{Devices, extent_of}

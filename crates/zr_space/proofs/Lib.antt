@@ -22,6 +22,7 @@ pub mod Reading
 pub mod Listing
 pub mod ReadDevices
 pub mod Opening
+pub mod Openable
 pub mod Refusing
 pub mod InUse
 pub mod Discards

@@ -9,7 +9,6 @@ use Rattle.zr_base.specs.declared.space.Dva.{Dva}
 use Rattle.zr_base.specs.declared.space.DevPart.{DevPart}
 use Rattle.zr_base.specs.declared.space.SpaceParts.{SpaceParts}
 use Rattle.zr_base.specs.declared.space.DevState.TheVariants.{On}
-use Rattle.zr_base.specs.declared.space.CkptPart.TheVariants.{Clear}
 use Rattle.zr_base.specs.Extents.{has_unit, unit_count}
 use Rattle.zr_rules.specs.Places.{one_if, address_hits}
 use Rattle.zr_rules.specs.Space.{Space, OpenSets, nothing_opened, opened_of, role_at}
@@ -17,6 +16,7 @@ use Rattle.zr_rules.specs.Equation.{root_space}
 use Rattle.zr_metaslab.specs.Devices as slab
 use Rattle.zr_metaslab.specs.Devices.{Devices, free_at, count_at, units_at}
 use Rattle.zr_units.specs.Uses.{Uses, IsAccount}
+use Rattle.zr_units.specs.Changes.{saved_uses}
 use Rattle.zr_space.specs.Views.{Kept, kept_of, part_in, opened_in, space_of, IsSpace, meta_from, saved_from, addresses}
 use Rattle.zr_space.specs.Reads.{IsRead, ReadsMeta}
 use Rattle.zr_space.specs.Opens.{IsOpened, IsQuiet, OpensDevice}
@@ -34,10 +34,10 @@ with_meta k x list dev used used2 r none m = rw m.others (record {
   small = r.small;
   born = r.born;
   kept = r.kept;
+  among = r.among;
   came = r.came;
   went = r.went;
   freed = r.freed;
-  saved = r.saved;
   once = λ u. let o = r.once u in let s = m.used.members u in let a = m.apart u in let n = none_has u in grind (arith, nat_tests, o, s, a, n);
   within = λ u is. let w = r.within u in let s = m.used.members u in let i = m.within u in grind (arith, nat_tests, w, s, i, is);
   count = let c = r.count in let d = m.used.count in let n = ap unit_count none in omega (arith, c, d, n);
@@ -46,6 +46,24 @@ with_meta k x list dev used used2 r none m = rw m.others (record {
   where
     none_has : (u : ℕ) → has_unit k.uses.meta u ≡ false
     none_has u = ap (λ (es : List Extent). has_unit es u) none
+
+-- what was read as metadata is that of the saved root
+pub as_saved : (k : Kept) (used : List Extent) → IsRead k used → k.uses.saved ≡ [] → IsRead (record { row = k.row; uses = saved_uses k.uses }) used
+as_saved k used r none = record {
+  row_units = r.row_units;
+  on = r.on;
+  small = r.small;
+  born = r.born;
+  kept = r.kept;
+  among = r.among;
+  came = r.came;
+  went = r.went;
+  freed = r.freed;
+  once = λ u. let o = r.once u in let n = ap (λ (es : List Extent). one_if (has_unit es u)) none in omega (arith, o, n);
+  within = r.within;
+  count = let c = r.count in let n = ap unit_count none in omega (arith, c, n);
+  lists = record { held = r.lists.held; born = r.lists.born; kept = r.lists.kept; came = r.lists.came; went = r.lists.went; freed = r.lists.freed; late1 = r.lists.late1; late2 = r.lists.late2; meta = tt; saved = r.lists.meta };
+}
 
 -- ---- one device more
 
@@ -56,10 +74,6 @@ part_last (x ∷ xs) k = ap (λ (ps : List DevPart). part_in x ∷ ps) (part_las
 opened_last : (devs : List Kept) (k : Kept) → map opened_in (devs ++ k ∷ []) ≡ map opened_in devs ++ opened_in k ∷ []
 opened_last [] k = refl
 opened_last (x ∷ xs) k = ap (λ (os : List OpenSets). opened_in x ∷ os) (opened_last xs k)
-
-saved_last : (i : ℕ) (devs : List Kept) (k : Kept) → k.uses.saved ≡ [] → saved_from i (devs ++ k ∷ []) ≡ saved_from i devs
-saved_last i [] k none = ap (λ (es : List Extent). addresses i es ++ []) none
-saved_last i (x ∷ xs) k none = ap (λ (list : List Dva). addresses i x.uses.saved ++ list) (saved_last (i + 1) xs k none)
 
 meta_last : (i d u : ℕ) (devs : List Kept) (k : Kept) → address_hits (meta_from i (devs ++ k ∷ [])) d u ≡ address_hits (meta_from i devs) d u + (if (i + length devs) == d then extent_hits k.uses.meta u else 0)
 meta_last i d u [] k =
@@ -76,14 +90,29 @@ meta_last i d u (x ∷ xs) k =
     let e = ap (λ (n : ℕ). if n == d then extent_hits k.uses.meta u else 0) z in
     omega (arith, r, a, b, e)
 
+saved_last : (i d u : ℕ) (devs : List Kept) (k : Kept) → address_hits (saved_from i (devs ++ k ∷ [])) d u ≡ address_hits (saved_from i devs) d u + (if (i + length devs) == d then extent_hits k.uses.saved u else 0)
+saved_last i d u [] k =
+    let a = hits_append (addresses i k.uses.saved) [] d u in
+    let b = addresses_hits i d u k.uses.saved in
+    let z : i + 0 ≡ i = omega arith in
+    let e = ap (λ (n : ℕ). if n == d then extent_hits k.uses.saved u else 0) z in
+    omega (arith, a, b, e)
+saved_last i d u (x ∷ xs) k =
+    let r = saved_last (i + 1) d u xs k in
+    let a = hits_append (addresses i x.uses.saved) (saved_from (i + 1) (xs ++ k ∷ [])) d u in
+    let b = hits_append (addresses i x.uses.saved) (saved_from (i + 1) xs) d u in
+    let z : (i + 1) + length xs ≡ i + suc (length xs) = omega arith in
+    let e = ap (λ (n : ℕ). if n == d then extent_hits k.uses.saved u else 0) z in
+    omega (arith, r, a, b, e)
+
 module _ (s t : Devices) (devs : List Kept) (k : Kept) (used : List Extent) (space : IsSpace s devs) (few : length devs < 32) (r : IsRead k used) (slabs : slab.AddsDevice s t (length devs) k.uses.units used) where
   new_account : IsAccount (free_at t (length devs)) (count_at t (length devs)) k.uses
   new_account = record {
     once = λ u. let f = slabs.free (length devs) u in let o = r.once u in let w = r.within u in grind (arith, nat_tests, f, o, w);
     born = λ u is. absurd (false_true (sym (ap (λ (es : List Extent). has_unit es u) r.born) ∙ is));
     keeping = record {
-      held = λ u is. absurd (false_true (sym (ap (λ (es : List Extent). has_unit es u) r.kept) ∙ is));
-      settled = λ u is. absurd (false_true (sym (ap (λ (es : List Extent). has_unit es u) r.kept) ∙ is));
+      held = λ u is. r.among u is;
+      settled = λ u is. ap (λ (es : List Extent). has_unit es u) r.born;
       came = λ u is. absurd (false_true (sym (ap (λ (es : List Extent). has_unit es u) r.came) ∙ is));
       went = λ u is. absurd (false_true (sym (ap (λ (es : List Extent). has_unit es u) r.went) ∙ is));
     };
@@ -107,8 +136,9 @@ module _ (s t : Devices) (devs : List Kept) (k : Kept) (used : List Extent) (spa
         (λ d ne. account_as (free_at s d) (free_at t d) (count_at s d) (count_at t d) (kept_of devs d).uses (λ u. let f = slabs.free d u in grind (arith, nat_tests, f, ne)) (slabs.counts d ne) (space.account d));
   }
 
-  pub opens : (whole : Whole) (part : DevPart) (meta : List Dva) → part_in k ≡ part → ((u : ℕ) → address_hits meta (length devs) u ≡ one_if (has_unit k.uses.meta u)) → OpensDevice (space_of whole devs) (space_of whole (devs ++ k ∷ [])) part meta
-  opens whole part meta is hits = record {
+  pub opens : (whole : Whole) (part : DevPart) (meta saved : List Dva) → part_in k ≡ part → ((u : ℕ) → address_hits meta (length devs) u ≡ one_if (has_unit k.uses.meta u)) → ((u : ℕ) → address_hits saved (length devs) u ≡ one_if (has_unit k.uses.saved u))
+      → OpensDevice (space_of whole devs) (space_of whole (devs ++ k ∷ [])) part meta saved
+  opens whole part meta saved is hits saved_hits = record {
     parts = ap (λ (ps : List DevPart). record { version = whole.version; devs = ps; cond = None; ckpt = whole.ckpt }) (part_last devs k ∙ ap (λ (p : DevPart). map part_in devs ++ p ∷ []) is);
     opened = opened_last devs k ∙ ap (λ (o : OpenSets). map opened_in devs ++ o ∷ []) nothing;
     synced = refl;
@@ -116,20 +146,22 @@ module _ (s t : Devices) (devs : List Kept) (k : Kept) (used : List Extent) (spa
         let l = length-map devs part_in in
         let m = meta_last 0 d u devs k in
         let o = once_in 0 u k.uses.meta r.lists.meta in
-        let h = hits u in
-        same_hits d u l m o h;
-    saved = saved_last 0 devs k r.saved;
+        same_hits (address_hits (meta_from 0 (devs ++ k ∷ [])) d u) (address_hits (meta_from 0 devs) d u) (extent_hits k.uses.meta u) (one_if (has_unit k.uses.meta u)) meta d u l m o (hits u);
+    saved_is = λ d u.
+        let l = length-map devs part_in in
+        let m = saved_last 0 d u devs k in
+        let o = once_in 0 u k.uses.saved r.lists.saved in
+        same_hits (address_hits (saved_from 0 (devs ++ k ∷ [])) d u) (address_hits (saved_from 0 devs) d u) (extent_hits k.uses.saved u) (one_if (has_unit k.uses.saved u)) saved d u l m o (saved_hits u);
   }
     where
       nothing : opened_in k ≡ nothing_opened
       nothing = rw r.born rw r.freed rw r.came rw r.went refl
 
-      same_hits : (d u : ℕ) → length (map part_in devs) ≡ length devs → address_hits (meta_from 0 (devs ++ k ∷ [])) d u ≡ address_hits (meta_from 0 devs) d u + (if (0 + length devs) == d then extent_hits k.uses.meta u else 0)
-          → extent_hits k.uses.meta u ≡ one_if (has_unit k.uses.meta u) → address_hits meta (length devs) u ≡ one_if (has_unit k.uses.meta u)
-          → address_hits (meta_from 0 (devs ++ k ∷ [])) d u ≡ address_hits (meta_from 0 devs) d u + (if d == length (map part_in devs) then address_hits meta d u else 0)
-      same_hits d u l m o h =
+      same_hits : (new old here one : ℕ) (list : List Dva) (d u : ℕ) → length (map part_in devs) ≡ length devs → new ≡ old + (if (0 + length devs) == d then here else 0)
+          → here ≡ one → address_hits list (length devs) u ≡ one → new ≡ old + (if d == length (map part_in devs) then address_hits list d u else 0)
+      same_hits new old here one list d u l m o h =
           ⊎_elim
-          (λ same. let e = ap (λ (n : ℕ). address_hits meta n u) same in grind (arith, nat_tests, l, m, o, h, same, e))
+          (λ same. let e = ap (λ (n : ℕ). address_hits list n u) same in grind (arith, nat_tests, l, m, o, h, same, e))
           (λ other. grind (arith, nat_tests, l, m, other))
           (cases_eq d (length devs))
 
@@ -140,25 +172,25 @@ same_part k x list dev used used2 m = rw m.others refl
 -- ---- all devices
 
 -- so many devices of the root are those of the space
-pub record IsOpening (parts : SpaceParts) (meta : List Dva) (i : ℕ) (s : Space) : Type 0 where
+pub record IsOpening (parts : SpaceParts) (meta saved : List Dva) (i : ℕ) (s : Space) : Type 0 where
   pub parts_are : s.parts ≡ record parts { devs = take i parts.devs }
   pub opened : (d : ℕ) → opened_of s d ≡ nothing_opened
   pub count : length s.opened ≡ length s.parts.devs
   pub synced : s.synced ≡ 0
   pub meta_is : (d u : ℕ) → address_hits s.meta d u ≡ (if nat_lt d i then address_hits meta d u else 0)
-  pub saved : s.saved_meta ≡ []
+  pub saved_is : (d u : ℕ) → address_hits s.saved_meta d u ≡ (if nat_lt d i then address_hits saved d u else 0)
 
-pub starts_opening : (parts : SpaceParts) (meta : List Dva) → IsQuiet parts → IsOpening parts meta 0 (space_of (record { version = parts.version; ckpt = Clear }) [])
-starts_opening parts meta q = record {
-  parts_are = rw q.cond rw q.ckpt refl;
+pub starts_opening : (parts : SpaceParts) (meta saved : List Dva) → IsQuiet parts → IsOpening parts meta saved 0 (space_of (record { version = parts.version; ckpt = parts.ckpt }) [])
+starts_opening parts meta saved q = record {
+  parts_are = rw q.cond refl;
   opened = λ d. none_there d;
   count = refl;
   synced = refl;
   meta_is = λ d u. grind (arith, nat_tests);
-  saved = refl;
+  saved_is = λ d u. grind (arith, nat_tests);
 }
   where
-    none_there : (d : ℕ) → opened_of (space_of (record { version = parts.version; ckpt = Clear }) []) d ≡ nothing_opened
+    none_there : (d : ℕ) → opened_of (space_of (record { version = parts.version; ckpt = parts.ckpt }) []) d ≡ nothing_opened
     none_there zero = refl
     none_there (suc d) = refl
 
@@ -169,33 +201,33 @@ opened_more [] (suc (suc d)) all = refl
 opened_more (o ∷ os) zero all = all 0
 opened_more (o ∷ os) (suc d) all = opened_more os d (λ j. all (suc j))
 
-len_take : (ps : List DevPart) (i : ℕ) → i ≤ length ps → length (take i ps) ≡ i
+pub len_take : (ps : List DevPart) (i : ℕ) → i ≤ length ps → length (take i ps) ≡ i
 len_take ps zero le = refl
 len_take [] (suc i) le = absurd (omega (arith, le))
 len_take (p ∷ ps) (suc i) le = let r = len_take ps i (omega (arith, le)) in omega (arith, r)
 
-pub opens_more : (parts : SpaceParts) (meta : List Dva) (i : ℕ) (s t : Space) (part : DevPart) → IsOpening parts meta i s → i < length parts.devs → part ≡ get_or parts.devs i part → OpensDevice s t part meta → IsOpening parts meta (i + 1) t
-opens_more parts meta i s t part o lt is d = record {
+pub opens_more : (parts : SpaceParts) (meta saved : List Dva) (i : ℕ) (s t : Space) (part : DevPart) → IsOpening parts meta saved i s → i < length parts.devs → part ≡ get_or parts.devs i part → OpensDevice s t part meta saved → IsOpening parts meta saved (i + 1) t
+opens_more parts meta saved i s t part o lt is d = record {
   parts_are = d.parts ∙ (ap (λ (p : SpaceParts). record p { devs = p.devs ++ part ∷ [] }) o.parts_are ∙ ap (λ (ps : List DevPart). record parts { devs = ps }) (ap (λ (p : DevPart). take i parts.devs ++ p ∷ []) is ∙ sym (take_more parts.devs i part lt)));
   opened = λ j. ap (λ (os : List OpenSets). slice_index_or os j nothing_opened) d.opened ∙ opened_more s.opened j o.opened;
   count = let a = ap (λ (os : List OpenSets). length os) d.opened in let b = ap (λ (p : SpaceParts). length p.devs) d.parts in let e = length-append s.opened (nothing_opened ∷ []) in let f = length-append s.parts.devs (part ∷ []) in let n = o.count in omega (arith, a, b, e, f, n);
   synced = d.synced ∙ o.synced;
   meta_is = λ e u. let m = d.meta_is e u in let b = o.meta_is e u in let n = len in grind (arith, nat_tests, m, b, n);
-  saved = d.saved ∙ o.saved;
+  saved_is = λ e u. let m = d.saved_is e u in let b = o.saved_is e u in let n = len in grind (arith, nat_tests, m, b, n);
 }
   where
     len : length s.parts.devs ≡ i
     len = let a = ap (λ (p : SpaceParts). length p.devs) o.parts_are in let b = len_take parts.devs i (omega (arith, lt)) in omega (arith, a, b)
 
-pub room_left : (parts : SpaceParts) (meta : List Dva) (i : ℕ) (s : Space) → IsQuiet parts → IsOpening parts meta i s → i < length parts.devs → length s.parts.devs < 32
-room_left parts meta i s q o lt = let a = ap (λ (p : SpaceParts). length p.devs) o.parts_are in let b = len_take parts.devs i (omega (arith, lt)) in let f = q.few in omega (arith, a, b, f, lt)
+pub room_left : (parts : SpaceParts) (meta saved : List Dva) (i : ℕ) (s : Space) → IsQuiet parts → IsOpening parts meta saved i s → i < length parts.devs → length s.parts.devs < 32
+room_left parts meta saved i s q o lt = let a = ap (λ (p : SpaceParts). length p.devs) o.parts_are in let b = len_take parts.devs i (omega (arith, lt)) in let f = q.few in omega (arith, a, b, f, lt)
 
 -- the role of a unit rests on the parts, on what is opened and on the metadata
 roles_by : (a b : Space) (d u : ℕ) → a.parts ≡ b.parts → opened_of a d ≡ opened_of b d → address_hits a.meta d u ≡ address_hits b.meta d u → address_hits a.saved_meta d u ≡ address_hits b.saved_meta d u → role_at a d u ≡ role_at b d u
 unfolding role_at
 roles_by a b d u p o m s = rw p rw o rw m rw s refl
 
-none_opened : (ps : List DevPart) (d : ℕ) → slice_index_or (map (λ (p : DevPart). nothing_opened) ps) d nothing_opened ≡ nothing_opened
+pub none_opened : (ps : List DevPart) (d : ℕ) → slice_index_or (map (λ (p : DevPart). nothing_opened) ps) d nothing_opened ≡ nothing_opened
 none_opened [] zero = refl
 none_opened [] (suc d) = refl
 none_opened (p ∷ ps) zero = refl
@@ -207,13 +239,13 @@ take_all [] (suc i) le = refl
 take_all (p ∷ ps) zero le = absurd (omega (arith, le))
 take_all (p ∷ ps) (suc i) le = ap (λ (xs : List DevPart). p ∷ xs) (take_all ps i (omega (arith, le)))
 
-pub all_opened : (parts : SpaceParts) (meta : List Dva) (i : ℕ) (s : Space) → IsOpening parts meta i s → length parts.devs ≤ i → ((d u : ℕ) → length parts.devs ≤ d → address_hits meta d u ≡ 0) → IsOpened parts meta s
-all_opened parts meta i s o le known = record {
+pub all_opened : (parts : SpaceParts) (meta saved : List Dva) (i : ℕ) (s : Space) → IsOpening parts meta saved i s → length parts.devs ≤ i → ((d u : ℕ) → length parts.devs ≤ d → address_hits meta d u ≡ 0) → ((d u : ℕ) → length parts.devs ≤ d → address_hits saved d u ≡ 0) → IsOpened parts meta saved s
+all_opened parts meta saved i s o le known saved_known = record {
   parts_are = whole;
   opened = o.opened;
   synced = o.synced;
   meta_is = hits;
-  saved = o.saved;
+  saved_is = saved_hits;
   roles = λ d u. same_roles d u;
 }
   where
@@ -226,5 +258,11 @@ all_opened parts meta i s o le known = record {
         (λ ge. let m = o.meta_is d u in let k = known d u ge in grind (arith, nat_tests, m, k))
         (cases_lt d (length parts.devs))
 
-    same_roles : (d u : ℕ) → role_at s d u ≡ role_at (root_space parts meta []) d u
-    same_roles d u = roles_by s (root_space parts meta []) d u whole (o.opened d ∙ sym (none_opened parts.devs d)) (hits d u) (ap (λ (list : List Dva). address_hits list d u) o.saved)
+    saved_hits : (d u : ℕ) → address_hits s.saved_meta d u ≡ address_hits saved d u
+    saved_hits d u = ⊎_elim
+        (λ lt. let m = o.saved_is d u in let k = saved_known d u in grind (arith, nat_tests, m, k, lt, le))
+        (λ ge. let m = o.saved_is d u in let k = saved_known d u ge in grind (arith, nat_tests, m, k))
+        (cases_lt d (length parts.devs))
+
+    same_roles : (d u : ℕ) → role_at s d u ≡ role_at (root_space parts meta saved) d u
+    same_roles d u = roles_by s (root_space parts meta saved) d u whole (o.opened d ∙ sym (none_opened parts.devs d)) (hits d u) (saved_hits d u)

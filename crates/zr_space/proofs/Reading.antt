@@ -22,7 +22,7 @@ pub record IsReading (front rest all before used set : List Extent) (low units :
   pub rest_within : EndsBy units all → EndsBy units rest
   pub rest_apart : AreSetsApart all before → AreSetsApart rest before
 
-has_snoc : (xs : List Extent) (e : Extent) (u : ℕ) → has_unit (xs ++ e ∷ []) u ≡ (has_unit xs u || in_extent e u)
+pub has_snoc : (xs : List Extent) (e : Extent) (u : ℕ) → has_unit (xs ++ e ∷ []) u ≡ (has_unit xs u || in_extent e u)
 has_snoc [] e u = grind (arith, nat_tests)
 has_snoc (x ∷ xs) e u = let r = has_snoc xs e u in grind (arith, nat_tests, r)
 

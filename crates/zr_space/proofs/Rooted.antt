@@ -1,15 +1,15 @@
 -- What the current root has of a device's sets stays while the open group changes them.
-use Rattle.std.proofs.Common.{◌≡◌, ℕ, ◌<◌, Bool, true, false, ◌==◌, ◌&&◌, ◌||◌, not, List, length, refl, ◌∙◌, sym, ap, ap₂, arith}
+use Rattle.std.proofs.Common.{◌≡◌, ℕ, ◌<◌, Bool, true, false, ◌&&◌, ◌||◌, not, List, length, refl, ◌∙◌, sym, ap₂, arith}
 use Rattle.std.proofs.Math.ListN.{set}
 use Rattle.std.proofs.lemmas.Bool.Decides.{nat_tests}
 use Rattle.zr_base.specs.declared.space.Extent.{Extent}
 use Rattle.zr_base.specs.declared.space.DevPart.{DevPart}
 use Rattle.zr_base.specs.Extents.{has_unit, in_extent, HasAll, HasNone}
-use Rattle.zr_rules.specs.Space.{OpenSets, opened_of, was_in, was_held, was_kept, was_fresh}
+use Rattle.zr_rules.specs.Space.{OpenSets, was_in, was_held, was_kept, was_fresh}
 use Rattle.zr_rules.specs.Frees.{IsSameRoot}
 use Rattle.zr_units.specs.Uses.{Uses, IsAccount}
 use Rattle.zr_units.specs.Changes.{Holds, HoldsMeta, DropsMeta, DropsSaved, FreesUnits, KeepsUnits, DiscardsUnits}
-use Rattle.zr_space.specs.Views.{Kept, kept_of, part_in, opened_in, space_of}
+use Rattle.zr_space.specs.Views.{Kept, kept_of, space_of}
 use Rattle.zr_space.proofs.Views.{part_is, opened_is}
 use Rattle.zr_space.proofs.Keeps.{on_each}
 use Rattle.zr_space.specs.declared.whole.Whole.{Whole}

@@ -1,5 +1,5 @@
 -- What is read of a root's sets.
-use Rattle.std.specs.Prelude.{◌≡◌, ℕ, ◌+◌, ◌≤◌, ◌<◌, ◌^◌, ◌||◌, nat_lt, List, []}
+use Rattle.std.specs.Prelude.{◌≡◌, ℕ, ◌+◌, ◌≤◌, ◌<◌, ◌^◌, ◌||◌, true, nat_lt, List, []}
 use Rattle.zr_base.specs.declared.space.Extent.{Extent}
 use Rattle.zr_base.specs.declared.space.Dva.{Dva}
 use Rattle.zr_base.specs.declared.space.LateRun.{LateRun}
@@ -51,14 +51,23 @@ pub record ReadsMeta (list : List Dva) (dev : ℕ) (old new : Uses) (used_old us
   pub within : IsWithin new.meta old.units
   pub used : Marks new.meta used_old used_new
 
--- the device is in service, with nothing kept, mapped or obsolete
+-- the device is in service, with nothing mapped or obsolete
 pub record IsPlain (p : DevPart) : Type 0 where
   pub on : p.row.state ≡ On
   pub small : p.row.units < 2 ^ 40
-  pub kept : p.kept ≡ []
   pub entries : p.entries ≡ []
   pub counts : p.counts ≡ []
   pub fresh : p.fresh ≡ []
+
+-- each unit of the one set is in the other
+abbrev pub IsAmong : List Extent → List Extent → Type 0
+IsAmong es all = (u : ℕ) → has_unit es u ≡ true → has_unit all u ≡ true
+
+-- the extents are those of a set of kept units
+pub record CanKeep (extents held : List Extent) (units : ℕ) : Type 0 where
+  pub maximal : IsMaximal extents
+  pub within : EndsBy units extents
+  pub among : IsAmong extents held
 
 -- the runs list the maximal extents of a late set
 pub record IsLateSet (runs : List LateRun) : Type 0 where
@@ -66,13 +75,14 @@ pub record IsLateSet (runs : List LateRun) : Type 0 where
   pub listed : IsListed runs freed
   pub maximal : AreMaximal freed
 
--- The device can be read with its metadata, if that lies at this index: its sets are as a root records them, and no unit has two uses.
-pub record CanReadPart (p : DevPart) (meta : List Dva) (dev : ℕ) : Type 0 where
+-- The device can be read with the metadata of both roots, if that lies at this index: its sets are as a root records them, and no unit has two uses.
+pub record CanReadPart (p : DevPart) (meta saved : List Dva) (dev : ℕ) : Type 0 where
   pub plain : IsPlain p
   pub held : IsSet p.row.units p.held
+  pub kept : CanKeep p.kept p.held p.row.units
   pub late1 : IsLateSet p.late1
   pub late2 : IsLateSet p.late2
-  pub once : (u : ℕ) → one_if (has_unit p.held u) + hits_late p.late1 u + hits_late p.late2 u + address_hits meta dev u ≤ one_if (nat_lt u p.row.units)
+  pub once : (u : ℕ) → one_if (has_unit p.held u) + hits_late p.late1 u + hits_late p.late2 u + address_hits meta dev u + address_hits saved dev u ≤ one_if (nat_lt u p.row.units)
 
 -- what is read of a device: no unit has two uses, and those that have one are gathered
 pub record IsRead (k : Kept) (used : List Extent) : Type 0 where
@@ -80,11 +90,11 @@ pub record IsRead (k : Kept) (used : List Extent) : Type 0 where
   pub on : k.row.state ≡ On
   pub small : k.uses.units < 2 ^ 40
   pub born : k.uses.born ≡ []
-  pub kept : k.uses.kept ≡ []
+  pub kept : IsMaximal k.uses.kept
+  pub among : IsAmong k.uses.kept k.uses.held
   pub came : k.uses.came ≡ []
   pub went : k.uses.went ≡ []
   pub freed : k.uses.freed ≡ none_freed
-  pub saved : k.uses.saved ≡ []
   pub once : (u : ℕ) → use_hits k.uses u ≡ one_if (has_unit used u)
   pub within : IsWithin used k.uses.units
   pub count : use_count k.uses ≡ unit_count used

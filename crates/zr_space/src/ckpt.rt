@@ -85,7 +85,12 @@ impl Space {
         for dev in 0..self.devs.len() {
             let missing = n - list.len();
             let device = &self.devs[dev];
-            push_lowest(&mut list, dev as u32, device.units.kept().extents(), missing)?;
+            push_lowest(
+                &mut list,
+                dev as u32,
+                device.units.kept().extents(),
+                missing,
+            )?;
         }
         Ok(list)
     }

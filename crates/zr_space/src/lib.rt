@@ -15,9 +15,9 @@ mod remap;
 mod room;
 mod service;
 mod space;
-mod whole;
 #[cfg(test)]
 mod tests;
+mod whole;
 
 pub use records::SetKind;
 pub use space::{Space, SpaceErr};

@@ -10,14 +10,14 @@ ghost use Rattle.zr_space.specs.Reads.{CanReadPart};
 use crate::reads::{read_device, read_meta};
 use crate::space::{Space, push_reserved};
 use std::alloc::Global;
-use zr_base::{CkptPart, DevPart, Dva, NoMemory, SpaceParts};
+use zr_base::{DevPart, Dva, NoMemory, SpaceParts};
 use zr_ranges::RangeSet;
 
-// Whether there are at most 32 devices, no condensing and no checkpoint.
+// Whether there are at most 32 devices, and no condensing.
 fn is_quiet(parts: &SpaceParts) -> bool
     ensures { IsTrue result ↔ IsQuiet parts.now }
 {
-    parts.devs.len() <= 32 && parts.cond.is_none() && parts.ckpt == CkptPart::Clear
+    parts.devs.len() <= 32 && parts.cond.is_none()
 }
 
 // Whether all units of the addresses lie on the first so many devices.
@@ -33,22 +33,26 @@ fn are_known(meta: &[Dva], devices: usize) -> bool
 }
 
 impl Space {
-    /// The space of a root that records these parts and has this metadata. The sets of the devices and the metadata are
-    /// gone over, these once for each device. None exactly where no space can have them.
+    /// The space of a root that records these parts and has this metadata, beside that of the root that a checkpoint
+    /// saved. The sets of the devices and the metadata are gone over, these once for each device. None exactly where no
+    /// space can have them.
     pub fn from_parts(
         alloc: Global,
         parts: &SpaceParts,
         meta: &[Dva],
+        saved: &[Dva],
     ) -> Result<Option<Space>, NoMemory>
-        ensures some { IfOk result (λ o. IfSome o (IsOpened parts.now meta.now)) }
-        ensures none { IfOk result (λ o. IfNone o (¬ CanOpen parts.now meta.now)) }
+        ensures some { IfOk result (λ o. IfSome o (IsOpened parts.now meta.now saved.now)) }
+        ensures none { IfOk result (λ o. IfNone o (¬ CanOpen parts.now meta.now saved.now)) }
     {
-        if !is_quiet(parts) || !are_known(meta, parts.devs.len()) {
+        let devices = parts.devs.len();
+        if !is_quiet(parts) || !are_known(meta, devices) || !are_known(saved, devices) {
             return Ok(None);
         }
         let mut space = Space::new(alloc, parts.version);
+        space.whole.ckpt = parts.ckpt;
         for part in parts.devs.as_slice() {
-            if !space.open_dev(part, meta)? {
+            if !space.open_dev(part, meta, saved)? {
                 return Ok(None);
             }
         }
@@ -56,16 +60,20 @@ impl Space {
     }
 
     // Adds the next device as a root records it, with its metadata, or answers false.
-    fn open_dev(&mut self, part: &DevPart, meta: &[Dva]) -> Result<bool, NoMemory>
+    fn open_dev(&mut self, part: &DevPart, meta: &[Dva], saved: &[Dva]) -> Result<bool, NoMemory>
         requires { length self.old.parts.devs < 32 }
-        ensures yes { IfOk result (λ b. b ≡ true → OpensDevice self.old self.new part.now meta.now) }
-        ensures no { IfOk result (λ b. b ≡ false → ¬ CanReadPart part.now meta.now (length self.old.parts.devs)) }
+        ensures yes { IfOk result (λ b. b ≡ true → OpensDevice self.old self.new part.now meta.now saved.now) }
+        ensures no { IfOk result (λ b. b ≡ false → ¬ CanReadPart part.now meta.now saved.now (length self.old.parts.devs)) }
     {
         let dev = self.devs.len() as u32;
         let mut used = RangeSet::new(self.alloc);
         let Some(mut device) = read_device(self.alloc, part, &mut used)? else {
             return Ok(false);
         };
+        if !read_meta(&mut device.units, &mut used, dev, saved)? {
+            return Ok(false);
+        }
+        device.units.save();
         if !read_meta(&mut device.units, &mut used, dev, meta)? {
             return Ok(false);
         }

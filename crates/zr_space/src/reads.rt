@@ -7,7 +7,7 @@ ghost use Rattle.std.specs.Prelude.{◌≡◌, ◌↔◌, ◌+◌, ◌<◌, ◌�
 ghost use Rattle.zr_base.specs.Extents.{HasNone};
 ghost use Rattle.zr_base.specs.declared.space.Dva.{Dva};
 ghost use Rattle.zr_units.specs.Uses.{Freed};
-ghost use Rattle.zr_space.specs.Reads.{CanRead, Marks, CanReadLate, MarksLate, IsListed, CanReadMeta, ReadsMeta, IsPlain, IsRead, CanReadPart};
+ghost use Rattle.zr_space.specs.Reads.{CanRead, Marks, CanReadLate, MarksLate, IsListed, CanReadMeta, ReadsMeta, IsPlain, IsRead, CanReadPart, IsAmong, CanKeep};
 ghost use Rattle.zr_space.specs.Views.{part_in};
 
 use crate::device::Device;
@@ -141,16 +141,50 @@ pub fn read_meta(
     Ok(true)
 }
 
-// Whether a device is in service, with nothing kept, mapped or obsolete.
+// Whether a device is in service, with nothing mapped or obsolete.
 fn is_plain(part: &DevPart) -> bool
     ensures { IsTrue result ↔ IsPlain part.now }
 {
     part.row.state == DevState::On
         && part.row.units < 1 << 40
-        && part.kept.is_empty()
         && part.entries.is_empty()
         && part.counts.is_empty()
         && part.fresh.is_empty()
+}
+
+// Whether each unit of a set is in another one. A search for each extent of the first.
+fn is_among(set: &RangeSet, all: &RangeSet) -> bool
+    ensures { IsTrue result ↔ IsAmong set.now.extents all.now.extents }
+{
+    let extents = set.extents();
+    for e in extents {
+        if !all.covers(*e) {
+            return false;
+        }
+    }
+    true
+}
+
+// The kept units of a device as a root records them. None exactly where the extents are not those of a set of held units.
+fn read_kept(
+    alloc: Global,
+    extents: &[Extent],
+    held: &RangeSet,
+    units: u64,
+) -> Result<Option<RangeSet>, NoMemory>
+    requires { units < 2 ^ 40 }
+    ensures set { IfOk result (λ o. IfSome o (λ set. set.extents ≡ extents.now)) }
+    ensures some { IfOk result (λ o. IfSome o (λ set. CanKeep extents.now held.now.extents units)) }
+    ensures none { IfOk result (λ o. IfNone o (¬ CanKeep extents.now held.now.extents units)) }
+{
+    let mut seen = RangeSet::new(alloc);
+    let Some(kept) = read_set(alloc, &mut seen, extents, units)? else {
+        return Ok(None);
+    };
+    if !is_among(&kept, held) {
+        return Ok(None);
+    }
+    Ok(Some(kept))
 }
 
 /// A device as a root records it, without metadata. Its units are added to those that are used, of which there are none.
@@ -164,13 +198,17 @@ pub fn read_device(
     ensures part { IfOk result (λ o. IfSome o (λ k. part_in k ≡ part.now)) }
     ensures meta { IfOk result (λ o. IfSome o (λ k. k.uses.meta ≡ [])) }
     ensures some { IfOk result (λ o. IfSome o (λ k. IsRead k used.new.extents)) }
-    ensures none { IfOk result (λ o. IfNone o ((meta : List Dva) (dev : ℕ) → ¬ CanReadPart part.now meta dev)) }
+    ensures saved { IfOk result (λ o. IfSome o (λ k. k.uses.saved ≡ [])) }
+    ensures none { IfOk result (λ o. IfNone o ((meta saved : List Dva) (dev : ℕ) → ¬ CanReadPart part.now meta saved dev)) }
 {
     if !is_plain(part) {
         return Ok(None);
     }
     let units = part.row.units;
     let Some(held) = read_set(alloc, used, part.held.as_slice(), units)? else {
+        return Ok(None);
+    };
+    let Some(kept) = read_kept(alloc, part.kept.as_slice(), &held, units)? else {
         return Ok(None);
     };
     let Some(late1) = read_late(alloc, used, part.late1.as_slice(), units)? else {
@@ -181,6 +219,6 @@ pub fn read_device(
     };
     Ok(Some(Device {
         row: part.row,
-        units: Units::of_sets(alloc, units, held, RangeSet::new(alloc), late1, late2),
+        units: Units::of_sets(alloc, units, held, kept, late1, late2),
     }))
 }

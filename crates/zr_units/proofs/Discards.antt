@@ -1,12 +1,11 @@
 -- Kept units that are given up piece by piece.
-use Rattle.std.proofs.Common.{◌≡◌, ◌⊎◌, inl, inr, ℕ, ◌+◌, ◌-◌, ◌<◌, ◌≤◌, Bool, true, false, not, ◌&&◌, ◌||◌, refl, ◌∙◌, sym, ap, subst, arith, ⊎_elim}
-use Rattle.std.proofs.lemmas.Bool.{cases_eq}
+use Rattle.std.proofs.Common.{◌≡◌, ◌⊎◌, inr, ℕ, ◌+◌, ◌-◌, ◌<◌, ◌≤◌, refl, ◌∙◌, subst, arith, ⊎_elim}
 use Rattle.std.proofs.lemmas.Bool.Decides.{nat_tests}
 use Rattle.zr_base.specs.declared.space.Extent.{Extent}
-use Rattle.zr_base.specs.Extents.{has_unit, in_extent, unit_count, HasAll, IsMaximal}
+use Rattle.zr_base.specs.Extents.{HasAll}
 use Rattle.zr_units.specs.Apart.{AreSetsApart}
 use Rattle.zr_units.specs.Uses.{Uses, IsKeeping}
-use Rattle.zr_units.specs.Changes.{DiscardsUnits, DiscardsFront}
+use Rattle.zr_units.specs.Changes.{DiscardsUnits}
 
 abbrev pub run : ℕ → ℕ → Extent
 run from to = record { start = from; len = to - from }

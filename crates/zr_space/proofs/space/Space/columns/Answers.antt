@@ -1,4 +1,4 @@
-use Rattle.std.proofs.Common.{◌≡◌, ◌+◌, ◌∙◌, ap, ◌<◌, length, arith, subst, sym}
+use Rattle.std.proofs.Common.{◌≡◌, ◌∙◌, ap, ◌<◌, length, arith, subst, sym}
 use Rattle.std.proofs.lemmas.List.{length-map}
 use Rattle.zr_base.specs.declared.space.Extent.{Extent}
 use Rattle.std.proofs.Common.{List}

@@ -1,4 +1,4 @@
-use Rattle.std.proofs.Common.{◌≡◌, ◌≤◌, length, ap, arith, take, List, ℕ}
+use Rattle.std.proofs.Common.{length, ap, arith, List, ℕ}
 use Rattle.std.proofs.lemmas.List.{length-take}
 use Rattle.zr_base.specs.declared.space.Extent.{Extent}
 use Rattle.zr_rules.specs.Steps.{kept_extents}

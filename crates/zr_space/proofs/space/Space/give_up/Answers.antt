@@ -1,11 +1,11 @@
-use Rattle.std.proofs.Common.{◌≡◌, ◌∙◌, true, false, sym, subst, arith, length, ◌<◌}
+use Rattle.std.proofs.Common.{◌≡◌, ◌∙◌, false, sym, subst, arith, length, ◌<◌}
 use Rattle.std.proofs.lemmas.List.{length-map}
 use Rattle.zr_space.specs.Views.{Kept, part_in, space_of}
 use Rattle.zr_space.specs.Live.{IsLive}
 use Rattle.zr_rules.specs.Space.{Space}
 use Rattle.zr_rules.specs.Frees.{keeps}
 use Rattle.zr_space.proofs.Views.{kept_read}
-use Rattle.zr_space.proofs.Frees.{IsAsked, held, unkept, freed_space, frees}
+use Rattle.zr_space.proofs.Frees.{IsAsked, held, freed_space, frees}
 use Rattle.zr_space.proofs.space.Space.give_up.Goals as goal
 
 pub free-requires-clause-held : goal.free-requires-clause-held

@@ -1,11 +1,10 @@
-use Rattle.std.proofs.Common.{◌≡◌, ◌∙◌, ◌<◌, refl, sym, arith, length, List, map, ap, subst, if◌then◌else◌, ℕ, []}
+use Rattle.std.proofs.Common.{◌≡◌, ◌∙◌, ◌<◌, sym, arith, length, List, map, ap, subst, if◌then◌else◌, ℕ, []}
 use Rattle.std.proofs.lemmas.Bool.Decides.{nat_tests}
 use Rattle.std.proofs.lemmas.List.{length-set}
 use Rattle.std.specs.Prelude.{nat_lt, false}
 use Rattle.zr_base.specs.declared.space.CkptPart.TheVariants.{Held}
 use Rattle.zr_rules.specs.Space.{Space}
 use Rattle.zr_rules.specs.Steps.{HoldsCheckpoint}
-use Rattle.zr_units.specs.Changes.{saved_uses}
 use Rattle.zr_space.specs.Views.{Kept, kept_of, with_saved, IsSpace, space_of, saved_from}
 use Rattle.zr_space.proofs.Views.{kept_read}
 use Rattle.zr_space.proofs.Holding.{IsHeldNext, nothing_saved, saved_space, saved_next, saved_all, holds}

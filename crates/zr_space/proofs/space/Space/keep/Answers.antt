@@ -1,4 +1,4 @@
-use Rattle.std.proofs.Common.{◌≡◌, ◌∙◌, true, false, sym, subst, arith, length, ◌<◌}
+use Rattle.std.proofs.Common.{◌≡◌, ◌∙◌, true, sym, subst, arith, length, ◌<◌}
 use Rattle.std.proofs.lemmas.List.{length-map}
 use Rattle.zr_space.specs.Views.{Kept, part_in, space_of}
 use Rattle.zr_space.specs.Live.{IsLive}

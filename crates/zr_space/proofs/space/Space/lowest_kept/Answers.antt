@@ -1,12 +1,11 @@
-use Rattle.std.proofs.Common.{◌≡◌, ◌∙◌, ◌<◌, ◌≤◌, ◌++◌, ◌-◌, ℕ, List, [], length, arith, take, drop, sym, ap, subst}
+use Rattle.std.proofs.Common.{◌≡◌, ◌∙◌, ◌<◌, ◌++◌, ◌-◌, ℕ, List, length, arith, take, sym, ap, subst}
 use Rattle.std.proofs.lemmas.Grind.{common_steps}
 use Rattle.zr_base.specs.declared.space.Extent.{Extent}
 use Rattle.zr_rules.specs.Space.{Space}
-use Rattle.zr_rules.specs.Steps.{kept_extents}
 use Rattle.zr_space.specs.Views.{Kept, kept_of}
 use Rattle.zr_space.specs.Discards.{on_device, CanDiscard}
 use Rattle.zr_space.proofs.Views.{kept_read}
-use Rattle.zr_space.proofs.Lowest.{kept_from, kept_are, take_step, taken_len, drop_none, can_discard, take_none}
+use Rattle.zr_space.proofs.Lowest.{kept_are, take_step, taken_len, drop_none, can_discard, take_none}
 use Rattle.zr_space.proofs.space.Space.lowest_kept.Goals as goal
 
 pub loop-dev-preserved : goal.loop-dev-preserved

@@ -1,6 +1,5 @@
-use Rattle.std.proofs.Common.{◌≡◌, ◌+◌, ◌-◌, ◌≤◌, ℕ}
-use Rattle.std.specs.Prelude.{◌||◌, ◌&&◌, not, nat_le, nat_lt}
-use Rattle.zr_base.specs.Extents.{unit_count, has_unit, HasAll, IsMaximal}
+use Rattle.std.proofs.Common.{◌-◌, ◌≤◌}
+use Rattle.zr_base.specs.Extents.{HasAll}
 use Rattle.zr_units.specs.Apart.{AreSetsApart}
 use Rattle.zr_units.specs.Uses.{IsKeeping}
 use Rattle.zr_units.proofs.Discards.{Discarded}
