@@ -35,7 +35,7 @@ streams_in d = d.held ∷ d.kept ∷ d.late1 ∷ d.late2 ∷ []
 pub record HasParts (r : Root) (pool : OpenPool) : Type 0 where
   pub dir : pool.dir ≡ r.head.dir
   pub streams : flat_map streams_in pool.streams.items ≡ take (4 * length pool.streams.items) r.head.streams
-  pub space : IsOpened r.parts r.meta pool.space
+  pub space : IsOpened r.parts r.meta [] pool.space
 
 -- the pool is that of its last root, as it stands on the disks where these are told
 pub record IsOfRoot (tells : Type 0) (disks : List (List ℕ)) (slots : List (Option ℕ)) (u : Uber) (pool : OpenPool) : Type 0 where

@@ -1,5 +1,5 @@
 //! The open pool of a root that was read.
-ghost use Rattle.std.specs.Prelude.{◌≡◌, ◌↔◌, ℕ, ◌*◌, ◌+◌, ◌≤◌, ◌^◌, List, length, take, All, IsTrue, IfOk, IsErrOf};
+ghost use Rattle.std.specs.Prelude.{◌≡◌, ◌↔◌, ℕ, ◌*◌, ◌+◌, ◌≤◌, ◌^◌, List, [], length, take, All, IsTrue, IfOk, IsErrOf};
 ghost use Rattle.std.specs.List.{AllByRecursion, flat_map};
 ghost use Rattle.zr_base.specs.declared.refusal.Refusal.{Refusal};
 ghost use Rattle.zr_image.specs.Roots.{rows_of};
@@ -56,14 +56,14 @@ fn have_rows(parts: &SpaceParts, u: &Uber) -> bool
 fn space_of(alloc: Global, u: &Uber, root: &Root) -> Result<Space, Fault>
     requires { IsUber u.now }
     ensures space { IfOk result (IsSpaceOf u.now) }
-    ensures opened { IfOk result (IsOpened root.now.parts root.now.meta) }
+    ensures opened { IfOk result (IsOpened root.now.parts root.now.meta []) }
     ensures refused { (r : Refusal) → IsErrOf result (No r) → IsRefusedRoot r }
     ensures fault { IsErrOf result (Stops DiskFault) → ⊥ }
 {
     if root.parts.version != u.version || !have_rows(&root.parts, u) {
         return Err(Fault::No(Refusal::BadRoot { rule: 1 }));
     }
-    let Some(space) = Space::from_parts(alloc, &root.parts, root.meta.as_slice())? else {
+    let Some(space) = Space::from_parts(alloc, &root.parts, root.meta.as_slice(), &[])? else {
         return Err(Fault::No(Refusal::BadRoot { rule: 7 }));
     };
     space.all_in_service();
