@@ -14,14 +14,14 @@
 //! Nor can a contract say which file the system opened. So one function alone asks the system to open a path, one to give
 //! a file its size, and each answers what it asked for with what it got. The clauses lead from there up to `attach`: the
 //! device that is kept has the path and the size of the call, and a new file's folder was made durable, and no other.
-ghost use Rattle.std.specs.Prelude.{◌≡◌, ◌<◌, ◌≤◌, ◌+◌, ◌-◌, ◌^◌, map, length, min, Some, OnOk, IfOk};
+ghost use Rattle.std.specs.Prelude.{◌≡◌, ◌<◌, ◌≤◌, ◌+◌, ◌-◌, ◌^◌, map, length, min, Some, OnOk, IfOk, IfSome};
 ghost use Rattle.zr_shelf.specs.declared.desk.DeskErr.TheVariants.{Failed};
-ghost use Rattle.zr_cli.specs.Raised.{raised, CountsFault};
+ghost use Rattle.zr_cli.specs.Raised.{raised, CountsFault, CountsMissing, IsThereOrMade};
 ghost use Rattle.zr_cli.specs.Paths.{folder_of};
 
 use std::alloc::Global;
 use std::fs::{self, File, OpenFile, OpenOptions};
-use std::io::{self, ErrorKind, Read, Seek, SeekFrom, Write};
+use std::io::{ErrorKind, Read, Seek, SeekFrom, Write};
 use std::path::Path;
 use zr_shelf::{Desk, DeskErr, Shelf};
 
@@ -57,13 +57,14 @@ struct Found<'p> {
     make: Option<u64>,
 }
 
-/// How much was moved: bytes read of and written to devices, files made durable, bytes of the input and the calls that
-/// answered them, and bytes sent.
+/// How much was moved: bytes read of and written to devices, files made durable, files that the system was asked to open
+/// and did not have, bytes of the input and the calls that answered them, and bytes sent.
 #[derive(Clone, Copy)]
 struct Moved {
     read: u64,
     written: u64,
     synced: u64,
+    missing: u64,
     taken: u64,
     takes: u64,
     given: u64,
@@ -97,6 +98,7 @@ impl FileDesk {
                 read: 0,
                 written: 0,
                 synced: 0,
+                missing: 0,
                 taken: 0,
                 takes: 0,
                 given: 0,
@@ -228,12 +230,43 @@ fn sync_each(devices: &[DeviceFile], synced: &mut u64, faults: &mut u64) -> Resu
     Ok(())
 }
 
-/// Asks the system to open a path. Nothing else opens a file.
-fn open_as<'p>(rt: &HostRuntime, path: &'p str, options: &OpenOptions) -> io::Result<Opened<'p>>
-    ensures path { IfOk result (λ opened. opened.path.now ≡ path.now) }
+/// Asks the system to open a path. Nothing else opens a file. It answers None, and counts it, where the system says that
+/// there is no such file. Any other failure is a fault.
+fn open_as<'p>(
+    rt: &HostRuntime,
+    path: &'p str,
+    options: &OpenOptions,
+    missing: &mut u64,
+    faults: &mut u64,
+) -> Result<Option<Opened<'p>>, DeskErr>
+    ensures path { IfOk result (λ found. IfSome found (λ opened. opened.path.now ≡ path.now)) }
+    ensures missing { CountsMissing result missing.old missing.new }
+    ensures faults { CountsFault result faults.old faults.new }
 {
-    let file = options.open(rt, path)?;
-    Ok(Opened { path, file })
+    match options.open(rt, path) {
+        Ok(file) => Ok(Some(Opened { path, file })),
+        Err(error) if error.kind() == ErrorKind::NotFound => {
+            *missing = missing.saturating_add(1);
+            Ok(None)
+        }
+        Err(_) => Err(fault(faults)),
+    }
+}
+
+/// Asks the system to open a path that it must have, or be able to make. A missing file is a fault too.
+fn open_or_fail<'p>(
+    rt: &HostRuntime,
+    path: &'p str,
+    options: &OpenOptions,
+    faults: &mut u64,
+) -> Result<Opened<'p>, DeskErr>
+    ensures path { IfOk result (λ opened. opened.path.now ≡ path.now) }
+    ensures faults { CountsFault result faults.old faults.new }
+{
+    match open_as(rt, path, options, &mut 0, faults)? {
+        Some(opened) => Ok(opened),
+        None => Err(fault(faults)),
+    }
 }
 
 /// Gives a file so many bytes, makes it durable and counts it. It answers how many were asked for. Nothing else sets the
@@ -272,9 +305,7 @@ fn sync_folder<'p>(
     ensures moved { OnOk result (synced.new ≡ raised synced.old 1) }
     ensures faults { CountsFault result faults.old faults.new }
 {
-    let Ok(handle) = open_as(rt, folder_at(path), OpenOptions::new().read(true)) else {
-        return Err(fault(faults));
-    };
+    let handle = open_or_fail(rt, folder_at(path), OpenOptions::new().read(true), faults)?;
     sync_file(&handle.file, synced, faults)?;
     Ok(handle.path)
 }
@@ -311,14 +342,12 @@ fn make_new<'p>(
     ensures moved { OnOk result (synced.new ≡ raised synced.old 2) }
     ensures faults { CountsFault result faults.old faults.new }
 {
-    let opened = open_as(
+    let new = open_or_fail(
         rt,
         path,
         OpenOptions::new().read(true).write(true).create_new(true),
-    );
-    let Ok(new) = opened else {
-        return Err(fault(faults));
-    };
+        faults,
+    )?;
     match fill_new(rt, &new, size, synced, faults) {
         Ok(made) => Ok((new, made)),
         Err(error) => {
@@ -328,26 +357,35 @@ fn make_new<'p>(
     }
 }
 
-/// Opens a file as it is. Where there is none and a size is given, makes one of that many zero bytes.
+/// Opens a file as it is. Where the system has none and a size is given, makes one of that many zero bytes.
 fn open_or_make<'p>(
     rt: &HostRuntime,
     path: &'p str,
     make: Option<u64>,
+    missing: &mut u64,
     synced: &mut u64,
     faults: &mut u64,
 ) -> Result<Found<'p>, DeskErr>
     ensures path { IfOk result (λ found. found.opened.path.now ≡ path.now) }
     ensures make { IfOk result (λ found. found.make ≡ make) }
+    ensures made { OnOk result (IsThereOrMade make missing.old missing.new synced.old synced.new) }
+    ensures never_falls { missing.old ≤ missing.new }
     ensures faults { CountsFault result faults.old faults.new }
 {
-    let opened = open_as(rt, path, OpenOptions::new().read(true).write(true));
-    let (opened, make) = match (opened, make) {
-        (Ok(opened), make) => (opened, make),
-        (Err(error), Some(size)) if error.kind() == ErrorKind::NotFound => {
+    let there = open_as(
+        rt,
+        path,
+        OpenOptions::new().read(true).write(true),
+        missing,
+        faults,
+    )?;
+    let (opened, make) = match (there, make) {
+        (Some(opened), make) => (opened, make),
+        (None, Some(size)) => {
             let (opened, made) = make_new(rt, path, size, synced, faults)?;
             (opened, Some(made.size))
         }
-        (Err(_), _) => return Err(fault(faults)),
+        (None, None) => return Err(fault(faults)),
     };
     let Ok(metadata) = opened.file.metadata() else {
         return Err(fault(faults));
@@ -466,6 +504,8 @@ impl Desk for FileDesk {
         // What is kept was opened by the path of the call, and by its size where there was no file.
         ensures paths { OnOk result (paths_of self.new ≡ paths_of self.old ++ path.now ∷ []) }
         ensures makes { OnOk result (makes_of self.new ≡ makes_of self.old ++ make ∷ []) }
+        // A file that was there is not made.
+        ensures made { OnOk result (IsThereOrMade make self.old.moved.missing self.new.moved.missing self.old.moved.synced self.new.moved.synced) }
     {
         let slot = self.slots();
         if slot == u32::MAX {
@@ -477,6 +517,7 @@ impl Desk for FileDesk {
             &self.rt,
             path,
             make,
+            &mut self.moved.missing,
             &mut self.moved.synced,
             &mut self.attach_faults,
         )?;
@@ -553,13 +594,16 @@ mod tests {
         let mut desk = FileDesk::new(rt);
         assert!(rt; desk.attach(PATH, None) == Err(DeskErr::Failed));
         assert_eq!(rt; desk.attach_faults, 1);
+        assert_eq!(rt; (desk.moved.missing, desk.moved.synced), (1, 0));
         assert!(rt; desk.attach(PATH, Some(12)) == Ok(0));
+        assert_eq!(rt; (desk.moved.missing, desk.moved.synced), (2, 2));
         assert_eq!(rt; four_at(&mut desk, 8), Some([0, 0, 0, 0]));
         store(&mut desk)?;
         drop(desk);
 
         let mut desk = FileDesk::new(rt);
         assert!(rt; desk.attach(PATH, Some(4)) == Ok(0), "taken as it is");
+        assert_eq!(rt; (desk.moved.missing, desk.moved.synced), (0, 0));
         assert_eq!(rt; desk.size(0), 12);
         assert_eq!(rt; four_at(&mut desk, 4), Some(*b"zpol"));
         fs::write(&rt, PATH, "short")?;

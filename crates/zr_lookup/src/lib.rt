@@ -4,6 +4,7 @@
 //! in the open group first, and in the directory of the current root where the group has not changed it.
 #![tactic(auto)]
 
+mod directory;
 mod laws;
 mod leaves;
 mod overlays;
@@ -12,6 +13,7 @@ mod reads;
 mod sums;
 mod walks;
 
+pub use directory::{leaves_in, record_by, records_at};
 pub use laws::changes_over_tree;
 pub use leaves::{blocks_of, leaves_of};
 pub use ranges::read_range;

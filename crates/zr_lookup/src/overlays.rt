@@ -14,8 +14,8 @@ use zr_bptr::{Bptr, Ptr};
 // No tree has an index from here on.
 const INDICES: u64 = 1 << 25;
 
-// Where the leaf with an index is, or else where it would be. Logarithmic in the leaves.
-fn place_of(leaves: &[(u64, Bptr)], index: u64) -> Result<usize, usize>
+/// Where the leaf with an index is, or else where it would be. Logarithmic in the leaves.
+pub(crate) fn place_of(leaves: &[(u64, Bptr)], index: u64) -> Result<usize, usize>
     requires { IsRising leaves.now }
     ensures found { IfOk result (λ i. HasKeyAt leaves.now index i) }
     ensures missing { IfErr result (λ i. LacksKeyAt leaves.now index i) }

@@ -10,7 +10,7 @@ mod stores;
 mod walks;
 
 pub use laws::frame;
-pub use reads::{block, look};
+pub use reads::{block, look, read_records};
 pub use stores::store;
 pub use walks::walk;
 

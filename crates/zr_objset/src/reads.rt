@@ -15,8 +15,8 @@ use zr_bptr::{Bptr, ObjRec, Ptr, Tree, decode_records};
 use zr_store::{Blocks, StoreErr};
 use zr_tree::get;
 
-/// The sixteen records of a leaf of the directory.
-pub(crate) fn read_records<B: Blocks>(
+/// The sixteen records of a leaf of the directory. It reads that block.
+pub fn read_records<B: Blocks>(
     alloc: Global,
     store: &mut B,
     b: &Bptr,

@@ -1,5 +1,5 @@
 -- Reading leaves what the disks hold.
-use Rattle.std.proofs.Common.{◌≡◌, ◌∙◌, ℕ, List, None, refl, sym, ap, subst}
+use Rattle.std.proofs.Common.{◌≡◌, ◌∙◌, ℕ, List, None, sym, ap, subst}
 use Rattle.std.specs.Prelude.{Option}
 use Rattle.zr_cache.specs.declared.table.Cache.{Cache}
 use Rattle.zr_model.specs.Objects.{Objects}

@@ -26,6 +26,12 @@ pub data AreBlocksBelow (s : Stored) (dir : Tree) (g : Changes) : ℕ → List B
   none_below : AreBlocksBelow s dir g 0 []
   one_more : (id : ℕ) (blocks own : List Bptr) → AreBlocksBelow s dir g id blocks → AreBlocksNow s dir g id own → AreBlocksBelow s dir g (id + 1) (blocks ++ own)
 
+-- these are the addresses of the blocks of the directory, and then of those of the objects below an ID
+pub record AreMetBelow (s : Stored) (dir : Tree) (g : Changes) (id : ℕ) (met : List Dva) : Type 0 where
+  pub blocks : List Bptr
+  pub of_objects : AreBlocksBelow s dir g id blocks
+  pub all : met ≡ addresses_of (tree_reach s dir ++ blocks)
+
 -- The addresses of the live pointers: of the blocks of the directory, and then of the blocks of all objects.
 pub record AreLiveAddresses (s : Stored) (dir : Tree) (g : Changes) (live : List Dva) : Type 0 where
   pub blocks : List Bptr
