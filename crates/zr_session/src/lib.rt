@@ -13,6 +13,7 @@ mod line;
 mod memory;
 mod object;
 mod program;
+mod replies;
 mod rounds;
 mod script;
 mod session;
