@@ -2,3 +2,4 @@ pub mod Objects
 pub mod State
 pub mod Step
 pub mod Runs
+pub mod Tally

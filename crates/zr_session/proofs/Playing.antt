@@ -9,7 +9,7 @@ use Rattle.zr_script.specs.declared.reply.Reply.{Reply}
 use Rattle.zr_model.specs.declared.pool.Actor.{Actor}
 use Rattle.zr_model.specs.State.{State}
 use Rattle.zr_model.specs.Runs.{Meaning, Point, Turn, point, turn, Run, end_of, step_of}
-use Rattle.zr_session.specs.Agenda.{Item, Given, Inserted, round, rounds_of, agenda, GivesNone, Plays, IsDue}
+use Rattle.zr_session.specs.Agenda.{Item, Given, Inserted, round, rounds_of, agenda, GivesNone, IsGiven, Plays, IsDue}
 use Rattle.zr_session.specs.declared.end.End.{End}
 use Rattle.zr_session.specs.declared.replies.Replies.{Replies}
 use Rattle.zr_session.specs.Lines.{told_for, told, Sends, DoesCommand, DoesItems, StopsAtCommand, StopsWithin, DoesSteps, StopsWithinSteps}
@@ -26,7 +26,7 @@ match_false : (b : Bool) (X Y : Type 0) → b ≡ false → Y → MatchBool b X 
 match_false b X Y e y = subst (λ c. MatchBool c X Y) (sym e) y
 
 -- the step of an actor is put in
-abbrev PutsIn : (A : Type 0) → Meaning → (A → Command → Type 0) → List (Item A) → Actor → List Turn → Type 0
+abbrev pub PutsIn : (A : Type 0) → Meaning → (A → Command → Type 0) → List (Item A) → Actor → List Turn → Type 0
 PutsIn A m Means items actor turns = (t : Turn) × (more : List Turn) × (turns ≡ t ∷ more) × (t.command ≡ step_of actor) × Plays m Means items t.point more
 
 pub plays_both : (A : Type 0) (m : Meaning) (Means : A → Command → Type 0) (xs ys : List (Item A)) (p : Point) (ts us : List Turn)
@@ -47,7 +47,7 @@ pub end_both : (p : Point) (ts us : List Turn) → end_of p (ts ++ us) ≡ end_o
 end_both p [] us = refl
 end_both p (t ∷ ts) us = end_both t.point ts us
 
-due_more : (A : Type 0) (m : Meaning) (Means : A → Command → Type 0) (xs ys : List (Item A)) (p : Point) (c : Command) → IsDue m Means xs p c → IsDue m Means (xs ++ ys) p c
+pub due_more : (A : Type 0) (m : Meaning) (Means : A → Command → Type 0) (xs ys : List (Item A)) (p : Point) (c : Command) → IsDue m Means xs p c → IsDue m Means (xs ++ ys) p c
 due_more A m Means [] ys p c h = absurd h
 due_more A m Means (Given x ∷ xs) ys p c h = h
 due_more A m Means (Inserted actor ∷ xs) ys p c h =
@@ -246,7 +246,7 @@ among_both A [] ys = refl
 among_both A (Given x ∷ xs) ys = absurd x
 among_both A (Inserted actor ∷ xs) ys = ap (λ l. put_in A actor ∷ l) (among_both A xs ys)
 
-among_rounds : (A : Type 0) (n : ℕ) → among A (the_rounds ⊥ n) ≡ the_rounds A n
+pub among_rounds : (A : Type 0) (n : ℕ) → among A (the_rounds ⊥ n) ≡ the_rounds A n
 among_rounds A zero = refl
 among_rounds A (suc n) = ap (λ l. the_steps A round ++ l) (among_rounds A n)
 
@@ -272,7 +272,19 @@ does_among A m Means replies items before after old new h =
 pub rounds_among : (A : Type 0) (m : Meaning) (Means : A → Command → Type 0) (replies : Replies) (n : ℕ) (before after : State) (old new : Stand)
     → DoesSteps m replies (rounds_of n) before after old new → DoesItems A m Means replies (rounds_of n) before after old new
 rounds_among A m Means replies n before after old new h =
-    subst (λ items. DoesItems A m Means replies items before after old new) (among_rounds A n) (does_among A m Means replies (rounds_of n) before after old new h)
+    let turns = plays_among A m Means (the_rounds ⊥ n) (point old before) h.turns h.plays in
+    record { turns = h.turns; plays = subst (λ items. Plays m Means items (point old before) h.turns) (among_rounds A n) turns; run = h.run; ends = h.ends; sends = h.sends }
+
+-- a command behind items that are done, and rounds behind it: the turns are theirs, its own and those of the rounds
+pub does_with_rounds : (m : Meaning) (replies : Replies) (rounds : ℕ) (items : List (Item Command)) (c : Command) (answer : Reply) (before state mid_state after : State) (old mid next new : Stand)
+    → (h : DoesItems Command m IsGiven replies items before state old mid) → DoesCommand m replies c answer state mid_state mid next → (r : DoesSteps m replies (rounds_of rounds) mid_state after next new)
+    → (d : DoesItems Command m IsGiven replies (items ++ (Given c ∷ rounds_of rounds)) before after old new) × (d.turns ≡ h.turns ++ turn c answer next mid_state ∷ r.turns)
+unfolding does_both does_given rounds_among
+does_with_rounds m replies rounds items c answer before state mid_state after old mid next new h d r =
+    let one = does_given Command m IsGiven replies c c answer state mid_state mid next refl d in
+    let steps = rounds_among Command m IsGiven replies rounds mid_state after next new r in
+    let more = does_both Command m IsGiven replies (Given c ∷ []) (rounds_of rounds) state mid_state after mid next new one steps in
+    (does_both Command m IsGiven replies items (Given c ∷ rounds_of rounds) before state after old mid new h more, refl)
 
 -- the run stops within them
 pub stops_among : (A : Type 0) (m : Meaning) (Means : A → Command → Type 0) (replies : Replies) (n number : ℕ) (before : State) (old new : Stand) (end : End)

@@ -1,5 +1,8 @@
 pub mod Agenda
 pub mod Answers
+pub mod Generated
+pub mod Tallied
+pub mod Started
 pub mod Ends
 pub mod Lines
 pub mod Progress
