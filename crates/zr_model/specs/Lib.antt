@@ -2,4 +2,3 @@ pub mod Objects
 pub mod State
 pub mod Step
 pub mod Runs
-pub mod Tally

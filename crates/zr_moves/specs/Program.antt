@@ -1,7 +1,8 @@
 -- What the program does with its words and its input, and what it leaves at each moment.
-use Rattle.std.specs.Prelude.{◌≡◌, ◌≢◌, ◌⊎◌, ℕ, ◌+◌, ◌^◌, ◌≤◌, ◌<◌, ◌==◌, List, [], ◌∷◌, ◌++◌, length, map, take, Contains, Option, Some, None, unwrap_or, MatchOption, slice_get, if◌then◌else◌}
+use Rattle.std.specs.Prelude.{◌≡◌, ◌≢◌, ◌⊎◌, ℕ, ◌+◌, ◌^◌, ◌≤◌, ◌<◌, ◌==◌, Bool, true, false, not, List, [], ◌∷◌, ◌++◌, length, map, take, count_by, Contains, Option, Some, None, unwrap_or, MatchOption, slice_get, if◌then◌else◌}
 use Rattle.std.specs.List.{flat_map}
 use Rattle.std.specs.Str.{bytes_eq}
+use Rattle.sha2.specs.Sha256.{sha256}
 use Rattle.zr_base.specs.declared.space.Policy.{Policy}
 use Rattle.zr_base.specs.declared.refusal.Refusal.{Refusal}
 use Rattle.zr_base.specs.declared.refusal.Refusal.TheVariants as refusal
@@ -9,13 +10,14 @@ use Rattle.zr_shelf.specs.Disks.{IsAtRest}
 use Rattle.zr_shelf.specs.Moments.{World, Throughout}
 use Rattle.zr_script.specs.declared.command.Command.{Command}
 use Rattle.zr_script.specs.declared.command.Command.TheVariants as cmd
+use Rattle.zr_script.specs.declared.reply.Reply.{Reply}
+use Rattle.zr_script.specs.declared.reply.Reply.TheVariants as reply
 use Rattle.zr_script.specs.CommandLine.{CommandLine, IsCommandLine}
 use Rattle.zr_script.specs.Generated.{script_of}
 use Rattle.zr_script.specs.Grammar.{IsLine}
 use Rattle.zr_script.specs.Lines.{lines_of}
-use Rattle.zr_script.specs.ReplyText.{End, Answered, BadWords, NoInput, NoOutput, DiskFault, BadLine, Damage, NoDevice, InputLimit, NoMemory, status_of, last_line}
+use Rattle.zr_script.specs.ReplyText.{End, Answered, BadWords, NoInput, NoOutput, DiskFault, BadLine, Damage, NoDevice, InputLimit, NoMemory, status_of, last_line, reply_text, generated_line}
 use Rattle.zr_model.specs.Runs.{Turn, Asks, texts, bytes_to}
-use Rattle.zr_model.specs.Tally.{generated_text}
 use Rattle.zr_moves.specs.Prefix.{Now, KeepsPrefix, KeepsSome, KeepsAll}
 use Rattle.zr_moves.specs.Runs.{Standing, Act, Item, Given, Inserted, behind, turns_of, shelf_of, agenda, has_work, IsStart, Run, Happen, Plays, IsDue}
 use Rattle.zr_moves.specs.Premises.{IsTrusted, HasLawfulGroups}
@@ -142,6 +144,21 @@ pub record RunsScript (line : CommandLine) (policy : Policy) (old new : World) (
   pub happens : IsTrusted start.point.shelf → Happen acts opening new
   pub prefixes : IsTrusted start.point.shelf → LeavesPrefixes start acts end stopped opening new
 
+abbrev pub is_refused : Turn → Bool
+is_refused t = refuses t.answer
+  where
+    refuses : Reply → Bool
+    refuses (reply.No r) = true
+    refuses answer = false
+
+-- the reply to a `sum`, a refusal among them
+abbrev pub sum_text : Turn → List ℕ
+sum_text t = text_of t.command
+  where
+    text_of : Command → List ℕ
+    text_of (cmd.Sum id) = reply_text t.answer
+    text_of command = []
+
 -- the turns of the commands that are given, without the steps that were put in
 abbrev pub given_turns : {A : Type 0} → List (Item A) → Standing → List Act → List Turn
 given_turns [] s acts = []
@@ -149,6 +166,10 @@ given_turns (Given c ∷ items) s [] = []
 given_turns (Given c ∷ items) s (a ∷ acts) = a.turn ∷ given_turns items (behind a) acts
 given_turns (Inserted c ∷ items) s [] = []
 given_turns (Inserted c ∷ items) s (a ∷ acts) = if has_work s c then given_turns items (behind a) acts else given_turns items s (a ∷ acts)
+
+-- the one line of a generated run: how many commands were accepted and refused, and the sum of the replies to its last sums
+abbrev pub generated_text : ℕ → ℕ → List Turn → List ℕ
+generated_text number count given = generated_line number count (count_by (λ t. not (is_refused t)) given) (count_by is_refused given) (sha256 (flat_map sum_text given))
 
 -- what is sent by a generated run that ends so: its line, the last line of the stop, or where the output failed a front of one of them
 abbrev pub IsGeneratedText : End → List ℕ → List ℕ → Type 0

@@ -15,8 +15,7 @@ ghost use Rattle.zr_rules.specs.Roles.Role.{Free, Live, Late1Block, Late2Block};
 ghost use Rattle.zr_moves.specs.Examples.{idle};
 ghost use Rattle.zr_moves.specs.Runs.{Standing, Act, IsDue};
 ghost use Rattle.zr_moves.specs.Premises.{IsStillThere};
-ghost use Rattle.zr_moves.specs.Program.{AnswersScript, IsAttaching, EndsEarly, TellsDamage, IsGeneratedText};
-ghost use Rattle.zr_model.specs.Tally.{sum_text};
+ghost use Rattle.zr_moves.specs.Program.{AnswersScript, IsAttaching, EndsEarly, TellsDamage, IsGeneratedText, sum_text};
 
 /// A run that ends well has answered each line before a `quit`: with no answer there was no line.
 pub fn no_line_is_dropped()

@@ -8,7 +8,7 @@ use Rattle.zr_script.specs.ReplyText as text
 use Rattle.zr_script.specs.ReplyText.{last_line}
 use Rattle.zr_model.specs.State.{State, no_pool}
 use Rattle.zr_model.specs.Runs.{Meaning, Point, Turn, point, end_of}
-use Rattle.zr_model.specs.Tally.{generated_text}
+use Rattle.zr_session.specs.Tally.{generated_text}
 use Rattle.zr_session.specs.Agenda.{Item, IsGiven, IsDue}
 use Rattle.zr_session.specs.Generated.{Task, due_in, given_turns, given_count, Stage, HasGenerated, tally_text, IsNextCommand, IsNextUnserved, IsNextDamage, unserved_text, IsNextLine, tally, unserved, fault, damage}
 use Rattle.zr_session.specs.Lines as sending

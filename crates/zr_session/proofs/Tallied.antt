@@ -51,8 +51,8 @@ given_both A m Means (Given x ∷ xs) ys p ts us h =
 given_both A m Means (Inserted actor ∷ xs) ys p ts us h =
     match_cases (m.works p.state actor) (PutsIn A m Means xs actor ts) (Plays m Means xs p ts) (AreBoth A m (Inserted actor ∷ xs) ys p ts us)
     (λ e i. subst (λ l. AreBoth A m (Inserted actor ∷ xs) ys p l us) (sym i.2)
-        (given_step A m actor (xs ++ ys) p i.0 (i.1 ++ us) e ∙ (given_both A m Means xs ys i.0.point i.1 us i.4
-            ∙ ap (λ l. l ++ given_turns m ys (end_of i.0.point i.1) us) (sym (given_step A m actor xs p i.0 i.1 e)))))
+    (given_step A m actor (xs ++ ys) p i.0 (i.1 ++ us) e ∙ (given_both A m Means xs ys i.0.point i.1 us i.4
+    ∙ ap (λ l. l ++ given_turns m ys (end_of i.0.point i.1) us) (sym (given_step A m actor xs p i.0 i.1 e)))))
     (λ e i. given_skip A m actor (xs ++ ys) p (ts ++ us) e ∙ (given_both A m Means xs ys p ts us i ∙ ap (λ l. l ++ given_turns m ys (end_of p ts) us) (sym (given_skip A m actor xs p ts e))))
     h
 
@@ -117,11 +117,11 @@ one_more m rounds commands i x answer tally counted before state mid_state after
     let t = turn x answer next mid_state in
     let all = does_with_rounds m Kept rounds (up_to rounds commands i) x answer before state mid_state after old mid next new h.does c r in
     let given : given_turns m (up_to rounds commands i ++ (Given x ∷ rounds_of rounds)) (point old before) all.0.turns ≡ given_turns m (up_to rounds commands i) (point old before) h.does.turns ++ t ∷ [] =
-        ap (given_turns m (up_to rounds commands i ++ (Given x ∷ rounds_of rounds)) (point old before)) all.1
-        ∙ (given_both Command m IsGiven (up_to rounds commands i) (Given x ∷ rounds_of rounds) (point old before) h.does.turns (t ∷ r.turns) h.does.plays
-        ∙ ap (λ us. given_turns m (up_to rounds commands i) (point old before) h.does.turns ++ t ∷ us) (given_rounds Command m rounds t.point r.turns)) in
+    ap (given_turns m (up_to rounds commands i ++ (Given x ∷ rounds_of rounds)) (point old before)) all.1
+    ∙ (given_both Command m IsGiven (up_to rounds commands i) (Given x ∷ rounds_of rounds) (point old before) h.does.turns (t ∷ r.turns) h.does.plays
+    ∙ ap (λ us. given_turns m (up_to rounds commands i) (point old before) h.does.turns ++ t ∷ us) (given_rounds Command m rounds t.point r.turns)) in
     let items : up_to rounds commands i ++ (Given x ∷ rounds_of rounds) ≡ agenda rounds (take (i + 1) commands) =
-        sym (agenda_more Command rounds (take i commands) x) ∙ ap (agenda rounds) (sym (take_more commands i x l ∙ ap (λ y. take i commands ++ y ∷ []) (sym e))) in
+    sym (agenda_more Command rounds (take i commands) x) ∙ ap (agenda rounds) (sym (take_more commands i x l ∙ ap (λ y. take i commands ++ y ∷ []) (sym e))) in
     subst (λ xs. DoesCommands m xs counted before after old new) items
     (record { does = all.0; tallied = subst (λ ts. IsTallyOf counted ts) (sym given) (count _ t.point h.tallied) })
 

@@ -8,7 +8,7 @@ use Rattle.zr_script.specs.Generated.{script_of}
 use Rattle.zr_script.specs.ReplyText.{BadLine, DiskFault, Damage, last_line}
 use Rattle.zr_model.specs.State.{no_pool}
 use Rattle.zr_model.specs.Runs.{Meaning, Point, Turn, point, Run, end_of}
-use Rattle.zr_model.specs.Tally.{generated_text}
+use Rattle.zr_session.specs.Tally.{generated_text}
 use Rattle.zr_session.specs.Agenda.{Item, Given, Inserted, agenda, IsGiven, Plays, IsDue}
 use Rattle.zr_session.specs.Answers.{paths_in, rounds_in}
 

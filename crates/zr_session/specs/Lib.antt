@@ -1,5 +1,6 @@
 pub mod Agenda
 pub mod Answers
+pub mod Tally
 pub mod Generated
 pub mod Tallied
 pub mod Started

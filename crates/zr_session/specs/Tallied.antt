@@ -5,7 +5,7 @@ use Rattle.zr_shelf.specs.Disks.{Stand}
 use Rattle.zr_script.specs.declared.command.Command.{Command}
 use Rattle.zr_model.specs.State.{State}
 use Rattle.zr_model.specs.Runs.{Meaning, Turn, point}
-use Rattle.zr_model.specs.Tally.{is_refused, is_accepted, sum_text}
+use Rattle.zr_session.specs.Tally.{is_refused, is_accepted, sum_text}
 use Rattle.zr_session.specs.Agenda.{Item, IsGiven, IsDue}
 use Rattle.zr_session.specs.Generated.{given_turns, given_count}
 use Rattle.zr_session.specs.Lines.{DoesItems, StopsAtCommand}

@@ -49,7 +49,15 @@ fn do_commands<P: Pool, D: Desk>(
     for index in 0..commands.len() {
         let command = &commands[index];
         let number = index as u64 + 1;
-        let reply = do_command(alloc, command, number, course.pick, Replies::Kept, pool, desk)?;
+        let reply = do_command(
+            alloc,
+            command,
+            number,
+            course.pick,
+            Replies::Kept,
+            pool,
+            desk,
+        )?;
         tally.add(alloc, command, &reply)?;
         do_rounds(alloc, number, course, Replies::Kept, pool, desk)?;
     }

@@ -56,6 +56,14 @@ pub fn answer_line<P: Pool, D: Desk>(
     if let Command::Quit = command {
         return Err(End::Answered);
     }
-    do_command(alloc, &command, number, course.pick, Replies::Sent, pool, desk)?;
+    do_command(
+        alloc,
+        &command,
+        number,
+        course.pick,
+        Replies::Sent,
+        pool,
+        desk,
+    )?;
     do_rounds(alloc, number, course, Replies::Sent, pool, desk)
 }

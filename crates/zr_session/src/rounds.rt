@@ -57,7 +57,15 @@ fn do_step<P: Pool, D: Desk>(
     if !pool.has_work(actor) {
         return Ok(());
     }
-    do_command(alloc, &step_of(actor), number, course.pick, replies, pool, desk)?;
+    do_command(
+        alloc,
+        &step_of(actor),
+        number,
+        course.pick,
+        replies,
+        pool,
+        desk,
+    )?;
     Ok(())
 }
 

@@ -4,7 +4,7 @@
 //! digested as they would have been sent.
 ghost use Rattle.std.specs.Prelude.{◌≡◌, ◌∷◌, ◌++◌, [], ◌+◌, ◌<◌, ◌^◌, List, IfOk, OnOk};
 ghost use Rattle.zr_model.specs.Runs.{Turn, Point};
-ghost use Rattle.zr_model.specs.Tally.{generated_text};
+ghost use Rattle.zr_session.specs.Tally.{generated_text};
 ghost use Rattle.zr_session.specs.Tallied.{IsTallyOf};
 
 use sha2::{Digest, Sha256};
@@ -49,7 +49,9 @@ impl Tally {
         }
         if let Command::Sum { .. } = command {
             let text = reply_bytes(alloc, reply)?;
-            self.sums.extend_from_slice(text.as_slice()).map_err(AllocError::from)?;
+            self.sums
+                .extend_from_slice(text.as_slice())
+                .map_err(AllocError::from)?;
         }
         Ok(())
     }

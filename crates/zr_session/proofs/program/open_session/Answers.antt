@@ -31,20 +31,20 @@ pub returns-in-Some-clause-ends : goal.returns-in-Some-clause-ends
 returns-in-Some-clause-ends g c = λ t.
     let same : map path_of c.as_slice-devices.result.now ≡ paths_in (line_of c.args.line.now) = ap (map path_of) c.as_slice-devices.ensures.value ∙ sym (paths_same c.args.line.now.devices.items) in
     let d : IsAttached (paths_in (line_of c.args.line.now)) (g.D.Shelf.world c.args.desk.now).now (g.D.Shelf.world c.attach_all.new.desk).now =
-        subst (λ ps. IsAttached ps (g.D.Shelf.world c.args.desk.now).now (g.D.Shelf.world c.attach_all.new.desk).now) same (c.in-Ok-attach_all.ensures.done t) in
+    subst (λ ps. IsAttached ps (g.D.Shelf.world c.args.desk.now).now (g.D.Shelf.world c.attach_all.new.desk).now) same (c.in-Ok-attach_all.ensures.done t) in
     let s = (g.D.Shelf.sound c.args.desk.now t).paths in
     let z = ap length c.requires.none in
     opened_by g.P.Pool.meaning (line_of c.args.line.now) c.generate.result _ _ _ _ d
     (by_generating g.P.Pool.meaning (line_of c.args.line.now) (c.in-Some.number, c.in-Some.count) _ _ c.generate.result _ _ c.in-Some.is same c.unwrap_or.ensures
-        (c.generate.ensures.ends (c.attach_all.ensures.told t) (named_first _ _ _ _ (s ∙ z) d (c.in-Ok-closed.ensures.paths ∙ (c.in-Ok.ensures ∙ same)))))
+    (c.generate.ensures.ends (c.attach_all.ensures.told t) (named_first _ _ _ _ (s ∙ z) d (c.in-Ok-closed.ensures.paths ∙ (c.in-Ok.ensures ∙ same)))))
 
 pub returns-clause-ends : goal.returns-clause-ends
 returns-clause-ends g c = λ t.
     let same : map path_of c.as_slice-devices.result.now ≡ paths_in (line_of c.args.line.now) = ap (map path_of) c.as_slice-devices.ensures.value ∙ sym (paths_same c.args.line.now.devices.items) in
     let d : IsAttached (paths_in (line_of c.args.line.now)) (g.D.Shelf.world c.args.desk.now).now (g.D.Shelf.world c.attach_all.new.desk).now =
-        subst (λ ps. IsAttached ps (g.D.Shelf.world c.args.desk.now).now (g.D.Shelf.world c.attach_all.new.desk).now) same (c.in-Ok-attach_all.ensures.done t) in
+    subst (λ ps. IsAttached ps (g.D.Shelf.world c.args.desk.now).now (g.D.Shelf.world c.attach_all.new.desk).now) same (c.in-Ok-attach_all.ensures.done t) in
     let s = (g.D.Shelf.sound c.args.desk.now t).paths in
     let z = ap length c.requires.none in
     opened_by g.P.Pool.meaning (line_of c.args.line.now) c.serve.result _ _ _ _ d
     (by_serving g.P.Pool.meaning (line_of c.args.line.now) _ c.serve.result _ _ c.in-None.is c.unwrap_or.ensures
-        (c.serve.ensures.ends (c.attach_all.ensures.told t) (named_first _ _ _ _ (s ∙ z) d (c.in-Ok-closed.ensures.paths ∙ (c.in-Ok.ensures ∙ same)))))
+    (c.serve.ensures.ends (c.attach_all.ensures.told t) (named_first _ _ _ _ (s ∙ z) d (c.in-Ok-closed.ensures.paths ∙ (c.in-Ok.ensures ∙ same)))))

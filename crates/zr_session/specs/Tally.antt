@@ -1,4 +1,4 @@
--- What the replies of a generated run come to.
+-- What the replies of a generated run come to: how many refuse, and the digest of those to its sums.
 use Rattle.std.specs.Prelude.{ℕ, Bool, true, false, not, List, [], count_by}
 use Rattle.std.specs.List.{flat_map}
 use Rattle.sha2.specs.Sha256.{sha256}
