@@ -1,4 +1,5 @@
-//! `zr [--policy NAME] [--auto N] DEV..` answers the script on standard input, over the device files that are named.
+//! `zr [--policy NAME] [--auto N] [--gen NUMBER:COUNT] DEV..` answers the script on standard input, or does a generated run,
+//! over the device files that are named.
 //!
 //! The program makes what `run` is handed: the words, the desk over files and the choosers. All else is `run`'s.
 #![tactic(auto)]

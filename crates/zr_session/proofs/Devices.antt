@@ -2,7 +2,6 @@
 use Rattle.std.proofs.Common.{◌≡◌, ◌≢◌, ℕ, Bool, true, false, List, [], ◌∷◌, map, Option, Some, None, is_some, option_map, refl, sym, ap, subst, ◌∙◌, cond, MatchOption}
 use Rattle.std.specs.List.{find}
 use Rattle.std.specs.Str.{bytes_eq}
-use Rattle.std.proofs.lemmas.Bool.{false≢true}
 use Rattle.zr_words.specs.declared.device.Device.{Device}
 use Rattle.zr_words.specs.Views.{device_of, path_of}
 use Rattle.zr_words.specs.Choosing.{chosen}
@@ -36,10 +35,3 @@ is_chosen name_of name xs x e n = some_is name_of (chosen name_of name xs) x e (
 -- where none is
 pub none_chosen : {X : Type 0} (name_of : X → List ℕ) (name : Option (List ℕ)) (xs : List X) → chosen name_of name xs ≡ None → chosen (λ n. n) name (map name_of xs) ≡ None
 none_chosen name_of name xs e = sym (chosen_name name_of name xs) ∙ ap (option_map name_of) e
-
-pub none_of : {X : Type 0} (o : Option X) → is_some o ≡ false → o ≡ None
-none_of None e = refl
-none_of (Some x) e = absurd (false≢true (sym e))
-
-pub some_none : {X : Type 0} (o : Option X) → is_some o ≡ true → o ≡ None → ⊥
-some_none o e n = false≢true (ap is_some (sym n) ∙ e)

@@ -12,13 +12,14 @@ use Rattle.zr_model.specs.State.{State, no_pool}
 use Rattle.zr_model.specs.Runs.{Meaning, Turn, point, texts, Asks, IsBad}
 use Rattle.zr_session.specs.Agenda.{Item, Given, rounds_of, agenda, IsDue}
 use Rattle.zr_session.specs.Answers.{IsOpenLine, Reach, HasReached, IsBetween, IsNextText, reply, bad_line, limit, fault, damage, IsAtBadLine, IsAtCommand, IsAtDamage, IsDone}
+use Rattle.zr_session.specs.declared.replies.Replies.TheVariants.{Sent}
 use Rattle.zr_session.specs.declared.end.End.{End}
 use Rattle.zr_session.specs.declared.end.End.TheVariants.{Answered, BadWords, InputFault, OutputFault, DiskFault, BadLine, Damaged, AttachFault, InputLimit, NoMemory}
 use Rattle.zr_session.specs.Ends.{EndsAs}
 use Rattle.zr_session.specs.Lines as sending
-use Rattle.zr_session.specs.Lines.{Sends, SendsPartly, Tells, wholly, partly, IsTextFor, StopsAtCommand, StopsAtLine, outside, quit, command, within, memory, DoesItems, StopsWithinSteps, AnswersLine, StopsAtRest, long, full}
+use Rattle.zr_session.specs.Lines.{Sends, SendsPartly, Tells, wholly, partly, IsTextFor, StopsAtCommand, StopsAtLine, outside, quit, command, within, memory, DoesItems, StopsWithin, AnswersLine, StopsAtRest, long, full}
 use Rattle.zr_session.specs.Progress.{HasDone, IsAt, IsNext}
-use Rattle.zr_session.proofs.Playing.{does_both, texts_in_order, agenda_more}
+use Rattle.zr_session.proofs.Playing.{does_both, agenda_more}
 use Rattle.zr_session.proofs.Going.{done_more, answered_more, IsLong, last_front, due_last, due_long, due_line}
 
 sent_with : (opening now new : Stand) (turns : List Turn) (bytes : List ℕ) → now.sent ≡ opening.sent ++ texts turns → new.sent ≡ now.sent ++ bytes → new.sent ≡ opening.sent ++ (texts turns ++ bytes)
@@ -70,7 +71,7 @@ reach_within m rounds {line = line} d front rest turns =
     record { lines = d.lines ++ line ∷ []; more = d.more; front = agenda rounds d.lines ++ front; rest = rest; turns = d.turns ++ turns; taken = d.taken }
 
 within_point : (m : Meaning) (rounds : ℕ) (opening now mid : Stand) (state after : State) (line : List ℕ) (number : ℕ) (front rest : List (Item (List ℕ))) (d : IsNext m rounds opening now state line number)
-    → Given line ∷ rounds_of rounds ≡ front ++ rest → (h : DoesItems (List ℕ) m Asks texts front state after now mid) → IsPoint m rounds opening mid after (reach_within m rounds d front rest h.turns)
+    → Given line ∷ rounds_of rounds ≡ front ++ rest → (h : DoesItems (List ℕ) m Asks Sent front state after now mid) → IsPoint m rounds opening mid after (reach_within m rounds d front rest h.turns)
 within_point m rounds opening now mid state after line number front rest d e h = record {
   begins = begins_more _ d.lines d.more line d.front;
   due = agenda_more (List ℕ) rounds d.lines line ∙ (ap (λ l. agenda rounds d.lines ++ l) e ∙ sym (append_assoc (agenda rounds d.lines) front rest));
@@ -132,8 +133,8 @@ damage_at m rounds opening now state c number found n h =
 
 -- a front of what is to be sent for it
 fronts_text : (m : Meaning) (rounds : ℕ) (opening now new : Stand) (state : State) (c : Command) (number : ℕ) (front back bytes : List ℕ) (n : IsCommandNext m rounds opening now state c number)
-    → front ++ back ≡ bytes → IsTextFor m c number state now bytes → Sends now new front → EndsAs m rounds OutputFault opening new
-fronts_text m rounds opening now new state c number front back bytes n e (sending.reply answer after takes) s =
+    → front ++ back ≡ bytes → IsTextFor m Sent c number state now bytes → Sends now new front → EndsAs m rounds OutputFault opening new
+fronts_text m rounds opening now new state c number front back bytes n e (sending.reply answer after sent takes) s =
     let t : Turn = record { command = c; answer = answer; point = after } in
     (n.r, front, back, _, e, reply t (command_at m rounds opening now state c number n) (subst (λ p. m.takes p t) (sym n.point_is.done.ends) takes), point_reached m rounds opening now new state n.r front n.point_is s)
 fronts_text m rounds opening now new state c number front back bytes n e (sending.bad_line u) s =
@@ -146,7 +147,7 @@ fronts_text m rounds opening now new state c number front back bytes n e (sendin
 
 -- the run ends at it
 ends_command : (m : Meaning) (rounds : ℕ) (opening now new : Stand) (state : State) (c : Command) (number : ℕ) (end : End) → IsCommandNext m rounds opening now state c number
-    → StopsAtCommand m c number state now new end → EndsAs m rounds end opening new
+    → StopsAtCommand m Sent c number state now new end → EndsAs m rounds end opening new
 ends_command m rounds opening now new state c number OutputFault n s = fronts_text m rounds opening now new state c number s.0 s.1 s.2 n s.3 s.4 s.5
 ends_command m rounds opening now new state c number DiskFault n s =
     (n.r, c, point_reached m rounds opening now new state n.r _ n.point_is s, command_at m rounds opening now state c number n)
@@ -171,9 +172,9 @@ line_command m rounds opening now state line number c d a = record {
 
 -- a step within the rounds behind it
 step_command : (m : Meaning) (rounds : ℕ) (opening now mid : Stand) (state after : State) (line : List ℕ) (number : ℕ) (end : End) (new : Stand) → IsNext m rounds opening now state line number
-    → DoesItems (List ℕ) m Asks texts (Given line ∷ []) state after now mid → (s : StopsWithinSteps m (rounds_of rounds) number after mid new end) → IsCommandNext m rounds opening s.mid s.state s.command number
+    → DoesItems (List ℕ) m Asks Sent (Given line ∷ []) state after now mid → (s : StopsWithin (List ℕ) m Asks Sent (rounds_of rounds) number after mid new end) → IsCommandNext m rounds opening s.mid s.state s.command number
 step_command m rounds opening now mid state after line number end new d h s =
-    let all = does_both (List ℕ) m Asks texts (Given line ∷ []) s.front state after s.state now mid s.mid texts_in_order h s.does in
+    let all = does_both (List ℕ) m Asks Sent (Given line ∷ []) s.front state after s.state now mid s.mid h s.does in
     record {
       r = reach_within m rounds d (Given line ∷ s.front) s.rest all.turns;
       point_is = within_point m rounds opening now s.mid state s.state line number (Given line ∷ s.front) s.rest d (ap (λ l. Given line ∷ l) s.split) all;

@@ -10,18 +10,19 @@ use Rattle.zr_model.specs.State.{State, no_pool}
 use Rattle.zr_model.specs.Runs.{Meaning, Turn, point, Run, end_of, texts, Asks, bytes_to}
 use Rattle.zr_session.specs.Agenda.{Item, Given, rounds_of, agenda, Plays}
 use Rattle.zr_session.specs.Answers.{IsOpenLine}
+use Rattle.zr_session.specs.declared.replies.Replies.TheVariants.{Sent}
 use Rattle.zr_session.specs.Lines.{StandsForOne, DoesItems, AnswersLine}
 use Rattle.zr_session.specs.Progress.{HasDone, IsAt, IsNext, StandsAt}
-use Rattle.zr_session.proofs.Playing.{plays_both, run_both, end_both, texts_both, agenda_more}
+use Rattle.zr_session.proofs.Playing.{plays_both, run_both, end_both, told_both, agenda_more}
 
 -- items more are done
 pub done_more : (meaning : Meaning) (opening old new : Stand) (before after : State) (items more : List (Item (List ℕ))) (turns : List Turn)
-    → HasDone meaning opening old before items turns → (d : DoesItems (List ℕ) meaning Asks texts more before after old new) → HasDone meaning opening new after (items ++ more) (turns ++ d.turns)
+    → HasDone meaning opening old before items turns → (d : DoesItems (List ℕ) meaning Asks Sent more before after old new) → HasDone meaning opening new after (items ++ more) (turns ++ d.turns)
 done_more meaning opening old new before after items more turns h d = record {
   plays = plays_both (List ℕ) meaning Asks items more (point opening no_pool) turns d.turns h.plays (subst (λ p. Plays meaning Asks more p d.turns) (sym h.ends) d.plays);
   run = run_both meaning (point opening no_pool) turns d.turns h.run (subst (λ p. Run meaning p d.turns) (sym h.ends) d.run);
   ends = end_both (point opening no_pool) turns d.turns ∙ (ap (λ p. end_of p d.turns) h.ends ∙ d.ends);
-  sent = d.sends.sent ∙ (ap (λ s. s ++ texts d.turns) h.sent ∙ (append_assoc opening.sent (texts turns) (texts d.turns) ∙ ap (λ s. opening.sent ++ s) (sym (texts_both turns d.turns))));
+  sent = d.sends.sent ∙ (ap (λ s. s ++ texts d.turns) h.sent ∙ (append_assoc opening.sent (texts turns) (texts d.turns) ∙ ap (λ s. opening.sent ++ s) (sym (told_both Sent turns d.turns))));
 }
 
 -- one line more is answered

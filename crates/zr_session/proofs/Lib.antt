@@ -5,5 +5,7 @@ pub mod Pools
 pub mod Sending
 pub mod Playing
 pub mod Steps
+pub mod Tallied
+pub mod Generating
 pub mod Going
 pub mod Ending

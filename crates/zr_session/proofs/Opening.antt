@@ -1,13 +1,15 @@
 -- How devices are attached, and what a run came to by its status.
-use Rattle.std.proofs.Common.{◌≡◌, ◌≤◌, ◌<◌, ◌+◌, ◌⊎◌, inl, inr, ℕ, zero, suc, List, [], ◌∷◌, ◌++◌, length, map, take, drop, get_or, refl, sym, ap, subst, ◌∙◌, arith, append_assoc, length-append, Result, Ok, Err, IfErr, if◌then◌else◌, ◌==◌}
+use Rattle.std.proofs.Common.{◌≡◌, ◌≤◌, ◌<◌, ◌+◌, ◌⊎◌, inl, inr, ℕ, zero, suc, List, [], ◌∷◌, ◌++◌, length, map, take, drop, get_or, refl, sym, ap, subst, ◌∙◌, arith, append_assoc, length-append, Result, Ok, Err, IfErr, Option, Some, None, MatchOption, if◌then◌else◌, ◌==◌}
 use Rattle.std.proofs.lemmas.List.{append-nil, take_more, map-append}
 use Rattle.zr_shelf.specs.Disks.{Stand, with_disk}
 use Rattle.zr_script.specs.CommandLine.{CommandLine}
 use Rattle.zr_model.specs.Runs.{Meaning}
-use Rattle.zr_session.specs.Answers.{IsStarted, paths_in, rounds_in, IsAttached, IsPartlyAttached, RunsTo, StopsAtDevice, AnswersFront}
+use Rattle.zr_session.specs.Answers.{IsStarted, paths_in, rounds_in, IsAttached, IsPartlyAttached, AnswersFront}
+use Rattle.zr_session.specs.Generated.{Task, task_in, TellsNothing}
+use Rattle.zr_session.specs.Started.{RunsTo, StopsAtDevice}
 use Rattle.zr_session.specs.declared.end.End.{End}
 use Rattle.zr_session.specs.declared.end.End.TheVariants.{Answered, BadWords, InputFault, OutputFault, DiskFault, BadLine, Damaged, AttachFault, InputLimit, NoMemory}
-use Rattle.zr_session.specs.Ends.{status_of, EndsAs, IsOpenedTo}
+use Rattle.zr_session.specs.Ends.{status_of, EndsAs, GeneratesAs, EndsBy, IsOpenedTo}
 
 -- one device more is attached
 pub attached_more : (paths : List (List ℕ)) (path : List ℕ) (old mid new : Stand) → IsAttached paths old mid → ((bytes : List ℕ) × (new ≡ with_disk mid path bytes)) → IsAttached (paths ++ path ∷ []) old new
@@ -53,18 +55,40 @@ attached_partly f xs i d old mid new l h same = (
 pub more_sizes : (old new : List ℕ) (n i : ℕ) → ((size : ℕ) × (new ≡ old ++ size ∷ [])) → length old ≡ n + i → length new ≡ n + (i + 1)
 more_sizes old new n i s e = let l = ap length s.1 ∙ length-append old (s.0 ∷ []) in omega arith
 
+-- no run ends there for want of a device
+pub not_attach_fault : (meaning : Meaning) (line : CommandLine) (opening now : Stand) → EndsBy meaning line AttachFault opening now → ⊥
+not_attach_fault meaning line opening now h = by_case line.generate h
+  where
+    by_case : (n : Option (ℕ × ℕ)) → MatchOption n ⊥ (λ m. ⊥) → ⊥
+    by_case None h = h
+    by_case (Some m) h = h
+
+-- the run that the words ask for is one over the input
+pub by_serving : (meaning : Meaning) (line : CommandLine) (rounds : ℕ) (end : End) (opening now : Stand) → line.generate ≡ None → rounds ≡ rounds_in line → EndsAs meaning rounds end opening now → EndsBy meaning line end opening now
+by_serving meaning line rounds end opening now none r h =
+    subst (λ o. MatchOption o (EndsAs meaning (rounds_in line) end opening now) (λ n. GeneratesAs meaning (task_in line n) end opening now)) (sym none)
+    (subst (λ k. EndsAs meaning k end opening now) r h)
+
+-- or a generated one
+pub by_generating : (meaning : Meaning) (line : CommandLine) (n : ℕ × ℕ) (devs : List (List ℕ)) (rounds : ℕ) (end : End) (opening now : Stand) → line.generate ≡ Some n → devs ≡ paths_in line → rounds ≡ rounds_in line
+    → GeneratesAs meaning (record { number = n.0; count = n.1; devs = devs; rounds = rounds }) end opening now → EndsBy meaning line end opening now
+by_generating meaning line n devs rounds end opening now some d r h =
+    subst (λ o. MatchOption o (EndsAs meaning (rounds_in line) end opening now) (λ n. GeneratesAs meaning (task_in line n) end opening now)) (sym some)
+    (subst (λ ps. GeneratesAs meaning (record { number = n.0; count = n.1; devs = ps; rounds = rounds_in line }) end opening now) d
+    (subst (λ k. GeneratesAs meaning (record { number = n.0; count = n.1; devs = devs; rounds = k }) end opening now) r h))
+
 -- a run behind all devices
-pub opened_by : (meaning : Meaning) (rounds : ℕ) (end : End) (paths : List (List ℕ)) (old mid new : Stand) → IsAttached paths old mid → EndsAs meaning rounds end mid new → IsOpenedTo meaning rounds end paths old new
-opened_by meaning rounds Answered paths old mid new d h = (mid, d, h)
-opened_by meaning rounds BadWords paths old mid new d h = absurd h
-opened_by meaning rounds InputFault paths old mid new d h = (mid, d, h)
-opened_by meaning rounds OutputFault paths old mid new d h = (mid, d, h)
-opened_by meaning rounds DiskFault paths old mid new d h = (mid, d, h)
-opened_by meaning rounds BadLine paths old mid new d h = (mid, d, h)
-opened_by meaning rounds Damaged paths old mid new d h = (mid, d, h)
-opened_by meaning rounds AttachFault paths old mid new d h = absurd h
-opened_by meaning rounds InputLimit paths old mid new d h = (mid, d, h)
-opened_by meaning rounds NoMemory paths old mid new d h = inr (inr (mid, d, h))
+pub opened_by : (meaning : Meaning) (line : CommandLine) (end : End) (paths : List (List ℕ)) (old mid new : Stand) → IsAttached paths old mid → EndsBy meaning line end mid new → IsOpenedTo (EndsBy meaning line) end paths old new
+opened_by meaning line Answered paths old mid new d h = (mid, d, h)
+opened_by meaning line BadWords paths old mid new d h = (mid, d, h)
+opened_by meaning line InputFault paths old mid new d h = (mid, d, h)
+opened_by meaning line OutputFault paths old mid new d h = (mid, d, h)
+opened_by meaning line DiskFault paths old mid new d h = (mid, d, h)
+opened_by meaning line BadLine paths old mid new d h = (mid, d, h)
+opened_by meaning line Damaged paths old mid new d h = (mid, d, h)
+opened_by meaning line AttachFault paths old mid new d h = absurd (not_attach_fault meaning line mid new h)
+opened_by meaning line InputLimit paths old mid new d h = (mid, d, h)
+opened_by meaning line NoMemory paths old mid new d h = inr (inr (mid, d, h))
 
 -- an end by its status
 abbrev pub end_from : ℕ → End
@@ -86,8 +110,8 @@ known_end InputLimit = refl
 known_end NoMemory = refl
 
 -- what a run came to by its status
-pub opened_with : (meaning : Meaning) (rounds : ℕ) (end : End) (n : ℕ) (paths : List (List ℕ)) (old new : Stand) → status_of end ≡ n → IsOpenedTo meaning rounds end paths old new → IsOpenedTo meaning rounds (end_from n) paths old new
-opened_with meaning rounds end n paths old new s h = subst (λ e. IsOpenedTo meaning rounds e paths old new) (known_end end ∙ ap end_from s) h
+pub opened_with : (meaning : Meaning) (line : CommandLine) (end : End) (n : ℕ) (paths : List (List ℕ)) (old new : Stand) → status_of end ≡ n → IsOpenedTo (EndsBy meaning line) end paths old new → IsOpenedTo (EndsBy meaning line) (end_from n) paths old new
+opened_with meaning line end n paths old new s h = subst (λ e. IsOpenedTo (EndsBy meaning line) e paths old new) (known_end end ∙ ap end_from s) h
 
 pub known_status : (e : End) → status_of e ≤ 9
 known_status Answered = omega arith
@@ -102,16 +126,16 @@ known_status InputLimit = omega arith
 known_status NoMemory = omega arith
 
 -- the same of the words
-pub runs_to : (P : ℕ → Stand → Stand → Type 0) (names words : List (List ℕ)) (line : CommandLine) (old new : Stand)
-    → IsStarted names words line → ((opening : Stand) × IsAttached (paths_in line) old opening × P (rounds_in line) opening new) → RunsTo P names words old new
-runs_to P names words line old new s h = (line, h.0, s, h.1, h.2)
+pub runs_to : (P : ℕ → Stand → Stand → Type 0) (Q : Task → Stand → Stand → Type 0) (names words : List (List ℕ)) (line : CommandLine) (old new : Stand)
+    → IsStarted names words line → ((opening : Stand) × IsAttached (paths_in line) old opening × MatchOption line.generate (P (rounds_in line) opening new) (λ n. Q (task_in line n) opening new)) → RunsTo P Q names words old new
+runs_to P Q names words line old new s h = (line, h.0, s, h.1, h.2)
 
 pub memory_at : (meaning : Meaning) (names words : List (List ℕ)) (line : CommandLine) (old new : Stand)
-    → IsStarted names words line → IsOpenedTo meaning (rounds_in line) NoMemory (paths_in line) old new
-    → (new ≡ old) ⊎ StopsAtDevice names words old new ⊎ RunsTo (AnswersFront meaning) names words old new
+    → IsStarted names words line → IsOpenedTo (EndsBy meaning line) NoMemory (paths_in line) old new
+    → (new ≡ old) ⊎ StopsAtDevice names words old new ⊎ RunsTo (AnswersFront meaning) (TellsNothing meaning) names words old new
 memory_at meaning names words line old new s (inl same) = inl same
 memory_at meaning names words line old new s (inr (inl h)) = inr (inl (line, s, h))
-memory_at meaning names words line old new s (inr (inr h)) = inr (inr (runs_to (AnswersFront meaning) names words line old new s h))
+memory_at meaning names words line old new s (inr (inr h)) = inr (inr (runs_to (AnswersFront meaning) (TellsNothing meaning) names words line old new s h))
 
 -- what holds of any error
 pub of_any_error : {T E : Type 0} (r : Result T E) (X : Type 0) → X → IfErr r (λ e. X)

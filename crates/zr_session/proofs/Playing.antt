@@ -1,17 +1,18 @@
 -- Items that are done, one part after another.
-use Rattle.std.proofs.Common.{◌≡◌, ℕ, suc, ◌+◌, ◌-◌, ◌<◌, Bool, true, false, MatchBool, List, [], ◌∷◌, ◌++◌, length, map, take, drop, get_or, replicate, refl, sym, ap, subst, ◌∙◌, append_assoc, arith}
+use Rattle.std.proofs.Common.{◌≡◌, ℕ, zero, suc, ◌+◌, ◌-◌, ◌<◌, Bool, true, false, MatchBool, List, [], ◌∷◌, ◌++◌, length, map, take, drop, get_or, replicate, refl, sym, ap, subst, ◌∙◌, append_assoc, arith}
 use Rattle.std.specs.List.{flat_map}
 use Rattle.std.proofs.lemmas.List.{append-nil, replicate-append-replicate, take_more, map-append}
 use Rattle.std.proofs.lemmas.List.Concat.{flat_map-append}
 use Rattle.zr_shelf.specs.Disks.{Stand}
 use Rattle.zr_script.specs.declared.command.Command.{Command}
-use Rattle.zr_script.specs.ReplyText.{reply_text}
+use Rattle.zr_script.specs.declared.reply.Reply.{Reply}
 use Rattle.zr_model.specs.declared.pool.Actor.{Actor}
 use Rattle.zr_model.specs.State.{State}
-use Rattle.zr_model.specs.Runs.{Meaning, Point, Turn, point, turn, Run, end_of, texts, step_of, Asks}
-use Rattle.zr_session.specs.Agenda.{Item, Given, Inserted, round, rounds_of, agenda, Plays, IsDue}
+use Rattle.zr_model.specs.Runs.{Meaning, Point, Turn, point, turn, Run, end_of, step_of}
+use Rattle.zr_session.specs.Agenda.{Item, Given, Inserted, round, rounds_of, agenda, GivesNone, IsGiven, Plays, IsDue}
 use Rattle.zr_session.specs.declared.end.End.{End}
-use Rattle.zr_session.specs.Lines.{Sends, DoesCommand, DoesItems, StopsAtCommand, StopsWithin, DoesSteps, StopsWithinSteps}
+use Rattle.zr_session.specs.declared.replies.Replies.{Replies}
+use Rattle.zr_session.specs.Lines.{told_for, told, Sends, DoesCommand, DoesItems, StopsAtCommand, StopsWithin, DoesSteps, StopsWithinSteps}
 use Rattle.zr_session.proofs.Opening.{split_at}
 
 match_weaker : (b : Bool) (X Y V W : Type 0) → (X → V) → (Y → W) → MatchBool b X Y → MatchBool b V W
@@ -25,7 +26,7 @@ match_false : (b : Bool) (X Y : Type 0) → b ≡ false → Y → MatchBool b X 
 match_false b X Y e y = subst (λ c. MatchBool c X Y) (sym e) y
 
 -- the step of an actor is put in
-abbrev PutsIn : (A : Type 0) → Meaning → (A → Command → Type 0) → List (Item A) → Actor → List Turn → Type 0
+abbrev pub PutsIn : (A : Type 0) → Meaning → (A → Command → Type 0) → List (Item A) → Actor → List Turn → Type 0
 PutsIn A m Means items actor turns = (t : Turn) × (more : List Turn) × (turns ≡ t ∷ more) × (t.command ≡ step_of actor) × Plays m Means items t.point more
 
 pub plays_both : (A : Type 0) (m : Meaning) (Means : A → Command → Type 0) (xs ys : List (Item A)) (p : Point) (ts us : List Turn)
@@ -46,22 +47,15 @@ pub end_both : (p : Point) (ts us : List Turn) → end_of p (ts ++ us) ≡ end_o
 end_both p [] us = refl
 end_both p (t ∷ ts) us = end_both t.point ts us
 
-pub texts_both : (ts us : List Turn) → texts (ts ++ us) ≡ texts ts ++ texts us
-texts_both ts us = flat_map-append (λ (t : Turn). reply_text t.answer) ts us
-
-due_more : (A : Type 0) (m : Meaning) (Means : A → Command → Type 0) (xs ys : List (Item A)) (p : Point) (c : Command) → IsDue m Means xs p c → IsDue m Means (xs ++ ys) p c
+pub due_more : (A : Type 0) (m : Meaning) (Means : A → Command → Type 0) (xs ys : List (Item A)) (p : Point) (c : Command) → IsDue m Means xs p c → IsDue m Means (xs ++ ys) p c
 due_more A m Means [] ys p c h = absurd h
 due_more A m Means (Given x ∷ xs) ys p c h = h
 due_more A m Means (Inserted actor ∷ xs) ys p c h =
     match_weaker (m.works p.state actor) (c ≡ step_of actor) (IsDue m Means xs p c) (c ≡ step_of actor) (IsDue m Means (xs ++ ys) p c) (λ e. e) (λ i. due_more A m Means xs ys p c i) h
 
--- what is told of turns is told in their order
-pub record IsInOrder (told : List Turn → List ℕ) : Type 0 where
-  pub none : told [] ≡ []
-  pub both : (ts us : List Turn) → told (ts ++ us) ≡ told ts ++ told us
-
-pub texts_in_order : IsInOrder texts
-texts_in_order = record { none = refl; both = texts_both }
+-- what is sent for turns is sent in their order
+pub told_both : (replies : Replies) (ts us : List Turn) → told replies (ts ++ us) ≡ told replies ts ++ told replies us
+told_both replies ts us = flat_map-append (λ (t : Turn). told_for replies t.answer) ts us
 
 sends_both : (old mid new : Stand) (xs ys zs : List ℕ) → Sends old mid xs → Sends mid new ys → zs ≡ xs ++ ys → Sends old new zs
 sends_both old mid new xs ys zs h k e = record {
@@ -70,70 +64,70 @@ sends_both old mid new xs ys zs h k e = record {
 }
 
 -- nothing is due
-pub does_none : (A : Type 0) (m : Meaning) (Means : A → Command → Type 0) (told : List Turn → List ℕ) (state : State) (now : Stand) → IsInOrder told → DoesItems A m Means told [] state state now now
-does_none A m Means told state now o = record {
+pub does_none : (A : Type 0) (m : Meaning) (Means : A → Command → Type 0) (replies : Replies) (state : State) (now : Stand) → DoesItems A m Means replies [] state state now now
+does_none A m Means replies state now = record {
   turns = [];
   plays = refl;
   run = tt;
   ends = refl;
-  sends = record { left = refl; sent = sym (append-nil now.sent) ∙ ap (λ t. now.sent ++ t) (sym o.none) };
+  sends = record { left = refl; sent = sym (append-nil now.sent) };
 }
 
 -- some items are done, and then others
-pub does_both : (A : Type 0) (m : Meaning) (Means : A → Command → Type 0) (told : List Turn → List ℕ) (xs ys : List (Item A)) (a b c : State) (old mid new : Stand) → IsInOrder told
-    → DoesItems A m Means told xs a b old mid → DoesItems A m Means told ys b c mid new → DoesItems A m Means told (xs ++ ys) a c old new
-does_both A m Means told xs ys a b c old mid new o h k = record {
+pub does_both : (A : Type 0) (m : Meaning) (Means : A → Command → Type 0) (replies : Replies) (xs ys : List (Item A)) (a b c : State) (old mid new : Stand)
+    → DoesItems A m Means replies xs a b old mid → DoesItems A m Means replies ys b c mid new → DoesItems A m Means replies (xs ++ ys) a c old new
+does_both A m Means replies xs ys a b c old mid new h k = record {
   turns = h.turns ++ k.turns;
   plays = plays_both A m Means xs ys (point old a) h.turns k.turns h.plays (subst (λ q. Plays m Means ys q k.turns) (sym h.ends) k.plays);
   run = run_both m (point old a) h.turns k.turns h.run (subst (λ q. Run m q k.turns) (sym h.ends) k.run);
   ends = end_both (point old a) h.turns k.turns ∙ (ap (λ q. end_of q k.turns) h.ends ∙ k.ends);
-  sends = sends_both old mid new (told h.turns) (told k.turns) _ h.sends k.sends (o.both h.turns k.turns);
+  sends = sends_both old mid new (told replies h.turns) (told replies k.turns) _ h.sends k.sends (told_both replies h.turns k.turns);
 }
 
-one_text : (old new : Stand) (t : Turn) → Sends old new (reply_text t.answer) → Sends old new (texts (t ∷ []))
-one_text old new t s = subst (λ b. Sends old new b) (sym (append-nil (reply_text t.answer))) s
+one_text : (replies : Replies) (old new : Stand) (t : Turn) → Sends old new (told_for replies t.answer) → Sends old new (told replies (t ∷ []))
+one_text replies old new t s = subst (λ b. Sends old new b) (sym (append-nil (told_for replies t.answer))) s
 
 -- a command that is given is done
-pub does_given : (A : Type 0) (m : Meaning) (Means : A → Command → Type 0) (x : A) (c : Command) (before after : State) (old new : Stand) → Means x c
-    → DoesCommand m c before after old new → DoesItems A m Means texts (Given x ∷ []) before after old new
-does_given A m Means x c before after old new means d =
-    let t = turn c d.answer new after in
-    record { turns = t ∷ []; plays = (t, [], refl, means, refl); run = (d.takes, tt); ends = refl; sends = one_text old new t d.sends }
+pub does_given : (A : Type 0) (m : Meaning) (Means : A → Command → Type 0) (replies : Replies) (x : A) (c : Command) (answer : Reply) (before after : State) (old new : Stand) → Means x c
+    → DoesCommand m replies c answer before after old new → DoesItems A m Means replies (Given x ∷ []) before after old new
+does_given A m Means replies x c answer before after old new means d =
+    let t = turn c answer new after in
+    record { turns = t ∷ []; plays = (t, [], refl, means, refl); run = (d.takes, tt); ends = refl; sends = one_text replies old new t d.sends }
 
 -- a step that has work is done
-pub does_step : (A : Type 0) (m : Meaning) (Means : A → Command → Type 0) (actor : Actor) (before after : State) (old new : Stand) → m.works before actor ≡ true
-    → DoesCommand m (step_of actor) before after old new → DoesItems A m Means texts (Inserted actor ∷ []) before after old new
-does_step A m Means actor before after old new works d =
-    let t = turn (step_of actor) d.answer new after in
+pub does_step : (A : Type 0) (m : Meaning) (Means : A → Command → Type 0) (replies : Replies) (actor : Actor) (answer : Reply) (before after : State) (old new : Stand) → m.works before actor ≡ true
+    → DoesCommand m replies (step_of actor) answer before after old new → DoesItems A m Means replies (Inserted actor ∷ []) before after old new
+does_step A m Means replies actor answer before after old new works d =
+    let t = turn (step_of actor) answer new after in
     record {
       turns = t ∷ [];
       plays = match_true (m.works before actor) (PutsIn A m Means [] actor (t ∷ [])) (Plays m Means [] (point old before) (t ∷ [])) works (t, [], refl, refl, refl);
       run = (d.takes, tt);
       ends = refl;
-      sends = one_text old new t d.sends;
+      sends = one_text replies old new t d.sends;
     }
 
 -- one that has none is left out
-pub does_without : (A : Type 0) (m : Meaning) (Means : A → Command → Type 0) (told : List Turn → List ℕ) (actor : Actor) (state : State) (now : Stand) → IsInOrder told → m.works state actor ≡ false
-    → DoesItems A m Means told (Inserted actor ∷ []) state state now now
-does_without A m Means told actor state now o works = record {
+pub does_without : (A : Type 0) (m : Meaning) (Means : A → Command → Type 0) (replies : Replies) (actor : Actor) (state : State) (now : Stand) → m.works state actor ≡ false
+    → DoesItems A m Means replies (Inserted actor ∷ []) state state now now
+does_without A m Means replies actor state now works = record {
   turns = [];
   plays = match_false (m.works state actor) (PutsIn A m Means [] actor []) (Plays m Means [] (point now state) []) works refl;
   run = tt;
   ends = refl;
-  sends = record { left = refl; sent = sym (append-nil now.sent) ∙ ap (λ t. now.sent ++ t) (sym o.none) };
+  sends = record { left = refl; sent = sym (append-nil now.sent) };
 }
 
 -- the run stops at a step that has work
-pub stops_step : (A : Type 0) (m : Meaning) (Means : A → Command → Type 0) (told : List Turn → List ℕ) (actor : Actor) (number : ℕ) (before : State) (old new : Stand) (end : End) → IsInOrder told
-    → m.works before actor ≡ true → m.serves old.paths before (step_of actor) → StopsAtCommand m (step_of actor) number before old new end → StopsWithin A m Means told (Inserted actor ∷ []) number before old new end
-stops_step A m Means told actor number before old new end o works served s = record {
+pub stops_step : (A : Type 0) (m : Meaning) (Means : A → Command → Type 0) (replies : Replies) (actor : Actor) (number : ℕ) (before : State) (old new : Stand) (end : End)
+    → m.works before actor ≡ true → m.serves old.paths before (step_of actor) → StopsAtCommand m replies (step_of actor) number before old new end → StopsWithin A m Means replies (Inserted actor ∷ []) number before old new end
+stops_step A m Means replies actor number before old new end works served s = record {
   front = [];
   rest = Inserted actor ∷ [];
   split = refl;
   state = before;
   mid = old;
-  does = does_none A m Means told before old o;
+  does = does_none A m Means replies before old;
   command = step_of actor;
   due = match_true (m.works before actor) (step_of actor ≡ step_of actor) (IsDue m Means [] (point old before) (step_of actor)) works refl;
   served = served;
@@ -141,15 +135,15 @@ stops_step A m Means told actor number before old new end o works served s = rec
 }
 
 -- it stops behind items that are done
-pub stops_behind : (A : Type 0) (m : Meaning) (Means : A → Command → Type 0) (told : List Turn → List ℕ) (xs ys : List (Item A)) (number : ℕ) (a b : State) (old mid new : Stand) (end : End) → IsInOrder told
-    → DoesItems A m Means told xs a b old mid → StopsWithin A m Means told ys number b mid new end → StopsWithin A m Means told (xs ++ ys) number a old new end
-stops_behind A m Means told xs ys number a b old mid new end o h s = record {
+pub stops_behind : (A : Type 0) (m : Meaning) (Means : A → Command → Type 0) (replies : Replies) (xs ys : List (Item A)) (number : ℕ) (a b : State) (old mid new : Stand) (end : End)
+    → DoesItems A m Means replies xs a b old mid → StopsWithin A m Means replies ys number b mid new end → StopsWithin A m Means replies (xs ++ ys) number a old new end
+stops_behind A m Means replies xs ys number a b old mid new end h s = record {
   front = xs ++ s.front;
   rest = s.rest;
   split = ap (λ l. xs ++ l) s.split ∙ sym (append_assoc xs s.front s.rest);
   state = s.state;
   mid = s.mid;
-  does = does_both A m Means told xs s.front a b s.state old mid s.mid o h s.does;
+  does = does_both A m Means replies xs s.front a b s.state old mid s.mid h s.does;
   command = s.command;
   due = s.due;
   served = s.served;
@@ -157,9 +151,9 @@ stops_behind A m Means told xs ys number a b old mid new end o h s = record {
 }
 
 -- or before items that come later
-pub stops_before : (A : Type 0) (m : Meaning) (Means : A → Command → Type 0) (told : List Turn → List ℕ) (xs ys : List (Item A)) (number : ℕ) (before : State) (old new : Stand) (end : End)
-    → StopsWithin A m Means told xs number before old new end → StopsWithin A m Means told (xs ++ ys) number before old new end
-stops_before A m Means told xs ys number before old new end s = record {
+pub stops_before : (A : Type 0) (m : Meaning) (Means : A → Command → Type 0) (replies : Replies) (xs ys : List (Item A)) (number : ℕ) (before : State) (old new : Stand) (end : End)
+    → StopsWithin A m Means replies xs number before old new end → StopsWithin A m Means replies (xs ++ ys) number before old new end
+stops_before A m Means replies xs ys number before old new end s = record {
   front = s.front;
   rest = s.rest ++ ys;
   split = ap (λ l. l ++ ys) s.split ∙ append_assoc s.front s.rest ys;
@@ -200,41 +194,110 @@ agenda_more A rounds xs x =
 
 -- ---- the steps of actors
 
-same_steps : (actors : List Actor) (i : ℕ) (d : Actor) → i < length actors → the_steps (List ℕ) (take i actors) ++ (Inserted (get_or actors i d) ∷ the_steps (List ℕ) (drop (suc i) actors)) ≡ the_steps (List ℕ) actors
+same_steps : (actors : List Actor) (i : ℕ) (d : Actor) → i < length actors → the_steps ⊥ (take i actors) ++ (Inserted (get_or actors i d) ∷ the_steps ⊥ (drop (suc i) actors)) ≡ the_steps ⊥ actors
 same_steps actors i d l =
-    sym (map-append (λ (x : Actor). put_in (List ℕ) x) (take i actors) (get_or actors i d ∷ drop (suc i) actors)) ∙ ap (the_steps (List ℕ)) (split_at actors i d l)
+    sym (map-append (λ (x : Actor). put_in ⊥ x) (take i actors) (get_or actors i d ∷ drop (suc i) actors)) ∙ ap (the_steps ⊥) (split_at actors i d l)
 
 -- the run stops at the step of one of them
-pub stops_steps : (m : Meaning) (actors : List Actor) (i : ℕ) (d : Actor) (number : ℕ) (before state : State) (old mid new : Stand) (end : End) → i < length actors
-    → DoesSteps m (the_steps (List ℕ) (take i actors)) before state old mid → StopsWithinSteps m (Inserted (get_or actors i d) ∷ []) number state mid new end → StopsWithinSteps m (the_steps (List ℕ) actors) number before old new end
-stops_steps m actors i d number before state old mid new end l h s =
-    subst (λ items. StopsWithinSteps m items number before old new end) (same_steps actors i d l)
-    (stops_behind (List ℕ) m Asks texts (the_steps (List ℕ) (take i actors)) (Inserted (get_or actors i d) ∷ the_steps (List ℕ) (drop (suc i) actors)) number before state old mid new end texts_in_order h
-    (stops_before (List ℕ) m Asks texts (Inserted (get_or actors i d) ∷ []) (the_steps (List ℕ) (drop (suc i) actors)) number state mid new end s))
+pub stops_steps : (m : Meaning) (replies : Replies) (actors : List Actor) (i : ℕ) (d : Actor) (number : ℕ) (before state : State) (old mid new : Stand) (end : End) → i < length actors
+    → DoesSteps m replies (the_steps ⊥ (take i actors)) before state old mid → StopsWithinSteps m replies (Inserted (get_or actors i d) ∷ []) number state mid new end → StopsWithinSteps m replies (the_steps ⊥ actors) number before old new end
+stops_steps m replies actors i d number before state old mid new end l h s =
+    subst (λ items. StopsWithinSteps m replies items number before old new end) (same_steps actors i d l)
+    (stops_behind ⊥ m GivesNone replies (the_steps ⊥ (take i actors)) (Inserted (get_or actors i d) ∷ the_steps ⊥ (drop (suc i) actors)) number before state old mid new end h
+    (stops_before ⊥ m GivesNone replies (Inserted (get_or actors i d) ∷ []) (the_steps ⊥ (drop (suc i) actors)) number state mid new end s))
 
 -- one step more is made, where there is work
-pub does_steps : (m : Meaning) (actors : List Actor) (i : ℕ) (d : Actor) (before state after : State) (old mid new : Stand) → i < length actors
-    → DoesSteps m (the_steps (List ℕ) (take i actors)) before state old mid → DoesSteps m (Inserted (get_or actors i d) ∷ []) state after mid new → DoesSteps m (the_steps (List ℕ) (take (i + 1) actors)) before after old new
-does_steps m actors i d before state after old mid new l h k =
-    let next : the_steps (List ℕ) (take (i + 1) actors) ≡ the_steps (List ℕ) (take i actors) ++ Inserted (get_or actors i d) ∷ [] =
-    ap (the_steps (List ℕ)) (take_more actors i d l) ∙ map-append (λ (x : Actor). put_in (List ℕ) x) (take i actors) (get_or actors i d ∷ []) in
-    subst (λ items. DoesSteps m items before after old new) (sym next)
-    (does_both (List ℕ) m Asks texts (the_steps (List ℕ) (take i actors)) (Inserted (get_or actors i d) ∷ []) before state after old mid new texts_in_order h k)
+pub does_steps : (m : Meaning) (replies : Replies) (actors : List Actor) (i : ℕ) (d : Actor) (before state after : State) (old mid new : Stand) → i < length actors
+    → DoesSteps m replies (the_steps ⊥ (take i actors)) before state old mid → DoesSteps m replies (Inserted (get_or actors i d) ∷ []) state after mid new → DoesSteps m replies (the_steps ⊥ (take (i + 1) actors)) before after old new
+does_steps m replies actors i d before state after old mid new l h k =
+    let next : the_steps ⊥ (take (i + 1) actors) ≡ the_steps ⊥ (take i actors) ++ Inserted (get_or actors i d) ∷ [] =
+    ap (the_steps ⊥) (take_more actors i d l) ∙ map-append (λ (x : Actor). put_in ⊥ x) (take i actors) (get_or actors i d ∷ []) in
+    subst (λ items. DoesSteps m replies items before after old new) (sym next)
+    (does_both ⊥ m GivesNone replies (the_steps ⊥ (take i actors)) (Inserted (get_or actors i d) ∷ []) before state after old mid new h k)
 
 -- the run stops in one of the rounds
-pub stops_rounds : (m : Meaning) (rounds i : ℕ) (number : ℕ) (before state : State) (old mid new : Stand) (end : End) → i < rounds
-    → DoesSteps m (rounds_of i) before state old mid → StopsWithinSteps m (the_steps (List ℕ) round) number state mid new end → StopsWithinSteps m (rounds_of rounds) number before old new end
-stops_rounds m rounds i number before state old mid new end l d s =
+pub stops_rounds : (m : Meaning) (replies : Replies) (rounds i : ℕ) (number : ℕ) (before state : State) (old mid new : Stand) (end : End) → i < rounds
+    → DoesSteps m replies (rounds_of i) before state old mid → StopsWithinSteps m replies (the_steps ⊥ round) number state mid new end → StopsWithinSteps m replies (rounds_of rounds) number before old new end
+stops_rounds m replies rounds i number before state old mid new end l d s =
     let left : ℕ = rounds - (i + 1) in
-    let all : (the_rounds (List ℕ) i ++ the_steps (List ℕ) round) ++ the_rounds (List ℕ) left ≡ the_rounds (List ℕ) rounds =
-    ap (λ l. l ++ the_rounds (List ℕ) left) (rounds_more (List ℕ) i) ∙ (rounds_both (List ℕ) (i + 1) left ∙ ap (the_rounds (List ℕ)) (omega arith)) in
-    subst (λ items. StopsWithinSteps m items number before old new end) all
-    (stops_before (List ℕ) m Asks texts (the_rounds (List ℕ) i ++ the_steps (List ℕ) round) (the_rounds (List ℕ) left) number before old new end
-    (stops_behind (List ℕ) m Asks texts (the_rounds (List ℕ) i) (the_steps (List ℕ) round) number before state old mid new end texts_in_order d s))
+    let all : (the_rounds ⊥ i ++ the_steps ⊥ round) ++ the_rounds ⊥ left ≡ the_rounds ⊥ rounds =
+    ap (λ l. l ++ the_rounds ⊥ left) (rounds_more ⊥ i) ∙ (rounds_both ⊥ (i + 1) left ∙ ap (the_rounds ⊥) (omega arith)) in
+    subst (λ items. StopsWithinSteps m replies items number before old new end) all
+    (stops_before ⊥ m GivesNone replies (the_rounds ⊥ i ++ the_steps ⊥ round) (the_rounds ⊥ left) number before old new end
+    (stops_behind ⊥ m GivesNone replies (the_rounds ⊥ i) (the_steps ⊥ round) number before state old mid new end d s))
 
 -- one round more is done
-pub does_rounds : (m : Meaning) (i : ℕ) (before state after : State) (old mid new : Stand)
-    → DoesSteps m (rounds_of i) before state old mid → DoesSteps m (the_steps (List ℕ) round) state after mid new → DoesSteps m (rounds_of (i + 1)) before after old new
-does_rounds m i before state after old mid new d e =
-    subst (λ items. DoesSteps m items before after old new) (rounds_more (List ℕ) i)
-    (does_both (List ℕ) m Asks texts (the_rounds (List ℕ) i) (the_steps (List ℕ) round) before state after old mid new texts_in_order d e)
+pub does_rounds : (m : Meaning) (replies : Replies) (i : ℕ) (before state after : State) (old mid new : Stand)
+    → DoesSteps m replies (rounds_of i) before state old mid → DoesSteps m replies (the_steps ⊥ round) state after mid new → DoesSteps m replies (rounds_of (i + 1)) before after old new
+does_rounds m replies i before state after old mid new d e =
+    subst (λ items. DoesSteps m replies items before after old new) (rounds_more ⊥ i)
+    (does_both ⊥ m GivesNone replies (the_rounds ⊥ i) (the_steps ⊥ round) before state after old mid new d e)
+
+-- ---- steps among items of any kind
+
+-- the same steps, where others may be given
+abbrev pub among : (A : Type 0) → List (Item ⊥) → List (Item A)
+among A [] = []
+among A (Given x ∷ items) = absurd x
+among A (Inserted actor ∷ items) = Inserted actor ∷ among A items
+
+among_both : (A : Type 0) (xs ys : List (Item ⊥)) → among A (xs ++ ys) ≡ among A xs ++ among A ys
+among_both A [] ys = refl
+among_both A (Given x ∷ xs) ys = absurd x
+among_both A (Inserted actor ∷ xs) ys = ap (λ l. put_in A actor ∷ l) (among_both A xs ys)
+
+pub among_rounds : (A : Type 0) (n : ℕ) → among A (the_rounds ⊥ n) ≡ the_rounds A n
+among_rounds A zero = refl
+among_rounds A (suc n) = ap (λ l. the_steps A round ++ l) (among_rounds A n)
+
+plays_among : (A : Type 0) (m : Meaning) (Means : A → Command → Type 0) (items : List (Item ⊥)) (p : Point) (turns : List Turn) → Plays m GivesNone items p turns → Plays m Means (among A items) p turns
+plays_among A m Means [] p turns h = h
+plays_among A m Means (Given x ∷ items) p turns h = absurd x
+plays_among A m Means (Inserted actor ∷ items) p turns h =
+    match_weaker (m.works p.state actor) (PutsIn ⊥ m GivesNone items actor turns) (Plays m GivesNone items p turns) (PutsIn A m Means (among A items) actor turns) (Plays m Means (among A items) p turns)
+    (λ i. (i.0, i.1, i.2, i.3, plays_among A m Means items i.0.point i.1 i.4)) (λ i. plays_among A m Means items p turns i) h
+
+due_among : (A : Type 0) (m : Meaning) (Means : A → Command → Type 0) (items : List (Item ⊥)) (p : Point) (c : Command) → IsDue m GivesNone items p c → IsDue m Means (among A items) p c
+due_among A m Means [] p c h = absurd h
+due_among A m Means (Given x ∷ items) p c h = absurd x
+due_among A m Means (Inserted actor ∷ items) p c h =
+    match_weaker (m.works p.state actor) (c ≡ step_of actor) (IsDue m GivesNone items p c) (c ≡ step_of actor) (IsDue m Means (among A items) p c) (λ e. e) (λ i. due_among A m Means items p c i) h
+
+does_among : (A : Type 0) (m : Meaning) (Means : A → Command → Type 0) (replies : Replies) (items : List (Item ⊥)) (before after : State) (old new : Stand)
+    → DoesSteps m replies items before after old new → DoesItems A m Means replies (among A items) before after old new
+does_among A m Means replies items before after old new h =
+    record { turns = h.turns; plays = plays_among A m Means items (point old before) h.turns h.plays; run = h.run; ends = h.ends; sends = h.sends }
+
+-- so many rounds are done
+pub rounds_among : (A : Type 0) (m : Meaning) (Means : A → Command → Type 0) (replies : Replies) (n : ℕ) (before after : State) (old new : Stand)
+    → DoesSteps m replies (rounds_of n) before after old new → DoesItems A m Means replies (rounds_of n) before after old new
+rounds_among A m Means replies n before after old new h =
+    let turns = plays_among A m Means (the_rounds ⊥ n) (point old before) h.turns h.plays in
+    record { turns = h.turns; plays = subst (λ items. Plays m Means items (point old before) h.turns) (among_rounds A n) turns; run = h.run; ends = h.ends; sends = h.sends }
+
+-- a command behind items that are done, and rounds behind it: the turns are theirs, its own and those of the rounds
+pub does_with_rounds : (m : Meaning) (replies : Replies) (rounds : ℕ) (items : List (Item Command)) (c : Command) (answer : Reply) (before state mid_state after : State) (old mid next new : Stand)
+    → (h : DoesItems Command m IsGiven replies items before state old mid) → DoesCommand m replies c answer state mid_state mid next → (r : DoesSteps m replies (rounds_of rounds) mid_state after next new)
+    → (d : DoesItems Command m IsGiven replies (items ++ (Given c ∷ rounds_of rounds)) before after old new) × (d.turns ≡ h.turns ++ turn c answer next mid_state ∷ r.turns)
+unfolding does_both does_given rounds_among
+does_with_rounds m replies rounds items c answer before state mid_state after old mid next new h d r =
+    let one = does_given Command m IsGiven replies c c answer state mid_state mid next refl d in
+    let steps = rounds_among Command m IsGiven replies rounds mid_state after next new r in
+    let more = does_both Command m IsGiven replies (Given c ∷ []) (rounds_of rounds) state mid_state after mid next new one steps in
+    (does_both Command m IsGiven replies items (Given c ∷ rounds_of rounds) before state after old mid new h more, refl)
+
+-- the run stops within them
+pub stops_among : (A : Type 0) (m : Meaning) (Means : A → Command → Type 0) (replies : Replies) (n number : ℕ) (before : State) (old new : Stand) (end : End)
+    → StopsWithinSteps m replies (rounds_of n) number before old new end → StopsWithin A m Means replies (rounds_of n) number before old new end
+stops_among A m Means replies n number before old new end s = record {
+  front = among A s.front;
+  rest = among A s.rest;
+  split = sym (among_rounds A n) ∙ (ap (among A) s.split ∙ among_both A s.front s.rest);
+  state = s.state;
+  mid = s.mid;
+  does = does_among A m Means replies s.front before s.state old s.mid s.does;
+  command = s.command;
+  due = due_among A m Means s.rest (point s.mid s.state) s.command s.due;
+  served = s.served;
+  stops = s.stops;
+}

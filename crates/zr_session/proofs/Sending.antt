@@ -1,5 +1,5 @@
 -- What was sent for a line, and why a run ends.
-use Rattle.std.proofs.Common.{◌≡◌, ◌⊎◌, inl, inr, ℕ, ◌≤◌, List, [], ◌++◌, Result, Ok, Err, OnOk, ap, sym, ◌∙◌, subst, arith}
+use Rattle.std.proofs.Common.{◌≡◌, ◌⊎◌, inl, inr, ℕ, ◌≤◌, List, [], ◌++◌, Result, Ok, Err, OnOk, IfErr, IsErrAnd, ap, sym, ◌∙◌, subst, arith}
 use Rattle.std.proofs.lemmas.List.{append-nil}
 use Rattle.zr_base.specs.Counts.{HasRisen}
 use Rattle.zr_shelf.specs.Counts.{Counts, NoneFell}
@@ -11,10 +11,11 @@ use Rattle.zr_script.specs.ReplyText as text
 use Rattle.zr_script.specs.ReplyText.{reply_text, last_line}
 use Rattle.zr_model.specs.State.{State}
 use Rattle.zr_model.specs.Runs.{Meaning, point, turn, TurnsTo, IsOutside}
+use Rattle.zr_session.specs.declared.replies.Replies.{Replies}
 use Rattle.zr_session.specs.declared.end.End.{End}
 use Rattle.zr_session.specs.declared.end.End.TheVariants.{Answered, BadWords, InputFault, OutputFault, DiskFault, BadLine, Damaged, AttachFault, InputLimit, NoMemory}
 use Rattle.zr_session.specs.Ends.{HasCause}
-use Rattle.zr_session.specs.Lines.{StandsForOne, DoesCommand, Sends, SendsPartly, Tells, wholly, partly, IsTextFor, reply, bad_line, fault, damage, StopsAtCommand}
+use Rattle.zr_session.specs.Lines.{StandsForOne, told_for, DoesCommand, Sends, SendsPartly, SendsReplyPartly, Tells, wholly, partly, IsTextFor, reply, bad_line, fault, damage, StopsAtCommand}
 
 pub sends_nothing : (old new : Stand) → new ≡ old → Sends old new []
 sends_nothing old new e = record { left = ap (λ s. s.left) e; sent = ap (λ s. s.sent) e ∙ sym (append-nil old.sent) }
@@ -26,17 +27,16 @@ sends_from old mid new bytes o s = record { left = s.left ∙ o.left; sent = s.s
 pub sends_all : (old mid new : Stand) (bytes : List ℕ) → IsOutside old mid → new ≡ sent_more mid bytes → Sends old new bytes
 sends_all old mid new bytes o e = sends_from old mid new bytes o (record { left = ap (λ s. s.left) e; sent = ap (λ s. s.sent) e })
 
--- a command was answered, and the answer sent
-pub does_by : (meaning : Meaning) (stands : List (List ℕ) → State → Type 0) (command : Command) (before : State) (old mid new : Stand) (answer : Reply) (bytes : List ℕ)
-    → IsOutside old mid → TurnsTo meaning stands before old command answer mid → bytes ≡ reply_text answer → new ≡ sent_more mid bytes
-    → StandsForOne stands new (λ after. DoesCommand meaning command before after old new)
-does_by meaning stands command before old mid new answer bytes o t e s = record {
+-- a command was answered, and the answer handed on
+pub does_by : (meaning : Meaning) (stands : List (List ℕ) → State → Type 0) (replies : Replies) (command : Command) (before : State) (old mid new : Stand) (answer : Reply)
+    → IsOutside old mid → TurnsTo meaning stands before old command answer mid → new ≡ sent_more mid (told_for replies answer)
+    → StandsForOne stands new (λ after. DoesCommand meaning replies command answer before after old new)
+does_by meaning stands replies command before old mid new answer o t s = record {
   state = t.after;
   stands_for = subst (λ (n : Stand). stands n.seen t.after) (sym s) t.stands_for;
   holds = record {
-    answer = answer;
     takes = subst (λ n. meaning.takes (point old before) (turn command answer n t.after)) (sym s) t.takes;
-    sends = subst (λ b. Sends old new b) e (sends_all old mid new bytes o s);
+    sends = sends_all old mid new (told_for replies answer) o s;
   };
 }
 
@@ -98,59 +98,64 @@ pub cause_from : (d : Type 0) (a b c : Counts) (end : End) → NoneFell a b → 
 cause_from d a b c end n h = cause_before d a b c end n (cause_any d b c end h)
 
 -- a reply that was not sent whole
-pub stops_reply : (meaning : Meaning) (command : Command) (number : ℕ) (before after : State) (old mid new : Stand) (answer : Reply) (bytes : List ℕ) (end : End)
-    → IsOutside old mid → meaning.takes (point old before) (turn command answer mid after) → bytes ≡ reply_text answer → SendsPartly bytes mid new end → StopsAtCommand meaning command number before old new end
-stops_reply meaning command number before after old mid new answer bytes OutputFault o t e p =
-    (p.0, p.1, reply_text answer, p.2 ∙ e, reply answer (point mid after) t, sends_from old mid new p.0 o p.3)
-stops_reply meaning command number before after old mid new answer bytes NoMemory o t e p = sends_from old mid new [] o p
-stops_reply meaning command number before after old mid new answer bytes Answered o t e p = absurd p
-stops_reply meaning command number before after old mid new answer bytes BadWords o t e p = absurd p
-stops_reply meaning command number before after old mid new answer bytes InputFault o t e p = absurd p
-stops_reply meaning command number before after old mid new answer bytes DiskFault o t e p = absurd p
-stops_reply meaning command number before after old mid new answer bytes BadLine o t e p = absurd p
-stops_reply meaning command number before after old mid new answer bytes Damaged o t e p = absurd p
-stops_reply meaning command number before after old mid new answer bytes AttachFault o t e p = absurd p
-stops_reply meaning command number before after old mid new answer bytes InputLimit o t e p = absurd p
+pub stops_reply : (meaning : Meaning) (replies : Replies) (command : Command) (number : ℕ) (before after : State) (old mid new : Stand) (answer : Reply) (end : End)
+    → IsOutside old mid → meaning.takes (point old before) (turn command answer mid after) → SendsReplyPartly replies answer mid new end → StopsAtCommand meaning replies command number before old new end
+stops_reply meaning replies command number before after old mid new answer OutputFault o t p =
+    (p.1.0, p.1.1, reply_text answer, p.1.2, reply answer (point mid after) p.0 t, sends_from old mid new p.1.0 o p.1.3)
+stops_reply meaning replies command number before after old mid new answer NoMemory o t p = sends_from old mid new [] o p.1
+stops_reply meaning replies command number before after old mid new answer Answered o t p = absurd p.1
+stops_reply meaning replies command number before after old mid new answer BadWords o t p = absurd p.1
+stops_reply meaning replies command number before after old mid new answer InputFault o t p = absurd p.1
+stops_reply meaning replies command number before after old mid new answer DiskFault o t p = absurd p.1
+stops_reply meaning replies command number before after old mid new answer BadLine o t p = absurd p.1
+stops_reply meaning replies command number before after old mid new answer Damaged o t p = absurd p.1
+stops_reply meaning replies command number before after old mid new answer AttachFault o t p = absurd p.1
+stops_reply meaning replies command number before after old mid new answer InputLimit o t p = absurd p.1
 
 -- a last line that was not sent whole
-stops_partly : (meaning : Meaning) (command : Command) (number : ℕ) (before : State) (old mid new : Stand) (bytes : List ℕ) (end : End)
-    → IsOutside old mid → IsTextFor meaning command number before old bytes → SendsPartly bytes mid new end → StopsAtCommand meaning command number before old new end
-stops_partly meaning command number before old mid new bytes OutputFault o t p = (p.0, p.1, bytes, p.2, t, sends_from old mid new p.0 o p.3)
-stops_partly meaning command number before old mid new bytes NoMemory o t p = sends_from old mid new [] o p
-stops_partly meaning command number before old mid new bytes Answered o t p = absurd p
-stops_partly meaning command number before old mid new bytes BadWords o t p = absurd p
-stops_partly meaning command number before old mid new bytes InputFault o t p = absurd p
-stops_partly meaning command number before old mid new bytes DiskFault o t p = absurd p
-stops_partly meaning command number before old mid new bytes BadLine o t p = absurd p
-stops_partly meaning command number before old mid new bytes Damaged o t p = absurd p
-stops_partly meaning command number before old mid new bytes AttachFault o t p = absurd p
-stops_partly meaning command number before old mid new bytes InputLimit o t p = absurd p
+stops_partly : (meaning : Meaning) (replies : Replies) (command : Command) (number : ℕ) (before : State) (old mid new : Stand) (bytes : List ℕ) (end : End)
+    → IsOutside old mid → IsTextFor meaning replies command number before old bytes → SendsPartly bytes mid new end → StopsAtCommand meaning replies command number before old new end
+stops_partly meaning replies command number before old mid new bytes OutputFault o t p = (p.0, p.1, bytes, p.2, t, sends_from old mid new p.0 o p.3)
+stops_partly meaning replies command number before old mid new bytes NoMemory o t p = sends_from old mid new [] o p
+stops_partly meaning replies command number before old mid new bytes Answered o t p = absurd p
+stops_partly meaning replies command number before old mid new bytes BadWords o t p = absurd p
+stops_partly meaning replies command number before old mid new bytes InputFault o t p = absurd p
+stops_partly meaning replies command number before old mid new bytes DiskFault o t p = absurd p
+stops_partly meaning replies command number before old mid new bytes BadLine o t p = absurd p
+stops_partly meaning replies command number before old mid new bytes Damaged o t p = absurd p
+stops_partly meaning replies command number before old mid new bytes AttachFault o t p = absurd p
+stops_partly meaning replies command number before old mid new bytes InputLimit o t p = absurd p
 
 -- the pool did not take the command
-pub stops_unserved : (meaning : Meaning) (command : Command) (number : ℕ) (before : State) (old mid new : Stand) (paths : List (List ℕ)) (end : End)
-    → IsOutside old mid → old.paths ≡ paths → (meaning.serves paths before command → ⊥) → Tells BadLine (last_line (text.BadLine number)) end mid new → StopsAtCommand meaning command number before old new end
-stops_unserved meaning command number before old mid new paths end o e u (wholly is s) =
-    subst (λ x. StopsAtCommand meaning command number before old new x) (sym is) (λ served. u (subst (λ p. meaning.serves p before command) e served), sends_from old mid new _ o s)
-stops_unserved meaning command number before old mid new paths end o e u (partly p) =
-    stops_partly meaning command number before old mid new _ end o (bad_line (λ served. u (subst (λ p. meaning.serves p before command) e served))) p
+pub stops_unserved : (meaning : Meaning) (replies : Replies) (command : Command) (number : ℕ) (before : State) (old mid new : Stand) (paths : List (List ℕ)) (end : End)
+    → IsOutside old mid → old.paths ≡ paths → (meaning.serves paths before command → ⊥) → Tells BadLine (last_line (text.BadLine number)) end mid new → StopsAtCommand meaning replies command number before old new end
+stops_unserved meaning replies command number before old mid new paths end o e u (wholly is s) =
+    subst (λ x. StopsAtCommand meaning replies command number before old new x) (sym is) (λ served. u (subst (λ p. meaning.serves p before command) e served), sends_from old mid new _ o s)
+stops_unserved meaning replies command number before old mid new paths end o e u (partly p) =
+    stops_partly meaning replies command number before old mid new _ end o (bad_line (λ served. u (subst (λ p. meaning.serves p before command) e served))) p
 
 -- a device failed
-pub stops_fault : (meaning : Meaning) (command : Command) (number : ℕ) (before : State) (old mid new : Stand) (bytes : List ℕ) (end : End)
-    → IsOutside old mid → bytes ≡ last_line text.DiskFault → Tells DiskFault bytes end mid new → StopsAtCommand meaning command number before old new end
-stops_fault meaning command number before old mid new bytes end o e (wholly is s) =
-    subst (λ x. StopsAtCommand meaning command number before old new x) (sym is) (sends_from old mid new _ o (subst (λ b. Sends mid new b) e s))
-stops_fault meaning command number before old mid new bytes end o e (partly p) =
-    stops_partly meaning command number before old mid new _ end o fault (subst (λ b. SendsPartly b mid new end) e p)
+pub stops_fault : (meaning : Meaning) (replies : Replies) (command : Command) (number : ℕ) (before : State) (old mid new : Stand) (bytes : List ℕ) (end : End)
+    → IsOutside old mid → bytes ≡ last_line text.DiskFault → Tells DiskFault bytes end mid new → StopsAtCommand meaning replies command number before old new end
+stops_fault meaning replies command number before old mid new bytes end o e (wholly is s) =
+    subst (λ x. StopsAtCommand meaning replies command number before old new x) (sym is) (sends_from old mid new _ o (subst (λ b. Sends mid new b) e s))
+stops_fault meaning replies command number before old mid new bytes end o e (partly p) =
+    stops_partly meaning replies command number before old mid new _ end o fault (subst (λ b. SendsPartly b mid new end) e p)
 
 -- damage was met
-pub stops_damage : (meaning : Meaning) (command : Command) (number : ℕ) (before : State) (old mid new : Stand) (found : Refusal) (end : End)
-    → IsOutside old mid → meaning.damages (point old before) command found → Tells Damaged (last_line (text.Damage found)) end mid new → StopsAtCommand meaning command number before old new end
-stops_damage meaning command number before old mid new found end o h (wholly is s) =
-    subst (λ x. StopsAtCommand meaning command number before old new x) (sym is) (found, h, sends_from old mid new _ o s)
-stops_damage meaning command number before old mid new found end o h (partly p) =
-    stops_partly meaning command number before old mid new _ end o (damage found h) p
+pub stops_damage : (meaning : Meaning) (replies : Replies) (command : Command) (number : ℕ) (before : State) (old mid new : Stand) (found : Refusal) (end : End)
+    → IsOutside old mid → meaning.damages (point old before) command found → Tells Damaged (last_line (text.Damage found)) end mid new → StopsAtCommand meaning replies command number before old new end
+stops_damage meaning replies command number before old mid new found end o h (wholly is s) =
+    subst (λ x. StopsAtCommand meaning replies command number before old new x) (sym is) (found, h, sends_from old mid new _ o s)
+stops_damage meaning replies command number before old mid new found end o h (partly p) =
+    stops_partly meaning replies command number before old mid new _ end o (damage found h) p
 
 -- what follows from three facts of an Ok
 pub from_three : {T E : Type 0} (r : Result T E) (A B C D : Type 0) → OnOk r A → OnOk r B → OnOk r C → (A → B → C → D) → OnOk r D
 from_three (Ok x) A B C D a b c f = f a b c
 from_three (Err e) A B C D a b c f = tt
+
+-- an error that is handed on by `?`
+pub err_with : {T E : Type 0} (r : Result T E) (e : E) (P : E → Type 0) → IsErrAnd r (λ y. y ≡ e) → P e → IfErr r P
+err_with (Ok x) e P h p = tt
+err_with (Err y) e P h p = subst P (sym h) p

@@ -23,6 +23,14 @@ rounds_of rounds = flat_map (λ (actors : List Actor). map Inserted actors) (rep
 abbrev pub agenda : {A : Type 0} → ℕ → List A → List (Item A)
 agenda rounds given = flat_map (λ x. Given x ∷ rounds_of rounds) given
 
+-- where only steps are put in
+abbrev pub GivesNone : ⊥ → Command → Type 0
+GivesNone x command = ⊥
+
+-- a command that is given itself
+abbrev pub IsGiven : Command → Command → Type 0
+IsGiven given command = command ≡ given
+
 -- The turns are those of the items: of each that is given, and of each that is put in where there is work.
 abbrev pub Plays : {A : Type 0} → Meaning → (A → Command → Type 0) → List (Item A) → Point → List Turn → Type 0
 Plays m Means [] p turns = turns ≡ []

@@ -14,11 +14,10 @@ use Rattle.zr_model.specs.Runs.{Point, Turn, point, Meaning, Run, end_of, texts,
 use Rattle.zr_words.specs.Choosing.{chosen}
 use Rattle.zr_session.specs.Agenda.{Item, agenda, Plays, IsDue}
 
--- the words are a command line that asks for one of the choosers with these names, and its script is the input
+-- the words are a command line that asks for one of the choosers with these names
 pub record IsStarted (names : List (List ℕ)) (words : List (List ℕ)) (line : CommandLine) : Type 0 where
   pub is_line : IsCommandLine words line
   pub chooser : chosen (λ name. name) line.policy names ≢ None
-  pub input : line.generate ≡ None
 
 abbrev pub paths_in : CommandLine → List (List ℕ)
 paths_in line = map (λ (dev : List ℕ × Option ℕ). dev.0) line.devs
@@ -148,12 +147,3 @@ AnswersFront m rounds opening now = (r : Reach) × HasReached m rounds opening n
 -- first commands are answered, and a front of what is to be sent next
 abbrev pub AnswersPartly : Meaning → ℕ → Stand → Stand → Type 0
 AnswersPartly m rounds opening now = (r : Reach) × (front back next : List ℕ) × (front ++ back ≡ next) × IsNextText m opening r next × HasReached m rounds opening now r front
-
--- the words are a command line, its devices were attached, and then the run with so many rounds came to what is said
-abbrev pub RunsTo : (ℕ → Stand → Stand → Type 0) → List (List ℕ) → List (List ℕ) → Stand → Stand → Type 0
-RunsTo P names words old new =
-    (line : CommandLine) × (opening : Stand) × IsStarted names words line × IsAttached (paths_in line) old opening × P (rounds_in line) opening new
-
--- the words are a command line, of whose devices the first were attached, and not all
-abbrev pub StopsAtDevice : List (List ℕ) → List (List ℕ) → Stand → Stand → Type 0
-StopsAtDevice names words old new = (line : CommandLine) × IsStarted names words line × IsPartlyAttached (paths_in line) old new

@@ -1,10 +1,12 @@
 -- How a run ends.
-use Rattle.std.specs.Prelude.{◌≡◌, ◌⊎◌, ℕ, List}
+use Rattle.std.specs.Prelude.{◌≡◌, ◌⊎◌, ℕ, List, MatchOption}
 use Rattle.zr_base.specs.Counts.{HasRisen}
 use Rattle.zr_shelf.specs.Counts.{Counts}
 use Rattle.zr_shelf.specs.Disks.{Stand}
+use Rattle.zr_script.specs.CommandLine.{CommandLine}
 use Rattle.zr_model.specs.Runs.{Meaning}
-use Rattle.zr_session.specs.Answers.{IsAttached, IsPartlyAttached, IsDone, TellsBadLine, TellsLimit, TellsFault, TellsDamage, AnswersTaken, AnswersFront, AnswersPartly}
+use Rattle.zr_session.specs.Answers.{rounds_in, IsAttached, IsPartlyAttached, IsDone, TellsBadLine, TellsLimit, TellsFault, TellsDamage, AnswersTaken, AnswersFront, AnswersPartly}
+use Rattle.zr_session.specs.Generated.{Task, task_in, TellsTally, TellsPartly, TellsFaultThere, TellsUnserved, TellsDamageThere, TellsNothing}
 use Rattle.zr_session.specs.declared.end.End.{End}
 use Rattle.zr_session.specs.declared.end.End.TheVariants.{Answered, BadWords, InputFault, OutputFault, DiskFault, BadLine, Damaged, AttachFault, InputLimit, NoMemory}
 
@@ -43,8 +45,25 @@ EndsAs m rounds NoMemory opening now = AnswersFront m rounds opening now
 EndsAs m rounds BadWords opening now = ⊥
 EndsAs m rounds AttachFault opening now = ⊥
 
+-- the same of a generated run
+abbrev pub GeneratesAs : Meaning → Task → End → Stand → Stand → Type 0
+GeneratesAs m task Answered opening now = TellsTally m task opening now
+GeneratesAs m task OutputFault opening now = TellsPartly m task opening now
+GeneratesAs m task DiskFault opening now = TellsFaultThere m task opening now
+GeneratesAs m task BadLine opening now = TellsUnserved m task opening now
+GeneratesAs m task Damaged opening now = TellsDamageThere m task opening now
+GeneratesAs m task NoMemory opening now = TellsNothing m task opening now
+GeneratesAs m task InputFault opening now = ⊥
+GeneratesAs m task InputLimit opening now = ⊥
+GeneratesAs m task BadWords opening now = ⊥
+GeneratesAs m task AttachFault opening now = ⊥
+
+-- how the run ends that the words ask for
+abbrev pub EndsBy : Meaning → CommandLine → End → Stand → Stand → Type 0
+EndsBy m line end opening now = MatchOption line.generate (EndsAs m (rounds_in line) end opening now) (λ n. GeneratesAs m (task_in line n) end opening now)
+
 -- what a run came to whose devices were to be attached
-abbrev pub IsOpenedTo : Meaning → ℕ → End → List (List ℕ) → Stand → Stand → Type 0
-IsOpenedTo m rounds AttachFault paths old now = IsPartlyAttached paths old now
-IsOpenedTo m rounds NoMemory paths old now = (now ≡ old) ⊎ IsPartlyAttached paths old now ⊎ ((opening : Stand) × IsAttached paths old opening × EndsAs m rounds NoMemory opening now)
-IsOpenedTo m rounds end paths old now = (opening : Stand) × IsAttached paths old opening × EndsAs m rounds end opening now
+abbrev pub IsOpenedTo : (End → Stand → Stand → Type 0) → End → List (List ℕ) → Stand → Stand → Type 0
+IsOpenedTo Ends AttachFault paths old now = IsPartlyAttached paths old now
+IsOpenedTo Ends NoMemory paths old now = (now ≡ old) ⊎ IsPartlyAttached paths old now ⊎ ((opening : Stand) × IsAttached paths old opening × Ends NoMemory opening now)
+IsOpenedTo Ends end paths old now = (opening : Stand) × IsAttached paths old opening × Ends end opening now

@@ -1,5 +1,9 @@
 pub mod Agenda
 pub mod Answers
+pub mod Tally
+pub mod Generated
+pub mod Tallied
+pub mod Started
 pub mod Ends
 pub mod Lines
 pub mod Progress

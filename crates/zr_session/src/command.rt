@@ -8,15 +8,16 @@ ghost use Rattle.zr_script.specs.ReplyText.{last_line, BadLine, Damage};
 ghost use Rattle.zr_model.specs.State.{State};
 ghost use Rattle.zr_model.specs.Runs.{MayBeDamaged};
 ghost use Rattle.zr_session.specs.Ends.{HasCause};
-ghost use Rattle.zr_session.specs.Lines.{StandsForOne, DoesCommand, StopsAtCommand, SendsPartly, Tells};
+ghost use Rattle.zr_session.specs.Lines.{StandsForOne, DoesCommand, StopsAtCommand, SendsPartly, SendsReplyPartly, Tells, told_for};
 ghost use Rattle.zr_session.specs.declared.end.End.TheVariants as is_end;
 
 use crate::end::End;
+use crate::replies::Replies;
 use std::alloc::Global;
 use zr_base::{Dva, NoMemory};
 use zr_choose::Chooser;
 use zr_model::{Pool, Stop};
-use zr_script::{Command, Word, put_line, reply_bytes};
+use zr_script::{Command, Reply, Word, put_line, reply_bytes};
 use zr_shelf::{Desk, DeskErr};
 
 /// Sends all the bytes.
@@ -112,19 +113,38 @@ fn tell_damage<'a, D: Desk>(
     tell(desk, text.as_slice(), End::Damaged)
 }
 
-/// Has the pool do a command, and sends its reply. Where a device failed or damage was met, that is told.
+/// Sends a reply, where replies are sent.
+fn hand_on<D: Desk>(alloc: Global, reply: &Reply, replies: Replies, desk: &mut D) -> Result<(), End>
+    ensures sent { D.tells desk.old → OnOk result ((D.world desk.new).now ≡ sent_more (D.world desk.old).now (told_for replies reply.now)) }
+    ensures partly { D.tells desk.old → IfErr result (SendsReplyPartly replies reply.now (D.world desk.old).now (D.world desk.new).now) }
+    ensures cause { IfErr result (HasCause ⊥ (D.counts desk.old) (D.counts desk.new)) }
+    ensures sizes { D.sizes desk.new ≡ D.sizes desk.old }
+    ensures none_fell { NoneFell (D.counts desk.old) (D.counts desk.new) }
+    ensures told { D.tells desk.old → D.tells desk.new }
+{
+    match replies {
+        Replies::Sent => {
+            let text = reply_bytes(alloc, reply)?;
+            send(desk, text.as_slice())
+        }
+        Replies::Kept => Ok(()),
+    }
+}
+
+/// Has the pool do a command, and hands its reply on. Where a device failed or damage was met, that is told.
 pub fn do_command<P: Pool, D: Desk>(
     alloc: Global,
     command: &Command,
     number: u64,
     pick: &Chooser,
+    replies: Replies,
     pool: &mut P,
     desk: &mut D,
-) -> Result<(), End>
+) -> Result<Reply, End>
     requires fits { P.fits pool.old (D.sizes desk.old) }
     requires grammar { (line : List ℕ) × IsLine line command.now }
-    ensures done { D.tells desk.old → (D.world desk.old).now.paths ≡ P.paths pool.old → (before : State) → P.stands pool.old (D.world desk.old).now.seen before → OnOk result (StandsForOne (P.stands pool.new) (D.world desk.new).now (λ after. DoesCommand P.meaning command.now before after (D.world desk.old).now (D.world desk.new).now)) }
-    ensures stopped { D.tells desk.old → (D.world desk.old).now.paths ≡ P.paths pool.old → (before : State) → P.stands pool.old (D.world desk.old).now.seen before → IfErr result (StopsAtCommand P.meaning command.now number before (D.world desk.old).now (D.world desk.new).now) }
+    ensures done { D.tells desk.old → (D.world desk.old).now.paths ≡ P.paths pool.old → (before : State) → P.stands pool.old (D.world desk.old).now.seen before → IfOk result (λ reply. StandsForOne (P.stands pool.new) (D.world desk.new).now (λ after. DoesCommand P.meaning replies command.now reply before after (D.world desk.old).now (D.world desk.new).now)) }
+    ensures stopped { D.tells desk.old → (D.world desk.old).now.paths ≡ P.paths pool.old → (before : State) → P.stands pool.old (D.world desk.old).now.seen before → IfErr result (StopsAtCommand P.meaning replies command.now number before (D.world desk.old).now (D.world desk.new).now) }
     ensures named { D.tells desk.old → OnOk result ((D.world desk.new).now.paths ≡ (D.world desk.old).now.paths) }
     ensures cause { IfErr result (HasCause (MayBeDamaged P.meaning) (D.counts desk.old) (D.counts desk.new)) }
     ensures fits { P.fits pool.new (D.sizes desk.new) }
@@ -135,8 +155,8 @@ pub fn do_command<P: Pool, D: Desk>(
 {
     match pool.command(alloc, desk, pick, command) {
         Ok(Some(reply)) => {
-            let text = reply_bytes(alloc, &reply)?;
-            send(desk, text.as_slice())
+            hand_on(alloc, &reply, replies, desk)?;
+            Ok(reply)
         }
         Ok(None) => Err(refuse_line(alloc, number, desk)),
         Err(Stop::DiskFault) => Err(tell(desk, b"stopped disk fault\n", End::DiskFault)),

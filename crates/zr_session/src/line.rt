@@ -10,6 +10,7 @@ ghost use Rattle.zr_session.specs.Lines.{StandsForOne, AnswersLine, StopsAtLine}
 use crate::command::{do_command, refuse_line};
 use crate::course::Course;
 use crate::end::End;
+use crate::replies::Replies;
 use crate::rounds::do_rounds;
 use memchr::memchr;
 use std::alloc::Global;
@@ -55,6 +56,14 @@ pub fn answer_line<P: Pool, D: Desk>(
     if let Command::Quit = command {
         return Err(End::Answered);
     }
-    do_command(alloc, &command, number, course.pick, pool, desk)?;
-    do_rounds(alloc, number, course, pool, desk)
+    do_command(
+        alloc,
+        &command,
+        number,
+        course.pick,
+        Replies::Sent,
+        pool,
+        desk,
+    )?;
+    do_rounds(alloc, number, course, Replies::Sent, pool, desk)
 }

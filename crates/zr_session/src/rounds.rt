@@ -1,7 +1,7 @@
 //! The steps of the actors that are put in behind a line.
 //!
 //! A round makes one step of each actor, in a fixed order, and only where that actor has work. A step is a command like
-//! those of lines: its reply is sent, and the run may stop at it.
+//! any other, and the run may stop at it. Its reply is sent where replies are.
 ghost use Rattle.std.specs.Prelude.{◌≡◌, ◌∷◌, [], ℕ, List, map, IfErr, OnOk};
 ghost use Rattle.zr_shelf.specs.Counts.{NoneFell};
 ghost use Rattle.zr_model.specs.State.{State};
@@ -13,6 +13,7 @@ ghost use Rattle.zr_session.specs.Lines.{StandsForOne, DoesSteps, StopsWithinSte
 use crate::command::do_command;
 use crate::course::Course;
 use crate::end::End;
+use crate::replies::Replies;
 use std::alloc::Global;
 use zr_model::{Actor, Pool};
 use zr_script::Command;
@@ -38,12 +39,13 @@ fn do_step<P: Pool, D: Desk>(
     actor: Actor,
     number: u64,
     course: &Course,
+    replies: Replies,
     pool: &mut P,
     desk: &mut D,
 ) -> Result<(), End>
     requires fits { P.fits pool.old (D.sizes desk.old) }
-    ensures done { D.tells desk.old → (D.world desk.old).now.paths ≡ P.paths pool.old → (before : State) → P.stands pool.old (D.world desk.old).now.seen before → OnOk result (StandsForOne (P.stands pool.new) (D.world desk.new).now (λ after. DoesSteps P.meaning (Inserted actor ∷ []) before after (D.world desk.old).now (D.world desk.new).now)) }
-    ensures stopped { D.tells desk.old → (D.world desk.old).now.paths ≡ P.paths pool.old → (before : State) → P.stands pool.old (D.world desk.old).now.seen before → IfErr result (StopsWithinSteps P.meaning (Inserted actor ∷ []) number before (D.world desk.old).now (D.world desk.new).now) }
+    ensures done { D.tells desk.old → (D.world desk.old).now.paths ≡ P.paths pool.old → (before : State) → P.stands pool.old (D.world desk.old).now.seen before → OnOk result (StandsForOne (P.stands pool.new) (D.world desk.new).now (λ after. DoesSteps P.meaning replies (Inserted actor ∷ []) before after (D.world desk.old).now (D.world desk.new).now)) }
+    ensures stopped { D.tells desk.old → (D.world desk.old).now.paths ≡ P.paths pool.old → (before : State) → P.stands pool.old (D.world desk.old).now.seen before → IfErr result (StopsWithinSteps P.meaning replies (Inserted actor ∷ []) number before (D.world desk.old).now (D.world desk.new).now) }
     ensures named { D.tells desk.old → OnOk result ((D.world desk.new).now.paths ≡ (D.world desk.old).now.paths) }
     ensures cause { IfErr result (HasCause (MayBeDamaged P.meaning) (D.counts desk.old) (D.counts desk.new)) }
     ensures fits { P.fits pool.new (D.sizes desk.new) }
@@ -55,7 +57,16 @@ fn do_step<P: Pool, D: Desk>(
     if !pool.has_work(actor) {
         return Ok(());
     }
-    do_command(alloc, &step_of(actor), number, course.pick, pool, desk)
+    do_command(
+        alloc,
+        &step_of(actor),
+        number,
+        course.pick,
+        replies,
+        pool,
+        desk,
+    )?;
+    Ok(())
 }
 
 /// Makes a step of each of the actors that has work when it is its turn.
@@ -64,12 +75,13 @@ fn do_steps<P: Pool, D: Desk>(
     actors: &[Actor],
     number: u64,
     course: &Course,
+    replies: Replies,
     pool: &mut P,
     desk: &mut D,
 ) -> Result<(), End>
     requires fits { P.fits pool.old (D.sizes desk.old) }
-    ensures done { D.tells desk.old → (D.world desk.old).now.paths ≡ P.paths pool.old → (before : State) → P.stands pool.old (D.world desk.old).now.seen before → OnOk result (StandsForOne (P.stands pool.new) (D.world desk.new).now (λ after. DoesSteps P.meaning (map Inserted actors.now) before after (D.world desk.old).now (D.world desk.new).now)) }
-    ensures stopped { D.tells desk.old → (D.world desk.old).now.paths ≡ P.paths pool.old → (before : State) → P.stands pool.old (D.world desk.old).now.seen before → IfErr result (StopsWithinSteps P.meaning (map Inserted actors.now) number before (D.world desk.old).now (D.world desk.new).now) }
+    ensures done { D.tells desk.old → (D.world desk.old).now.paths ≡ P.paths pool.old → (before : State) → P.stands pool.old (D.world desk.old).now.seen before → OnOk result (StandsForOne (P.stands pool.new) (D.world desk.new).now (λ after. DoesSteps P.meaning replies (map Inserted actors.now) before after (D.world desk.old).now (D.world desk.new).now)) }
+    ensures stopped { D.tells desk.old → (D.world desk.old).now.paths ≡ P.paths pool.old → (before : State) → P.stands pool.old (D.world desk.old).now.seen before → IfErr result (StopsWithinSteps P.meaning replies (map Inserted actors.now) number before (D.world desk.old).now (D.world desk.new).now) }
     ensures named { D.tells desk.old → OnOk result ((D.world desk.new).now.paths ≡ (D.world desk.old).now.paths) }
     ensures cause { IfErr result (HasCause (MayBeDamaged P.meaning) (D.counts desk.old) (D.counts desk.new)) }
     ensures fits { P.fits pool.new (D.sizes desk.new) }
@@ -79,22 +91,23 @@ fn do_steps<P: Pool, D: Desk>(
     ensures told { D.tells desk.old → D.tells desk.new }
 {
     for actor in actors {
-        do_step(alloc, *actor, number, course, pool, desk)?;
+        do_step(alloc, *actor, number, course, replies, pool, desk)?;
     }
     Ok(())
 }
 
-/// Does the rounds behind the line with this number.
+/// Does the rounds behind the line or command with this number.
 pub fn do_rounds<P: Pool, D: Desk>(
     alloc: Global,
     number: u64,
     course: &Course,
+    replies: Replies,
     pool: &mut P,
     desk: &mut D,
 ) -> Result<(), End>
     requires fits { P.fits pool.old (D.sizes desk.old) }
-    ensures done { D.tells desk.old → (D.world desk.old).now.paths ≡ P.paths pool.old → (before : State) → P.stands pool.old (D.world desk.old).now.seen before → OnOk result (StandsForOne (P.stands pool.new) (D.world desk.new).now (λ after. DoesSteps P.meaning (rounds_of course.now.rounds) before after (D.world desk.old).now (D.world desk.new).now)) }
-    ensures stopped { D.tells desk.old → (D.world desk.old).now.paths ≡ P.paths pool.old → (before : State) → P.stands pool.old (D.world desk.old).now.seen before → IfErr result (StopsWithinSteps P.meaning (rounds_of course.now.rounds) number before (D.world desk.old).now (D.world desk.new).now) }
+    ensures done { D.tells desk.old → (D.world desk.old).now.paths ≡ P.paths pool.old → (before : State) → P.stands pool.old (D.world desk.old).now.seen before → OnOk result (StandsForOne (P.stands pool.new) (D.world desk.new).now (λ after. DoesSteps P.meaning replies (rounds_of course.now.rounds) before after (D.world desk.old).now (D.world desk.new).now)) }
+    ensures stopped { D.tells desk.old → (D.world desk.old).now.paths ≡ P.paths pool.old → (before : State) → P.stands pool.old (D.world desk.old).now.seen before → IfErr result (StopsWithinSteps P.meaning replies (rounds_of course.now.rounds) number before (D.world desk.old).now (D.world desk.new).now) }
     ensures named { D.tells desk.old → OnOk result ((D.world desk.new).now.paths ≡ (D.world desk.old).now.paths) }
     ensures cause { IfErr result (HasCause (MayBeDamaged P.meaning) (D.counts desk.old) (D.counts desk.new)) }
     ensures fits { P.fits pool.new (D.sizes desk.new) }
@@ -104,7 +117,7 @@ pub fn do_rounds<P: Pool, D: Desk>(
     ensures told { D.tells desk.old → D.tells desk.new }
 {
     for _done in 0..course.rounds {
-        do_steps(alloc, &ROUND, number, course, pool, desk)?;
+        do_steps(alloc, &ROUND, number, course, replies, pool, desk)?;
     }
     Ok(())
 }

@@ -344,6 +344,55 @@ fn a_run_may_stop_within_a_round(rt: HostRuntime) -> Result<(), Fail> {
     Ok(())
 }
 
+const THREE: [&str; 3] = ["a:4096", "b:4096", "c:4096"];
+
+// What a generated run sends, and its status, where these calls of the desk fail.
+fn is_generated(
+    alloc: Global,
+    words: &[&str],
+    kind: Kind,
+    fails: &[u64],
+    sent: &str,
+    end: u8,
+) -> Result<bool, Fail> {
+    let mut all = Vec::from_slice(alloc, words)?;
+    all.extend_from_slice(&THREE)?;
+    let input = Vec::from_slice(alloc, b"create p 1 a\n")?;
+    let mut desk = MemDesk::new(alloc, input, Vec::from_slice(alloc, fails)?);
+    let status = status_over(alloc, all.as_slice(), &mut desk, kind)?;
+    let mut left = [0u8; 1];
+    let untaken = desk.take(&mut left) == Ok(1);
+    Ok(status == end && desk.sent() == sent.as_bytes() && untaken)
+}
+
+#[test]
+fn a_generated_run_tells_one_line(rt: HostRuntime) -> Result<(), Fail> {
+    // a pool that is made with one step of work left, which it tells for each sum
+    let kept = "fa45b5e72109db39d4e3980213c12b90bbb5f3ab221a7e70f69021efe8872ffe";
+    let done = "5cfd77f6456cc606441ecaa414f83f8931cc82ade8d80e4b34c2dc2b6201938c";
+    let alloc = rt.alloc();
+    let line = format!(in alloc; "gen 4 1 ok 40 refused 0 sums {kept}\n")?;
+    assert!(rt; is_generated(alloc, &["--gen=4:1"], Kind::Busy, &[], line.as_str(), 0)?);
+    // the step that is put in is not counted
+    let line = format!(in alloc; "gen 4 1 ok 40 refused 0 sums {done}\n")?;
+    let words = ["--gen=4:1", "--auto=2"];
+    assert!(rt; is_generated(alloc, &words, Kind::Busy, &[], line.as_str(), 0)?);
+    assert!(rt; is_generated(alloc, &words, Kind::Busy, &[3], "", 7)?);
+    // the pool in memory is made on all devices of the words, and not on the first two
+    assert!(rt; is_generated(alloc, &words, Kind::Plain, &[], "bad line 1\n", 5)?);
+    Ok(())
+}
+
+#[test]
+fn a_line_that_is_not_sent_is_an_output_fault(rt: HostRuntime) -> Result<(), Fail> {
+    // attach, attach, attach, give
+    let words = ["--gen=4:1", "a:4096", "b:4096", "c:4096"];
+    let none = Vec::new(rt.alloc());
+    let mut desk = MemDesk::new(rt.alloc(), none, Vec::from_slice(rt.alloc(), &[4])?);
+    assert!(rt; status_over(rt.alloc(), &words, &mut desk, Kind::Busy)? == 3);
+    Ok(())
+}
+
 #[test]
 fn words_say_what_is_run(rt: HostRuntime) -> Result<(), Fail> {
     let made = "create p 1 a\n";

@@ -21,6 +21,8 @@ pub fn parse_words<'a>(
     ensures none { IfOk result (λ found. IfNone found ((line : Line) → IsCommandLine (map string_bytes words.now) line → ⊥)) }
     // The words are the line that is answered, and no other.
     ensures only { IfOk result (λ found. IfSome found (λ line. (other : Line) → IsCommandLine (map string_bytes words.now) other → other ≡ line_of line)) }
+    // Each device has a path that is one.
+    ensures paths { IfOk result (λ found. IfSome found (λ line. HasPaths (line_of line))) }
 {
     let Some(line) = read_words(alloc, words)? else {
         return Ok(None);

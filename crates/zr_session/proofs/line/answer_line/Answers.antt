@@ -1,9 +1,10 @@
 use Rattle.std.proofs.Common.{ℕ, List, ◌∙◌, sym, subst}
 use Rattle.std.proofs.lemmas.Result.{IfErr-weaker, on_ok_weaker, err_from_is_err_and}
-use Rattle.zr_model.specs.Runs.{Asks, texts}
+use Rattle.zr_model.specs.Runs.{Asks}
+use Rattle.zr_session.specs.declared.replies.Replies.TheVariants.{Sent}
 use Rattle.zr_session.specs.Lines.{StopsAtLine, command, within}
 use Rattle.zr_session.proofs.Sending.{for_one}
-use Rattle.zr_session.proofs.Playing.{does_both, does_given, texts_in_order}
+use Rattle.zr_session.proofs.Playing.{does_both, does_given, rounds_among, stops_among}
 use Rattle.zr_session.proofs.line.answer_line.Goals as goal
 
 pub returns-in_err-do_command-clause-stopped : goal.returns-in_err-do_command-clause-stopped
@@ -22,8 +23,8 @@ returns-clause-answered g c = λ t n before s.
     let asks : Asks c.args.line.now c.in-Some.command = (reads, c.in_default-command.not-Quit) in
     let o = c.in_ok-do_command.ensures in
     let d = o.done t n before s in
-    let given = does_given (List ℕ) g.P.Pool.meaning Asks c.args.line.now c.in-Some.command before d.state _ _ asks d.holds in
-    on_ok_weaker c.do_rounds.result (for_one _ _ _ _ (λ after r. does_both (List ℕ) g.P.Pool.meaning Asks texts _ _ before d.state after _ _ _ texts_in_order given r))
+    let given = does_given (List ℕ) g.P.Pool.meaning Asks Sent c.args.line.now c.in-Some.command _ before d.state _ _ asks d.holds in
+    on_ok_weaker c.do_rounds.result (for_one _ _ _ _ (λ after r. does_both (List ℕ) g.P.Pool.meaning Asks Sent _ _ before d.state after _ _ _ given (rounds_among (List ℕ) g.P.Pool.meaning Asks Sent c.args.course.now.rounds d.state after _ _ r)))
     (c.do_rounds.ensures.done (o.told t) (o.named t ∙ (n ∙ sym o.paths)) d.state d.stands_for)
 
 pub returns-clause-stopped : goal.returns-clause-stopped
@@ -32,8 +33,8 @@ returns-clause-stopped g c = λ t n before s.
     let asks : Asks c.args.line.now c.in-Some.command = (reads, c.in_default-command.not-Quit) in
     let o = c.in_ok-do_command.ensures in
     let d = o.done t n before s in
-    let given = does_given (List ℕ) g.P.Pool.meaning Asks c.args.line.now c.in-Some.command before d.state _ _ asks d.holds in
-    IfErr-weaker c.do_rounds.result _ _ (λ end h. within d.state _ given h) (c.do_rounds.ensures.stopped (o.told t) (o.named t ∙ (n ∙ sym o.paths)) d.state d.stands_for)
+    let given = does_given (List ℕ) g.P.Pool.meaning Asks Sent c.args.line.now c.in-Some.command _ before d.state _ _ asks d.holds in
+    IfErr-weaker c.do_rounds.result _ _ (λ end h. within d.state _ given (stops_among (List ℕ) g.P.Pool.meaning Asks Sent c.args.course.now.rounds c.args.number d.state _ _ end h)) (c.do_rounds.ensures.stopped (o.told t) (o.named t ∙ (n ∙ sym o.paths)) d.state d.stands_for)
 
 pub returns-clause-named : goal.returns-clause-named
 returns-clause-named g c = λ t.

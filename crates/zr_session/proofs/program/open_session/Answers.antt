@@ -1,10 +1,50 @@
-use Rattle.std.proofs.Common.{ap, ◌∙◌, length}
-use Rattle.zr_session.proofs.Opening.{opened_by, named_first}
+use Rattle.std.proofs.Common.{◌≡◌, inl, inr, IsTrue, sym, ap, subst, ◌∙◌, length, map}
+use Rattle.std.specs.List.{list_all}
+use Rattle.zr_script.specs.Words.{is_path, are_different}
+use Rattle.zr_session.specs.Answers.{paths_in, IsAttached, IsPartlyAttached}
+use Rattle.zr_words.specs.Views.{line_of, path_of}
+use Rattle.zr_session.proofs.Devices.{paths_same}
+use Rattle.zr_session.proofs.Opening.{opened_by, named_first, by_serving, by_generating}
 use Rattle.zr_session.proofs.program.open_session.Goals as goal
 
-pub returns-in-Ok-attach_all-clause-ends : goal.returns-in-Ok-attach_all-clause-ends
-returns-in-Ok-attach_all-clause-ends g c = λ t.
-    let d = c.in-Ok-attach_all.ensures.done t in
+pub returns-in-Err-Failed-clause-ends : goal.returns-in-Err-Failed-clause-ends
+returns-in-Err-Failed-clause-ends g c = λ t.
+    let same : map path_of c.as_slice-devices.result.now ≡ paths_in (line_of c.args.line.now) = ap (map path_of) c.as_slice-devices.ensures.value ∙ sym (paths_same c.args.line.now.devices.items) in
+    subst (λ ps. IsPartlyAttached ps (g.D.Shelf.world c.args.desk.now).now (g.D.Shelf.world c.attach_all.new.desk).now) same (c.in-Err-Failed.ensures.partly t)
+
+pub returns-in-Err-NoMemory-clause-ends : goal.returns-in-Err-NoMemory-clause-ends
+returns-in-Err-NoMemory-clause-ends g c = λ t.
+    let same : map path_of c.as_slice-devices.result.now ≡ paths_in (line_of c.args.line.now) = ap (map path_of) c.as_slice-devices.ensures.value ∙ sym (paths_same c.args.line.now.devices.items) in
+    inr (inl (subst (λ ps. IsPartlyAttached ps (g.D.Shelf.world c.args.desk.now).now (g.D.Shelf.world c.attach_all.new.desk).now) same (c.in-Err-NoMemory.ensures.partly t)))
+
+pub generate-requires-clause-paths : goal.generate-requires-clause-paths
+generate-requires-clause-paths g c =
+    let same : map path_of c.as_slice-devices.result.now ≡ paths_in (line_of c.args.line.now) = ap (map path_of) c.as_slice-devices.ensures.value ∙ sym (paths_same c.args.line.now.devices.items) in
+    subst (λ ps. IsTrue (list_all is_path ps)) (sym same) c.requires.paths
+
+pub generate-requires-clause-different : goal.generate-requires-clause-different
+generate-requires-clause-different g c =
+    let same : map path_of c.as_slice-devices.result.now ≡ paths_in (line_of c.args.line.now) = ap (map path_of) c.as_slice-devices.ensures.value ∙ sym (paths_same c.args.line.now.devices.items) in
+    subst (λ ps. IsTrue (are_different ps)) (sym same) c.requires.line.1.different
+
+pub returns-in-Some-clause-ends : goal.returns-in-Some-clause-ends
+returns-in-Some-clause-ends g c = λ t.
+    let same : map path_of c.as_slice-devices.result.now ≡ paths_in (line_of c.args.line.now) = ap (map path_of) c.as_slice-devices.ensures.value ∙ sym (paths_same c.args.line.now.devices.items) in
+    let d : IsAttached (paths_in (line_of c.args.line.now)) (g.D.Shelf.world c.args.desk.now).now (g.D.Shelf.world c.attach_all.new.desk).now =
+    subst (λ ps. IsAttached ps (g.D.Shelf.world c.args.desk.now).now (g.D.Shelf.world c.attach_all.new.desk).now) same (c.in-Ok-attach_all.ensures.done t) in
     let s = (g.D.Shelf.sound c.args.desk.now t).paths in
     let z = ap length c.requires.none in
-    opened_by _ _ c.serve.result _ _ _ _ d (c.serve.ensures.ends (c.attach_all.ensures.told t) (named_first _ _ _ _ (s ∙ z) d (c.in-Ok-closed.ensures.paths ∙ c.in-Ok.ensures)))
+    opened_by g.P.Pool.meaning (line_of c.args.line.now) c.generate.result _ _ _ _ d
+    (by_generating g.P.Pool.meaning (line_of c.args.line.now) (c.in-Some.number, c.in-Some.count) _ _ c.generate.result _ _ c.in-Some.is same c.unwrap_or.ensures
+    (c.generate.ensures.ends (c.attach_all.ensures.told t) (named_first _ _ _ _ (s ∙ z) d (c.in-Ok-closed.ensures.paths ∙ (c.in-Ok.ensures ∙ same)))))
+
+pub returns-clause-ends : goal.returns-clause-ends
+returns-clause-ends g c = λ t.
+    let same : map path_of c.as_slice-devices.result.now ≡ paths_in (line_of c.args.line.now) = ap (map path_of) c.as_slice-devices.ensures.value ∙ sym (paths_same c.args.line.now.devices.items) in
+    let d : IsAttached (paths_in (line_of c.args.line.now)) (g.D.Shelf.world c.args.desk.now).now (g.D.Shelf.world c.attach_all.new.desk).now =
+    subst (λ ps. IsAttached ps (g.D.Shelf.world c.args.desk.now).now (g.D.Shelf.world c.attach_all.new.desk).now) same (c.in-Ok-attach_all.ensures.done t) in
+    let s = (g.D.Shelf.sound c.args.desk.now t).paths in
+    let z = ap length c.requires.none in
+    opened_by g.P.Pool.meaning (line_of c.args.line.now) c.serve.result _ _ _ _ d
+    (by_serving g.P.Pool.meaning (line_of c.args.line.now) _ c.serve.result _ _ c.in-None.is c.unwrap_or.ensures
+    (c.serve.ensures.ends (c.attach_all.ensures.told t) (named_first _ _ _ _ (s ∙ z) d (c.in-Ok-closed.ensures.paths ∙ (c.in-Ok.ensures ∙ same)))))

@@ -1,15 +1,14 @@
-use Rattle.std.proofs.Common.{◌≡◌, ℕ, List, refl, sym, subst, ◌∙◌, arith}
+use Rattle.std.proofs.Common.{◌≡◌, ℕ, refl, sym, subst, ◌∙◌, arith}
 use Rattle.std.proofs.lemmas.Result.{err_from_is_err_and}
-use Rattle.zr_model.specs.Runs.{Asks, texts}
-use Rattle.zr_session.specs.Agenda.{rounds_of}
+use Rattle.zr_session.specs.Agenda.{GivesNone, rounds_of}
 use Rattle.zr_session.specs.Lines.{StopsWithinSteps}
 use Rattle.zr_session.proofs.Sending.{fell_more}
-use Rattle.zr_session.proofs.Playing.{does_none, does_rounds, stops_rounds, texts_in_order}
+use Rattle.zr_session.proofs.Playing.{does_none, does_rounds, stops_rounds}
 use Rattle.zr_session.proofs.rounds.do_rounds.Goals as goal
 
 pub loop-done-init : goal.loop-done-init
 loop-done-init g c = record {
-  done = λ t n before s. record { state = before; stands_for = s; holds = does_none (List ℕ) g.P.Pool.meaning Asks texts before _ texts_in_order };
+  done = λ t n before s. record { state = before; stands_for = s; holds = does_none ⊥ g.P.Pool.meaning GivesNone c.args.replies before _ };
   named = λ t. refl;
   told = λ t. t;
   fits = c.requires.fits;
@@ -24,9 +23,9 @@ returns-in_err-do_steps-clause-stopped g c = λ t n before s.
     let d = i.done t n before s in
     let p = err_from_is_err_and c.from_residual.result c.from_residual.ensures.1 in
     rw p.1 (
-    let stop : StopsWithinSteps g.P.Pool.meaning (rounds_of c.args.course.now.rounds) c.args.number before (g.D.Shelf.world c.args.desk.now).now (g.D.Shelf.world c.do_steps.new.desk).now c.in_err-do_steps.field-0.0 =
-    stops_rounds g.P.Pool.meaning c.args.course.now.rounds c.loop-done._done c.args.number before d.state _ _ _ _ c.loop-done-test.true d.holds (c.in_err-do_steps.ensures.stopped (i.told t) (i.named t ∙ (n ∙ sym i.paths)) d.state d.stands_for) in
-    subst (λ e. StopsWithinSteps g.P.Pool.meaning (rounds_of c.args.course.now.rounds) c.args.number before (g.D.Shelf.world c.args.desk.now).now (g.D.Shelf.world c.do_steps.new.desk).now e) (sym p.2) stop)
+    let stop : StopsWithinSteps g.P.Pool.meaning c.args.replies (rounds_of c.args.course.now.rounds) c.args.number before (g.D.Shelf.world c.args.desk.now).now (g.D.Shelf.world c.do_steps.new.desk).now c.in_err-do_steps.field-0.0 =
+    stops_rounds g.P.Pool.meaning c.args.replies c.args.course.now.rounds c.loop-done._done c.args.number before d.state _ _ _ _ c.loop-done-test.true d.holds (c.in_err-do_steps.ensures.stopped (i.told t) (i.named t ∙ (n ∙ sym i.paths)) d.state d.stands_for) in
+    subst (λ e. StopsWithinSteps g.P.Pool.meaning c.args.replies (rounds_of c.args.course.now.rounds) c.args.number before (g.D.Shelf.world c.args.desk.now).now (g.D.Shelf.world c.do_steps.new.desk).now e) (sym p.2) stop)
 
 pub loop-done-preserved : goal.loop-done-preserved
 loop-done-preserved g c =
@@ -36,7 +35,7 @@ loop-done-preserved g c =
       done = λ t n before s.
           let d = i.done t n before s in
           let e = o.done (i.told t) (i.named t ∙ (n ∙ sym i.paths)) d.state d.stands_for in
-          record { state = e.state; stands_for = e.stands_for; holds = does_rounds g.P.Pool.meaning c.loop-done._done before d.state e.state _ _ _ d.holds e.holds };
+          record { state = e.state; stands_for = e.stands_for; holds = does_rounds g.P.Pool.meaning c.args.replies c.loop-done._done before d.state e.state _ _ _ d.holds e.holds };
       named = λ t. o.named (i.told t) ∙ i.named t;
       told = λ t. o.told (i.told t);
       fits = o.fits;

@@ -1,16 +1,15 @@
-use Rattle.std.proofs.Common.{◌≡◌, ℕ, List, refl, sym, subst, ◌∙◌, arith, map}
+use Rattle.std.proofs.Common.{◌≡◌, ℕ, refl, sym, subst, ◌∙◌, arith, map}
 use Rattle.std.proofs.lemmas.Result.{err_from_is_err_and}
-use Rattle.zr_model.specs.Runs.{Asks, texts}
 use Rattle.zr_model.specs.declared.pool.Actor.TheVariants.{Evac}
-use Rattle.zr_session.specs.Agenda.{Inserted}
+use Rattle.zr_session.specs.Agenda.{Inserted, GivesNone}
 use Rattle.zr_session.specs.Lines.{StopsWithinSteps}
 use Rattle.zr_session.proofs.Sending.{fell_more}
-use Rattle.zr_session.proofs.Playing.{does_none, does_steps, stops_steps, texts_in_order}
+use Rattle.zr_session.proofs.Playing.{does_none, does_steps, stops_steps}
 use Rattle.zr_session.proofs.rounds.do_steps.Goals as goal
 
 pub loop-actor-init : goal.loop-actor-init
 loop-actor-init g c = record {
-  done = λ t n before s. record { state = before; stands_for = s; holds = does_none (List ℕ) g.P.Pool.meaning Asks texts before _ texts_in_order };
+  done = λ t n before s. record { state = before; stands_for = s; holds = does_none ⊥ g.P.Pool.meaning GivesNone c.args.replies before _ };
   named = λ t. refl;
   told = λ t. t;
   fits = c.requires.fits;
@@ -25,9 +24,9 @@ returns-in_err-do_step-clause-stopped g c = λ t n before s.
     let d = i.done t n before s in
     let p = err_from_is_err_and c.from_residual.result c.from_residual.ensures.1 in
     rw p.1 (
-    let stop : StopsWithinSteps g.P.Pool.meaning (map Inserted c.args.actors.now) c.args.number before (g.D.Shelf.world c.args.desk.now).now (g.D.Shelf.world c.do_step.new.desk).now c.in_err-do_step.field-0.0 =
-    stops_steps g.P.Pool.meaning c.args.actors.now c.loop-actor.actor-index _ c.args.number before d.state _ _ _ _ c.loop-actor-test.true d.holds (c.in_err-do_step.ensures.stopped (i.told t) (i.named t ∙ (n ∙ sym i.paths)) d.state d.stands_for) in
-    subst (λ e. StopsWithinSteps g.P.Pool.meaning (map Inserted c.args.actors.now) c.args.number before (g.D.Shelf.world c.args.desk.now).now (g.D.Shelf.world c.do_step.new.desk).now e) (sym p.2) stop)
+    let stop : StopsWithinSteps g.P.Pool.meaning c.args.replies (map Inserted c.args.actors.now) c.args.number before (g.D.Shelf.world c.args.desk.now).now (g.D.Shelf.world c.do_step.new.desk).now c.in_err-do_step.field-0.0 =
+    stops_steps g.P.Pool.meaning c.args.replies c.args.actors.now c.loop-actor.actor-index _ c.args.number before d.state _ _ _ _ c.loop-actor-test.true d.holds (c.in_err-do_step.ensures.stopped (i.told t) (i.named t ∙ (n ∙ sym i.paths)) d.state d.stands_for) in
+    subst (λ e. StopsWithinSteps g.P.Pool.meaning c.args.replies (map Inserted c.args.actors.now) c.args.number before (g.D.Shelf.world c.args.desk.now).now (g.D.Shelf.world c.do_step.new.desk).now e) (sym p.2) stop)
 
 pub loop-actor-preserved : goal.loop-actor-preserved
 loop-actor-preserved g c =
@@ -37,7 +36,7 @@ loop-actor-preserved g c =
       done = λ t n before s.
           let d = i.done t n before s in
           let e = o.done (i.told t) (i.named t ∙ (n ∙ sym i.paths)) d.state d.stands_for in
-          record { state = e.state; stands_for = e.stands_for; holds = does_steps g.P.Pool.meaning c.args.actors.now c.loop-actor.actor-index _ before d.state e.state _ _ _ c.loop-actor-test.true d.holds e.holds };
+          record { state = e.state; stands_for = e.stands_for; holds = does_steps g.P.Pool.meaning c.args.replies c.args.actors.now c.loop-actor.actor-index _ before d.state e.state _ _ _ c.loop-actor-test.true d.holds e.holds };
       named = λ t. o.named (i.told t) ∙ i.named t;
       told = λ t. o.told (i.told t);
       fits = o.fits;

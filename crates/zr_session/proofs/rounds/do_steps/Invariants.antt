@@ -11,7 +11,7 @@ invariant-loop-actor g l =
     let pool = g.P.Pool in
     record {
       done : desk.tells l.fn.desk → (desk.world l.fn.desk).now.paths ≡ pool.paths l.fn.pool → (before : State) → pool.stands l.fn.pool (desk.world l.fn.desk).now.seen before
-          → StandsForOne (pool.stands l.pool) (desk.world l.desk).now (λ after. DoesSteps pool.meaning (map Inserted (take l.actor-index l.actors)) before after (desk.world l.fn.desk).now (desk.world l.desk).now);
+          → StandsForOne (pool.stands l.pool) (desk.world l.desk).now (λ after. DoesSteps pool.meaning l.replies (map Inserted (take l.actor-index l.actors)) before after (desk.world l.fn.desk).now (desk.world l.desk).now);
       named : desk.tells l.fn.desk → (desk.world l.desk).now.paths ≡ (desk.world l.fn.desk).now.paths;
       told : desk.tells l.fn.desk → desk.tells l.desk;
       fits : pool.fits l.pool (desk.sizes l.desk);
