@@ -78,6 +78,12 @@ same_holds slots t1 t2 before now x c s told same held = record {
   nothing = held.nothing;
 }
 
+-- a root that is published leaves the bytes of each address
+pub published_bytes : (sizes both all : List ℕ) (u : Uber) (r : Result (Unit {0}) ScanErr) (a b : World) (pool : OpenPool) → IsOpen sizes pool → IsUber u → Publishes sizes both all u r a b
+    → (x : Dva) → address_bytes (view_of b.now.seen pool.table.slots pool.space) x ≡ address_bytes (view_of a.now.seen pool.table.slots pool.space) x
+published_bytes sizes both all u r a b pool o lawful published =
+    published_keeps sizes pool.table.slots (devices_in pool.space) (below_labels sizes pool o) u lawful both all r a b published
+
 -- a root that is published leaves the blocks of objects
 pub published_holds : (sizes both all : List ℕ) (u : Uber) (r : Result (Unit {0}) ScanErr) (a b : World) (pool : OpenPool) (t1 t2 : Type 0) (s : Stored) → IsOpen sizes pool → IsUber u → Publishes sizes both all u r a b → t2
     → HasBlocks t1 a.now.seen pool s → HasBlocks t2 b.now.seen pool s

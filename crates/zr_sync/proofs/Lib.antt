@@ -9,3 +9,4 @@ pub mod Holding
 pub mod Rings
 pub mod Sizes
 pub mod Stays
+pub mod Standing

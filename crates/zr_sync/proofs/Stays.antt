@@ -1,7 +1,7 @@
 -- Objects stay where the same pointers are stored, and where a group is written.
 use Rattle.std.proofs.Common.{◌≡◌, ℕ, List, []}
 use Rattle.zr_lookup.specs.Groups.{IsLawfulGroup}
-use Rattle.zr_store.specs.Store.{Stored, Swaps, Now}
+use Rattle.zr_store.specs.Store.{Swaps, Now}
 use Rattle.zr_txg.specs.Changes.{IsGroup}
 use Rattle.zr_model.specs.Objects.{Objects}
 use Rattle.zr_held.proofs.Same.{same}

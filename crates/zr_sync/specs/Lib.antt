@@ -5,3 +5,4 @@ pub mod Words
 pub mod Commits
 pub mod Holds
 pub mod Objects
+pub mod Heads

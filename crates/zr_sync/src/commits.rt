@@ -14,6 +14,7 @@ ghost use Rattle.zr_store.specs.Store.{Stored};
 ghost use Rattle.zr_sync.specs.Commits.{EndsGroup, IsNextRoot, IsShownFrom};
 ghost use Rattle.zr_model.specs.Objects.{Objects};
 ghost use Rattle.zr_sync.specs.Objects.{HoldsObjects};
+ghost use Rattle.zr_sync.specs.Heads.{HasHead, IsSeen};
 ghost use Rattle.zr_sync.specs.Holds.{AreTreesStored, HasBlocks, HasWritten};
 ghost use Rattle.zr_sync.specs.Pools.{IsOpen, IsSamePool};
 ghost use Rattle.zr_sync.specs.Writes.{WorksOnDisks, WritesAll, WritesMetadata};
@@ -84,6 +85,7 @@ fn write_metadata<S: Shelf, P: Place>(
     ensures whole { IfOk result (λ head. head.1 % 8 ≡ 0) }
     ensures least { IfOk result (λ head. 8 ≤ head.1) }
     ensures short { IfOk result (λ head. head.1 ≤ 35016) }
+    ensures stands { IsSeen (S.tells shelf.old) (S.world shelf.old).now.seen pool.old → IfOk result (λ head. HasHead (S.world shelf.new).now.seen pool.new head.0 head.1) }
 {
     turn_metadata(alloc, pool, shelf, pick)?;
     write_late_sets(alloc, pool, shelf, pick, reset)?;
@@ -106,6 +108,7 @@ fn write_all<S: Shelf, P: Place>(
     ensures whole { IfOk result (λ head. head.1 % 8 ≡ 0) }
     ensures least { IfOk result (λ head. 8 ≤ head.1) }
     ensures short { IfOk result (λ head. head.1 ≤ 35016) }
+    ensures stands { IsSeen (S.tells shelf.old) (S.world shelf.old).now.seen pool.old → IfOk result (λ head. HasHead (S.world shelf.new).now.seen pool.new head.0 head.1) }
     ensures objects { (s : Stored) → HasBlocks (S.tells shelf.old) (S.world shelf.old).now.seen pool.old s → AreTreesStored pool.old s → OnOk result (HasWritten (S.tells shelf.new) (S.world shelf.new).now.seen pool.old pool.new s) }
 {
     write_trees(alloc, pool, shelf, pick)?;
@@ -134,6 +137,7 @@ pub fn commit<S: Shelf, P: Place>(
     ensures same { OnOk result (IsSamePool pool.old pool.new) }
     ensures last { OnOk result (IfSome pool.new.last (IsNextRoot pool.old reset)) }
     ensures head { OnOk result (IfSome pool.new.last (λ u. pool.new.head.root ≡ u.root)) }
+    ensures stands { IsSeen (S.tells shelf.old) (S.world shelf.old).now.seen pool.old → OnOk result (IfSome pool.new.last (λ u. HasHead (S.world shelf.new).now.seen pool.new u.root u.len)) }
     ensures shown { S.tells shelf.old → OnOk result (IfSome pool.new.last (λ u. (before : World) × IsShownFrom (S.sizes shelf.old) pool.old u before (S.world shelf.new))) }
     ensures space { OnOk result ((before : Space) × Commits reset before pool.new.space) }
     ensures ends { OnOk result (EndsGroup reset pool.old.space pool.new.space) }

@@ -1,9 +1,10 @@
 //! The head of the next root in a commit.
-ghost use Rattle.std.specs.Prelude.{ℕ, List, ◌≡◌, ◌<◌, ◌≤◌, ◌+◌, ◌*◌, ◌%◌, length, take, IsErrOf, IfOk, OnOk};
+ghost use Rattle.std.specs.Prelude.{ℕ, List, ◌≡◌, ◌++◌, ◌<◌, ◌≤◌, ◌+◌, ◌*◌, ◌%◌, length, take, IsErrOf, IfOk, OnOk};
 ghost use Rattle.std.specs.List.{AllByRecursion};
 ghost use Rattle.zr_base.specs.Counts.{HasRisen};
 ghost use Rattle.zr_label.specs.Blocks.{IsMetaRoot};
 ghost use Rattle.zr_meta.specs.Heads.{IsHead, IsStream, head_words};
+ghost use Rattle.zr_sync.specs.Heads.{HasHead, IsSeen, head_of, streams_in};
 ghost use Rattle.zr_sync.specs.Pools.{AreStreams, IsOpen};
 ghost use Rattle.zr_sync.specs.Writes.{WritesMetadata};
 ghost use Rattle.zr_sync.specs.declared.stop.Stop.TheVariants.{DiskFault};
@@ -24,6 +25,7 @@ fn add_streams(streams: &mut Items<Stream>, device: &DeviceStreams) -> Result<()
     requires device { AreStreams device.now }
     ensures lawful { OnOk result (AllByRecursion IsStream streams.new) }
     ensures count { OnOk result (length streams.new ≡ length streams.old + 4) }
+    ensures added { OnOk result (streams.new ≡ streams.old ++ streams_in device.now) }
 {
     streams.push(device.held)?;
     streams.push(device.kept)?;
@@ -34,7 +36,8 @@ fn add_streams(streams: &mut Items<Stream>, device: &DeviceStreams) -> Result<()
 // The head of the next root.
 fn head_of(alloc: Global, pool: &OpenPool) -> Result<Head, NoMemory>
     requires { (sizes : List ℕ) × IsOpen sizes pool.now }
-    ensures { IfOk result (IsHead (take pool.now.table.count pool.now.table.rows)) }
+    ensures lawful { IfOk result (IsHead (take pool.now.table.count pool.now.table.rows)) }
+    ensures head { IfOk result (λ head. head ≡ head_of pool.now) }
 {
     let mut streams = Items::new(alloc);
     for device in pool.streams.as_slice() {
@@ -65,6 +68,7 @@ pub fn write_head<S: Shelf, P: Place>(
     ensures whole { IfOk result (λ head. head.1 % 8 ≡ 0) }
     ensures least { IfOk result (λ head. 8 ≤ head.1) }
     ensures short { IfOk result (λ head. head.1 ≤ 35016) }
+    ensures stands { IsSeen (S.tells shelf.old) (S.world shelf.old).now.seen pool.old → IfOk result (λ head. HasHead (S.world shelf.new).now.seen pool.new head.0 head.1) }
 {
     let head = head_of(alloc, pool)?;
     let mount = Mount {

@@ -1,9 +1,12 @@
 //! The root of a commit, and its publishing.
 ghost use Rattle.std.specs.Prelude.{◌≡◌, ◌≤◌, ◌%◌, ℕ, List, Bool, if◌then◌else◌, IsErrOf, OnOk};
 ghost use Rattle.zr_base.specs.Counts.{HasRisen};
+ghost use Rattle.zr_base.specs.declared.space.Dva.{Dva};
 ghost use Rattle.zr_label.specs.Blocks.{IsMetaRoot, IsUber};
 ghost use Rattle.zr_shelf.specs.Counts.{NoneFell};
 ghost use Rattle.zr_store.specs.Store.{Stored};
+ghost use Rattle.zr_vdev.specs.Runs.{view_of};
+ghost use Rattle.zr_view.specs.Views.{address_bytes};
 ghost use Rattle.zr_sync.specs.Commits.{IsNextRoot, IsShownFrom, last_reset};
 ghost use Rattle.zr_sync.specs.Holds.{HasBlocks};
 ghost use Rattle.zr_sync.specs.Pools.{IsOpen};
@@ -56,6 +59,8 @@ pub fn next_root(pool: &OpenPool, root: Ptr, len: u64, reset: bool) -> Uber
     requires short { len ≤ 35016 }
     ensures next { IsNextRoot pool.now reset result }
     ensures lawful { IsUber result }
+    ensures root_is { result.root ≡ root }
+    ensures len_is { result.len ≡ len }
 {
     Uber {
         version: pool.version,
@@ -87,6 +92,7 @@ pub fn publish_root<S: Shelf>(
     ensures fault { IsErrOf result DiskFault → HasRisen (S.counts shelf.old).disk (S.counts shelf.new).disk }
     ensures shown { S.tells shelf.old → OnOk result (IsShownFrom (S.sizes shelf.old) pool.now root.now (S.world shelf.old) (S.world shelf.new)) }
     ensures blocks { (s : Stored) → HasBlocks (S.tells shelf.old) (S.world shelf.old).now.seen pool.now s → HasBlocks (S.tells shelf.new) (S.world shelf.new).now.seen pool.now s }
+    ensures bytes { S.tells shelf.old → (a : Dva) → address_bytes (view_of (S.world shelf.new).now.seen pool.now.table.slots pool.now.space) a ≡ address_bytes (view_of (S.world shelf.old).now.seen pool.now.table.slots pool.now.space) a }
 {
     let last = pool.last.unwrap_or(*root);
     let both = slots_in_both(alloc, &last, root, &pool.table.slots)?;

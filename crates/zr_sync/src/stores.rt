@@ -14,7 +14,9 @@ ghost use Rattle.zr_store.specs.Store.{AreStored, Now, Stored};
 ghost use Rattle.zr_store.specs.declared.StoreErr.TheVariants.{Failed};
 ghost use Rattle.zr_tree.specs.Trees.{tree_reach};
 ghost use Rattle.zr_vdev.specs.Mounts.{AreMounted};
+ghost use Rattle.zr_vdev.specs.Runs.{view_of};
 ghost use Rattle.zr_vdev.specs.Stores.{Continues, HoldsBlocks};
+ghost use Rattle.zr_sync.specs.Heads.{StandsHead};
 ghost use Rattle.zr_sync.specs.Words.{HasRoomFor};
 ghost use Rattle.zr_sync.specs.declared.stop.Stop.TheVariants.{DiskFault};
 
@@ -201,6 +203,7 @@ pub fn put_head<S: Shelf, P: Place>(
     ensures root { IfOk result (λ head. IsMetaRoot head.0 head.1) }
     ensures len { IfOk result (λ root. root.1 ≡ 8 * head_words head.now) }
     ensures short { IfOk result (λ head. head.1 ≤ 35016) }
+    ensures stands { (s : Stored) → HoldsBlocks mount.entry.kind mount.entry.slots.now (S.tells shelf.old) (S.world shelf.old).now.seen space.old None cache.old s → IfOk result (λ root. StandsHead rows.now (view_of (S.world shelf.new).now.seen mount.entry.slots.now space.new) head.now root.0 root.1) }
 {
     let mut store = Vdev::new(space, shelf, cache, mount);
     Ok(write_head(alloc, &mut store, head, rows)?)

@@ -1,15 +1,19 @@
 use Rattle.std.proofs.Common.{◌≡◌, List, ℕ, Option, sym, subst}
-use Rattle.std.specs.Prelude.{IfSome}
+use Rattle.zr_bptr.specs.declared.Ptr.{Ptr}
+use Rattle.std.specs.Prelude.{IfSome, take}
 use Rattle.zr_label.specs.declared.root.Uber.{Uber}
 use Rattle.zr_shelf.specs.Moments.{World}
 use Rattle.zr_sync.specs.Commits.{IsShownFrom}
+use Rattle.zr_sync.specs.Heads.{HasHead, head_of}
 use Rattle.zr_sync.specs.Pools.{IsOpen}
 use Rattle.zr_sync.proofs.Disks.{works_more}
 use Rattle.zr_sync.proofs.Groups.{shown_before}
 use Rattle.zr_sync.proofs.Holding.{ended_written}
 use Rattle.zr_sync.proofs.Objects.{now_held}
+use Rattle.zr_sync.proofs.Standing.{head_same, ended_head}
 use Rattle.zr_sync.proofs.Stays.{trees_stored, objects_written}
 use Rattle.zr_txg.specs.Changes.{block_count}
+use Rattle.zr_vdev.specs.Runs.{view_of}
 use Rattle.zr_sync.proofs.commits.commit.Goals as goal
 
 pub returns-in_err-publish_root-clause-disks : goal.returns-in_err-publish_root-clause-disks
@@ -63,3 +67,16 @@ returns-clause-stays g c = λ objects h.
     (ended_written c.args.reset (g.S.Shelf.tells first) (g.S.Shelf.tells last) (g.S.Shelf.world first).now.seen (g.S.Shelf.world last).now.seen x c.write_all.new.pool c.end_group.new.pool h.stored
     c.in_ok-root.ensures.pool.service c.end_group.ensures.table c.end_group.ensures.cache c.end_group.ensures.dir c.end_group.ensures.live c.end_group.ensures.space h.held stored
     (now_held (λ m held. c.publish_root.ensures.blocks m held) (c.in_ok-root.ensures.objects h.stored h.held stored)))
+
+pub returns-clause-stands : goal.returns-clause-stands
+returns-clause-stands g c = λ seen.
+    let pool = c.write_all.new.pool in
+    let before = (g.S.Shelf.world c.write_all.new.shelf).now.seen in
+    let now = (g.S.Shelf.world c.publish_root.new.shelf).now.seen in
+    let root = c.next_root-next.result.root in
+    let len = c.next_root-next.result.len in
+    let wrote : HasHead before pool root len =
+    subst (λ (r : Ptr). HasHead before pool r len) (sym c.next_root-next.ensures.root_is) (subst (λ (n : ℕ). HasHead before pool c.in_ok-root.root n) (sym c.next_root-next.ensures.len_is) (c.in_ok-root.ensures.stands seen)) in
+    let published = head_same (take pool.table.count pool.table.rows) (view_of before pool.table.slots pool.space) (view_of now pool.table.slots pool.space) (head_of pool) root len (c.publish_root.ensures.bytes (c.write_all.ensures.wrote.told seen.told)) wrote in
+    subst (λ (o : Option Uber). IfSome o (λ (u : Uber). HasHead now c.end_group.new.pool u.root u.len)) (sym c.end_group.ensures.last)
+    (ended_head c.args.reset now pool c.end_group.new.pool root len c.end_group.ensures.table c.end_group.ensures.dir c.end_group.ensures.streams c.end_group.ensures.space published)

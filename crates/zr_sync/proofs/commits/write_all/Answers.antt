@@ -1,5 +1,6 @@
 use Rattle.zr_sync.proofs.Holding.{metadata_written, on_ok_of}
 use Rattle.zr_sync.proofs.Pools.{all_written, trees_written}
+use Rattle.zr_sync.proofs.Standing.{seen_trees}
 use Rattle.zr_sync.proofs.commits.write_all.Goals as goal
 
 pub returns-in_err-write_trees-clause-wrote : goal.returns-in_err-write_trees-clause-wrote
@@ -16,3 +17,10 @@ returns-clause-objects g c = λ s held stored.
     on_ok_of c.write_metadata.result
     (metadata_written (g.S.Shelf.sizes mid) (g.S.Shelf.sizes last) (g.S.Shelf.counts mid) (g.S.Shelf.counts last) (g.S.Shelf.tells mid) (g.S.Shelf.tells last) (g.S.Shelf.world mid) (g.S.Shelf.world last)
     c.args.pool.now c.write_trees.new.pool c.write_metadata.new.pool s c.in_ok-write_trees.ensures.pool c.write_metadata.ensures.wrote (g.S.Shelf.tells first) (g.S.Shelf.world first).now.seen held stored (c.in_ok-write_trees.ensures.objects s held stored))
+
+pub returns-clause-stands : goal.returns-clause-stands
+returns-clause-stands g c = λ seen.
+    let first = c.args.shelf.now in
+    let mid = c.write_trees.new.shelf in
+    c.write_metadata.ensures.stands
+    (seen_trees (g.S.Shelf.sizes first) (g.S.Shelf.sizes mid) (g.S.Shelf.counts first) (g.S.Shelf.counts mid) (g.S.Shelf.tells first) (g.S.Shelf.tells mid) (g.S.Shelf.world first) (g.S.Shelf.world mid) c.args.pool.now c.write_trees.new.pool c.write_trees.ensures.wrote seen)

@@ -3,8 +3,8 @@ use Rattle.zr_sync.specs.declared.open.DeviceStreams.{DeviceStreams}
 use Rattle.zr_sync.proofs.Rows.{four_streams}
 use Rattle.zr_sync.proofs.heads.head_of.Goals as goal
 
-pub returns : goal.returns
-returns c =
+pub returns-clause-lawful : goal.returns-clause-lawful
+returns-clause-lawful c =
     let pool = c.args.pool.now in
     let o = c.requires.1 in
     let four = four_streams pool.version pool.group.txg pool.table.count pool.table.rows o.few o.table in

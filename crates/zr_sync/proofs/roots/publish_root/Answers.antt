@@ -1,7 +1,7 @@
 use Rattle.std.proofs.Common.{sym, subst}
 use Rattle.zr_slots.specs.Phases.{AreDisks}
 use Rattle.zr_sync.proofs.Disks.{works_published}
-use Rattle.zr_sync.proofs.Holding.{published_holds}
+use Rattle.zr_sync.proofs.Holding.{published_holds, published_bytes}
 use Rattle.zr_sync.proofs.Publishing.{slots_disks, shown}
 use Rattle.zr_sync.proofs.roots.publish_root.Goals as goal
 
@@ -41,3 +41,15 @@ returns-clause-blocks g c = λ s held.
     let old = c.args.shelf.now in
     let new = c.publish.new.shelf in
     published_holds (g.S.Shelf.sizes old) c.as_slice.result.now c.as_slice-2.result.now c.args.root.now c.publish.result (g.S.Shelf.world old) (g.S.Shelf.world new) c.args.pool.now (g.S.Shelf.tells old) (g.S.Shelf.tells new) s c.requires.pool c.requires.lawful (c.publish.ensures.order held.told) (c.publish.ensures.told held.told) held
+
+pub returns-in_err-publish-clause-bytes : goal.returns-in_err-publish-clause-bytes
+returns-in_err-publish-clause-bytes g c = λ told.
+    let old = c.args.shelf.now in
+    let new = c.publish.new.shelf in
+    published_bytes (g.S.Shelf.sizes old) c.as_slice.result.now c.as_slice-2.result.now c.args.root.now c.publish.result (g.S.Shelf.world old) (g.S.Shelf.world new) c.args.pool.now c.requires.pool c.requires.lawful (c.publish.ensures.order told)
+
+pub returns-clause-bytes : goal.returns-clause-bytes
+returns-clause-bytes g c = λ told.
+    let old = c.args.shelf.now in
+    let new = c.publish.new.shelf in
+    published_bytes (g.S.Shelf.sizes old) c.as_slice.result.now c.as_slice-2.result.now c.args.root.now c.publish.result (g.S.Shelf.world old) (g.S.Shelf.world new) c.args.pool.now c.requires.pool c.requires.lawful (c.publish.ensures.order told)

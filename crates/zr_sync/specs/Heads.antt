@@ -1,0 +1,40 @@
+-- The head of an open pool, as it stands on the disks.
+use Rattle.std.specs.Prelude.{◌≡◌, ℕ, List, [], ◌∷◌, length, take, None}
+use Rattle.std.specs.List.{flat_map}
+use Rattle.zr_base.specs.declared.space.CkptPart.TheVariants.{Clear}
+use Rattle.zr_base.specs.declared.space.DevRow.{DevRow}
+use Rattle.zr_bptr.specs.declared.Ptr.{Ptr}
+use Rattle.zr_bptr.specs.declared.Tree.{Tree}
+use Rattle.zr_meta.specs.declared.Head.{Head}
+use Rattle.zr_meta.specs.declared.Stream.{Stream}
+use Rattle.zr_meta.specs.Heads.{IsHead, head_bytes}
+use Rattle.zr_root.specs.Streams.{HasBytes, IsTreeFor}
+use Rattle.zr_image.specs.Reading.{store_of}
+use Rattle.zr_view.specs.Views.{View}
+use Rattle.zr_vdev.specs.Caches.{AreRead}
+use Rattle.zr_vdev.specs.Runs.{view_of}
+use Rattle.zr_sync.specs.declared.open.DeviceStreams.{DeviceStreams}
+use Rattle.zr_sync.specs.declared.open.OpenPool.{OpenPool}
+
+-- the streams of a device in the order of the head
+abbrev pub streams_in : DeviceStreams → List Stream
+streams_in d = d.held ∷ d.kept ∷ d.late1 ∷ d.late2 ∷ []
+
+-- the head of an open pool: its directory and its streams, with nothing saved
+abbrev pub head_of : OpenPool → Head
+head_of pool = record { form = 2; dir = pool.dir; saved = None; ckpt = Clear; cond = None; streams = flat_map streams_in pool.streams.items }
+
+-- what the disks have is told as they read, and what is cached is what stands there
+pub record IsSeen (tells : Type 0) (disks : List (List ℕ)) (pool : OpenPool) : Type 0 where
+  pub told : tells
+  pub read : AreRead disks pool.table.slots pool.space pool.cache
+
+-- The head is one under this table, has so many bytes, and stands in the tree of that length with this root.
+pub record StandsHead (table : List DevRow) (view : View) (h : Head) (root : Ptr) (len : ℕ) : Type 0 where
+  pub lawful : IsHead table h
+  pub length_is : length (head_bytes h) ≡ len
+  pub stands : (t : Tree) → IsTreeFor len root t → HasBytes (store_of view) t (head_bytes h)
+
+-- the disks have the pool's head at this root
+abbrev pub HasHead : List (List ℕ) → OpenPool → Ptr → ℕ → Type 0
+HasHead disks pool root len = StandsHead (take pool.table.count pool.table.rows) (view_of disks pool.table.slots pool.space) (head_of pool) root len
