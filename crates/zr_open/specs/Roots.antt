@@ -1,5 +1,5 @@
 -- What the disks have of a root, and the pool that is opened from it.
-use Rattle.std.specs.Prelude.{◌≡◌, ℕ, ◌*◌, List, [], ◌∷◌, length, map, take, Option, Some}
+use Rattle.std.specs.Prelude.{◌≡◌, ℕ, ◌*◌, List, [], length, map, take, Option, Some}
 use Rattle.std.specs.List.{flat_map}
 use Rattle.zr_bptr.specs.declared.Bptr.{Bptr}
 use Rattle.zr_label.specs.declared.root.Uber.{Uber}
@@ -8,11 +8,10 @@ use Rattle.zr_import.specs.Directories.{IsInPlace}
 use Rattle.zr_import.specs.Units.{MarksHeld}
 use Rattle.zr_import.specs.Words.{ReadsMeta, meta_reach}
 use Rattle.zr_import.specs.declared.roots.Root.{Root}
-use Rattle.zr_meta.specs.declared.Stream.{Stream}
 use Rattle.zr_objset.specs.Records.{all_reach}
 use Rattle.zr_space.specs.Opens.{IsOpened}
 use Rattle.zr_store.specs.Store.{Stored}
-use Rattle.zr_sync.specs.declared.open.DeviceStreams.{DeviceStreams}
+use Rattle.zr_sync.specs.Heads.{streams_in}
 use Rattle.zr_sync.specs.declared.open.OpenPool.{OpenPool}
 
 -- the disks as a store of blocks, by the devices of a root, which have no mappings
@@ -26,10 +25,6 @@ pub record Stands (s : Stored) (u : Uber) (r : Root) : Type 0 where
   pub meta : r.meta ≡ map (λ (b : Bptr). b.at) (meta_reach s u r.head)
   pub held : MarksHeld u.txg r.parts.devs (all_reach s r.head.dir)
   pub place : IsInPlace s r.head.dir
-
--- the streams of a device in the order of the head
-abbrev pub streams_in : DeviceStreams → List Stream
-streams_in d = d.held ∷ d.kept ∷ d.late1 ∷ d.late2 ∷ []
 
 -- the pool has the directory, the streams and the space that the root records, and nothing is opened
 pub record HasParts (r : Root) (pool : OpenPool) : Type 0 where

@@ -11,7 +11,8 @@ ghost use Rattle.zr_sync.specs.declared.fault.Fault.TheVariants.{No, Stops};
 ghost use Rattle.zr_sync.specs.declared.stop.Stop.TheVariants.{DiskFault};
 ghost use Rattle.zr_open.specs.Found.{HasItsDisks};
 ghost use Rattle.zr_open.specs.Opened.{AreOn, CoversOwed, HasRows, IsFresh, IsRefusedRoot, IsServed, IsSpaceOf};
-ghost use Rattle.zr_open.specs.Roots.{HasParts, streams_in};
+ghost use Rattle.zr_open.specs.Roots.{HasParts};
+ghost use Rattle.zr_sync.specs.Heads.{streams_in};
 
 use crate::read::CACHED;
 use crate::room::{has_groups, has_room};

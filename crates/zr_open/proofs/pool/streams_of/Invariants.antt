@@ -2,7 +2,7 @@ use Rattle.std.proofs.Common.{◌≡◌, ◌*◌, length, take}
 use Rattle.std.specs.List.{flat_map}
 use Rattle.std.specs.Prelude.{All}
 use Rattle.zr_sync.specs.Pools.{AreStreams}
-use Rattle.zr_open.specs.Roots.{streams_in}
+use Rattle.zr_sync.specs.Heads.{streams_in}
 use Rattle.zr_open.proofs.pool.streams_of.Given as goal
 
 abbrev pub invariant-loop-index : goal.invariant-loop-index
