@@ -3,6 +3,7 @@ use Rattle.std.proofs.Common.{◌≡◌, ◌⊎◌, ℕ, ◌<◌, ◌≤◌, Lis
 use Rattle.std.specs.Prelude.{All}
 use Rattle.std.specs.List.{AllByRecursion}
 use Rattle.std.proofs.lemmas.List.Elements.{All-nil}
+use Rattle.zr_base.specs.declared.space.CkptPart.TheVariants.{Clear}
 use Rattle.zr_base.specs.declared.space.DevRow.{DevRow}
 use Rattle.zr_bptr.specs.declared.Ptr.TheVariants.{Hole}
 use Rattle.zr_bptr.specs.Spelling.{IsTree}
@@ -24,10 +25,10 @@ use Rattle.zr_create.specs.Blank.{IsBlank}
 empty_set : (units : ℕ) → IsSet units []
 empty_set units = record { maximal = tt; within = tt }
 
-pub lawful_without : (version : ℕ) → IsLawful (space_of version [])
+pub lawful_without : (version : ℕ) → IsLawful (space_of (record { version = version; ckpt = Clear }) [])
 lawful_without version = record {
   devices = refl;
-  sets = λ d. record { held = empty_set _; kept = empty_set _; fresh = empty_set _; born = empty_set _; deferred = empty_set _; dropped = empty_set _ };
+  sets = λ d. record { held = empty_set _; kept = empty_set _; fresh = empty_set _; born = empty_set _; deferred = empty_set _; dropped = empty_set _; kept_came = empty_set _; kept_went = empty_set _; fresh_came = empty_set _; fresh_went = empty_set _ };
   once = λ d u. omega arith;
   copies = λ d u. omega arith;
   born = λ d u is. is;

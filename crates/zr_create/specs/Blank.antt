@@ -1,5 +1,6 @@
 -- Pools that have just been made.
 use Rattle.std.specs.Prelude.{◌≡◌, ℕ, false, [], Option, None, IsSomeAnd}
+use Rattle.zr_base.specs.declared.space.CkptPart.TheVariants.{Clear}
 use Rattle.zr_cache.specs.Entries.{entries}
 use Rattle.zr_held.specs.Steps.{no_tree}
 use Rattle.zr_label.specs.declared.root.Name.{Name}
@@ -20,7 +21,7 @@ pub record IsNamed (name : Name) (guid version : ℕ) (pool : OpenPool) : Type 0
 pub record IsBlank (pool : OpenPool) : Type 0 where
   pub count : pool.table.count ≡ 0
   pub slots : (d : ℕ) → slot_of pool.table.slots d ≡ None
-  pub space : pool.space ≡ space_of pool.version []
+  pub space : pool.space ≡ space_of (record { version = pool.version; ckpt = Clear }) []
   pub last : pool.last ≡ None
   pub txg : pool.group.txg ≡ 1
   pub objects : pool.group.objects ≡ []
