@@ -8,3 +8,4 @@ pub mod Nothing
 pub mod Beside
 pub mod Grown
 pub mod Keeping
+pub mod Staying

@@ -2,7 +2,8 @@ use Rattle.std.proofs.Common.{ℕ, List, subst, sym, ◌∙◌, ap}
 use Rattle.std.specs.FinMap as map
 use Rattle.zr_cache.specs.Entries.{entries}
 use Rattle.zr_txg.specs.declared.group.Group.{Group}
-use Rattle.zr_create.specs.Devices.{HaveDisks}
+use Rattle.zr_create.specs.Devices.{HaveDisks, HasDevicesIn}
+use Rattle.zr_create.proofs.Staying.{still_in}
 use Rattle.zr_sync.proofs.Disks.{works_more, works_still}
 use Rattle.zr_create.proofs.Checking.{new_disks}
 use Rattle.zr_create.proofs.Nothing.{none_held}
@@ -60,3 +61,10 @@ returns-clause-objects g c = λ t.
     c.in_ok-commit.ensures.stays map.empty
     (none_held (g.S.Shelf.tells c.take_all.new.shelf) (g.S.Shelf.world c.take_all.new.shelf).now.seen before told c.in_ok-take_all.ensures.pool.service (same.dir ∙ blank.dir) (ap (λ (x : Group). x.objects) same.group ∙ blank.objects)
     (ap entries same.cache ∙ blank.cache))
+
+pub returns-clause-devices : goal.returns-clause-devices
+returns-clause-devices g c =
+    let blank = c.in_ok-pool.ensures.blank in
+    let same = c.in_ok-commit.ensures.same in
+    still_in (g.S.Shelf.sizes c.args.shelf.now) (g.S.Shelf.sizes c.check_new.new.shelf) 1 c.args.named.now c.take_all.new.pool c.commit.new.pool c.check_new.ensures.sizes same.table same.version
+    (subst (λ (t : ℕ). HasDevicesIn (g.S.Shelf.sizes c.check_new.new.shelf) t c.args.named.now c.take_all.new.pool) blank.txg c.in_ok-take_all.ensures.devices)
