@@ -46,5 +46,11 @@ example out a:8388608 b:8388608
 example in b a
 example missing b
 begin
+example checkpoint disk0:8388608 disk1:8388608
+begin
+example upgrade disk:8388608
+begin
+example rewind disk0:8388608 disk1:8388608 disk2:16777216
+begin
 example day disk0:8388608 disk1:8388608 disk2:16777216
 [ "$wrong" -eq 0 ]

@@ -8,8 +8,6 @@
 
 mod answer;
 mod found;
-#[cfg(test)]
-mod tests;
 mod walk;
 
 pub use answer::Audit;

@@ -1,6 +1,7 @@
 //! The audit of a space.
 ghost use Rattle.std.specs.Prelude.{◌≡◌, IfOk, Option};
-ghost use Rattle.zr_rules.specs.Equation.{SavedRoot, Adds, walked};
+ghost use Rattle.zr_rules.specs.Equation.{SavedRoot, Adds, walked, devices_in};
+ghost use Rattle.zr_space.specs.Paths.{AreInService};
 ghost use Rattle.zr_audit.specs.Found.{found, allocated_units, AreMeta, for_each_device};
 
 use crate::answer::Audit;
@@ -14,6 +15,7 @@ use zr_space::Space;
 /// nowhere does not count. It goes over the addresses once for each device, and each piece is logarithmic in the extents
 /// that were found before.
 pub fn audit(alloc: Global, space: &Space, live: &[Dva], meta: &[Dva]) -> Result<Audit, NoMemory>
+    requires { AreInService (devices_in space.now) }
     ensures found { IfOk result (λ a. a.walked ≡ for_each_device space.now (found space.now live.now meta.now)) }
     ensures walked { IfOk result (λ a. AreMeta space.now meta.now → a.walked ≡ for_each_device space.now (walked space.now live.now)) }
     ensures allocated { IfOk result (λ a. a.allocated ≡ for_each_device space.now (allocated_units space.now)) }
@@ -21,7 +23,7 @@ pub fn audit(alloc: Global, space: &Space, live: &[Dva], meta: &[Dva]) -> Result
     // Where the units add up, the two numbers are equal.
     ensures equal { IfOk result (λ a. (saved : Option SavedRoot) → Adds space.now live.now saved → AreMeta space.now meta.now → a.walked ≡ a.allocated) }
 {
-    space.all_in_service();
+    space.lawful();
     let mut walked = Items::new(alloc);
     let mut allocated = Items::new(alloc);
     for dev in 0..space.devices() {

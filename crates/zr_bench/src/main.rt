@@ -5,13 +5,10 @@
 //! `zr_bench EXTENTS` times the work that goes on a few extents at a time: it discards so many kept extents, copies so
 //! many that are left, and marks so many units. It prints how many each gave, and the nanoseconds of each.
 //!
-//! With no words it goes once through each of the smallest clients: it prints the sum that the one keeps, and what the
-//! other copied, freed and gave back.
+//! With no words it does each work once on little, and prints how much each gave.
 #![tactic(auto)]
 
-mod removal;
 mod steps;
-mod store;
 
 ghost use Rattle.std.specs.Prelude.{◌≡◌, ℕ, ◌+◌, ◌*◌, ◌<◌, ◌≤◌, ◌^◌, true, false, IfOk};
 ghost use Rattle.zr_base.specs.declared.space.Policy.{Policy};
@@ -19,12 +16,10 @@ ghost use Rattle.zr_base.specs.Extents.{has_unit};
 ghost use Rattle.zr_rules.specs.Choices.{AreRuns, IsPick};
 
 use anyhow::Context;
-use removal::Removal;
 use std::alloc::Global;
 use std::env;
 use std::time::{Duration, Instant};
 use steps::{time_copying, time_discarding, time_marking};
-use store::Store;
 use zr_base::{Extent, NoMemory, Policy};
 use zr_choose::{Chooser, pick_first};
 use zr_metaslab::Slabs;
@@ -83,41 +78,6 @@ fn rounds(
     Ok((made, spent))
 }
 
-/// What became of the units of a device whose removal was given up.
-struct GivenUp {
-    copied: u64,
-    freed: u64,
-    given_back: u64,
-}
-
-/// Removes a device that holds three runs of 10 units: copies the first two, of which the second is not synced, frees
-/// units of each run, and gives up.
-fn give_up(alloc: Global) -> Result<GivenUp, NoMemory> {
-    let mut held = RangeSet::new(alloc);
-    held.add(Extent { start: 0, len: 10 })?;
-    held.add(Extent { start: 20, len: 10 })?;
-    held.add(Extent { start: 40, len: 10 })?;
-    let mut removal = Removal::begin(alloc, 0, held)?;
-    let before = removal.held();
-    removal.copy(1, 100)?;
-    removal.sync();
-    removal.copy(1, 200)?;
-    removal.free(Extent { start: 5, len: 5 })?;
-    removal.free(Extent { start: 20, len: 5 })?;
-    removal.free(Extent { start: 44, len: 3 })?;
-    let copied = removal.copied();
-    let freed = before - removal.held();
-    let mut given_back = 0;
-    for copy in removal.cancel()?.as_slice() {
-        given_back = copy.1.len.saturating_add(given_back);
-    }
-    Ok(GivenUp {
-        copied,
-        freed,
-        given_back,
-    })
-}
-
 /// Times the allocator on a device that is empty or, where `full` is 1, nearly full.
 fn time_allocator(
     rt: &HostRuntime,
@@ -160,18 +120,18 @@ fn time_steps(rt: &HostRuntime, extents: u64) -> anyhow::Result<()> {
     Ok(())
 }
 
-/// Goes once through each of the smallest clients.
-fn go_through_clients(rt: &HostRuntime, chooser: &Chooser) -> anyhow::Result<()> {
-    let alloc = rt.alloc();
-    let mut store = Store::new(alloc, 600, 100).ok().context("out of memory")?;
-    store.round(20, chooser).ok().context("no run of 20")?;
-    println!(rt; "{} units are free", store.free())?;
-    let GivenUp {
-        copied,
-        freed,
-        given_back,
-    } = give_up(alloc).ok().context("out of memory")?;
-    println!(rt; "{copied} units were copied, {freed} freed and {given_back} given back")?;
+/// Does each work once on little, and prints how much it gave.
+fn try_each(rt: &HostRuntime, chooser: &Chooser) -> anyhow::Result<()> {
+    let none = RangeSet::new(rt.alloc());
+    let (made, _) = rounds(rt, 600, &none, 1, chooser)?;
+    println!(rt; "{made} units were handed out")?;
+    let discarded = time_discarding(rt, 1000)?;
+    let copied = time_copying(rt, 1000)?;
+    let marked = time_marking(rt, 1000)?;
+    println!(rt;
+        "{} extents were discarded, {} copied and {} marked",
+        discarded.given, copied.given, marked.given
+    )?;
     Ok(())
 }
 
@@ -195,6 +155,6 @@ fn main(rt: HostRuntime) -> anyhow::Result<()> {
     match numbers.as_slice() {
         [units, full, count] => time_allocator(&rt, *units, *full, *count, &first),
         [extents] => time_steps(&rt, *extents),
-        _ => go_through_clients(&rt, &first),
+        _ => try_each(&rt, &first),
     }
 }

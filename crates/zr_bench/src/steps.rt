@@ -10,7 +10,6 @@ use anyhow::Context;
 use std::alloc::Global;
 use std::time::{Duration, Instant};
 use zr_base::{Extent, NoMemory};
-use zr_ckpt::Ckpt;
 use zr_evac::Evac;
 use zr_imap::Imap;
 use zr_paged::PagedSet;
@@ -27,13 +26,11 @@ pub struct Timed {
 pub fn time_discarding(rt: &HostRuntime, extents: u64) -> anyhow::Result<Timed>
     requires { extents < 2 ^ 32 }
 {
-    let mut ckpt = keep_each_second(rt.alloc(), extents)
+    let mut kept = each_second(rt.alloc(), extents)
         .ok()
         .context("out of memory")?;
     let start = Instant::now(rt)?;
-    let given = discard_all(&mut ckpt, extents)
-        .ok()
-        .context("out of memory")?;
+    let given = discard_all(&mut kept, extents);
     let spent = start.elapsed(rt)?;
     Ok(Timed { given, spent })
 }
@@ -64,49 +61,42 @@ pub fn time_marking(rt: &HostRuntime, extents: u64) -> anyhow::Result<Timed>
     Ok(Timed { given, spent })
 }
 
-/// A checkpoint that is being discarded, for which each second unit is kept, so many.
-fn keep_each_second(alloc: Global, extents: u64) -> Result<Ckpt, NoMemory>
-    requires { extents < 2 ^ 32 }
-{
-    let mut ckpt = Ckpt::new(alloc);
-    ckpt.hold(1);
-    for k in 0..extents {
-        ckpt.keep(
-            0,
-            Extent {
-                start: 2 * k,
-                len: 1,
-            },
-        )?;
-    }
-    ckpt.discard();
-    Ok(ckpt)
-}
+/// How many kept extents a step discards at most.
+const STEP: usize = 64;
 
-/// Takes steps until nothing is kept. It answers how many extents they gave.
-fn discard_all(ckpt: &mut Ckpt, most: u64) -> Result<u64, NoMemory> {
+/// Takes the lowest kept extents, a step's at a time, until nothing is kept. It answers how many they were.
+fn discard_all(kept: &mut RangeSet, most: u64) -> u64 {
     let mut given: u64 = 0;
     for _ in 0..most {
-        let taken = ckpt.step(64)?;
-        if taken.is_empty() {
+        let taken = kept.extents().len().min(STEP);
+        if taken == 0 {
             break;
         }
-        given = given.saturating_add(taken.len() as u64);
+        kept.drop_front(taken);
+        given = given.saturating_add(taken as u64);
     }
-    Ok(given)
+    given
+}
+
+/// Each second unit, so many.
+fn each_second(alloc: Global, extents: u64) -> Result<RangeSet, NoMemory>
+    requires { extents < 2 ^ 32 }
+{
+    let mut units = RangeSet::new(alloc);
+    for k in 0..extents {
+        units.add(Extent {
+            start: 2 * k,
+            len: 1,
+        })?;
+    }
+    Ok(units)
 }
 
 /// An evacuation of each second unit, so many.
 fn leave_each_second(alloc: Global, extents: u64) -> Result<Evac, NoMemory>
     requires { extents < 2 ^ 32 }
 {
-    let mut held = RangeSet::new(alloc);
-    for k in 0..extents {
-        held.add(Extent {
-            start: 2 * k,
-            len: 1,
-        })?;
-    }
+    let held = each_second(alloc, extents)?;
     let map = Imap::new(alloc);
     let marks = RangeSet::new(alloc);
     let evac = Evac::begin(alloc, 0, &held, map, marks)?;

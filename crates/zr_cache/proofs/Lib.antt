@@ -1,3 +1,4 @@
 pub mod Keys
 pub mod Removing
 pub mod Keeping
+pub mod Recent

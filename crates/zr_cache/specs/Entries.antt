@@ -1,5 +1,5 @@
 -- What a cache of blocks has.
-use Rattle.std.specs.Prelude.{◌+◌, ◌&&◌, ◌==◌, ℕ, Bool, nat_le, nat_lt, if◌then◌else◌, List, Contains, Option, option_map}
+use Rattle.std.specs.Prelude.{◌+◌, ◌&&◌, ◌==◌, ℕ, Bool, false, nat_le, nat_lt, if◌then◌else◌, List, [], ◌∷◌, Contains, Option, option_map}
 use Rattle.std.specs.List.{list_any, IsDistinct}
 use Rattle.std.specs.Map.{lookup, keys_of}
 use Rattle.lru.specs.LruCache.{put_entries}
@@ -26,6 +26,14 @@ is_key b k = keys.ghosts.eq (record { pointer = b }) k
 -- the bytes that are cached of a pointer
 abbrev pub bytes_in : Cache → Bptr → Option (List ℕ)
 bytes_in c b = option_map (λ (x : Block). x.bytes.items) (lookup (is_key b) (entries c))
+
+abbrev pub is_first : Bptr → List Entry → Bool
+is_first b [] = false
+is_first b (e ∷ es) = is_key b e.0
+
+-- the pointer was put or asked for last
+abbrev pub is_recent : Cache → Bptr → Bool
+is_recent c b = is_first b (entries c)
 
 -- no pointer is cached twice
 abbrev pub AreDistinct : Cache → Type 0

@@ -1,11 +1,11 @@
 //! The calls of a cache.
-ghost use Rattle.std.specs.Prelude.{◌≡◌, ◌<◌, [], List, ℕ, filter, not, IfOk, OnOk, OnErr, IfSome, option_map, find};
+ghost use Rattle.std.specs.Prelude.{◌≡◌, ◌<◌, [], List, ℕ, filter, not, true, IfOk, OnOk, OnErr, IfSome, option_map, find};
 ghost use Rattle.std.specs.List.{list_any};
 ghost use Rattle.std.specs.Map.{remove_entry};
 ghost use Rattle.lru.specs.LruCache.{promoted};
 ghost use Rattle.zr_cache.specs.Sums.{Entry};
 ghost use Rattle.sha2.specs.Sha256.{sha256};
-ghost use Rattle.zr_cache.specs.Entries.{entries, capacity, AreDistinct, is_key, bytes_in, with_entry, meets, is_in};
+ghost use Rattle.zr_cache.specs.Entries.{entries, capacity, AreDistinct, is_key, is_recent, bytes_in, with_entry, meets, is_in};
 
 use crate::entry::{Block, Key};
 use crate::table::Cache;
@@ -54,6 +54,7 @@ impl Cache {
         ensures bytes { IfOk result (λ found. option_map (λ v. v.items) found ≡ bytes_in self.old b.now) }
         ensures sum { IfOk result (λ found. IfSome found (λ v. sha256 v.items ≡ b.now.sum)) }
         ensures order { entries self.new ≡ promoted (is_key b.now) (entries self.old) }
+        ensures recent { IfOk result (λ found. IfSome found (λ v. is_recent self.new b.now ≡ true)) }
         ensures room { capacity self.new ≡ capacity self.old }
     {
         let key = Key { pointer: *b };
@@ -67,6 +68,7 @@ impl Cache {
     pub fn put(&mut self, b: &Bptr, bytes: Vec<u8>, runs: Vec<Piece>) -> Result<(), NoMemory>
         requires { sha256 bytes.items ≡ b.now.sum }
         ensures entries { OnOk result (entries self.new ≡ with_entry self.old b.now (record { bytes = bytes; runs = runs })) }
+        ensures recent { OnOk result (is_recent self.new b.now ≡ true) }
         ensures room { capacity self.new ≡ capacity self.old }
         ensures err { OnErr result (self.new ≡ self.old) }
     {

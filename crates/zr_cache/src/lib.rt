@@ -12,6 +12,3 @@ mod table;
 
 pub use entry::{Block, Key};
 pub use table::Cache;
-
-#[cfg(test)]
-mod tests;

@@ -7,3 +7,4 @@ pub mod Passed
 pub mod Gaps
 pub mod Touched
 pub mod Told
+pub mod Counted

@@ -5,13 +5,14 @@ use Rattle.std.specs.List.{AllByRecursion, list_any}
 use Rattle.std.proofs.lemmas.Bool.{lt-ltb, le-ltb}
 use Rattle.std.proofs.lemmas.List.{append-nil, take_all}
 use Rattle.zr_base.specs.declared.space.DevRow.{DevRow}
-use Rattle.zr_rules.specs.Places.{Place, is_gone, is_place}
+use Rattle.zr_base.specs.declared.space.DevState.{DevState}
+use Rattle.zr_base.specs.declared.space.DevState.TheVariants.{On, Leaving, Gone}
+use Rattle.zr_rules.specs.Places.{Place, is_on, is_gone, is_place}
 use Rattle.zr_rules.specs.Devices.{Devices, state_at}
 use Rattle.zr_rules.specs.Mappings.{target, has_source}
 use Rattle.zr_rules.specs.Resolve.{IsRanked, passed_units}
 use Rattle.zr_imap.specs.declared.image.Piece.{Piece as Part}
 use Rattle.zr_imap.specs.Searches.{IsImage, FollowFrom, piece_target}
-use Rattle.zr_chain.specs.Chains.{DevMap, dev_at, devices_in}
 use Rattle.zr_chain.specs.declared.visit.ChainErr.{ChainErr}
 use Rattle.zr_chain.specs.declared.visit.ChainErr.TheVariants.{NoEntry, NoMemory}
 use Rattle.zr_chain.specs.Visits.{IsTold, AreVisits, Follows, PassesGap, LacksEntry, parts_behind}
@@ -203,5 +204,13 @@ follows_told ds p parts qs i a b c told items end h = ⊎_elim
     })
     (cases_told (is_gone (state_at ds p.dev)) ((b ≡ a ++ Hop p.dev p.at ∷ []) × IsImage (ds.entries p.dev) p.at parts) ((b ≡ a ++ Piece p.split p.dev p.at ∷ []) × (parts ≡ [])) told)
 
-pub gone_is : (devs : List DevMap) (d : ℕ) (x : DevMap) (row : DevRow) (b : Bool) → x ≡ dev_at devs d → row ≡ x.row → b ≡ is_gone row.state → b ≡ true → is_gone (state_at (devices_in devs) d) ≡ true
-gone_is devs d x row b read row_is test passed = sym (ap (λ (y : DevMap). is_gone y.row.state) read) ∙ (sym (ap (λ (r : DevRow). is_gone r.state) row_is) ∙ (sym test ∙ passed))
+pub gone_is : (ds : Devices) (d : ℕ) (row : DevRow) (b : Bool) → row ≡ ds.row d → b ≡ is_gone row.state → b ≡ true → is_gone (state_at ds d) ≡ true
+gone_is ds d row b read test passed = sym (ap (λ (r : DevRow). is_gone r.state) read) ∙ (sym test ∙ passed)
+
+gone_moved : (s : DevState) → is_gone s ≡ true → is_on s ≡ false
+gone_moved On gone = absurd (cc)
+gone_moved Leaving gone = refl
+gone_moved Gone gone = refl
+
+pub moved_is : (ds : Devices) (d : ℕ) (row : DevRow) (b : Bool) → row ≡ ds.row d → b ≡ is_gone row.state → b ≡ true → is_on (state_at ds d) ≡ false
+moved_is ds d row b read test passed = gone_moved (state_at ds d) (gone_is ds d row b read test passed)

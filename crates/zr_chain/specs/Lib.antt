@@ -1,3 +1,4 @@
 pub mod Chains
 pub mod Visits
+pub mod Touches
 pub mod Examples

@@ -11,6 +11,7 @@ ghost use Rattle.zr_rules.specs.Resolve.{IsRanked, IsDestination};
 ghost use Rattle.zr_chain.specs.Chains.{devices_in, recorded};
 ghost use Rattle.zr_chain.specs.Visits.{Begins, Visits, HasGap, whole};
 
+use crate::maps::Maps;
 use crate::remap::remap_in;
 use crate::visit::{ChainErr, Visit};
 use std::alloc::Global;
@@ -111,7 +112,19 @@ impl Devs {
         ensures gap { IfErr result (HasGap (devices_in self.now) d) }
         ensures front { OnErr result (Begins (devices_in self.now) (whole d) (V.visited v.old) (V.visited v.new)) }
     {
-        remap_in(alloc, self.devs.as_slice(), d, v)
+        remap_in(alloc, self, d, v)
+    }
+}
+
+impl Maps for Devs {
+    ghost devices = { devices_in };
+
+    fn row(&self, dev: u32) -> DevRow {
+        self.devs[dev as usize].row()
+    }
+
+    fn map(&self, dev: u32) -> &Imap {
+        self.devs[dev as usize].map()
     }
 }
 

@@ -7,11 +7,14 @@
 
 mod devs;
 mod laws;
+mod maps;
 mod remap;
-#[cfg(test)]
-mod tests;
+mod touch;
 mod visit;
 
 pub use devs::Devs;
 pub use laws::visits_of_two_removals;
-pub use visit::{ChainErr, Visit, Visited};
+pub use maps::Maps;
+pub use remap::remap_in;
+pub use touch::{begun_before, ended_by, pieces_in};
+pub use visit::{ChainErr, Collected, Visit, Visited};

@@ -2,10 +2,10 @@
 ghost use Rattle.std.specs.Prelude.{◌≡◌, ◌+◌, ◌<◌, ◌∷◌, ◌^◌, [], length, OnOk, OnErr, IfOk, IfErr};
 ghost use Rattle.zr_rules.specs.Resolve.{IsRanked};
 ghost use Rattle.zr_imap.specs.Searches.{IsImage};
-ghost use Rattle.zr_chain.specs.Chains.{devices_in};
 ghost use Rattle.zr_chain.specs.Visits.{Begins, IsTold, Follows, whole, Visits, HasGap, PassesGap, LacksEntry};
 
-use crate::devs::{Dev, is_gone};
+use crate::devs::is_gone;
+use crate::maps::Maps;
 use crate::visit::{ChainErr, Visit};
 use std::alloc::Global;
 use zr_base::{Dva, Extent};
@@ -29,30 +29,33 @@ fn parts_of(alloc: Global, map: &Imap, dev: u32, e: Extent) -> Result<Vec<Piece>
 
 /// Tells of a part of an address, and answers the parts that it leads to: none where it is there, and else where its
 /// units went.
-fn tell<V: Visit>(alloc: Global, devs: &[Dev], p: Piece, v: &mut V) -> Result<Vec<Piece>, ChainErr>
-    requires { p.dev < length devs.now }
-    ensures told { IfOk result (λ parts. IsTold (devices_in devs.now) p parts.items (V.visited v.old) (V.visited v.new)) }
-    ensures gap { IfErr result (PassesGap (devices_in devs.now) p) }
-    ensures front { OnErr result (Begins (devices_in devs.now) (p ∷ []) (V.visited v.old) (V.visited v.new)) }
+fn tell<M: Maps, V: Visit>(
+    alloc: Global,
+    devs: &M,
+    p: Piece,
+    v: &mut V,
+) -> Result<Vec<Piece>, ChainErr>
+    requires { p.dev < (M.devices devs.now).count }
+    ensures told { IfOk result (λ parts. IsTold (M.devices devs.now) p parts.items (V.visited v.old) (V.visited v.new)) }
+    ensures gap { IfErr result (PassesGap (M.devices devs.now) p) }
+    ensures front { OnErr result (Begins (M.devices devs.now) (p ∷ []) (V.visited v.old) (V.visited v.new)) }
 {
-    let dev = &devs[p.dev as usize];
-    let row = dev.row();
-    if !is_gone(row) {
+    if !is_gone(devs.row(p.dev)) {
         v.piece(p.split, p.dev, p.at)?;
         return Ok(Vec::new(alloc));
     }
     v.hop(p.dev, p.at)?;
-    parts_of(alloc, dev.map(), p.dev, p.at)
+    parts_of(alloc, devs.map(p.dev), p.dev, p.at)
 }
 
 /// Visits a part of an address, and then the parts that it leads to.
-fn visit<V: Visit>(alloc: Global, devs: &[Dev], p: Piece, v: &mut V) -> Result<(), ChainErr>
-    requires ranked { IsRanked (devices_in devs.now) }
-    requires known { p.dev < length devs.now }
+fn visit<M: Maps, V: Visit>(alloc: Global, devs: &M, p: Piece, v: &mut V) -> Result<(), ChainErr>
+    requires ranked { IsRanked (M.devices devs.now) }
+    requires known { p.dev < (M.devices devs.now).count }
     requires bound { p.split + p.at.len < 2 ^ 64 }
-    ensures visits { OnOk result (Follows (devices_in devs.now) (p ∷ []) (V.visited v.old) (V.visited v.new)) }
-    ensures gap { IfErr result (PassesGap (devices_in devs.now) p) }
-    ensures front { OnErr result (Begins (devices_in devs.now) (p ∷ []) (V.visited v.old) (V.visited v.new)) }
+    ensures visits { OnOk result (Follows (M.devices devs.now) (p ∷ []) (V.visited v.old) (V.visited v.new)) }
+    ensures gap { IfErr result (PassesGap (M.devices devs.now) p) }
+    ensures front { OnErr result (Begins (M.devices devs.now) (p ∷ []) (V.visited v.old) (V.visited v.new)) }
 {
     let parts = tell(alloc, devs, p, v)?;
     for part in parts.iter() {
@@ -66,13 +69,20 @@ fn visit<V: Visit>(alloc: Global, devs: &[Dev], p: Piece, v: &mut V) -> Result<(
     Ok(())
 }
 
-/// Visits all parts of an address, of which one without units has none.
-pub fn remap_in<V: Visit>(alloc: Global, devs: &[Dev], d: Dva, v: &mut V) -> Result<(), ChainErr>
-    requires ranked { IsRanked (devices_in devs.now) }
-    requires known { d.dev < length devs.now }
-    ensures visits { OnOk result (Visits (devices_in devs.now) d (V.visited v.old) (V.visited v.new)) }
-    ensures gap { IfErr result (HasGap (devices_in devs.now) d) }
-    ensures front { OnErr result (Begins (devices_in devs.now) (whole d) (V.visited v.old) (V.visited v.new)) }
+/// Visits the parts of an address in the order of its units, each part of a removed device before the parts that it leads
+/// to. An address without units has none. For each part of a removed device it takes a search by halves of its mapping, and
+/// a step for each part that it leads to. After an error a front of them was visited.
+pub fn remap_in<M: Maps, V: Visit>(
+    alloc: Global,
+    devs: &M,
+    d: Dva,
+    v: &mut V,
+) -> Result<(), ChainErr>
+    requires ranked { IsRanked (M.devices devs.now) }
+    requires known { d.dev < (M.devices devs.now).count }
+    ensures visits { OnOk result (Visits (M.devices devs.now) d (V.visited v.old) (V.visited v.new)) }
+    ensures gap { IfErr result (HasGap (M.devices devs.now) d) }
+    ensures front { OnErr result (Begins (M.devices devs.now) (whole d) (V.visited v.old) (V.visited v.new)) }
 {
     if d.len == 0 {
         return Ok(());

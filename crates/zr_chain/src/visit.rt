@@ -4,7 +4,7 @@ ghost use Rattle.zr_chain.specs.declared.visit.ChainErr.TheVariants.{NoMemory};
 ghost use Rattle.zr_chain.specs.declared.visit.Visited.{Visited};
 ghost use Rattle.zr_chain.specs.declared.visit.Visited.TheVariants.{Hop, Piece};
 
-use std::alloc::AllocError;
+use std::alloc::{AllocError, Global};
 use zr_base::{Extent, NoMemory};
 
 /// What is told of a part of an address: units of a removed device are on the way, or units stand on a device that is
@@ -29,6 +29,37 @@ pub trait Visit {
     fn piece(&mut self, split: u64, dev: u32, e: Extent) -> Result<(), NoMemory>
         ensures ok { OnOk result (visited self.new ≡ visited self.old ++ Piece split dev e ∷ []) }
         ensures err { OnErr result (visited self.new ≡ visited self.old) };
+}
+
+/// Keeps what it is told, in order.
+#[derive(Drop)]
+pub struct Collected {
+    pub list: Vec<Visited>,
+}
+
+impl Collected {
+    /// Nothing yet. It takes no memory.
+    pub fn new(alloc: Global) -> Collected
+        ensures { result.list.items ≡ [] }
+    {
+        Collected {
+            list: Vec::new(alloc),
+        }
+    }
+}
+
+impl Visit for Collected {
+    ghost visited = { λ c. c.list.items };
+
+    fn hop(&mut self, dev: u32, at: Extent) -> Result<(), NoMemory> {
+        self.list.push(Visited::Hop { dev, at })?;
+        Ok(())
+    }
+
+    fn piece(&mut self, split: u64, dev: u32, at: Extent) -> Result<(), NoMemory> {
+        self.list.push(Visited::Piece { split, dev, at })?;
+        Ok(())
+    }
 }
 
 /// Why an address was not followed to its end.

@@ -21,6 +21,3 @@ pub use plans::{Planned, new_units, olds, plan, puts};
 pub use ranges::{Bytes, Edit, MOST_BLOCKS, blocks_touched, fits_object, new_blocks};
 pub use records::record_change;
 pub use stores::{free_olds, put_all};
-
-#[cfg(test)]
-mod tests;

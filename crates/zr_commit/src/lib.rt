@@ -14,6 +14,3 @@ pub use heads::{free_head, write_head};
 pub use logs::{free_streams, write_anew, write_late, write_log};
 pub use objects::write_group;
 pub use trees::free_tree;
-
-#[cfg(test)]
-mod tests;

@@ -6,12 +6,13 @@ use Rattle.std.specs.List.{zip}
 use Rattle.zr_base.specs.declared.space.Entry.{Entry}
 use Rattle.zr_rules.specs.Condense.{condensed, is_used}
 use Rattle.zr_rules.specs.Mappings.{entry_at, in_source, target, IsRisingFrom, IsRising, HasSourceAt}
-use Rattle.zr_condense.specs.Condensing.{Condensing, HasWorked}
+use Rattle.zr_base.specs.declared.space.CondPart.{CondPart}
+use Rattle.zr_condense.specs.Condensing.{HasWorked}
 
 abbrev pub entries_in : List (Entry × ℕ) → List Entry
 entries_in ps = map (λ (p : Entry × ℕ). p.0) ps
 
-zip_entries : (es : List Entry) (cs : List ℕ) → length cs ≡ length es → entries_in (zip es cs) ≡ es
+pub zip_entries : (es : List Entry) (cs : List ℕ) → length cs ≡ length es → entries_in (zip es cs) ≡ es
 zip_entries [] [] len = refl
 zip_entries [] (c ∷ cs) len = absurd (omega (arith, len))
 zip_entries (e ∷ es) [] len = absurd (omega (arith, len))
@@ -50,7 +51,7 @@ target_kept low u (suc i) (e ∷ es) (c ∷ cs) m len lt at used =
     let rest = target_kept (e.src + e.len) u i es cs m.2 (omega (arith, len)) (omega (arith, lt)) later used in
     skip (is_used (e, c)) (e, c) (condensed es cs) u out ∙ (rest ∙ rw out refl)
 
-pub leads : (entries : List Entry) (counts : List ℕ) (c : Condensing) (i u : ℕ) → IsRising entries → length counts ≡ length entries → HasWorked entries counts c → length entries ≤ c.at
+pub leads : (entries : List Entry) (counts : List ℕ) (c : CondPart) (i u : ℕ) → IsRising entries → length counts ≡ length entries → HasWorked entries counts c → length entries ≤ c.at
     → i < length entries → HasSourceAt entries i u → is_used (entry_at entries i, get_or counts i 0) ≡ true → target c.entries u ≡ target entries u
 leads entries counts c i u m len w all lt at used =
     let es : take c.at entries ≡ entries = take_all c.at entries all in

@@ -10,6 +10,7 @@ ghost use Rattle.std.specs.Prelude.{◌≡◌, ℕ, ◌+◌, ◌≤◌, ◌<◌,
 ghost use Rattle.std.specs.List.{zip};
 ghost use Rattle.zr_rules.specs.Condense.{condensed};
 ghost use Rattle.zr_rules.specs.Mappings.{IsRising};
+ghost use Rattle.zr_rules.specs.Steps.{next_kept, worked};
 ghost use Rattle.zr_condense.specs.Condensing.{HasWorked};
 
 mod laws;
@@ -31,10 +32,10 @@ pub struct Condense {
 }
 
 impl Model for Condense {
-    ghost use Rattle.zr_condense.specs.Condensing.{Condensing};
+    ghost use Rattle.zr_base.specs.declared.space.CondPart.{CondPart};
     ghost use Rattle.std.specs.Prelude.{◌≡◌, length};
 
-    ghost Value = { Condensing };
+    ghost Value = { CondPart };
 
     ghost view = { λ c. record { dev = c.dev; at = c.at; entries = c.kept.entries; counts = c.counts.items } };
 
@@ -44,10 +45,7 @@ impl Model for Condense {
 impl Condense {
     /// Nothing worked through yet. It takes no memory.
     pub fn begin(alloc: Global, dev: u32) -> Condense
-        ensures dev { result.dev ≡ dev }
-        ensures at { result.at ≡ 0 }
-        ensures entries { result.entries ≡ [] }
-        ensures counts { result.counts ≡ [] }
+        ensures { result ≡ record { dev = dev; at = 0; entries = []; counts = [] } }
     {
         Condense {
             alloc,
@@ -62,10 +60,7 @@ impl Condense {
     pub fn resume(alloc: Global, part: &CondPart) -> Result<Condense, NoMemory>
         requires rising { IsRising part.now.entries }
         requires each { length part.now.counts ≡ length part.now.entries }
-        ensures dev { IfOk result (λ c. c.dev ≡ part.now.dev) }
-        ensures at { IfOk result (λ c. c.at ≡ part.now.at) }
-        ensures entries { IfOk result (λ c. c.entries ≡ part.now.entries) }
-        ensures counts { IfOk result (λ c. c.counts ≡ part.now.counts) }
+        ensures { IfOk result (λ c. c ≡ part.now) }
     {
         let kept = Imap::from_entries(alloc, part.entries.as_slice())?;
         let counts = Vec::from_slice(alloc, part.counts.as_slice())?;
@@ -80,10 +75,7 @@ impl Condense {
 
     /// The record from which it can go on.
     pub fn part(&self) -> Result<CondPart, NoMemory>
-        ensures dev { IfOk result (λ part. part.dev ≡ self.now.dev) }
-        ensures at { IfOk result (λ part. part.at ≡ self.now.at) }
-        ensures entries { IfOk result (λ part. part.entries ≡ self.now.entries) }
-        ensures counts { IfOk result (λ part. part.counts ≡ self.now.counts) }
+        ensures { IfOk result (λ part. part ≡ self.now) }
     {
         let entries = self.kept.to_entries(self.alloc)?;
         let counts = Vec::from_slice(self.alloc, self.counts.as_slice())?;
@@ -124,6 +116,8 @@ impl Condense {
         ensures worked { OnOk result (HasWorked map.now.entries counts.now self.new) }
         ensures at { OnOk result (self.new.at ≡ min (self.old.at + n) (length map.now.entries)) }
         ensures kept { IfOk result (λ kept. length self.new.entries ≡ length self.old.entries + kept) }
+        ensures next { n ≡ 64 → OnOk result (self.new ≡ worked map.now.entries counts.now self.old) }
+        ensures stay { n ≡ 64 → IfOk result (λ kept. kept ≡ length (next_kept map.now.entries counts.now self.old)) }
         ensures dev { self.new.dev ≡ self.old.dev }
     {
         let left = map.len() - self.at;

@@ -1,6 +1,6 @@
 -- A pool without devices.
 use Rattle.std.proofs.Common.{◌≡◌, ◌⊎◌, ℕ, ◌<◌, ◌≤◌, List, [], length, replicate, Option, None, Some, refl, sym, ◌∙◌, ap, subst, arith}
-use Rattle.std.specs.Prelude.{All}
+use Rattle.std.specs.Prelude.{All, IfSome}
 use Rattle.std.specs.List.{AllByRecursion}
 use Rattle.std.proofs.lemmas.List.Elements.{All-nil}
 use Rattle.zr_base.specs.declared.space.CkptPart.TheVariants.{Clear}
@@ -9,6 +9,7 @@ use Rattle.zr_bptr.specs.declared.Ptr.TheVariants.{Hole}
 use Rattle.zr_bptr.specs.Spelling.{IsTree}
 use Rattle.zr_label.specs.Blocks.{IsName, no_row}
 use Rattle.zr_lookup.specs.Groups.{IsChangeOf}
+use Rattle.zr_meta.specs.Heads.{IsSaved}
 use Rattle.zr_rules.specs.Devices.{devices_of}
 use Rattle.zr_rules.specs.Equation.{devices_in}
 use Rattle.zr_rules.specs.Space.{Space, IsLawful, IsSet}
@@ -17,15 +18,16 @@ use Rattle.zr_space.specs.Views.{space_of}
 use Rattle.zr_txg.specs.Changes.{block_count}
 use Rattle.zr_view.specs.Views.{slot_of}
 use Rattle.zr_vdev.specs.Mounts.{AreMounted}
+use Rattle.zr_sync.specs.declared.open.Checkpoint.{Checkpoint}
 use Rattle.zr_sync.specs.declared.open.DeviceStreams.{DeviceStreams}
 use Rattle.zr_sync.specs.declared.open.OpenPool.{OpenPool}
-use Rattle.zr_sync.specs.Pools.{AreStreams, IsAfter, IsDirectory, AreRows, IsPool}
+use Rattle.zr_sync.specs.Pools.{AreStreams, IsAfter, IsCheckpoint, IsDirectory, AreRows, IsPool, saved_block}
 use Rattle.zr_create.specs.Blank.{IsBlank}
 
 empty_set : (units : ℕ) → IsSet units []
 empty_set units = record { maximal = tt; within = tt }
 
-pub lawful_without : (version : ℕ) → IsLawful (space_of (record { version = version; ckpt = Clear }) [])
+pub lawful_without : (version : ℕ) → IsLawful (space_of (record { version = version; ckpt = Clear; cond = None }) [])
 lawful_without version = record {
   devices = refl;
   sets = λ d. record { held = empty_set _; kept = empty_set _; fresh = empty_set _; born = empty_set _; deferred = empty_set _; dropped = empty_set _; kept_came = empty_set _; kept_went = empty_set _; fresh_came = empty_set _; fresh_went = empty_set _ };
@@ -75,6 +77,8 @@ module _ (sizes : List ℕ) (x : OpenPool) (blank : IsBlank x) where
         head = head;
         streams = subst (λ (ss : List DeviceStreams). All AreStreams ss) (sym streams) (All-nil AreStreams);
         count = ap (λ (ss : List DeviceStreams). length ss) streams ∙ sym count;
+        saved = subst (λ (s : Space). IsSaved s.parts.ckpt (saved_block x.saved)) (sym blank.space) (subst (λ (b : Option Checkpoint). IsSaved Clear (saved_block b)) (sym blank.saved) tt);
+        checkpoint = subst (λ (b : Option Checkpoint). IfSome b IsCheckpoint) (sym blank.saved) tt;
         spelled = ap (λ (s : Space). s.parts.version) blank.space;
         devices = ap (λ (s : Space). length s.parts.devs) blank.space ∙ sym count;
         rows = λ d lt. absurd (omega (arith, lt, count));

@@ -30,6 +30,8 @@ with_some sizes x o some = record {
   head = o.head;
   streams = o.streams;
   count = o.count;
+  saved = o.saved;
+  checkpoint = o.checkpoint;
   spelled = o.spelled;
   devices = o.devices;
   rows = o.rows;
@@ -56,6 +58,8 @@ with_any sizes x o = record {
   head = o.head;
   streams = o.streams;
   count = o.count;
+  saved = o.saved;
+  checkpoint = o.checkpoint;
   spelled = o.spelled;
   devices = o.devices;
   rows = o.rows;
@@ -87,7 +91,7 @@ module _ (sizes named : List ℕ) (i slot units : ℕ) (x y z : OpenPool) (o : I
   row_room = let n = o.table.size in omega (arith, few, n)
 
   pub same_more : KeepsRest x z
-  same_more = record { name = took.name ∙ same.name; guid = took.guid ∙ same.guid; version = took.version ∙ same.version; group = took.group ∙ same.group; last = took.last ∙ same.last; cache = took.cache ∙ same.cache; dir = took.dir ∙ same.dir; head = took.head ∙ same.head }
+  same_more = record { ckpt = took.space.ckpt ∙ same.ckpt; name = took.name ∙ same.name; guid = took.guid ∙ same.guid; version = took.version ∙ same.version; group = took.group ∙ same.group; last = took.last ∙ same.last; cache = took.cache ∙ same.cache; dir = took.dir ∙ same.dir; head = took.head ∙ same.head }
 
   pub count_more : z.table.count ≡ i + 1
   count_more = ap (λ (t : Table). t.count) took.table ∙ ap (λ (n : ℕ). n + 1) count

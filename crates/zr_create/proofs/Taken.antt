@@ -5,10 +5,12 @@ use Rattle.std.specs.Global.{Global}
 use Rattle.std.proofs.lemmas.Bool.{cases_eq}
 use Rattle.std.proofs.lemmas.List.{get_or-set_same, get_or-set_other, length-set, get_or_append_left, length-append}
 use Rattle.std.proofs.Math.Seq.{get_or-append_seam}
+use Rattle.zr_base.specs.declared.space.CkptPart.{CkptPart}
 use Rattle.zr_base.specs.declared.space.DevPart.{DevPart}
 use Rattle.zr_base.specs.declared.space.DevRow.{DevRow}
 use Rattle.zr_label.specs.Blocks.{no_row}
 use Rattle.zr_label.specs.Geometry.{units_of_size, unit_at}
+use Rattle.zr_meta.specs.Heads.{IsSaved}
 use Rattle.zr_rules.specs.Devices.{devices_of, state_at}
 use Rattle.zr_rules.specs.Places.{is_gone, is_leaving, no_part, part_of}
 use Rattle.zr_rules.specs.Space.{Space}
@@ -20,7 +22,7 @@ use Rattle.zr_vdev.specs.Mounts.{AreMounted}
 use Rattle.zr_sync.specs.declared.open.DeviceStreams.{DeviceStreams}
 use Rattle.zr_sync.specs.declared.open.OpenPool.{OpenPool}
 use Rattle.zr_sync.specs.declared.open.Table.{Table}
-use Rattle.zr_sync.specs.Pools.{AreStreams, IsPool, IsOpen}
+use Rattle.zr_sync.specs.Pools.{AreStreams, IsPool, IsOpen, saved_block}
 use Rattle.zr_create.specs.Devices.{new_row, with_device}
 use Rattle.zr_create.proofs.Rows.{IsSized, rows_more}
 
@@ -169,6 +171,8 @@ module _ (sizes : List ℕ) (x : OpenPool) (slot units : ℕ) (o : IsPool 0 size
     head = o.head;
     streams = lawful;
     count = more ∙ ap (λ (n : ℕ). n + 1) o.count;
+    saved = subst (λ (k : CkptPart). IsSaved k (saved_block x.saved)) (sym adds.ckpt) o.saved;
+    checkpoint = o.checkpoint;
     spelled = adds.version ∙ o.spelled;
     devices = ap (λ (ps : List DevPart). length ps) adds.devs ∙ long;
     rows = λ d lt. ap (λ (ps : List DevPart). (part_of ps d).row) adds.devs ∙ rows_are d lt;

@@ -17,16 +17,17 @@ pub record IsNamed (name : Name) (guid version : ℕ) (pool : OpenPool) : Type 0
   pub guid_is : pool.guid ≡ guid
   pub version_is : pool.version ≡ version
 
--- a pool without devices and without a directory, whose first group is open and has changed nothing, and of which no block is cached
+-- a pool without devices and without a directory, whose first group is open and has changed nothing, of which no block is cached and no root saved
 pub record IsBlank (pool : OpenPool) : Type 0 where
   pub count : pool.table.count ≡ 0
   pub slots : (d : ℕ) → slot_of pool.table.slots d ≡ None
-  pub space : pool.space ≡ space_of (record { version = pool.version; ckpt = Clear }) []
+  pub space : pool.space ≡ space_of (record { version = pool.version; ckpt = Clear; cond = None }) []
   pub last : pool.last ≡ None
   pub txg : pool.group.txg ≡ 1
   pub objects : pool.group.objects ≡ []
   pub dir : pool.dir ≡ no_tree
   pub cache : entries pool.cache ≡ []
+  pub saved : pool.saved ≡ None
 
 -- the last root is of this group, which was a reset
 abbrev pub IsResetAt : ℕ → Option Uber → Type 0

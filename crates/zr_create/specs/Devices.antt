@@ -55,9 +55,11 @@ pub record Grows (sizes : List ℕ) (slot : ℕ) (old new : OpenPool) : Type 0 w
   pub units : ℕ
   pub units_are : units_of_size (slice_index sizes slot) old.version ≡ Some units
   pub table : new.table ≡ with_device old.table slot (new_row units (old.group.txg + 1))
+  pub ckpt : new.space.parts.ckpt ≡ old.space.parts.ckpt
 
 -- all is the same but the devices
 pub record KeepsRest (old new : OpenPool) : Type 0 where
+  pub ckpt : new.space.parts.ckpt ≡ old.space.parts.ckpt
   pub name : new.name ≡ old.name
   pub guid : new.guid ≡ old.guid
   pub version : new.version ≡ old.version

@@ -46,6 +46,7 @@ pub fn empty_pool(alloc: Global, name: Name, guid: u64, version: u64) -> Result<
         dir: none,
         head: none,
         streams: Vec::new(alloc),
+        saved: None,
         group: Group::new(alloc, 1),
     })
 }

@@ -10,8 +10,6 @@ mod making;
 mod names;
 mod sizes;
 mod taking;
-#[cfg(test)]
-mod tests;
 
 pub use adding::add;
 pub use blank::{CACHED, empty_pool};

@@ -2,6 +2,7 @@
 ghost use Rattle.std.specs.Prelude.{◌≡◌, ◌<◌, ◌≤◌, ◌⊎◌, [], IsErrOf, IfOk, OnOk, Ok, Err, length};
 ghost use Rattle.std.specs.FinMap as map;
 ghost use Rattle.zr_base.specs.Counts.{HasRisen};
+ghost use Rattle.zr_base.specs.declared.space.CkptPart.TheVariants.{Clear};
 ghost use Rattle.zr_base.specs.declared.refusal.Refusal.{Refusal};
 ghost use Rattle.zr_label.specs.Blocks.{IsName};
 ghost use Rattle.zr_shelf.specs.Counts.{NoneFell};
@@ -78,6 +79,7 @@ pub fn create<S: Shelf, P: Place>(
     ensures fault { IsErrOf result (Stops DiskFault) → HasRisen (S.counts shelf.old).disk (S.counts shelf.new).disk }
     ensures pool { IfOk result (IsOpen (S.sizes shelf.new)) }
     ensures named { IfOk result (IsNamed name guid version) }
+    ensures clear { IfOk result (λ pool. pool.space.parts.ckpt ≡ Clear) }
     ensures devices { IfOk result (HasDevicesIn (S.sizes shelf.old) 1 named.now) }
     ensures txg { IfOk result (λ pool. pool.group.txg ≡ 2) }
     ensures empty { IfOk result (λ pool. pool.group.objects ≡ []) }

@@ -61,7 +61,7 @@ module _ (told : Type 0) (reach : Reach) (id : ℕ) (e : Edit) (old : OpenPool) 
     means_behind i intent fits planned g same = (record { found = record { pool = x; disks = seen }; is_found = inr behind; intent = intent; fits = fits; planned = λ s h. planned s (told_by tells seen x s h) }, same)
 
 same_from : (old x y : OpenPool) → IsSamePool old x → IsSamePool old y → IsSamePool x y
-same_from old x y p q = record { name = q.name ∙ sym p.name; guid = q.guid ∙ sym p.guid; version = q.version ∙ sym p.version; table = q.table ∙ sym p.table }
+same_from old x y p q = record { name = q.name ∙ sym p.name; guid = q.guid ∙ sym p.guid; version = q.version ∙ sym p.version; table = q.table ∙ sym p.table; ckpt = q.ckpt ∙ sym p.ckpt }
 
 pub kept_by : (told : Type 0) (reach : Reach) (id : ℕ) (e : Edit) (old : OpenPool) (disks : List (List ℕ)) (i : Intent) (new : OpenPool) → (m : Means told reach id e old disks i) → new.group ≡ m.found.pool.group → IsSamePool old new → (new.group ≡ old.group) ⊎ IsBehindCommit reach id e old new
 kept_by told reach id e old disks i new m group same = elim m.is_found [

@@ -13,10 +13,11 @@ same_by {n1} {n2} {c1} {c2} {t1} {t2} {w1} {w2} {x} {y} p = record {
   guid = ap (λ (o : OpenPool). o.guid) p.rest;
   version = ap (λ (o : OpenPool). o.version) p.rest;
   table = ap (λ (o : OpenPool). o.table) p.rest;
+  ckpt = p.goes.space.rows.ckpt;
 }
 
 pub same_more : (x y z : OpenPool) → IsSamePool x y → IsSamePool y z → IsSamePool x z
-same_more x y z p q = record { name = q.name ∙ p.name; guid = q.guid ∙ p.guid; version = q.version ∙ p.version; table = q.table ∙ p.table }
+same_more x y z p q = record { name = q.name ∙ p.name; guid = q.guid ∙ p.guid; version = q.version ∙ p.version; table = q.table ∙ p.table; ckpt = q.ckpt ∙ p.ckpt }
 
 -- ---- what was done on the disks
 

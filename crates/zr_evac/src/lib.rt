@@ -11,11 +11,12 @@ ghost use Rattle.zr_base.specs.Extents.{HasAll, HasNone, IsMaximal, IsMaximalFro
 ghost use Rattle.zr_rules.specs.Mappings.{IsEntry, end_of_last};
 ghost use Rattle.zr_rules.specs.Places.{one_if};
 ghost use Rattle.zr_rules.specs.Frontiers.{IsRouted, in_part, IsFull};
-ghost use Rattle.zr_evac.specs.Evacuations.{EntriesEndBy, IsFront, IsThere, FreesUnits, AreLawful, copies_at, hits_at, is_at, is_copy_in, next_of};
+ghost use Rattle.zr_evac.specs.Evacuations.{EntriesEndBy, IsEvacuation, IsFront, IsThere, FreesUnits, AreLawful, copies_at, hits_at, is_at, is_copy_in, next_of};
 
 mod cuts;
 
-use cuts::{part_below, part_from};
+pub use cuts::part_below;
+use cuts::part_from;
 use std::alloc::Global;
 use std::marker::Model;
 use zr_base::{Entry, Extent, NoMemory};
@@ -175,6 +176,21 @@ impl Evac {
         ensures { self.new ≡ record self.old { synced = self.old.opened } }
     {
         self.synced = self.opened;
+    }
+
+    /// The unit below which all is copied.
+    pub fn opened(&self) -> u64
+        ensures opened { result ≡ self.now.opened }
+        ensures lawful { IsEvacuation self.now.entries self.now.left self.now.synced self.now.opened }
+    {
+        self.opened
+    }
+
+    /// The unit below which a root on disk has the entries.
+    pub fn synced(&self) -> u64
+        ensures { result ≡ self.now.synced }
+    {
+        self.synced
     }
 
     /// How many units are left to copy. It is kept, not counted.

@@ -1,6 +1,6 @@
 -- A directory means one thing.
-use Rattle.std.proofs.Common.{◌≡◌, ◌≢◌, ◌⊎◌, inl, inr, ◌<◌, ◌≤◌, ◌+◌, ◌*◌, ◌/◌, ◌%◌, ℕ, zero, suc, List, [], ◌∷◌, map, Bool, true, false, nat_eq, Option, Some, None, refl, sym, ◌∙◌, ap, subst, arith}
-use Rattle.std.specs.Prelude.{◌↔◌, if◌then◌else◌, slice_index, slice_index_or, unwrap_or}
+use Rattle.std.proofs.Common.{◌≡◌, ◌≢◌, inl, inr, ◌<◌, ◌+◌, ◌*◌, ◌/◌, ◌%◌, ℕ, zero, suc, List, [], ◌∷◌, map, Bool, true, false, nat_eq, Option, Some, None, refl, sym, ◌∙◌, ap, arith}
+use Rattle.std.specs.Prelude.{if◌then◌else◌, slice_index, slice_index_or, unwrap_or}
 use Rattle.std.specs.Cmp.{nat_cmp_total}
 use Rattle.std.specs.FinMap as fin
 use Rattle.std.specs.FinMap.{nat_cmp-IsAntisymmetric}
@@ -19,7 +19,7 @@ use Rattle.zr_store.specs.Store.{Stored}
 use Rattle.zr_tree.specs.Trees.{tree_at}
 use Rattle.zr_objset.specs.Records.{read_record, records_in, record_in, record_of}
 use Rattle.zr_model.specs.Objects.{Bytes, Object, Objects, byte_at, bytes_at}
-use Rattle.zr_image.specs.StateOf.{AreObjects, IsLost, IsObject, IsObjectOf}
+use Rattle.zr_image.specs.StateOf.{AreObjects, IsObject, IsObjectOf}
 use Rattle.zr_held.proofs.Bytes.{byte_in}
 use Rattle.zr_found.proofs.Object.{lost_or}
 

@@ -139,8 +139,8 @@ module _ (s : Stored) (dir : Tree) (g : Changes) (none : g.objects ≡ []) (leve
       let one = one_now weight n in
       omega (arith, parts, rest, one)
 
-  pub all_blocks : AreStored (all_reach s dir) s → IsOnce s → HasAllBlocks s dir g
-  all_blocks stored once = record {
+  pub all_blocks : AreStored (all_reach s dir) s → IsOnce s → ((id : ℕ) → 65536 ≤ id → record_of s dir id ≡ None) → HasAllBlocks s dir g
+  all_blocks stored once past = record {
     blocks = blocks_now;
     each = λ id. are_blocks s g id (record_now s dir g id) none;
     stored = λ n weight.
@@ -150,4 +150,5 @@ module _ (s : Stored) (dir : Tree) (g : Changes) (none : g.objects ≡ []) (leve
         let s_all = stored weight in
         omega (arith, parts, now, all, s_all);
     once = once;
+    past = past;
   }

@@ -53,8 +53,15 @@ module _ (image s : Stored) (a : Account) (none : a.changes.objects ≡ []) (pla
   level_here : (i : ℕ) (b : Bptr) → tree_at s a.dir i ≡ At b → b.level ≡ 0
   level_here i b is = level_there i b (sym ((tree_same image s a.dir dir_agree).leaves i) ∙ is)
 
+  none_in : (p : Ptr) (k : ℕ) → ((b : Bptr) → p ≡ At b → ⊥) → record_in image p k ≡ None
+  none_in Hole k not = refl
+  none_in (At b) k not = absurd (not b refl)
+
+  past_none : (id : ℕ) → 65536 ≤ id → record_of image a.dir id ≡ None
+  past_none id le = none_in (tree_at image a.dir (id / 16)) (id % 16) (λ b is. let low = (place.leaves (id / 16) b is).0 in omega (arith, le, low))
+
   blocks : HasAllBlocks s a.dir a.changes
-  blocks = all_blocks s a.dir a.changes none level_here stored h.once
+  blocks = all_blocks s a.dir a.changes none level_here stored h.once (λ id le. record_same id ∙ past_none id le)
 
   -- ---- one object
 
@@ -124,13 +131,6 @@ module _ (image s : Stored) (a : Account) (none : a.changes.objects ≡ []) (pla
 
   abbrev all_found : Objects
   all_found = map_upto found_at 65536
-
-  none_in : (p : Ptr) (k : ℕ) → ((b : Bptr) → p ≡ At b → ⊥) → record_in image p k ≡ None
-  none_in Hole k not = refl
-  none_in (At b) k not = absurd (not b refl)
-
-  past_none : (id : ℕ) → 65536 ≤ id → record_of image a.dir id ≡ None
-  past_none id le = none_in (tree_at image a.dir (id / 16)) (id % 16) (λ b is. let low = (place.leaves (id / 16) b is).0 in omega (arith, le, low))
 
   are : AreObjects image a.dir all_found
   are id = ⊎_elim

@@ -6,3 +6,4 @@ pub mod Object
 pub mod Joined
 pub mod Nothing
 pub mod Alone
+pub mod Image

@@ -16,6 +16,10 @@ pub record HasReached (image s : Stored) (dir : Tree) : Type 0 where
   pub bytes : (b : Bptr) → 0 < hits s.pointers b.at → s.bytes b ≡ image.bytes b
   pub sizes : (b : Bptr) → 0 < hits s.pointers b.at → length (s.bytes b) ≡ 4096 * b.at.len
 
+-- each pointer of the store reads its bytes in the image
+abbrev pub ReadsAlike : Stored → Stored → Type 0
+ReadsAlike image s = (b : Bptr) → 0 < hits s.pointers b.at → image.bytes b ≡ s.bytes b
+
 -- Some objects are those of the directory in the image, and the store holds them.
 pub record HoldsFound (image s : Stored) (a : Account) : Type 0 where
   pub objects : Objects

@@ -1,5 +1,5 @@
 -- What was found of an object is found again where the same pointers are stored.
-use Rattle.std.proofs.Common.{◌≡◌, ◌∙◌, ◌*◌, ℕ, List, [], ◌++◌, length, get_or, Option, Some, None, refl, sym, ap, subst}
+use Rattle.std.proofs.Common.{◌≡◌, ◌∙◌, ℕ, List, [], ◌++◌, length, get_or, Option, Some, refl, sym, ap, subst}
 use Rattle.std.specs.List.{All}
 use Rattle.sha2.specs.Sha256.{sha256}
 use Rattle.zr_bptr.specs.declared.Bptr.{Bptr}
@@ -12,7 +12,7 @@ use Rattle.zr_tree.proofs.Frames.{Agree, agree_front, agree_back}
 use Rattle.zr_objset.specs.Records.{bytes_of}
 use Rattle.zr_objset.proofs.Keeping.{beside}
 use Rattle.zr_lookup.specs.Objects.{record_now, pointer_now, AreObjectBlocks}
-use Rattle.zr_lookup.specs.Errors.{IsSoundPointer, IsSoundBlock}
+use Rattle.zr_lookup.specs.Errors.{IsSoundPointer}
 use Rattle.zr_change.specs.declared.plans.Planned.{Planned}
 use Rattle.zr_change.specs.declared.ranges.Edit.{Edit}
 use Rattle.zr_change.specs.Edits.{IsEdited}

@@ -53,6 +53,6 @@ module _ (s : Stored) (a : Account) (dir : a.dir ≡ no_tree) (group : a.changes
 
   pub none_held : HasObjects s a fin.empty
   none_held = record {
-    blocks = record { blocks = λ _. []; each = none_blocks; stored = nothing_stored; once = once };
+    blocks = record { blocks = λ _. []; each = none_blocks; stored = nothing_stored; once = once; past = λ id le. no_record id };
     each = λ id. subst (λ (x : Option ObjRec). IsObjectAt s a id x (fin.get (fin.empty {X = Object} {R = nat_cmp}) id)) (sym (none_now id)) (fin.get-empty nat_cmp id);
   }

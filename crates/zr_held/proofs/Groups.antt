@@ -276,8 +276,18 @@ module _ (s n : Stored) (a b : Account) (count : ℕ) (group : IsGroup a.changes
         sum_by-append weight (blocks_now n b.dir es) (tree_reach n b.dir),
       )
 
+  past_by : (id : ℕ) → 65536 ≤ id → (v : Option ObjectChange) → value_at es id ≡ v → record_of n b.dir id ≡ None
+  past_by id le None is = writes.rest id (ap (option_map (λ (x : ObjectChange). x.object)) is) ∙ h.past id le
+  past_by id le (Some c) is = absurd (let low = (each_value IsChangeOf id c es lawful is).id in omega (arith, low, le))
+
   pub blocks_then : IsOnce n → HasAllBlocks n b.dir b.changes
-  blocks_then once = record { blocks = news; each = λ id. are_after id (before id) (after id) (h.blocks id) (h.each id) (carries id); stored = stored_after; once = once }
+  blocks_then once = record {
+    blocks = news;
+    each = λ id. are_after id (before id) (after id) (h.blocks id) (h.each id) (carries id);
+    stored = stored_after;
+    once = once;
+    past = λ id le. past_by id le (value_at es id) refl;
+  }
 
   -- ---- the objects
 

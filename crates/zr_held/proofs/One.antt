@@ -98,7 +98,7 @@ module _ (s n : Stored) (a b : Account) (id : ℕ) (out into bs : List Bptr) (h 
       omega (arith, all, changed, more, swap, balance, among, dir, sum_by-append weight (tree_reach s a.dir) (blocks_below h.blocks top), sum_by-append weight (tree_reach n b.dir) (blocks_below (with_blocks h.blocks id bs) m))
 
   pub blocks_then : HasAllBlocks n b.dir b.changes
-  blocks_then = record { blocks = with_blocks h.blocks id bs; each = each_now; stored = all_stored; once = c.once }
+  blocks_then = record { blocks = with_blocks h.blocks id bs; each = each_now; stored = all_stored; once = c.once; past = λ i le. records_same i ∙ h.past i le }
 
   other_object : (i : ℕ) (found : Option Object) → id ≢ i → IsObjectAt s a i (record_now s a.dir a.changes i) found → IsObjectAt n b i (record_now n b.dir b.changes i) found
   other_object i found apart is =

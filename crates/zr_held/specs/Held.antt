@@ -1,11 +1,12 @@
 -- The objects of an open pool, as a store of its blocks holds them.
-use Rattle.std.specs.Prelude.{◌≡◌, ℕ, zero, suc, List, [], ◌++◌, Option, Some, None}
+use Rattle.std.specs.Prelude.{◌≡◌, ℕ, ◌≤◌, zero, suc, List, [], ◌++◌, Option, Some, None}
 use Rattle.std.specs.FinMap as map
 use Rattle.zr_bptr.specs.declared.Bptr.{Bptr}
 use Rattle.zr_bptr.specs.declared.ObjRec.{ObjRec}
 use Rattle.zr_bptr.specs.declared.Tree.{Tree}
 use Rattle.zr_store.specs.Store.{Stored, AreStored, IsOnce}
 use Rattle.zr_tree.specs.Trees.{tree_reach}
+use Rattle.zr_objset.specs.Records.{record_of}
 use Rattle.zr_txg.specs.Changes.{Changes, change_in}
 use Rattle.zr_lookup.specs.Objects.{record_now, AreObjectBlocks}
 use Rattle.zr_model.specs.Objects.{Objects}
@@ -22,12 +23,14 @@ abbrev pub blocks_below : (ℕ → List Bptr) → ℕ → List Bptr
 blocks_below blocks zero = []
 blocks_below blocks (suc n) = blocks_below blocks n ++ blocks n
 
--- The blocks of the directory and those of all objects are stored beside each other, and no address is stored twice.
+-- The blocks of the directory and those of all objects are stored beside each other, and no address is stored twice. Behind the records of 65,536 objects the directory
+-- has none.
 pub record HasAllBlocks (s : Stored) (dir : Tree) (g : Changes) : Type 0 where
   pub blocks : ℕ → List Bptr
   pub each : (id : ℕ) → AreBlocksNow s g id (record_now s dir g id) (blocks id)
   pub stored : (n : ℕ) → AreStored (tree_reach s dir ++ blocks_below blocks n) s
   pub once : IsOnce s
+  pub past : (id : ℕ) → 65536 ≤ id → record_of s dir id ≡ None
 
 -- The store has all blocks of the account, and their bytes are these objects.
 pub record HasObjects (s : Stored) (a : Account) (objects : Objects) : Type 0 where

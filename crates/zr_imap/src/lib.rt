@@ -12,8 +12,6 @@ mod pages;
 mod sorted;
 mod spelling;
 mod steps;
-#[cfg(test)]
-mod tests;
 
 pub use image::{Piece, first_gap, gap_in, image_of, pieces};
 pub use pages::Imap;

@@ -4,6 +4,7 @@ pub mod Dense
 pub mod Leaves
 pub mod Marking
 pub mod Below
+pub mod Young
 pub mod Reading
 pub mod Directory
 pub mod Places

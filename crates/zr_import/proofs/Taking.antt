@@ -1,14 +1,11 @@
 -- Sets that are made of their extents, and sets that lose some.
 use Rattle.std.specs.Prelude.{IsTrue, false, ◌||◌}
-use Rattle.std.proofs.Common.{◌≡◌, ◌<◌, ◌≤◌, ◌+◌, ℕ, zero, suc, List, [], ◌∷◌, ◌++◌, length, get_or, take, refl, ◌∙◌, ap, arith}
-use Rattle.std.proofs.Math.Seq.{take-suc}
+use Rattle.std.proofs.Common.{◌≡◌, ◌≤◌, ℕ, List, [], ◌∷◌, ◌++◌, length, refl, ap, arith}
 use Rattle.std.proofs.lemmas.List.{get_or_past}
 use Rattle.std.proofs.lemmas.Bool.Decides.{nat_tests}
 use Rattle.zr_base.specs.declared.space.Extent.{Extent}
-use Rattle.zr_base.specs.Extents.{IsMaximal, IsMaximalFrom, HasNone, AddsUnits, has_unit}
-use Rattle.zr_base.proofs.ExtentSets.{low_le_start, same_extents}
+use Rattle.zr_base.specs.Extents.{has_unit}
 use Rattle.zr_ranges.specs.Ranges.{Ranges}
-use Rattle.zr_ranges.proofs.Parts.{maximal_take}
 use Rattle.zr_import.specs.Units.{units_at, Has}
 
 -- a device that is not there has no units

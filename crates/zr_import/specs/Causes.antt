@@ -28,3 +28,16 @@ pub record HasCause {T : Type 0} (before now : Account) (result : Result T Impor
   pub failed : IsErrOf result Failed → HasRisen before.faults now.faults
   pub damaged : (at : Dva) (expected found : List ℕ) → IsErrOf result (Damaged at expected found) → expected ≢ found
   pub rule : (n : ℕ) → IsErrOf result (Rule n) → IsRule n
+
+-- what is wrong with a saved root by itself is one rule of the root that saved it
+abbrev pub as_saved : ImportErr → ImportErr
+as_saved (Rule n) = Rule 8
+as_saved (Damaged at expected found) = Damaged at expected found
+as_saved Failed = Failed
+as_saved NoMemory = NoMemory
+
+-- the same causes for a saved root, which breaks one rule
+pub record HasSavedCause {T : Type 0} (before now : Account) (result : Result T ImportErr) : Type 0 where
+  pub failed : IsErrOf result Failed → HasRisen before.faults now.faults
+  pub damaged : (at : Dva) (expected found : List ℕ) → IsErrOf result (Damaged at expected found) → expected ≢ found
+  pub rule : (n : ℕ) → IsErrOf result (Rule n) → n ≡ 8

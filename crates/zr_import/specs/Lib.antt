@@ -3,3 +3,4 @@ pub mod Units
 pub mod Shapes
 pub mod Words
 pub mod Directories
+pub mod Saved

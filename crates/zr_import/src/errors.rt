@@ -10,7 +10,7 @@ use zr_store::StoreErr;
 /// Why a root is not read.
 #[derive(Clone, Copy, Debug, PartialEq, Eq)]
 pub enum ImportErr {
-    /// The number of the rule of a root that is broken: 1, 2, 5 or 7.
+    /// The number of the rule of a root that is broken: 1, 2, 5, 7 or 8.
     Rule(u8),
     /// What was read at the address has another SHA-256 than its pointer says.
     Damaged {

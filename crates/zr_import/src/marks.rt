@@ -6,7 +6,8 @@
 ghost use Rattle.std.specs.Prelude.{◌≡◌, ◌↔◌, ◌<◌, ◌≤◌, ◌^◌, ℕ, [], length, map, false, IsTrue, IfOk, OnErr, All};
 ghost use Rattle.zr_base.specs.Extents.{HasAll, HasNone, IsMaximal};
 ghost use Rattle.zr_ranges.specs.Ranges.{Ranges};
-ghost use Rattle.zr_import.specs.Units.{units_at, extent_of, Has, Takes, HasMaximal};
+ghost use Rattle.zr_rules.specs.Places.{part_of};
+ghost use Rattle.zr_import.specs.Units.{units_at, extent_of, Has, HaveHeld, Takes, HasMaximal};
 
 use std::alloc::Global;
 use std::marker::Model;
@@ -73,6 +74,24 @@ fn is_apart(set: &PagedSet, e: Extent) -> bool
     }
 }
 
+/// Whether the set has just the units of these maximal extents. It goes over all of them.
+fn is_just(set: &PagedSet, extents: &[Extent]) -> Result<bool, NoMemory>
+    ensures { IfOk result (λ yes. IsTrue yes ↔ (set.now.extents ≡ extents.now)) }
+{
+    let all = set.to_set()?;
+    Ok(all.extents() == extents)
+}
+
+/// The held units of the device with this index.
+fn held_at(parts: &[DevPart], dev: usize) -> &[Extent]
+    ensures { result.now ≡ (part_of parts.now dev).held }
+{
+    if dev >= parts.len() {
+        return &[];
+    }
+    parts[dev].held.as_slice()
+}
+
 /// All units of a device in service, and none of another.
 fn row_set(alloc: Global, row: &DevRow) -> Result<PagedSet, NoMemory>
     requires { row.now.units ≤ 2 ^ 36 }
@@ -109,6 +128,15 @@ impl Marks {
             left.push(set_of(alloc, part.held.as_slice())?)?;
         }
         Ok(Marks { left })
+    }
+
+    /// No device.
+    pub fn none(alloc: Global) -> Marks
+        ensures { result ≡ [] }
+    {
+        Marks {
+            left: Vec::new(alloc),
+        }
     }
 
     /// Takes out units, where all of them are there. It costs a search among the extents, and the move of one page.
@@ -150,6 +178,30 @@ impl Marks {
     {
         let dev = dev as usize;
         dev >= self.left.len() || is_apart(&self.left[dev], e)
+    }
+
+    /// Whether just these units of the device with this index are there.
+    fn has_just(&self, dev: usize, extents: &[Extent]) -> Result<bool, NoMemory>
+        ensures { IfOk result (λ yes. IsTrue yes ↔ (units_at self.now dev ≡ extents.now)) }
+    {
+        if dev >= self.left.len() {
+            return Ok(extents.is_empty());
+        }
+        is_just(&self.left[dev], extents)
+    }
+
+    /// Whether just the held units of the devices are there. It goes over the extents, and takes the memory of one
+    /// device's.
+    pub fn are_held(&self, parts: &[DevPart]) -> Result<bool, NoMemory>
+        ensures { IfOk result (λ yes. IsTrue yes ↔ HaveHeld self.now parts.now) }
+    {
+        let devices = self.left.len().max(parts.len());
+        for dev in 0..devices {
+            if !self.has_just(dev, held_at(parts, dev))? {
+                return Ok(false);
+            }
+        }
+        Ok(true)
     }
 
     /// Whether no unit is there.

@@ -7,7 +7,7 @@ ghost use Rattle.zr_meta.specs.Parts.{SpellsParts};
 ghost use Rattle.zr_rules.specs.Places.{is_on};
 ghost use Rattle.zr_store.specs.Causes.{Costs};
 ghost use Rattle.zr_store.specs.Store.{Stored};
-ghost use Rattle.zr_image.specs.Roots.{late_counted, rows_of};
+ghost use Rattle.zr_image.specs.Roots.{late_counted, rows_of, without_late};
 ghost use Rattle.zr_import.specs.Causes.{HasCause};
 ghost use Rattle.zr_import.specs.declared.errors.ImportErr.TheVariants as error;
 ghost use Rattle.zr_base.specs.declared.space.DevPart.{DevPart};
@@ -65,6 +65,20 @@ fn devs_without_late(alloc: Global, parts: &[DevPart]) -> Result<Items<DevPart>,
     Ok(devs)
 }
 
+/// What a root records but for its late sets.
+pub(crate) fn without_late(alloc: Global, parts: &SpaceParts) -> Result<SpaceParts, NoMemory>
+    requires { parts.now.cond ≡ None }
+    ensures { IfOk result (λ rest. rest ≡ without_late parts.now) }
+{
+    let devs = devs_without_late(alloc, parts.devs.as_slice())?;
+    Ok(SpaceParts {
+        version: parts.version,
+        devs,
+        cond: None,
+        ckpt: parts.ckpt,
+    })
+}
+
 /// The late sets count as empty where the root is a reset, or is of the first form: it has freed all, whatever they say.
 fn late_counted(alloc: Global, uber: &Uber, parts: SpaceParts) -> Result<SpaceParts, NoMemory>
     requires { parts.cond ≡ None }
@@ -73,13 +87,7 @@ fn late_counted(alloc: Global, uber: &Uber, parts: SpaceParts) -> Result<SpacePa
     if uber.reset != 0 && uber.reset != uber.txg {
         return Ok(parts);
     }
-    let devs = devs_without_late(alloc, parts.devs.as_slice())?;
-    Ok(SpaceParts {
-        version: parts.version,
-        devs,
-        cond: None,
-        ckpt: parts.ckpt,
-    })
+    without_late(alloc, &parts)
 }
 
 /// Whether none of the blocks lies on units that are held.
@@ -137,6 +145,7 @@ pub fn read_meta<B: Blocks>(
     ensures head { IfOk result (λ meta. IsHead (rows_of uber.now) meta.head) }
     ensures held { IfOk result (λ meta. All HasMaximal meta.parts.devs) }
     ensures few { IfOk result (λ meta. length meta.parts.devs ≤ 32) }
+    ensures quiet { IfOk result (λ meta. meta.parts.cond ≡ None) }
     ensures reads { (s : Stored) → B.holds store.old s → IfOk result (λ meta. ReadsMeta s uber.now meta.head meta.parts) }
     ensures marks { (s : Stored) → B.holds store.old s → IfOk result (λ meta. MarksAll uber.now.txg marks.old marks.new (meta_reach s uber.now meta.head)) }
     ensures at { (s : Stored) → B.holds store.old s → IfOk result (λ meta. meta.at ≡ map (λ b. b.at) (meta_reach s uber.now meta.head)) }

@@ -1,35 +1,54 @@
 //! A whole root.
-ghost use Rattle.std.specs.Prelude.{◌≡◌, ◌↔◌, ◌≤◌, ◌+◌, ℕ, length, map, IfOk, IsTrue, true, All};
+ghost use Rattle.std.specs.Prelude.{◌≡◌, ◌↔◌, ◌≤◌, ◌+◌, ℕ, length, map, None, IfOk, IsTrue, true, All};
 ghost use Rattle.std.specs.List.{list_all};
 ghost use Rattle.zr_label.specs.Blocks.{IsUber};
 ghost use Rattle.zr_meta.specs.Heads.{IsHead};
 ghost use Rattle.zr_rules.specs.Places.{is_on};
 ghost use Rattle.zr_store.specs.Causes.{Costs};
 ghost use Rattle.zr_store.specs.Store.{Stored};
-ghost use Rattle.zr_image.specs.Roots.{rows_of};
+ghost use Rattle.zr_image.specs.Roots.{rows_of, without_late};
 ghost use Rattle.zr_objset.specs.Records.{all_reach};
 ghost use Rattle.zr_import.specs.Causes.{HasCause};
 ghost use Rattle.zr_import.specs.Directories.{IsInPlace};
-ghost use Rattle.zr_import.specs.Units.{MarksHeld};
+ghost use Rattle.zr_base.specs.declared.space.CkptPart.TheVariants.{Held};
+ghost use Rattle.zr_import.specs.Units.{HasOlder, MarksHeld};
 ghost use Rattle.zr_import.specs.Words.{ReadsMeta, meta_reach};
 
 use crate::errors::ImportErr;
 use crate::heads::rows_of;
 use crate::marks::Marks;
-use crate::metadata::read_meta;
+use crate::metadata::{read_meta, without_late};
 use crate::objects::walk_objects;
 use std::alloc::Global;
-use zr_base::{DevRow, DevState, Dva, Items, SpaceParts};
+use zr_base::{DevRow, DevState, Dva, Items, NoMemory, SpaceParts};
 use zr_label::Uber;
 use zr_meta::Head;
 use zr_store::Blocks;
 
-/// A root that can be opened: its head, what its streams record, and the addresses of the blocks of its metadata.
+/// A root that can be opened: its head, what its streams record, the addresses of the blocks of its metadata and, while it
+/// holds a checkpoint, the held units that no block has which was born behind it.
 #[derive(Drop)]
 pub struct Root {
     pub head: Head,
     pub parts: SpaceParts,
     pub meta: Items<Dva>,
+    pub older: Marks,
+}
+
+impl Root {
+    /// The root as it is once its group is a reset, which has freed all: its late sets count as empty. It goes over its sets.
+    pub fn reset(self, alloc: Global) -> Result<Root, NoMemory>
+        requires { self.parts.cond ≡ None }
+        ensures { IfOk result (λ root. root ≡ record self { parts = without_late self.parts }) }
+    {
+        let parts = without_late(alloc, &self.parts)?;
+        Ok(Root {
+            head: self.head,
+            parts,
+            meta: self.meta,
+            older: self.older,
+        })
+    }
 }
 
 fn is_on(r: &DevRow) -> bool
@@ -59,8 +78,10 @@ pub fn import_root<B: Blocks>(alloc: Global, store: &mut B, uber: &Uber) -> Resu
     requires on { IsTrue (list_all (λ r. is_on r.state) (rows_of uber.now)) }
     ensures head { IfOk result (λ root. IsHead (rows_of uber.now) root.head) }
     ensures few { IfOk result (λ root. length root.parts.devs ≤ 32) }
+    ensures quiet { IfOk result (λ root. root.parts.cond ≡ None) }
     ensures reads { (s : Stored) → B.holds store.old s → IfOk result (λ root. ReadsMeta s uber.now root.head root.parts) }
     ensures meta { (s : Stored) → B.holds store.old s → IfOk result (λ root. root.meta ≡ map (λ b. b.at) (meta_reach s uber.now root.head)) }
+    ensures older { (s : Stored) (since : ℕ) → B.holds store.old s → IfOk result (λ root. root.parts.ckpt ≡ Held since → HasOlder uber.now.txg since root.parts.devs (all_reach s root.head.dir) root.older) }
     ensures live { (s : Stored) → B.holds store.old s → IfOk result (λ root. MarksHeld uber.now.txg root.parts.devs (all_reach s root.head.dir)) }
     ensures place { (s : Stored) → B.holds store.old s → IfOk result (λ root. IsInPlace s root.head.dir) }
     ensures follows { (start : B) → B.follows start store.old → B.follows start store.new }
@@ -70,7 +91,7 @@ pub fn import_root<B: Blocks>(alloc: Global, store: &mut B, uber: &Uber) -> Resu
 {
     let mut marks = Marks::of_rows(alloc, rows_of(uber))?;
     let meta = read_meta(alloc, store, &mut marks, uber)?;
-    walk_objects(
+    let older = walk_objects(
         alloc,
         store,
         &mut marks,
@@ -82,5 +103,6 @@ pub fn import_root<B: Blocks>(alloc: Global, store: &mut B, uber: &Uber) -> Resu
         head: meta.head,
         parts: meta.parts,
         meta: meta.at,
+        older,
     })
 }

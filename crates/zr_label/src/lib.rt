@@ -21,6 +21,3 @@ pub use newer::newer_of;
 pub use root::{Label, Name, Newer, Seen, Uber, best};
 pub use rows::NO_ROW;
 pub use uber::is_uber;
-
-#[cfg(test)]
-mod tests;

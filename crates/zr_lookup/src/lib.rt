@@ -19,6 +19,3 @@ pub use leaves::{blocks_of, leaves_of};
 pub use ranges::read_range;
 pub use reads::{block_at, block_bytes, pointer_of, record_of};
 pub use sums::sum_object;
-
-#[cfg(test)]
-mod tests;

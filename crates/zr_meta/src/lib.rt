@@ -19,7 +19,7 @@ mod write;
 pub use form::is_head;
 pub use late::late_words;
 pub use laws::{heads_are_short, one_head};
-pub use part::PartsErr;
+pub use part::{DevWords, PartsErr, part_of};
 pub use parts::parts_of;
 pub use read::{MetaErr, decode_head};
 pub use write::encode_head;
@@ -51,6 +51,3 @@ pub struct Head {
     pub cond: Option<CondAt>,
     pub streams: Items<Stream>,
 }
-
-#[cfg(test)]
-mod tests;

@@ -18,8 +18,6 @@ mod maxima;
 mod metaslab;
 mod order;
 mod reserved;
-#[cfg(test)]
-mod tests;
 
 use device::Device;
 use finder::Finder;

@@ -13,6 +13,3 @@ pub use laws::frame;
 pub use reads::{block, look, read_records};
 pub use stores::store;
 pub use walks::walk;
-
-#[cfg(test)]
-mod tests;

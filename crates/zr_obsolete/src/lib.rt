@@ -118,8 +118,9 @@ impl Obsolete {
     }
 }
 
-/// Adds to each count the fresh units of its entry.
-fn fold_counts(counts: &mut Vec<u32>, fresh: &RangeSet, map: &Imap)
+/// Adds to each count the fresh units of its entry. It takes no memory, and a look-up for each entry and for each fresh
+/// extent.
+pub fn fold_counts(counts: &mut Vec<u32>, fresh: &RangeSet, map: &Imap)
     requires count { length counts.old.items ≡ length map.now.entries }
     requires fits { Fits map.now.entries counts.old.items fresh.now.extents }
     ensures { counts.new.items ≡ folded map.now.entries counts.old.items fresh.now.extents }
@@ -130,8 +131,8 @@ fn fold_counts(counts: &mut Vec<u32>, fresh: &RangeSet, map: &Imap)
     }
 }
 
-/// How many fresh units the source of an entry has.
-fn fresh_in(fresh: &RangeSet, e: Entry) -> u32
+/// How many fresh units the source of an entry has. It takes a look-up for each extent of them.
+pub fn fresh_in(fresh: &RangeSet, e: Entry) -> u32
     requires { e.src + e.len ≤ 2 ^ 62 }
     ensures units { result ≡ fresh_units fresh.now.extents e }
 {

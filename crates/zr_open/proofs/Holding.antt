@@ -134,7 +134,7 @@ one_at_most n false true is = omega (arith, is)
 one_at_most n true false is = absurd (omega (arith, is))
 one_at_most n false false is = omega (arith, is)
 
-module _ (tells : Type 0) (told : tells) (disks : List (List ℕ)) (sizes : List ℕ) (sized : map length disks ≡ sizes) (pool : OpenPool) (root : Root) (txg : ℕ) (ready : IsOpen sizes pool) (parts : IsOpened root.parts root.meta [] pool.space)
+module _ (tells : Type 0) (told : tells) (disks : List (List ℕ)) (sizes : List ℕ) (sized : map length disks ≡ sizes) (pool : OpenPool) (root : Root) (saved : List Dva) (txg : ℕ) (ready : IsOpen sizes pool) (parts : IsOpened root.parts root.meta saved pool.space)
     (dir : pool.dir ≡ root.head.dir) (group : pool.group.objects ≡ []) (cache : entries pool.cache ≡ []) where
   abbrev slots : List (Option ℕ)
   slots = pool.table.slots

@@ -7,3 +7,13 @@ pub mod Marked
 pub mod Holding
 pub mod Showing
 pub mod Meant
+pub mod Beside
+pub mod Rewinding
+pub mod Left
+pub mod Recorded
+pub mod Refusing
+pub mod Same
+pub mod Refound
+pub mod Looking
+pub mod Grouping
+pub mod Backing

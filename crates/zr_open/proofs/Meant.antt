@@ -7,8 +7,8 @@ use Rattle.zr_bptr.specs.declared.Bptr.{Bptr}
 use Rattle.zr_image.specs.Checks.{Each}
 use Rattle.zr_image.specs.Current.{FindsCurrent, ShowsAll, slots_of}
 use Rattle.zr_image.specs.Reading.{bare_devices, store_of}
-use Rattle.zr_image.specs.Roots.{Root, head_tree, rows_of, ReadsHead, ReadsStream, ReadsParts, ReadsRoot, ReadsSaved, OpensRoot}
-use Rattle.zr_image.specs.StateOf.{IsPart, IsSaved, Means, OpensShelf, StateOf}
+use Rattle.zr_image.specs.Roots.{Root, head_tree, rows_of, IsSavedUber, ReadsHead, ReadsStream, ReadsParts, ReadsRoot, ReadsSaved, OpensRoot}
+use Rattle.zr_image.specs.StateOf.{IsPart, Means, OpensShelf, StateOf}
 use Rattle.zr_image.proofs.Walking.{given}
 use Rattle.zr_import.specs.Words.{HaveWords, ReadsMeta}
 use Rattle.zr_label.specs.declared.root.Seen.{Seen}
@@ -16,11 +16,11 @@ use Rattle.zr_label.specs.declared.root.Uber.{Uber}
 use Rattle.zr_meta.specs.Heads.{IsHead, head_bytes}
 use Rattle.zr_meta.specs.declared.Head.{Head}
 use Rattle.zr_meta.specs.declared.Stream.{Stream}
-use Rattle.zr_model.specs.State.{PoolState, Saved, Is}
+use Rattle.zr_model.specs.State.{PoolState, Is}
 use Rattle.zr_root.specs.Streams.{HasBytes}
 use Rattle.zr_store.specs.Store.{Stored}
 use Rattle.zr_view.specs.Views.{View}
-use Rattle.zr_open.specs.Shown.{Shows}
+use Rattle.zr_open.specs.Shown.{IsShownRoot, IsShownBeside, Shows}
 
 abbrev bare : List (List ℕ) → List (Option ℕ) → Uber → View
 bare disks slots u = record { disks = disks; slots = slots; devices = bare_devices u }
@@ -96,54 +96,57 @@ module _ (disks : List (List ℕ)) (slots : List (Option ℕ)) (u : Uber) where
   root_reads r (inl (head, reads_head, inr (e, told, is))) = absurd (cc)
   root_reads r (inr (e, told, is)) = absurd (cc)
 
-  -- a head that tells of a saved root has one
-  none_told : (r : Root) (o : Option (List ℕ)) (saved : Option Root) → saved ≡ None → ReadsSaved disks slots r o (Ok saved) → o ≡ None
-  none_told r None saved none reads = refl
-  none_told r (Some block) saved none (inl (v, spelled, inl (s, under, inl (b, balanced, inl (m, room, inl (t, together, is)))))) = absurd (let e = given (Some s) saved is in let both = sym e ∙ none in cc)
-  none_told r (Some block) saved none (inl (v, spelled, inl (s, under, inl (b, balanced, inl (m, room, inr (e, told, is)))))) = absurd (cc)
-  none_told r (Some block) saved none (inl (v, spelled, inl (s, under, inl (b, balanced, inr (e, told, is))))) = absurd (cc)
-  none_told r (Some block) saved none (inl (v, spelled, inl (s, under, inr (e, told, is)))) = absurd (cc)
-  none_told r (Some block) saved none (inl (v, spelled, inr (e, told, is))) = absurd (cc)
-  none_told r (Some block) saved none (inr (e, told, is)) = absurd (cc)
+shown_root : (disks : List (List ℕ)) (slots : List (Option ℕ)) (u : Uber) (r : Root) → RootReads disks slots u r → IsShownRoot disks slots r
+shown_root disks slots u r reads = record {
+  head = subst (λ (v : Uber). IsHead (rows_of v) r.head) (sym reads.uber) reads.lawful;
+  reads = subst (λ (v : Uber). ReadsMeta (store_of (bare disks slots v)) v r.head r.parts) (sym reads.uber) reads.reads;
+}
 
-  record RootOpens (r : Root) (saved : Option Root) : Type 0 where
-    pub reads : RootReads disks slots u r
-    pub alone : saved ≡ None → r.head.saved ≡ None
+-- ---- the saved root
 
-  root_opens : (r : Root) (saved : Option Root) → OpensRoot disks slots u (Ok (r, saved)) → RootOpens r saved
-  root_opens r saved (inl (q, reads, inl (b, balanced, inl (other, reads_saved, inl (m, room, is))))) =
-      let same = given (q, other) (r, saved) is in
-      subst (λ (p : Root × Option Root). RootOpens p.0 p.1) (sym same) (record { reads = root_reads q reads; alone = λ none. none_told q q.head.saved other none reads_saved })
-  root_opens r saved (inl (q, reads, inl (b, balanced, inl (other, reads_saved, inr (e, told, is))))) = absurd (cc)
-  root_opens r saved (inl (q, reads, inl (b, balanced, inr (e, told, is)))) = absurd (cc)
-  root_opens r saved (inl (q, reads, inr (e, told, is))) = absurd (cc)
-  root_opens r saved (inr (e, told, is)) = absurd (cc)
+saved_shown : (disks : List (List ℕ)) (slots : List (Option ℕ)) (r : Root) (o : Option (List ℕ)) (saved : Option Root) → ReadsSaved disks slots r o (Ok saved) → IsShownBeside disks slots r o saved
+saved_shown disks slots r None saved is = subst (IsShownBeside disks slots r None) (sym (given None saved is)) tt
+saved_shown disks slots r (Some block) saved (inl (v, spelled, inl (s, under, inl (b, balanced, inl (m, room, inl (t, together, is)))))) =
+    let reads = root_reads disks slots v s under in
+    subst (IsShownBeside disks slots r (Some block)) (sym (given (Some s) saved is)) (subst (IsSavedUber r block) (sym reads.uber) spelled, shown_root disks slots v s reads)
+saved_shown disks slots r (Some block) saved (inl (v, spelled, inl (s, under, inl (b, balanced, inl (m, room, inr (e, told, is)))))) = absurd (cc)
+saved_shown disks slots r (Some block) saved (inl (v, spelled, inl (s, under, inl (b, balanced, inr (e, told, is))))) = absurd (cc)
+saved_shown disks slots r (Some block) saved (inl (v, spelled, inl (s, under, inr (e, told, is)))) = absurd (cc)
+saved_shown disks slots r (Some block) saved (inl (v, spelled, inr (e, told, is))) = absurd (cc)
+saved_shown disks slots r (Some block) saved (inr (e, told, is)) = absurd (cc)
+
+record RootOpens (disks : List (List ℕ)) (slots : List (Option ℕ)) (u : Uber) (r : Root) (saved : Option Root) : Type 0 where
+  pub reads : RootReads disks slots u r
+  pub beside : IsShownBeside disks slots r r.head.saved saved
+
+root_opens : (disks : List (List ℕ)) (slots : List (Option ℕ)) (u : Uber) (r : Root) (saved : Option Root) → OpensRoot disks slots u (Ok (r, saved)) → RootOpens disks slots u r saved
+root_opens disks slots u r saved (inl (q, reads, inl (b, balanced, inl (other, reads_saved, inl (m, room, is))))) =
+    let same = given (q, other) (r, saved) is in
+    subst (λ (p : Root × Option Root). RootOpens disks slots u p.0 p.1) (sym same) (record { reads = root_reads disks slots u q reads; beside = saved_shown disks slots q q.head.saved other reads_saved })
+root_opens disks slots u r saved (inl (q, reads, inl (b, balanced, inl (other, reads_saved, inr (e, told, is))))) = absurd (cc)
+root_opens disks slots u r saved (inl (q, reads, inl (b, balanced, inr (e, told, is)))) = absurd (cc)
+root_opens disks slots u r saved (inl (q, reads, inr (e, told, is))) = absurd (cc)
+root_opens disks slots u r saved (inr (e, told, is)) = absurd (cc)
 
 -- ---- the whole shelf
-
-not_saved : (paths disks : List (List ℕ)) (slots : List (Option ℕ)) (saved : Option Root) (o : Option Saved) → o ≡ None → IsSaved paths disks slots saved o → saved ≡ None
-not_saved paths disks slots None o none is = refl
-not_saved paths disks slots (Some r) None none is = absurd is
-not_saved paths disks slots (Some r) (Some s) none is = absurd (cc)
 
 not_refused : (paths disks : List (List ℕ)) (seen : List Seen) (r : Refusal) (p : PoolState) → IsPart paths disks seen (Err r) (Is p) → ⊥
 not_refused paths disks seen refusal.NoPoolOnDevices p is = cc
 not_refused paths disks seen r p is = cc
 
-module _ (paths disks : List (List ℕ)) (p : PoolState) (none : p.saved ≡ None) (seen : List Seen) (shown : ShowsAll disks seen) where
+module _ (paths disks : List (List ℕ)) (p : PoolState) (seen : List Seen) (shown : ShowsAll disks seen) where
   by_root : (u : Uber) → FindsCurrent seen (Ok u) → (r : Root) (saved : Option Root) → RootOpens disks (slots_of u seen) u r saved → Means paths disks (slots_of r.uber seen) r saved p → Shows paths disks p
   by_root u current r saved opens means =
       let uber = opens.reads.uber in
-      let gone = not_saved paths disks (slots_of r.uber seen) saved p.saved none means.saved_is in
       record {
         seen = seen;
         shown = shown;
         root = r;
         current = subst (λ (v : Uber). FindsCurrent seen (Ok v)) (sym uber) current;
-        head = subst (λ (v : Uber). IsHead (rows_of v) r.head) (sym uber) opens.reads.lawful;
-        alone = opens.alone gone;
-        reads = subst (λ (v : Uber). ReadsMeta (store_of (bare disks (slots_of v seen) v)) v r.head r.parts) (sym uber) opens.reads.reads;
-        means = subst (λ (o : Option Root). Means paths disks (slots_of r.uber seen) r o p) gone means;
+        stands = subst (λ (v : Uber). IsShownRoot disks (slots_of v seen) r) (sym uber) (shown_root disks (slots_of u seen) u r opens.reads);
+        saved = saved;
+        beside = subst (λ (v : Uber). IsShownBeside disks (slots_of v seen) r r.head.saved saved) (sym uber) opens.beside;
+        means = means;
       }
 
   by_outcome : (outcome : Result (Root × Option Root) Refusal) → OpensShelf disks seen outcome → IsPart paths disks seen outcome (Is p) → Shows paths disks p
@@ -151,5 +154,5 @@ module _ (paths disks : List (List ℕ)) (p : PoolState) (none : p.saved ≡ Non
   by_outcome (Ok roots) (inl (u, current, opens)) part = by_root u current roots.0 roots.1 (root_opens disks (slots_of u seen) u roots.0 roots.1 opens) part
   by_outcome (Ok roots) (inr (r, told, is)) part = absurd (cc)
 
-pub meant : (paths disks : List (List ℕ)) (p : PoolState) → StateOf paths disks (Is p) → p.saved ≡ None → Shows paths disks p
-meant paths disks p state none = by_outcome paths disks p none state.seen state.shows state.shelf.outcome state.shelf.opens state.shelf.part_is
+pub meant : (paths disks : List (List ℕ)) (p : PoolState) → StateOf paths disks (Is p) → Shows paths disks p
+meant paths disks p state = by_outcome paths disks p state.seen state.shows state.shelf.outcome state.shelf.opens state.shelf.part_is

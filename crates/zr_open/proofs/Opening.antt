@@ -1,6 +1,6 @@
 -- The pool of a root is one that is open.
 use Rattle.std.proofs.Common.{◌≡◌, inl, inr, ◌⊎◌, ℕ, ◌+◌, ◌*◌, ◌≤◌, List, [], ◌∷◌, length, Option, Some, refl, sym, ◌∙◌, ap, subst, arith}
-use Rattle.std.specs.Prelude.{IsTrue, All, slice_index, slice_index_or}
+use Rattle.std.specs.Prelude.{IfSome, IsTrue, All, slice_index, slice_index_or}
 use Rattle.std.specs.List.{AllByRecursion, list_all, sum_by}
 use Rattle.std.proofs.lemmas.List.Sums.{sum_by-cons}
 use Rattle.std.specs.Int.{div_ceil}
@@ -16,13 +16,13 @@ use Rattle.zr_label.specs.Geometry.{units_of_size}
 use Rattle.zr_label.specs.Blocks.{IsUber, IsName, IsMetaRoot, no_row}
 use Rattle.zr_label.specs.declared.root.Uber.{Uber}
 use Rattle.zr_lookup.specs.Groups.{IsChangeOf}
-use Rattle.zr_meta.specs.Heads.{IsHead, IsRootOf, stream_count, cond_count}
+use Rattle.zr_meta.specs.Heads.{IsHead, IsRootOf, IsSaved, stream_count, cond_count}
 use Rattle.zr_meta.specs.declared.Head.{Head}
 use Rattle.zr_meta.proofs.Fronts.{root_lawful}
-use Rattle.zr_image.specs.Roots.{rows_of}
+use Rattle.zr_image.specs.Roots.{head_tree, rows_of}
 use Rattle.zr_rules.specs.Places.{is_on}
 use Rattle.zr_txg.specs.Changes.{ObjectChange, block_count}
-use Rattle.zr_sync.specs.Pools.{AreStreams, AreRows, IsAfter, IsDirectory, IsOpen}
+use Rattle.zr_sync.specs.Pools.{AreStreams, AreRows, IsAfter, IsCheckpoint, IsDirectory, IsOpen, saved_block}
 use Rattle.zr_sync.specs.declared.open.OpenPool.{OpenPool}
 use Rattle.zr_open.specs.Found.{HasItsDisks}
 use Rattle.zr_open.specs.Opened.{AreOn, IsFresh, IsSpaceOf}
@@ -42,6 +42,14 @@ root_tree len height (At b) meta tall =
 of_level : (height : ℕ) (p : Ptr) → IsRootOf height p → IsOfLevel height p
 of_level height Hole h = tt
 of_level height (At b) h = h.0
+
+-- the tree of the head of a root
+pub head_lawful : (u : Uber) → IsUber u → IsTree (head_tree u)
+head_lawful u is = by_root u.root is.root
+  where
+    by_root : (root : Ptr) → IsMetaRoot root u.len → IsTree (head_tree (record u { root = root }))
+    by_root Hole meta = absurd meta
+    by_root (At b) meta = root_tree u.len b.level (At b) meta meta.2
 
 -- the directory of a head
 pub directory : (rows : List DevRow) (h : Head) → IsHead rows h → IsDirectory h.dir
@@ -82,7 +90,7 @@ either_version : (n : ℕ) → 1 ≤ n → n ≤ 2 → (n ≡ 1) ⊎ (n ≡ 2)
 either_version n lo hi = elim (cases_eq n 1) [ inl one ↦ inl one | inr other ↦ inr (omega (arith, lo, hi, other)) ]
 
 module _ (sizes : List ℕ) (u : Uber) (h : Head) (pool : OpenPool) (is : IsUber u) (on : AreOn u) (head : IsHead (rows_of u) h) (disks : HasItsDisks sizes pool.table.slots u) (long : length pool.table.slots ≡ 32)
-    (space : IsSpaceOf u pool.space) (fresh : IsFresh u pool) (dir : pool.dir ≡ h.dir) (root : IsTree pool.head) (streams : All AreStreams pool.streams.items) (four : length pool.streams.items ≡ u.count) where
+    (space : IsSpaceOf u pool.space) (fresh : IsFresh u pool) (dir : pool.dir ≡ h.dir) (root : IsTree pool.head) (streams : All AreStreams pool.streams.items) (four : length pool.streams.items ≡ u.count) (saved : IsSaved pool.space.parts.ckpt (saved_block pool.saved)) (checkpoint : IfSome pool.saved IsCheckpoint) where
   table_is : AreRows pool.version pool.group.txg pool.table.count pool.table.rows
   table_is =
       subst (λ (v : ℕ). AreRows v pool.group.txg pool.table.count pool.table.rows) (sym fresh.version)
@@ -110,13 +118,15 @@ module _ (sizes : List ℕ) (u : Uber) (h : Head) (pool : OpenPool) (is : IsUber
     head = root;
     streams = streams;
     count = four ∙ sym fresh.count;
+    saved = saved;
+    checkpoint = checkpoint;
     spelled = space.version ∙ sym fresh.version;
     devices = space.rows.count ∙ sym fresh.count;
     rows = λ d lt. space.rows.each d (let n = fresh.count in omega (arith, n, lt)) ∙ ap (λ (rows : List DevRow). row_in rows d) (sym fresh.rows);
     lawful = space.lawful;
     mounted = mounted_rows u is sizes pool.table.slots pool.space disks space.rows;
     service = space.service;
-    disks = λ d slot lt at. subst (λ (rows : List DevRow). units_of_size (slice_index sizes slot) 2 ≡ Some (row_in rows d).units) (sym fresh.rows) (disks.sized d slot at);
+    disks = λ d slot lt at. subst (λ (rows : List DevRow). units_of_size (slice_index sizes slot) 2 ≡ Some (row_in rows d).units) (sym fresh.rows) (disks.sized d slot (let n = fresh.count in omega (arith, n, lt)) at);
   }
     where
       row_in : List DevRow → ℕ → DevRow

@@ -101,6 +101,24 @@ row_later version txg r h =
     let past = t.past in
     join _ _ (join _ _ (join _ _ (join _ _ (is_le 1 r.added t.first) (is_le r.added (txg + 1) (omega (arith, past)))) (is_le 896 r.units t.least)) (is_le r.units (most_units version) t.most)) (going_later r.state r.added r.gone txg t.going)
 
+going_until : (s : DevState) (added gone txg later : ℕ) → txg ≤ later → IsTrue (is_going s added gone txg) → IsTrue (is_going s added gone later)
+going_until On added gone txg later le h = h
+going_until Leaving added gone txg later le h = h
+going_until Gone added gone txg later le h =
+    let two = both (nat_lt added gone) (nat_le gone txg) h in
+    let last : IsTrue (nat_le gone txg) = two.1 in
+    join (nat_lt added gone) (nat_le gone later) two.0 (grind (arith, nat_tests, last, le))
+
+row_until : (version txg later : ℕ) (r : DevRow) → txg ≤ later → IsTrue (is_row version txg r) → IsTrue (is_row version later r)
+row_until version txg later r le h =
+    let t = row_tests version txg r h in
+    let past = t.past in
+    join _ _ (join _ _ (join _ _ (join _ _ (is_le 1 r.added t.first) (is_le r.added later (omega (arith, past, le)))) (is_le 896 r.units t.least)) (is_le r.units (most_units version) t.most)) (going_until r.state r.added r.gone txg later le t.going)
+
+-- so are those of a later group
+pub rows_until : (version txg later : ℕ) (rs : List DevRow) → txg ≤ later → IsTrue (list_all (is_row version txg) rs) → IsTrue (list_all (is_row version later) rs)
+rows_until version txg later rs le all = list_all_of (is_row version txg) (is_row version later) (λ r. row_until version txg later r le) rs all
+
 gone_is : (s : DevState) (added gone txg : ℕ) → IsTrue (is_on s) → IsTrue (is_going s added gone txg) → 0 ≡ gone
 gone_is On added gone txg on h = let z = eqb-true gone 0 h in sym z
 gone_is Leaving added gone txg on h = absurd cc
@@ -147,6 +165,9 @@ module _ (u : Uber) (is : IsUber u) where
 
   pub row_is : (d : ℕ) → d < u.count → IsTrue (is_row u.version u.txg (row_at u d))
   row_is d lt = subst (λ (r : DevRow). IsTrue (is_row u.version u.txg r)) (get_or-take u.count u.rows d no_row lt) (each_is (is_row u.version u.txg) (take u.count u.rows) d no_row is.table.devices (let t = taken_is in omega (arith, t, lt)))
+
+  pub some_row : (d : ℕ) → d < u.count → 1 ≤ (row_at u d).added
+  some_row d lt = (row_tests u.version u.txg (row_at u d) (row_is d lt)).first
 
   pub on_at : AreOn u → (d : ℕ) → d < u.count → IsTrue (is_on (row_at u d).state)
   on_at on d lt = subst (λ (r : DevRow). IsTrue (is_on r.state)) (get_or-take u.count u.rows d no_row lt) (each_is (λ (r : DevRow). is_on r.state) (take u.count u.rows) d no_row on (let t = taken_is in omega (arith, t, lt)))

@@ -19,7 +19,8 @@ use Rattle.zr_image.specs.Current.{FindsCurrent, row_at, is_device, slot_of_devi
 use Rattle.zr_view.specs.Views.{slot_of}
 use Rattle.zr_sync.specs.declared.fault.Fault.{Fault}
 use Rattle.zr_sync.specs.declared.fault.Fault.TheVariants.{No}
-use Rattle.zr_open.specs.Found.{HasItsDisks, HasSlots}
+use Rattle.zr_current.specs.Current.{HasSlots}
+use Rattle.zr_open.specs.Found.{HasItsDisks}
 
 true_or_false : (b : Bool) → (b ≡ true) ⊎ (b ≡ false)
 true_or_false true = inl refl
@@ -150,7 +151,7 @@ module _ (sizes : List ℕ) (seen : List Seen) (u : Uber) (count : length seen �
           let both : Some one.label ≡ Some other.label = sym one.label_is ∙ other.label_is in
           let same : one.label ≡ other.label = cc in
           sym one.index ∙ (ap (λ (l : Label). l.index) same ∙ other.index);
-      sized = λ d slot is.
+      sized = λ d slot lt is.
           let at = in_pool d slot is in
           (own_label d slot at).units ∙ ap (λ (n : ℕ). some_units n) at.units;
     }

@@ -22,12 +22,8 @@ pub record FindsOn (sizes : List ℕ) (tells : Type 0) (disks : List (List ℕ))
   pub shown : IsSeen sizes tells disks seen
   pub finds : FindsCurrent seen result
 
--- the devices have the same slots
-abbrev pub HasSlots : List (Option ℕ) → List (Option ℕ) → Type 0
-HasSlots these slots = (d : ℕ) → slot_of slots d ≡ slot_of these d
-
 -- Each device of the root that is not gone has a disk with its units. No disk is that of two, and each device has the units of its disk.
 pub record HasItsDisks (sizes : List ℕ) (slots : List (Option ℕ)) (u : Uber) : Type 0 where
   pub disks : (d : ℕ) → d < u.count → is_gone (row_at u d).state ≡ false → HasDisk sizes slots d (row_at u d).units
   pub apart : (d e slot : ℕ) → slot_of slots d ≡ Some slot → slot_of slots e ≡ Some slot → d ≡ e
-  pub sized : (d slot : ℕ) → slot_of slots d ≡ Some slot → units_of_size (slice_index sizes slot) 2 ≡ Some (row_at u d).units
+  pub sized : (d slot : ℕ) → d < u.count → slot_of slots d ≡ Some slot → units_of_size (slice_index sizes slot) 2 ≡ Some (row_at u d).units

@@ -2,3 +2,8 @@ pub mod Found
 pub mod Opened
 pub mod Roots
 pub mod Shown
+pub mod Looked
+pub mod Rewound
+pub mod Left
+pub mod Scanned
+pub mod Groups

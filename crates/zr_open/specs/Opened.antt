@@ -2,10 +2,10 @@
 use Rattle.std.specs.Prelude.{◌≡◌, ◌≢◌, ◌⊎◌, ℕ, ◌+◌, ◌<◌, ◌≤◌, List, [], length, Option, Some, IsTrue}
 use Rattle.std.specs.List.{list_all}
 use Rattle.zr_base.specs.declared.space.DevPart.{DevPart}
-use Rattle.zr_base.specs.declared.space.CkptPart.TheVariants.{Clear}
 use Rattle.zr_base.specs.declared.refusal.Refusal.{Refusal}
-use Rattle.zr_base.specs.declared.refusal.Refusal.TheVariants.{BadRoot, Damaged}
+use Rattle.zr_base.specs.declared.refusal.Refusal.TheVariants.{BadRoot, Damaged, MissingDevice, NoPoolOnDevices, TwoPools, UnknownVersion}
 use Rattle.zr_base.specs.declared.space.Dva.{Dva}
+use Rattle.zr_label.specs.Blocks.{SpellsUber}
 use Rattle.zr_label.specs.declared.root.Uber.{Uber}
 use Rattle.zr_cache.specs.Entries.{entries}
 use Rattle.zr_image.specs.Current.{row_at}
@@ -49,13 +49,22 @@ pub record IsHeadOn (disks : List (List ℕ)) (slots : List (Option ℕ)) (u : U
   pub lawful : IsHead (rows_of u) h
   pub stands : HasBytes (store_of (record { disks = disks; slots = slots; devices = bare_devices u })) (head_tree u) (head_bytes h)
 
--- the late sets of the head count, and no checkpoint is held or being discarded
+-- the late sets of the head count
 abbrev pub IsServed : Head → Type 0
-IsServed h = (h.form ≡ 2) × (h.ckpt ≡ Clear)
+IsServed h = h.form ≡ 2
 
 -- a device of the root is leaving or gone, or the head that stands there is not served
+abbrev pub IsNotServedRoot : Type 0 → List (List ℕ) → List (Option ℕ) → Uber → Type 0
+IsNotServedRoot tells disks slots u = (¬ AreOn u) ⊎ ((h : Head) × (tells → IsHeadOn disks slots u h) × ¬ IsServed h)
+
+-- the head that stands there has this block of a saved root
+abbrev pub HasBlock : Type 0 → List (List ℕ) → List (Option ℕ) → Uber → List ℕ → Type 0
+HasBlock tells disks slots u block = (h : Head) × (tells → IsHeadOn disks slots u h) × (h.saved ≡ Some block)
+
+-- so is the root, or the one that it saved
 abbrev pub IsNotServed : Type 0 → List (List ℕ) → List (Option ℕ) → Uber → Type 0
-IsNotServed tells disks slots u = (¬ AreOn u) ⊎ ((h : Head) × (tells → IsHeadOn disks slots u h) × ¬ IsServed h)
+IsNotServed tells disks slots u =
+    IsNotServedRoot tells disks slots u ⊎ ((block : List ℕ) × HasBlock tells disks slots u block × ((saved : Uber) × SpellsUber block saved × IsNotServedRoot tells disks slots saved))
 
 -- the free units cover what is owed
 abbrev pub CoversOwed : Space → Type 0
@@ -76,6 +85,29 @@ pub record IsFresh (u : Uber) (pool : OpenPool) : Type 0 where
 -- a root is refused for a rule that it breaks, or for a block whose bytes have another sum than its pointer says
 abbrev pub IsRefusedRoot : Refusal → Type 0
 IsRefusedRoot r = ((n : ℕ) × (IsRule n ⊎ (n ≡ 9)) × (r ≡ BadRoot n)) ⊎ ((at : Dva) × (expected : List ℕ) × (found : List ℕ) × (expected ≢ found) × (r ≡ Damaged at expected found))
+
+-- a root beside this metadata of a saved one is refused for itself, or where there is such metadata, for the saved one
+abbrev pub MayRefuse : List Dva → Refusal → Type 0
+MayRefuse saved r = IsRefusedRoot r ⊎ ((r ≡ BadRoot 8) × (saved ≢ []))
+
+-- a root that holds a checkpoint is refused for the root that it saved
+abbrev pub IsRefusedSaved : Type 0 → List (List ℕ) → List (Option ℕ) → Uber → Refusal → Type 0
+IsRefusedSaved tells disks slots u r = (r ≡ BadRoot 8) × ((block : List ℕ) × HasBlock tells disks slots u block)
+
+-- what an import may be refused for: the slots show no pool, two, one of an unknown version or one without a device, or its root is not in order
+abbrev pub IsImportRefusal : Refusal → Type 0
+IsImportRefusal NoPoolOnDevices = Unit {0}
+IsImportRefusal (TwoPools first second) = Unit {0}
+IsImportRefusal (MissingDevice index added) = Unit {0}
+IsImportRefusal (UnknownVersion version) = Unit {0}
+IsImportRefusal (BadRoot rule) = (1 ≤ rule) × (rule ≤ 9)
+IsImportRefusal (Damaged at expected found) = expected ≢ found
+IsImportRefusal r = ⊥
+
+-- what is wrong with a saved root by itself is one rule of the root that saved it, but a damaged block is told as it is
+abbrev pub as_saved : Fault → Fault
+as_saved (No (BadRoot n)) = No (BadRoot 8)
+as_saved other = other
 
 -- what a root that is not read means for an import
 abbrev pub fault_of : ImportErr → Fault

@@ -10,22 +10,19 @@ ghost use Rattle.zr_sync.specs.Pools.{IsOpen};
 ghost use Rattle.zr_sync.specs.declared.fault.Fault.TheVariants.{No, Stops};
 ghost use Rattle.zr_sync.specs.declared.stop.Stop.TheVariants.{DiskFault};
 ghost use Rattle.zr_open.specs.Found.{FindsOn};
-ghost use Rattle.zr_open.specs.Opened.{CoversOwed, IsFresh, IsNotServed, IsRefusedRoot};
+ghost use Rattle.zr_open.specs.Opened.{CoversOwed, IsFresh, IsNotServed, IsRefusedRoot, IsRefusedSaved};
 ghost use Rattle.zr_open.specs.Roots.{IsOfRoot};
 ghost use Rattle.zr_open.specs.Shown.{Shows};
 ghost use Rattle.zr_model.specs.State.{PoolState};
-ghost use Rattle.zr_sync.specs.Objects.{HoldsObjects};
+ghost use Rattle.zr_sync.specs.States.{HoldsState};
 
-use crate::find::find;
-use crate::pool::{is_served, open};
-use crate::read::read;
+use crate::look::look;
 use std::alloc::Global;
-use zr_import::are_on;
 use zr_shelf::Shelf;
 use zr_sync::{Fault, OpenPool};
 
-/// Opens the pool that the slots show. The answer is None where its devices are not all in service, where it has no late
-/// sets that count, and where a checkpoint is held or being discarded.
+/// Opens the pool that the slots show. The answer is None where the devices of its root, or of the one that a checkpoint
+/// saved, are not all in service, and where one of the two has no late sets that count.
 ///
 /// It makes a call on a disk for each ring and each run of a block that it reads, and its time and memory are linear in
 /// what it reads; the slots are compared in pairs.
@@ -39,20 +36,14 @@ pub fn import<S: Shelf>(alloc: Global, shelf: &mut S) -> Result<Option<OpenPool>
     ensures pool { IfOk result (λ o. IfSome o (IsOpen (S.sizes shelf.new))) }
     ensures fresh { IfOk result (λ o. IfSome o (λ pool. (u : Uber) × FindsOn (S.sizes shelf.old) (S.tells shelf.old) (S.world shelf.old).now.seen (Ok u) × IsFresh u pool)) }
     ensures opened { IfOk result (λ o. IfSome o (λ pool. (u : Uber) × (at : FindsOn (S.sizes shelf.old) (S.tells shelf.old) (S.world shelf.old).now.seen (Ok u)) × IsOfRoot (S.tells shelf.old) (S.world shelf.old).now.seen (slots_of u at.seen) u pool)) }
-    ensures objects { S.tells shelf.old → IfOk result (λ o. IfSome o (λ pool. (p : PoolState) × Shows (S.world shelf.old).now.paths (S.world shelf.old).now.seen p × HoldsObjects (S.tells shelf.new) (S.world shelf.new).now.seen pool p.objects)) }
+    ensures objects { S.tells shelf.old → IfOk result (λ o. IfSome o (λ pool. (p : PoolState) × Shows (S.world shelf.old).now.paths (S.world shelf.old).now.seen p × HoldsState (S.tells shelf.new) (S.world shelf.new).now.seen pool p)) }
     ensures room { IfOk result (λ o. IfSome o (λ pool. CoversOwed pool.space)) }
     ensures groups { IfOk result (λ o. IfSome o (λ pool. pool.group.txg ≤ 2 ^ 63 + 1)) }
-    ensures refused { (r : Refusal) → IsErrOf result (No r) → FindsOn (S.sizes shelf.old) (S.tells shelf.old) (S.world shelf.old).now.seen (Err r) ⊎ IsRefusedRoot r }
+    ensures refused { (r : Refusal) → IsErrOf result (No r) → FindsOn (S.sizes shelf.old) (S.tells shelf.old) (S.world shelf.old).now.seen (Err r) ⊎ (IsRefusedRoot r ⊎ ((u : Uber) × (at : FindsOn (S.sizes shelf.old) (S.tells shelf.old) (S.world shelf.old).now.seen (Ok u)) × IsRefusedSaved (S.tells shelf.old) (S.world shelf.old).now.seen (slots_of u at.seen) u r)) }
     ensures none { IfOk result (λ o. IfNone o ((u : Uber) × (at : FindsOn (S.sizes shelf.old) (S.tells shelf.old) (S.world shelf.old).now.seen (Ok u)) × IsNotServed (S.tells shelf.old) (S.world shelf.old).now.seen (slots_of u at.seen) u)) }
 {
-    let found = find(alloc, shelf)?;
-    if !are_on(&found.root) {
+    let Some(looked) = look(alloc, shelf)? else {
         return Ok(None);
-    }
-    let root = read(alloc, shelf, &found)?;
-    if !is_served(&root.head) {
-        return Ok(None);
-    }
-    let pool = open(alloc, &found, &root)?;
-    Ok(Some(pool))
+    };
+    Ok(Some(looked.pool))
 }

@@ -5,15 +5,28 @@
 //! becomes an open pool. What the root has recorded may have been written by anyone, so nothing of it is believed
 //! before it was looked at.
 //!
-//! A pool is opened here while all its devices are in service and no checkpoint is held or being discarded.
+//! While a checkpoint is held, the root that it saved is read beside the current one. A pool is opened here while all devices
+//! of both are in service.
+//!
+//! The laws say what this means for the pool that was there before: behind a commit the slots show its root, and by its head
+//! the very objects that the pool held.
 #![tactic(auto)]
 
 mod find;
+mod groups;
 mod imports;
 mod laws;
+mod look;
 mod pool;
 mod read;
+mod rewinds;
 mod room;
+mod saved;
 
+pub use groups::go_back;
 pub use imports::import;
-pub use laws::meant_is_shown;
+pub use laws::{
+    commit_is_found, head_is_read, held_is_meant, left_is_shown, meant_is_shown, shown_is_held,
+    streams_record_parts,
+};
+pub use rewinds::rewind;

@@ -1,5 +1,5 @@
 -- Lines as steps of plain objects.
-use Rattle.std.proofs.Common.{◌≡◌, ◌∙◌, ℕ, zero, List, [], ◌∷◌, ◌++◌, length, replicate, true, false, Option, Some, None, refl, sym, ap, subst}
+use Rattle.std.proofs.Common.{◌≡◌, ◌∙◌, ℕ, zero, ◌<◌, arith, if◌then◌else◌, List, [], ◌∷◌, ◌++◌, length, replicate, true, false, Option, Some, None, refl, sym, ap, subst}
 use Rattle.std.specs.Prelude.{unwrap_or, option_map, Bool}
 use Rattle.std.specs.FinMap as map
 use Rattle.std.proofs.lemmas.List.{length-replicate}
@@ -13,14 +13,14 @@ use Rattle.zr_script.specs.declared.reply.StatusLines.{StatusLines}
 use Rattle.zr_script.specs.declared.reply.AuditLine.{AuditLine}
 use Rattle.zr_model.specs.Objects.{Object, Objects, blank, with_bytes, reads_lost, changes_lost, has_lost, object_sum}
 use Rattle.zr_model.specs.State.{InService, PoolState, with_objects}
-use Rattle.zr_moves.specs.Answers.{needs_lost, of_object, with_devs}
+use Rattle.zr_moves.specs.Answers.{needs_lost, of_object, with_devs, with_saved}
 use Rattle.zr_change.specs.declared.ranges.Edit.{Edit}
 use Rattle.zr_held.specs.Steps.{IsObjectOf}
 use Rattle.zr_objects.specs.Reads.{IsReadOf}
-use Rattle.zr_pool.specs.Plain.{IsMissing, IsBeyond, IsThere, IsPlainRefusal, IsPlainOn, IsPlainOf}
+use Rattle.zr_pool.specs.Plain.{IsMissing, IsBeyond, IsThere, IsObjectCause, IsPlainOn, IsPlainOf}
 
 pub plain_refusal : (objects : Objects) (command : Command) (r : Refusal) → (r ≡ refusal.NoSuchObject → IsMissing objects command) → (r ≡ refusal.OutOfRange → IsBeyond objects command) → (r ≡ refusal.ObjectExists → IsThere objects command)
-    → IsPlainRefusal objects command r
+    → IsObjectCause objects command r
 plain_refusal objects command refusal.NoSuchObject a b c = a refl
 plain_refusal objects command refusal.OutOfRange a b c = b refl
 plain_refusal objects command refusal.ObjectExists a b c = c refl
@@ -30,23 +30,23 @@ tested : (p : PoolState) (id : ℕ) (o : Object) (test : Object → Bool) → ma
 tested p id o test found fails = ap (λ (x : Option Object). unwrap_or (option_map test x) false) found ∙ fails
 
 -- the object has these bytes from now on, and no lost block was changed in part
-pub record IsChangedBy (Holds : Objects → Type 0) (p : PoolState) (id off : ℕ) (bytes : List ℕ) : Type 0 where
+pub record IsChangedBy (Holds : PoolState → Type 0) (p : PoolState) (id off : ℕ) (bytes : List ℕ) : Type 0 where
   pub o : Object
   pub found : map.get p.objects id ≡ Some o
   pub whole : changes_lost o off (length bytes) ≡ false
-  pub holds : Holds (map.insert p.objects id (with_bytes o off bytes))
+  pub holds : Holds (with_objects p (map.insert p.objects id (with_bytes o off bytes)))
 
-module _ (Holds : Objects → Type 0) (p : PoolState) where
-  pub made_on : (id units : ℕ) → Holds (map.insert p.objects id (blank units)) → IsPlainOn Holds p (cmd.Make id units) reply.Done
+module _ (Holds : PoolState → Type 0) (p : PoolState) where
+  pub made_on : (id units : ℕ) → Holds (with_objects p (map.insert p.objects id (blank units))) → IsPlainOn Holds p (cmd.Make id units) reply.Done
   made_on id units h = let q = with_objects p (map.insert p.objects id (blank units)) in record { after = q; holds = h; turn = (q, refl, refl, refl) }
 
-  pub dropped_on : (id : ℕ) → IsObjectOf p.objects id (λ o. Holds (map.remove p.objects id)) → IsPlainOn Holds p (cmd.Drop id) reply.Done
+  pub dropped_on : (id : ℕ) → IsObjectOf p.objects id (λ o. Holds (with_objects p (map.remove p.objects id))) → IsPlainOn Holds p (cmd.Drop id) reply.Done
   dropped_on id h = let q = with_objects p (map.remove p.objects id) in record { after = q; holds = h.2; turn = (q, refl, refl, refl) }
 
-  pub read_on : (id off len : ℕ) (bytes : List ℕ) → IsObjectOf p.objects id (IsReadOf off len bytes) → Holds p.objects → IsPlainOn Holds p (cmd.Read id off len) (reply.Data bytes)
+  pub read_on : (id off len : ℕ) (bytes : List ℕ) → IsObjectOf p.objects id (IsReadOf off len bytes) → Holds p → IsPlainOn Holds p (cmd.Read id off len) (reply.Data bytes)
   read_on id off len bytes o h = record { after = p; holds = h; turn = (p, (o.0, o.1, o.2.are, refl), tested p id o.0 (λ x. reads_lost x off len) o.1 o.2.whole, refl) }
 
-  pub sum_on : (id : ℕ) (sum : List ℕ) → IsObjectOf p.objects id (λ o. (has_lost o ≡ false) × (sum ≡ object_sum o)) → Holds p.objects → IsPlainOn Holds p (cmd.Sum id) (reply.Sum sum)
+  pub sum_on : (id : ℕ) (sum : List ℕ) → IsObjectOf p.objects id (λ o. (has_lost o ≡ false) × (sum ≡ object_sum o)) → Holds p → IsPlainOn Holds p (cmd.Sum id) (reply.Sum sum)
   sum_on id sum o h = record { after = p; holds = h; turn = (p, (o.0, o.1, o.2.1, refl), tested p id o.0 has_lost o.1 o.2.0, refl) }
 
   pub written_on : (id off : ℕ) (bytes : List ℕ) → IsChangedBy Holds p id off bytes → IsPlainOn Holds p (cmd.Write id off bytes) reply.Done
@@ -63,27 +63,48 @@ module _ (Holds : Objects → Type 0) (p : PoolState) where
       record { after = (with_objects p (map.insert p.objects id (with_bytes c.o off (replicate len zero)))); holds = c.holds; turn = ((with_objects p (map.insert p.objects id (with_bytes c.o off (replicate len zero)))), (c.o, c.found, refl), tested p id c.o (λ x. changes_lost x off len) c.found whole, refl) }
 
   pub changed_by : (id off : ℕ) (bytes : List ℕ) (e : Edit) (In : Object → Type 0) → e.off ≡ off
-      → IsObjectOf p.objects id (λ o. In o × (changes_lost o e.off (length bytes) ≡ false) × Holds (map.insert p.objects id (with_bytes o e.off bytes))) → IsChangedBy Holds p id off bytes
+      → IsObjectOf p.objects id (λ o. In o × (changes_lost o e.off (length bytes) ≡ false) × Holds (with_objects p (map.insert p.objects id (with_bytes o e.off bytes)))) → IsChangedBy Holds p id off bytes
   changed_by id off bytes e In at h = record {
     o = h.0;
     found = h.1;
     whole = subst (λ (n : ℕ). changes_lost h.0 n (length bytes) ≡ false) at h.2.1;
-    holds = subst (λ (n : ℕ). Holds (map.insert p.objects id (with_bytes h.0 n bytes))) at h.2.2;
+    holds = subst (λ (n : ℕ). Holds (with_objects p (map.insert p.objects id (with_bytes h.0 n bytes)))) at h.2.2;
   }
 
-  pub synced_as : (command : Command) (txg : ℕ) → command ≡ cmd.Sync → Holds p.objects → IsPlainOf Holds p command (reply.Synced txg)
+  pub synced_as : (command : Command) (txg : ℕ) → command ≡ cmd.Sync → Holds p → IsPlainOf Holds p command (reply.Synced txg)
   synced_as command txg is h = subst (λ (k : Command). IsPlainOf Holds p k (reply.Synced txg)) (sym is) (record { after = p; holds = h; turn = (p, refl, refl, refl) })
 
-  pub added_as : (command : Command) (dev : List ℕ) → command ≡ cmd.Add dev → Holds p.objects → IsPlainOf Holds p command reply.Done
+  pub added_as : (command : Command) (dev : List ℕ) → command ≡ cmd.Add dev → Holds (with_devs p (p.devs ++ InService dev ∷ [])) → IsPlainOf Holds p command reply.Done
   added_as command dev is h =
       let q = with_devs p (p.devs ++ InService dev ∷ []) in
       subst (λ (k : Command). IsPlainOf Holds p k reply.Done) (sym is) (record { after = q; holds = h; turn = (q, refl, refl, refl) })
 
-  pub listed_as : (command : Command) (lines : List ListLine) → command ≡ cmd.List → Holds p.objects → IsPlainOf Holds p command (reply.List lines)
+  pub listed_as : (command : Command) (lines : List ListLine) → command ≡ cmd.List → Holds p → IsPlainOf Holds p command (reply.List lines)
   listed_as command lines is h = subst (λ (k : Command). IsPlainOf Holds p k (reply.List lines)) (sym is) (record { after = p; holds = h; turn = (p, refl, refl, refl) })
 
-  pub status_as : (command : Command) (lines : StatusLines) → command ≡ cmd.Status → Holds p.objects → IsPlainOf Holds p command (reply.Status lines)
+  pub status_as : (command : Command) (lines : StatusLines) → command ≡ cmd.Status → Holds p → IsPlainOf Holds p command (reply.Status lines)
   status_as command lines is h = subst (λ (k : Command). IsPlainOf Holds p k (reply.Status lines)) (sym is) (record { after = p; holds = h; turn = (p, refl, refl, refl) })
 
-  pub audited_as : (command : Command) (lines : List AuditLine) → command ≡ cmd.Audit → Holds p.objects → IsPlainOf Holds p command (reply.Audit lines)
+  pub audited_as : (command : Command) (lines : List AuditLine) → command ≡ cmd.Audit → Holds p → IsPlainOf Holds p command (reply.Audit lines)
   audited_as command lines is h = subst (λ (k : Command). IsPlainOf Holds p k (reply.Audit lines)) (sym is) (record { after = p; holds = h; turn = (p, refl, refl, refl) })
+
+  pub saved_as : (command : Command) → command ≡ cmd.Checkpoint → Holds (with_saved p (Some (record { objects = p.objects; devs = p.devs })) false) → IsPlainOf Holds p command reply.Done
+  saved_as command is h =
+      let q = with_saved p (Some (record { objects = p.objects; devs = p.devs })) false in
+      subst (λ (k : Command). IsPlainOf Holds p k reply.Done) (sym is) (record { after = q; holds = h; turn = (q, refl, refl, refl) })
+
+  pub given_up_as : (command : Command) → command ≡ cmd.Discard → Holds (with_saved p None true) → IsPlainOf Holds p command reply.Done
+  given_up_as command is h =
+      let q = with_saved p None true in
+      subst (λ (k : Command). IsPlainOf Holds p k reply.Done) (sym is) (record { after = q; holds = h; turn = (q, refl, refl, refl) })
+
+  pub upgraded_as : (command : Command) → command ≡ cmd.Upgrade → Holds p → IsPlainOf Holds p command reply.Done
+  upgraded_as command is h = subst (λ (k : Command). IsPlainOf Holds p k reply.Done) (sym is) (record { after = p; holds = h; turn = (p, refl, refl, refl) })
+
+  pub stepped_as : (command : Command) (units : ℕ) (b : Bool) → command ≡ cmd.StepDiscard → (b ≡ false → 0 < units) → Holds (if b then with_saved p p.saved false else p) → IsPlainOf Holds p command (if b then reply.Ended else reply.Freed units)
+  stepped_as command units true is some h =
+      let q = with_saved p p.saved false in
+      subst (λ (k : Command). IsPlainOf Holds p k reply.Ended) (sym is) (record { after = q; holds = h; turn = (q, refl, refl, refl) })
+  stepped_as command units false is some h =
+      let lt = some refl in
+      subst (λ (k : Command). IsPlainOf Holds p k (reply.Freed units)) (sym is) (record { after = p; holds = h; turn = (p, (omega (arith, lt), refl), refl, refl) })

@@ -38,6 +38,31 @@ create_words (Some AuditWord) words name guid devs h = cc
 create_words (Some UpgradeWord) words name guid devs h = cc
 create_words (Some QuitWord) words name guid devs h = cc
 
+create_old_words : (k : Option Keyword) (words : List (List ℕ)) (name : List ℕ) (guid : ℕ) (devs : List (List ℕ)) → IsArguments k words (cmd.CreateOld name guid devs) → IsNewPool name guid devs
+create_old_words None words name guid devs h = absurd h
+create_old_words (Some CreateWord) words name guid devs (inl p) = absurd p
+create_old_words (Some CreateWord) words name guid devs (inr p) = record { name_is = p.2.2; some = p.2.3.some; paths = p.2.4 }
+create_old_words (Some ImportWord) words name guid devs h = absurd h
+create_old_words (Some ExportWord) words name guid devs h = cc
+create_old_words (Some MakeWord) words name guid devs h = absurd h
+create_old_words (Some DropWord) words name guid devs h = absurd h
+create_old_words (Some WriteWord) words name guid devs h = absurd h
+create_old_words (Some FillWord) words name guid devs h = absurd h
+create_old_words (Some PunchWord) words name guid devs h = absurd h
+create_old_words (Some ReadWord) words name guid devs h = absurd h
+create_old_words (Some SumWord) words name guid devs h = absurd h
+create_old_words (Some SyncWord) words name guid devs h = cc
+create_old_words (Some AddWord) words name guid devs h = absurd h
+create_old_words (Some RemoveWord) words name guid devs h = absurd h
+create_old_words (Some CheckpointWord) words name guid devs h = absurd h
+create_old_words (Some StepWord) words name guid devs h = absurd h
+create_old_words (Some ListWord) words name guid devs h = cc
+create_old_words (Some StatusWord) words name guid devs h = cc
+create_old_words (Some MapWord) words name guid devs h = absurd h
+create_old_words (Some AuditWord) words name guid devs h = cc
+create_old_words (Some UpgradeWord) words name guid devs h = cc
+create_old_words (Some QuitWord) words name guid devs h = cc
+
 write_words : (k : Option Keyword) (words : List (List ℕ)) (id off : ℕ) (bytes : List ℕ) → IsArguments k words (cmd.Write id off bytes) → length bytes ≤ 4096
 write_words None words id off bytes h = absurd h
 write_words (Some CreateWord) words id off bytes (inl p) = absurd p
@@ -67,12 +92,19 @@ in_create : (words : List (List ℕ)) (name : List ℕ) (guid : ℕ) (devs : Lis
 in_create [] name guid devs h = absurd h
 in_create (w ∷ words) name guid devs h = create_words (keyword_of w) words name guid devs h
 
+in_create_old : (words : List (List ℕ)) (name : List ℕ) (guid : ℕ) (devs : List (List ℕ)) → IsCommand words (cmd.CreateOld name guid devs) → IsNewPool name guid devs
+in_create_old [] name guid devs h = absurd h
+in_create_old (w ∷ words) name guid devs h = create_old_words (keyword_of w) words name guid devs h
+
 in_write : (words : List (List ℕ)) (id off : ℕ) (bytes : List ℕ) → IsCommand words (cmd.Write id off bytes) → length bytes ≤ 4096
 in_write [] id off bytes h = absurd h
 in_write (w ∷ words) id off bytes h = write_words (keyword_of w) words id off bytes h
 
 pub create_line : (line name : List ℕ) (guid : ℕ) (devs : List (List ℕ)) → IsLine line (cmd.Create name guid devs) → IsNewPool name guid devs
 create_line line name guid devs h = in_create (words_of line) name guid devs h.words
+
+pub create_old_line : (line name : List ℕ) (guid : ℕ) (devs : List (List ℕ)) → IsLine line (cmd.CreateOld name guid devs) → IsNewPool name guid devs
+create_old_line line name guid devs h = in_create_old (words_of line) name guid devs h.words
 
 pub write_line : (line : List ℕ) (id off : ℕ) (bytes : List ℕ) → IsLine line (cmd.Write id off bytes) → length bytes ≤ 4096
 write_line line id off bytes h = in_write (words_of line) id off bytes h.words

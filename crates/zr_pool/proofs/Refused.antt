@@ -1,6 +1,6 @@
 -- Refusals that are passed on.
-use Rattle.std.proofs.Common.{◌≡◌, ◌⊎◌, inl, inr, ℕ, List, Result, Ok, Err, refl, sym, ◌∙◌, ap, subst}
-use Rattle.std.specs.Prelude.{IsErrAnd}
+use Rattle.std.proofs.Common.{◌≡◌, ◌⊎◌, inl, inr, ℕ, List, Option, Some, None, Result, Ok, Err, refl, sym, ◌∙◌, ap, subst}
+use Rattle.std.specs.Prelude.{IfOk, IfSome}
 use Rattle.zr_base.specs.declared.refusal.Refusal.{Refusal}
 use Rattle.zr_change.specs.declared.ranges.Edit.{Edit}
 use Rattle.zr_edit.specs.Causes.{IsLookRefusal, IsUndone, IsShort, IsLongRun}
@@ -10,7 +10,20 @@ use Rattle.zr_sync.specs.declared.fault.Fault.{Fault}
 use Rattle.zr_sync.specs.declared.fault.Fault.TheVariants.{No}
 use Rattle.zr_sync.specs.declared.open.OpenPool.{OpenPool}
 use Rattle.zr_create.specs.Refusals.{ChecksNext}
-use Rattle.zr_pool.specs.Turns.{IsAddRefusal, IsChangeRefusal}
+use Rattle.zr_base.specs.declared.refusal.Refusal.TheVariants as refusal
+use Rattle.zr_base.specs.declared.space.CkptPart.{CkptPart}
+use Rattle.zr_base.specs.declared.space.CkptPart.TheVariants.{Clear, Held, Discarding}
+use Rattle.zr_checkpoint.specs.Refusals.{IsTakeRefusal, IsGiveRefusal, IsStepRefusal}
+use Rattle.zr_model.specs.State.{PoolState}
+use Rattle.zr_objects.specs.Answers.{IsAnswered}
+use Rattle.zr_sync.specs.States.{HasCheckpoint}
+use Rattle.zr_model.specs.Runs.{Shelf}
+use Rattle.zr_open.specs.Groups.{ShowsNotKept}
+use Rattle.zr_open.specs.Rewound.{ShowsNoSaved}
+use Rattle.zr_script.specs.declared.command.Command.{Command}
+use Rattle.zr_script.specs.declared.command.Command.TheVariants as cmd
+use Rattle.zr_pool.specs.Plain.{IsCheckpointCause, IsOpeningCause}
+use Rattle.zr_pool.specs.Turns.{IsAddRefusal, IsChangeRefusal, IsCheckpointRefusal, IsDiscardRefusal}
 
 -- the fault that was passed on
 pub fault_same : {B : Type 0} (e f : Fault) (r : Refusal) (result : Result B Fault) → result ≡ Err f → f ≡ e → result ≡ Err (No r) → e ≡ No r
@@ -38,3 +51,63 @@ add_refusal sizes tells disks pool slot r checks = elim checks.checks [
     ]
   ]
 ]
+
+-- a refusal is an answer, and so is what was done
+pub answered_no : {T : Type 0} (result : Result T Fault) (r : Refusal) → result ≡ Err (No r) → IsAnswered result
+answered_no result r is = subst IsAnswered (sym is) tt
+
+pub answered_ok : {T : Type 0} {x : T} (result : Result T Fault) → result ≡ Ok x → IsAnswered result
+answered_ok result is = subst IsAnswered (sym is) tt
+
+-- ---- a checkpoint
+
+-- why none is taken
+pub take_cause : (part : CkptPart) (p : PoolState) (pool : OpenPool) (r : Refusal) → HasCheckpoint part p.saved p.discarding → IsTakeRefusal pool part r → IsCheckpointCause p r
+take_cause Clear p pool r h is = subst (IsCheckpointCause p) (sym is.is) tt
+take_cause (Held txg) p pool r h is = subst (IsCheckpointCause p) (sym is) h.0
+take_cause Discarding p pool r h is = subst (IsCheckpointCause p) (sym is) h.1
+
+pub take_refusal : (part : CkptPart) (pool : OpenPool) (r : Refusal) → IsTakeRefusal pool part r → IsCheckpointRefusal r
+take_refusal Clear pool r is = subst IsCheckpointRefusal (sym is.is) is.less
+take_refusal (Held txg) pool r is = subst IsCheckpointRefusal (sym is) tt
+take_refusal Discarding pool r is = subst IsCheckpointRefusal (sym is) tt
+
+-- why none is given up
+pub give_cause : (part : CkptPart) (p : PoolState) (r : Refusal) → HasCheckpoint part p.saved p.discarding → IsGiveRefusal part r → IsCheckpointCause p r
+give_cause Clear p r h is = subst (IsCheckpointCause p) (sym is) h
+give_cause (Held txg) p r h is = absurd is
+give_cause Discarding p r h is = subst (IsCheckpointCause p) (sym is) h.1
+
+pub give_refusal : (part : CkptPart) (r : Refusal) → IsGiveRefusal part r → IsDiscardRefusal r
+give_refusal Clear r is = subst IsDiscardRefusal (sym is) tt
+give_refusal (Held txg) r is = absurd is
+give_refusal Discarding r is = subst IsDiscardRefusal (sym is) tt
+
+-- why there is nothing to do
+pub step_cause : (part : CkptPart) (p : PoolState) (r : Refusal) → HasCheckpoint part p.saved p.discarding → IsStepRefusal part r → IsCheckpointCause p r
+step_cause Clear p r h is = subst (IsCheckpointCause p) (sym is) h.1
+step_cause (Held txg) p r h is = subst (IsCheckpointCause p) (sym is) h.1
+step_cause Discarding p r h is = absurd is
+
+pub step_refusal : (part : CkptPart) (r : Refusal) → IsStepRefusal part r → r ≡ refusal.NothingToDo
+step_refusal Clear r is = is
+step_refusal (Held txg) r is = is
+step_refusal Discarding r is = absurd is
+
+-- ---- a pool that is made or opened
+
+-- to go back is refused for want of a checkpoint where none is shown
+pub rewind_cause : (shelf : Shelf) (r : Refusal) → (r ≡ refusal.NoCheckpoint → ShowsNoSaved shelf.paths shelf.disks) → IsOpeningCause shelf cmd.ImportRewind r
+rewind_cause shelf refusal.NoCheckpoint why = why refl
+rewind_cause shelf r why = tt
+
+-- and a group where it is not kept
+pub group_cause : (shelf : Shelf) (txg : ℕ) (r : Refusal) → ((oldest : ℕ) → r ≡ refusal.GroupNotKept oldest → ShowsNotKept shelf.disks txg oldest) → IsOpeningCause shelf (cmd.ImportTxg txg) r
+group_cause shelf txg (refusal.GroupNotKept oldest) why = why oldest refl
+group_cause shelf txg r why = tt
+
+-- what a pool that is opened is said to be, by what is known of it
+pub opened_as : (A B : OpenPool → Type 0) (r : Result (Option OpenPool) Fault) → ((pool : OpenPool) → A pool → B pool) → IfOk r (λ o. IfSome o A) → IfOk r (λ o. IfSome o B)
+opened_as A B (Ok None) each h = tt
+opened_as A B (Ok (Some pool)) each h = each pool h
+opened_as A B (Err e) each h = tt

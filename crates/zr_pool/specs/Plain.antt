@@ -1,5 +1,5 @@
 -- What a line to the pool on devices makes of the plain objects that its disks hold.
-use Rattle.std.specs.Prelude.{◌≡◌, ◌⊎◌, ℕ, Bool, true, false, List, length, Option, None}
+use Rattle.std.specs.Prelude.{◌≡◌, ◌⊎◌, ℕ, Bool, true, false, List, length, Option, Some, None, is_some}
 use Rattle.std.specs.FinMap as map
 use Rattle.zr_base.specs.declared.refusal.Refusal.{Refusal}
 use Rattle.zr_base.specs.declared.refusal.Refusal.TheVariants as refusal
@@ -8,11 +8,13 @@ use Rattle.zr_script.specs.declared.command.Command.TheVariants as cmd
 use Rattle.zr_script.specs.declared.reply.Reply.{Reply}
 use Rattle.zr_script.specs.declared.reply.Reply.TheVariants as reply
 use Rattle.zr_model.specs.Objects.{Objects}
-use Rattle.zr_model.specs.State.{State, PoolState, ShelfPart, Is, opened, created}
+use Rattle.zr_model.specs.State.{State, PoolState, Saved, ShelfPart, Is, opened, created}
 use Rattle.zr_model.specs.Runs.{Shelf}
 use Rattle.zr_shelf.specs.Disks.{Stand}
-use Rattle.zr_open.specs.Shown.{Shows}
-use Rattle.zr_moves.specs.Answers.{Acts, needs_lost}
+use Rattle.zr_open.specs.Shown.{Shows, ShowsGroup}
+use Rattle.zr_open.specs.Rewound.{ShowsNoSaved}
+use Rattle.zr_open.specs.Groups.{ShowsNotKept}
+use Rattle.zr_moves.specs.Answers.{Acts, needs_lost, rewound}
 use Rattle.zr_held.specs.Steps.{IsObjectOf}
 use Rattle.zr_objects.specs.Groups.{can_make}
 use Rattle.zr_objects.specs.Reads.{can_read}
@@ -52,11 +54,31 @@ IsThere objects (cmd.Make id units) = IsObjectOf objects id (λ o. Unit {0})
 IsThere objects command = Unit {0}
 
 -- A refusal that the objects decide has its cause in them.
-abbrev pub IsPlainRefusal : Objects → Command → Refusal → Type 0
-IsPlainRefusal objects command refusal.NoSuchObject = IsMissing objects command
-IsPlainRefusal objects command refusal.OutOfRange = IsBeyond objects command
-IsPlainRefusal objects command refusal.ObjectExists = IsThere objects command
-IsPlainRefusal objects command r = Unit {0}
+abbrev pub IsObjectCause : Objects → Command → Refusal → Type 0
+IsObjectCause objects command refusal.NoSuchObject = IsMissing objects command
+IsObjectCause objects command refusal.OutOfRange = IsBeyond objects command
+IsObjectCause objects command refusal.ObjectExists = IsThere objects command
+IsObjectCause objects command r = Unit {0}
+
+-- One that the checkpoint decides has its cause in how that stands.
+abbrev pub IsCheckpointCause : PoolState → Refusal → Type 0
+IsCheckpointCause p refusal.CheckpointExists = is_some p.saved ≡ true
+IsCheckpointCause p refusal.DiscardingCheckpoint = p.discarding ≡ true
+IsCheckpointCause p refusal.NoCheckpoint = (p.saved ≡ None) × (p.discarding ≡ false)
+IsCheckpointCause p refusal.NothingToDo = p.discarding ≡ false
+IsCheckpointCause p r = Unit {0}
+
+abbrev pub IsPlainRefusal : PoolState → Command → Refusal → Type 0
+IsPlainRefusal p cmd.Checkpoint r = IsCheckpointCause p r
+IsPlainRefusal p cmd.Discard r = IsCheckpointCause p r
+IsPlainRefusal p cmd.StepDiscard r = IsCheckpointCause p r
+IsPlainRefusal p command r = IsObjectCause p.objects command r
+
+-- Nothing is gone back to where the pool that the disks show has no checkpoint, or where the group is not kept.
+abbrev pub IsOpeningCause : Shelf → Command → Refusal → Type 0
+IsOpeningCause shelf cmd.ImportRewind refusal.NoCheckpoint = ShowsNoSaved shelf.paths shelf.disks
+IsOpeningCause shelf (cmd.ImportTxg txg) (refusal.GroupNotKept oldest) = ShowsNotKept shelf.disks txg oldest
+IsOpeningCause shelf command r = Unit {0}
 
 -- ---- lines
 
@@ -65,14 +87,18 @@ exported p = record { is_open = false; shelf = Is p }
 
 -- What a line makes of the objects of an open pool: an export closes it, and all else that is done is a step of plain objects.
 abbrev pub IsPlainTurn : PoolState → Command → Reply → State → Type 0
-IsPlainTurn p command (reply.No r) new = (new ≡ opened p) × IsPlainRefusal p.objects command r
+IsPlainTurn p command (reply.No r) new = (new ≡ opened p) × IsPlainRefusal p command r
 IsPlainTurn p cmd.Export reply.Done new = new ≡ exported p
 IsPlainTurn p command answer new = (q : PoolState) × Acts p command answer q × (needs_lost p command ≡ false) × (new ≡ opened q)
 
--- A pool that is made has no objects, and one that is imported is what the disks show.
+-- A pool that is made has no objects, one that is imported is what the disks show, by the current root or by that of a group that is kept, and one that goes back to its checkpoint is what this had saved.
 abbrev pub IsOpeningTurn : Shelf → State → Command → Reply → State → Type 0
+IsOpeningTurn shelf old command (reply.No r) new = (new ≡ old) × IsOpeningCause shelf command r
 IsOpeningTurn shelf old (cmd.Create name guid devs) reply.Done new = new ≡ opened (created name guid devs)
+IsOpeningTurn shelf old (cmd.CreateOld name guid devs) reply.Done new = new ≡ opened (created name guid devs)
 IsOpeningTurn shelf old cmd.Import reply.Done new = (p : PoolState) × Shows shelf.paths shelf.disks p × (new ≡ opened p)
+IsOpeningTurn shelf old cmd.ImportRewind reply.Done new = (p : PoolState) × (saved : Saved) × Shows shelf.paths shelf.disks p × (p.saved ≡ Some saved) × (new ≡ opened (rewound p saved))
+IsOpeningTurn shelf old (cmd.ImportTxg txg) reply.Done new = (p : PoolState) × ShowsGroup shelf.paths shelf.disks txg p × (new ≡ opened p)
 IsOpeningTurn shelf old command answer new = new ≡ old
 
 -- what a line makes of the objects; a state that is open has a pool
@@ -81,21 +107,24 @@ IsObjectsTurn true (Is p) shelf old command answer new = IsPlainTurn p command a
 IsObjectsTurn true part shelf old command answer new = ⊥
 IsObjectsTurn false part shelf old command answer new = IsOpeningTurn shelf old command answer new
 
--- The line was answered, and the objects behind it are held.
-pub record IsPlainOn (Holds : Objects → Type 0) (p : PoolState) (command : Command) (answer : Reply) : Type 0 where
+-- The line was answered, and what is behind it is held.
+pub record IsPlainOn (Holds : PoolState → Type 0) (p : PoolState) (command : Command) (answer : Reply) : Type 0 where
   pub after : PoolState
-  pub holds : Holds after.objects
+  pub holds : Holds after
   pub turn : IsPlainTurn p command answer (opened after)
 
 -- so was each line but an export, behind which no pool is open to hold them
-abbrev pub IsPlainOf : (Objects → Type 0) → PoolState → Command → Reply → Type 0
+abbrev pub IsPlainOf : (PoolState → Type 0) → PoolState → Command → Reply → Type 0
 IsPlainOf Holds p cmd.Export reply.Done = Unit {0}
 IsPlainOf Holds p command answer = IsPlainOn Holds p command answer
 
--- a pool that was made holds no objects, and one that was imported those that the disks showed
-abbrev pub IsMade : Shelf → (Objects → Type 0) → Command → Type 0
-IsMade shelf Holds (cmd.Create name guid devs) = Holds map.empty
-IsMade shelf Holds cmd.Import = (p : PoolState) × Shows shelf.paths shelf.disks p × Holds p.objects
+-- a pool that was made is a new one, one that was imported is what the disks showed, and one that went back to its checkpoint is what this had saved
+abbrev pub IsMade : Shelf → (PoolState → Type 0) → Command → Type 0
+IsMade shelf Holds (cmd.Create name guid devs) = Holds (created name guid devs)
+IsMade shelf Holds (cmd.CreateOld name guid devs) = Holds (created name guid devs)
+IsMade shelf Holds cmd.Import = (p : PoolState) × Shows shelf.paths shelf.disks p × Holds p
+IsMade shelf Holds cmd.ImportRewind = (p : PoolState) × (saved : Saved) × Shows shelf.paths shelf.disks p × (p.saved ≡ Some saved) × Holds (rewound p saved)
+IsMade shelf Holds (cmd.ImportTxg txg) = (p : PoolState) × ShowsGroup shelf.paths shelf.disks txg p × Holds p
 IsMade shelf Holds command = Unit {0}
 
 -- the shelf as it reads

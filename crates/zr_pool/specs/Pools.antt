@@ -1,13 +1,13 @@
 -- The pool on the devices of the words.
 use Rattle.std.specs.Prelude.{◌≡◌, ℕ, false, ◌≤◌, List, length, Option, Some, None, IfSome}
 use Rattle.zr_model.specs.State.{State, PoolState, opened}
-use Rattle.zr_sync.specs.Objects.{HoldsObjects}
 use Rattle.zr_sync.specs.Pools.{IsOpen}
+use Rattle.zr_sync.specs.States.{HoldsState}
 use Rattle.zr_sync.specs.declared.open.OpenPool.{OpenPool}
 
 -- an open pool stands for a state whose objects its disks hold
 abbrev pub IsStateOf : List (List ℕ) → OpenPool → State → Type 0
-IsStateOf disks pool state = (p : PoolState) × (state ≡ opened p) × HoldsObjects (Unit {0}) disks pool p.objects
+IsStateOf disks pool state = (p : PoolState) × (state ≡ opened p) × HoldsState (Unit {0}) disks pool p
 
 -- what the pool, if one is open, and the disks stand for
 abbrev pub StandsFor : Option OpenPool → List (List ℕ) → State → Type 0

@@ -1,5 +1,5 @@
 -- What the pool on devices says of its answers so far: each is one to its line, and the pool is open where it should be.
-use Rattle.std.specs.Prelude.{◌≡◌, ◌⊎◌, ℕ, Bool, true, false, List, length}
+use Rattle.std.specs.Prelude.{◌≡◌, ◌⊎◌, ℕ, ◌<◌, ◌==◌, if◌then◌else◌, Bool, true, false, List, length}
 use Rattle.zr_base.specs.declared.refusal.Refusal.{Refusal}
 use Rattle.zr_base.specs.declared.refusal.Refusal.TheVariants as refusal
 use Rattle.zr_script.specs.declared.command.Command.{Command}
@@ -7,7 +7,11 @@ use Rattle.zr_script.specs.declared.command.Command.TheVariants as cmd
 use Rattle.zr_script.specs.declared.reply.Reply.{Reply}
 use Rattle.zr_script.specs.declared.reply.Reply.TheVariants as reply
 use Rattle.zr_line.specs.Answers.{IsDamaged}
+use Rattle.zr_open.specs.Opened.{IsImportRefusal}
 use Rattle.zr_objects.specs.Answers.{IsNoRoom, IsSumRefusal, IsReadRefusal, IsMakeRefusal, IsDropRefusal}
+use Rattle.zr_model.specs.State.{ShelfPart, Is}
+use Rattle.zr_model.specs.declared.pool.Actor.{Actor}
+use Rattle.zr_model.specs.declared.pool.Actor.TheVariants.{Discard}
 use Rattle.zr_model.specs.Runs.{Point, Turn, Meaning}
 use Rattle.zr_pool.specs.Plain.{IsObjectsTurn}
 
@@ -22,6 +26,10 @@ is_on_objects (cmd.Read id off len) = true
 is_on_objects (cmd.Sum id) = true
 is_on_objects _ = false
 
+-- the reply to a step of discarding
+abbrev pub step_reply : ℕ → Reply
+step_reply units = if units == 0 then reply.Ended else reply.Freed units
+
 -- the lines on a whole pool that is open
 abbrev pub is_on_pool : Command → Bool
 is_on_pool cmd.Sync = true
@@ -30,18 +38,33 @@ is_on_pool (cmd.Add dev) = true
 is_on_pool cmd.List = true
 is_on_pool cmd.Status = true
 is_on_pool cmd.Audit = true
+is_on_pool cmd.Checkpoint = true
+is_on_pool cmd.Discard = true
+is_on_pool cmd.StepDiscard = true
+is_on_pool cmd.Upgrade = true
 is_on_pool _ = false
 
 -- the lines that make a pool or open one
 abbrev pub is_opener : Command → Bool
 is_opener (cmd.Create name guid devs) = true
+is_opener (cmd.CreateOld name guid devs) = true
 is_opener cmd.Import = true
+is_opener cmd.ImportRewind = true
+is_opener (cmd.ImportTxg txg) = true
 is_opener _ = false
 
--- The lines that are always served. An import is not where the pool on the devices has one that is leaving or gone, or a checkpoint.
+-- The lines that are always served. An import, to go back or not, is not where the pool on the devices has one that is leaving or gone.
 abbrev pub IsServed : Command → Type 0
 IsServed (cmd.Create name guid devs) = Unit {0}
+IsServed (cmd.CreateOld name guid devs) = Unit {0}
 IsServed command = (is_on_objects command ≡ true) ⊎ (is_on_pool command ≡ true)
+
+-- a pool that is made or upgraded is of the version that the line asks for
+abbrev pub IsOfVersion : Command → ℕ → Type 0
+IsOfVersion (cmd.Create name guid devs) version = version ≡ 2
+IsOfVersion (cmd.CreateOld name guid devs) version = version ≡ 1
+IsOfVersion cmd.Upgrade version = version ≡ 2
+IsOfVersion command version = Unit {0}
 
 -- there is no room, or no run
 abbrev pub IsFull : Refusal → Type 0
@@ -59,10 +82,26 @@ IsAddRefusal (refusal.DeviceInUse slot) = Unit {0}
 IsAddRefusal (refusal.TooMany limit) = limit ≡ 32
 IsAddRefusal r = ⊥
 
+-- what a checkpoint may be refused for: there is one, one is being discarded, or there is no room for it
+abbrev pub IsCheckpointRefusal : Refusal → Type 0
+IsCheckpointRefusal refusal.CheckpointExists = Unit {0}
+IsCheckpointRefusal refusal.DiscardingCheckpoint = Unit {0}
+IsCheckpointRefusal (refusal.NoRoom needed free) = free < needed
+IsCheckpointRefusal r = ⊥
+
+-- and to give one up: there is none, or it is being discarded
+abbrev pub IsDiscardRefusal : Refusal → Type 0
+IsDiscardRefusal refusal.NoCheckpoint = Unit {0}
+IsDiscardRefusal refusal.DiscardingCheckpoint = Unit {0}
+IsDiscardRefusal r = ⊥
+
 -- what a line to an open pool may be refused for
 abbrev pub IsOpenRefusal : Command → Refusal → Type 0
 IsOpenRefusal (cmd.Create name guid devs) r = r ≡ refusal.PoolIsOpen
+IsOpenRefusal (cmd.CreateOld name guid devs) r = r ≡ refusal.PoolIsOpen
 IsOpenRefusal cmd.Import r = r ≡ refusal.PoolIsOpen
+IsOpenRefusal cmd.ImportRewind r = r ≡ refusal.PoolIsOpen
+IsOpenRefusal (cmd.ImportTxg txg) r = r ≡ refusal.PoolIsOpen
 IsOpenRefusal (cmd.Make id units) r = IsMakeRefusal r
 IsOpenRefusal (cmd.Drop id) r = IsDropRefusal r
 IsOpenRefusal (cmd.Write id off bytes) r = IsChangeRefusal r
@@ -72,6 +111,10 @@ IsOpenRefusal (cmd.Read id off len) r = IsReadRefusal r
 IsOpenRefusal (cmd.Sum id) r = IsSumRefusal r
 IsOpenRefusal (cmd.Add dev) r = IsAddRefusal r
 IsOpenRefusal cmd.Audit r = IsDamaged r
+IsOpenRefusal cmd.Checkpoint r = IsCheckpointRefusal r
+IsOpenRefusal cmd.Discard r = IsDiscardRefusal r
+IsOpenRefusal cmd.StepDiscard r = r ≡ refusal.NothingToDo
+IsOpenRefusal cmd.Upgrade r = r ≡ refusal.NothingToDo
 IsOpenRefusal _ r = ⊥
 
 -- what a line to an open pool is answered when it is done
@@ -90,12 +133,20 @@ IsOpenAnswer (cmd.Add dev) reply.Done = Unit {0}
 IsOpenAnswer cmd.List (reply.List lines) = Unit {0}
 IsOpenAnswer cmd.Status (reply.Status lines) = Unit {0}
 IsOpenAnswer cmd.Audit (reply.Audit lines) = Unit {0}
+IsOpenAnswer cmd.Checkpoint reply.Done = Unit {0}
+IsOpenAnswer cmd.Discard reply.Done = Unit {0}
+IsOpenAnswer cmd.Upgrade reply.Done = Unit {0}
+IsOpenAnswer cmd.StepDiscard (reply.Freed units) = 0 < units
+IsOpenAnswer cmd.StepDiscard reply.Ended = Unit {0}
 IsOpenAnswer _ _ = ⊥
 
 -- what a line is refused for while no pool is open
 abbrev pub IsClosedRefusal : Command → Refusal → Type 0
 IsClosedRefusal (cmd.Create name guid devs) r = Unit {0}
-IsClosedRefusal cmd.Import r = Unit {0}
+IsClosedRefusal (cmd.CreateOld name guid devs) r = Unit {0}
+IsClosedRefusal cmd.Import r = IsImportRefusal r
+IsClosedRefusal cmd.ImportRewind r = IsImportRefusal r ⊎ (r ≡ refusal.NoCheckpoint)
+IsClosedRefusal (cmd.ImportTxg txg) r = IsImportRefusal r ⊎ ((oldest : ℕ) × (r ≡ refusal.GroupNotKept oldest))
 IsClosedRefusal _ r = r ≡ refusal.NoPoolOpen
 
 abbrev pub IsClosedAnswer : Command → Reply → Type 0
@@ -118,12 +169,17 @@ abbrev pub IsTurn : Bool → Command → Reply → Bool → Type 0
 IsTurn true command answer after = IsOpenAnswer command answer × (after ≡ stays_open command answer)
 IsTurn false command answer after = IsClosedAnswer command answer × (after ≡ is_opened answer)
 
+-- a checkpoint is being discarded, and no other work is left by the lines that are served
+abbrev pub works_on : Bool → ShelfPart → Actor → Bool
+works_on true (Is p) Discard = p.discarding
+works_on is_open part actor = false
+
 -- What commands mean to the pool on devices, so far as it is claimed: each answer is one to its line, the pool is open where it should be, and the objects that are told are those of a
--- pool of plain objects. No line is served that leaves work behind. Of damage that ends a run nothing is said yet.
+-- pool of plain objects. Of damage that ends a run nothing is said yet.
 abbrev pub on_devices : Meaning
 on_devices = record {
   takes = λ p t. IsTurn p.state.is_open t.command t.answer t.point.state.is_open × IsObjectsTurn p.state.is_open p.state.shelf p.shelf p.state t.command t.answer t.point.state;
   serves = λ paths state command. IsServed command;
   damages = λ p command found. Unit {0};
-  works = λ state actor. false;
+  works = λ state actor. works_on state.is_open state.shelf actor;
 }

@@ -8,9 +8,9 @@ ghost use Rattle.zr_sync.specs.Pools.{IsOpen};
 ghost use Rattle.zr_sync.specs.Writes.{WorksOnDisks};
 ghost use Rattle.zr_sync.specs.declared.fault.Fault.TheVariants.{No, Stops};
 ghost use Rattle.zr_sync.specs.declared.stop.Stop.TheVariants.{DiskFault};
-ghost use Rattle.zr_sync.specs.Objects.{HoldsObjects};
-ghost use Rattle.zr_pool.specs.Plain.{IsMade, shelf_of};
-ghost use Rattle.zr_pool.specs.Turns.{IsServed, IsClosedRefusal, is_opener};
+ghost use Rattle.zr_sync.specs.States.{HoldsState};
+ghost use Rattle.zr_pool.specs.Plain.{IsMade, IsOpeningCause, shelf_of};
+ghost use Rattle.zr_pool.specs.Turns.{IsServed, IsClosedRefusal, IsOfVersion, is_opener};
 
 use crate::lines::{is_on_objects, is_on_pool};
 use crate::names::name_of;
@@ -18,13 +18,16 @@ use std::alloc::Global;
 use zr_base::{Blob, Refusal};
 use zr_choose::Chooser;
 use zr_create::{create, slots_named};
-use zr_open::import;
+use zr_open::{go_back, import, rewind};
 use zr_script::Command;
 use zr_shelf::Shelf;
 use zr_sync::{Fault, OpenPool};
 
 /// The version of a pool that is made.
 const VERSION: u64 = 2;
+
+/// The version of one that is made with `-1`.
+const FIRST: u64 = 1;
 
 /// Does a command where no pool is open, and answers the pool that it makes or opens. None where the command is not served.
 pub fn begin<S: Shelf>(
@@ -43,9 +46,11 @@ pub fn begin<S: Shelf>(
     ensures disks { S.tells shelf.old → WorksOnDisks (S.world shelf.old) (S.world shelf.new) }
     ensures fault { IsErrOf result (Stops DiskFault) → HasRisen (S.counts shelf.old).disk (S.counts shelf.new).disk }
     ensures pool { IfOk result (λ found. IfSome found (IsOpen (S.sizes shelf.new))) }
-    ensures made { S.tells shelf.old → IfOk result (λ found. IfSome found (λ pool. IsMade (shelf_of (S.world shelf.old).now) (HoldsObjects (S.tells shelf.new) (S.world shelf.new).now.seen pool) command.now)) }
+    ensures made { S.tells shelf.old → IfOk result (λ found. IfSome found (λ pool. IsMade (shelf_of (S.world shelf.old).now) (HoldsState (S.tells shelf.new) (S.world shelf.new).now.seen pool) command.now)) }
+    ensures version { IfOk result (λ found. IfSome found (λ pool. IsOfVersion command.now pool.version)) }
     ensures opens { IfOk result (λ found. IfSome found (λ pool. is_opener command.now ≡ true)) }
     ensures refused { (r : Refusal) → IsErrOf result (No r) → IsClosedRefusal command.now r }
+    ensures cause { S.tells shelf.old → (r : Refusal) → IsErrOf result (No r) → IsOpeningCause (shelf_of (S.world shelf.old).now) command.now r }
     ensures none { IfOk result (λ found. IfNone found (IsServed command.now → ⊥)) }
 {
     match command {
@@ -55,7 +60,15 @@ pub fn begin<S: Shelf>(
             let made = create(alloc, shelf, pick, name, *guid, named.as_slice(), VERSION)?;
             Ok(Some(made))
         }
+        Command::CreateOld { name, guid, devs } => {
+            let named = slots_named(alloc, paths, devs.as_slice())?;
+            let name = name_of(name.as_slice());
+            let made = create(alloc, shelf, pick, name, *guid, named.as_slice(), FIRST)?;
+            Ok(Some(made))
+        }
         Command::Import => import(alloc, shelf),
+        Command::ImportRewind => rewind(alloc, shelf),
+        Command::ImportTxg { txg } => go_back(alloc, shelf, *txg),
         _ if is_on_objects(command) || is_on_pool(command) => Err(Fault::No(Refusal::NoPoolOpen)),
         _ => Ok(None),
     }

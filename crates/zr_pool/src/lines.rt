@@ -10,13 +10,14 @@ ghost use Rattle.zr_sync.specs.Writes.{WorksOnDisks};
 ghost use Rattle.zr_sync.specs.declared.fault.Fault.TheVariants.{No, Stops};
 ghost use Rattle.zr_sync.specs.declared.stop.Stop.TheVariants.{DiskFault};
 ghost use Rattle.zr_model.specs.State.{PoolState};
-ghost use Rattle.zr_sync.specs.Objects.{HoldsObjects};
+ghost use Rattle.zr_sync.specs.States.{HoldsState};
 ghost use Rattle.zr_pool.specs.Plain.{IsPlainOf, IsPlainRefusal};
-ghost use Rattle.zr_pool.specs.Turns.{IsOpenAnswer, IsOpenRefusal, is_on_objects, is_on_pool};
+ghost use Rattle.zr_pool.specs.Turns.{step_reply, IsOfVersion, IsOpenAnswer, IsOpenRefusal, is_on_objects, is_on_pool};
 
 use std::alloc::Global;
 use zr_base::{Blob, Refusal};
 use zr_change::{Bytes, Edit};
+use zr_checkpoint::{give_up, step, take};
 use zr_choose::Chooser;
 use zr_create::{add, slot_of};
 use zr_edit::{Reach, change};
@@ -25,6 +26,7 @@ use zr_script::{Command, Reply};
 use zr_shelf::Shelf;
 use zr_sync::{Fault, OpenPool, commit};
 use zr_tables::{audit, list, status};
+use zr_upgrade::upgrade;
 
 /// Whether a line is on an object.
 pub fn is_on_objects(command: &Command) -> bool
@@ -54,6 +56,10 @@ pub fn is_on_pool(command: &Command) -> bool
             | Command::List
             | Command::Status
             | Command::Audit
+            | Command::Checkpoint
+            | Command::Discard
+            | Command::StepDiscard
+            | Command::Upgrade
     )
 }
 
@@ -75,9 +81,9 @@ pub fn object_line<S: Shelf>(
     ensures fault { IsErrOf result (Stops DiskFault) → HasRisen (S.counts shelf.old).disk (S.counts shelf.new).disk }
     ensures pool { OnOk result (IsOpen (S.sizes shelf.new) pool.new) }
     ensures pool_no { (r : Refusal) → IsErrOf result (No r) → IsOpen (S.sizes shelf.new) pool.new }
-    ensures acts { (p : PoolState) → HoldsObjects (S.tells shelf.old) (S.world shelf.old).now.seen pool.old p.objects → IfOk result (IsPlainOf (HoldsObjects (S.tells shelf.new) (S.world shelf.new).now.seen pool.new) p command.now) }
-    ensures stays { (p : PoolState) → HoldsObjects (S.tells shelf.old) (S.world shelf.old).now.seen pool.old p.objects → (r : Refusal) → IsErrOf result (No r) → HoldsObjects (S.tells shelf.new) (S.world shelf.new).now.seen pool.new p.objects }
-    ensures cause { (p : PoolState) → HoldsObjects (S.tells shelf.old) (S.world shelf.old).now.seen pool.old p.objects → (r : Refusal) → IsErrOf result (No r) → IsPlainRefusal p.objects command.now r }
+    ensures acts { (p : PoolState) → HoldsState (S.tells shelf.old) (S.world shelf.old).now.seen pool.old p → IfOk result (IsPlainOf (HoldsState (S.tells shelf.new) (S.world shelf.new).now.seen pool.new) p command.now) }
+    ensures stays { (p : PoolState) → HoldsState (S.tells shelf.old) (S.world shelf.old).now.seen pool.old p → (r : Refusal) → IsErrOf result (No r) → HoldsState (S.tells shelf.new) (S.world shelf.new).now.seen pool.new p }
+    ensures cause { (p : PoolState) → HoldsState (S.tells shelf.old) (S.world shelf.old).now.seen pool.old p → (r : Refusal) → IsErrOf result (No r) → IsPlainRefusal p command.now r }
     ensures answer { IfOk result (IsOpenAnswer command.now) }
     ensures refused { (r : Refusal) → IsErrOf result (No r) → IsOpenRefusal command.now r }
 {
@@ -142,6 +148,16 @@ fn filled(off: u64, len: u64, byte: u8) -> Edit<'static>
     }
 }
 
+// The reply to a step of discarding that gave back so many units.
+fn step_reply(units: u64) -> Reply
+    ensures { result ≡ step_reply units }
+{
+    if units == 0 {
+        return Reply::Ended;
+    }
+    Reply::Freed(units)
+}
+
 /// A line on a whole pool that is open. The pool is to be closed after an `export` that is done.
 pub fn pool_line<S: Shelf>(
     alloc: Global,
@@ -162,9 +178,12 @@ pub fn pool_line<S: Shelf>(
     ensures fault { IsErrOf result (Stops DiskFault) → HasRisen (S.counts shelf.old).disk (S.counts shelf.new).disk }
     ensures pool { OnOk result (IsOpen (S.sizes shelf.new) pool.new) }
     ensures pool_no { (r : Refusal) → IsErrOf result (No r) → IsOpen (S.sizes shelf.new) pool.new }
-    ensures acts { (p : PoolState) → HoldsObjects (S.tells shelf.old) (S.world shelf.old).now.seen pool.old p.objects → IfOk result (IsPlainOf (HoldsObjects (S.tells shelf.new) (S.world shelf.new).now.seen pool.new) p command.now) }
-    ensures stays { (p : PoolState) → HoldsObjects (S.tells shelf.old) (S.world shelf.old).now.seen pool.old p.objects → (r : Refusal) → IsErrOf result (No r) → HoldsObjects (S.tells shelf.new) (S.world shelf.new).now.seen pool.new p.objects }
-    ensures cause { (p : PoolState) → HoldsObjects (S.tells shelf.old) (S.world shelf.old).now.seen pool.old p.objects → (r : Refusal) → IsErrOf result (No r) → IsPlainRefusal p.objects command.now r }
+    ensures acts { (p : PoolState) → HoldsState (S.tells shelf.old) (S.world shelf.old).now.seen pool.old p → IfOk result (IsPlainOf (HoldsState (S.tells shelf.new) (S.world shelf.new).now.seen pool.new) p command.now) }
+    ensures stays { (p : PoolState) → HoldsState (S.tells shelf.old) (S.world shelf.old).now.seen pool.old p → (r : Refusal) → IsErrOf result (No r) → HoldsState (S.tells shelf.new) (S.world shelf.new).now.seen pool.new p }
+    ensures cause { (p : PoolState) → HoldsState (S.tells shelf.old) (S.world shelf.old).now.seen pool.old p → (r : Refusal) → IsErrOf result (No r) → IsPlainRefusal p command.now r }
+    ensures version { OnOk result (IsOfVersion command.now pool.new.version) }
+    // An upgrade is refused where the pool is of that version.
+    ensures already { (r : Refusal) → IsErrOf result (No r) → IsOfVersion command.now pool.old.version }
     ensures answer { IfOk result (IsOpenAnswer command.now) }
     ensures refused { (r : Refusal) → IsErrOf result (No r) → IsOpenRefusal command.now r }
 {
@@ -188,6 +207,22 @@ pub fn pool_line<S: Shelf>(
         Command::List => Ok(Reply::List(list(alloc, pool, paths)?)),
         Command::Status => Ok(Reply::Status(status(alloc, pool)?)),
         Command::Audit => Ok(Reply::Audit(audit(alloc, pool, shelf)?)),
+        Command::Checkpoint => {
+            take(alloc, pool, shelf, pick)?;
+            Ok(Reply::Done)
+        }
+        Command::Discard => {
+            give_up(alloc, pool, shelf, pick)?;
+            Ok(Reply::Done)
+        }
+        Command::StepDiscard => {
+            let units = step(pool)?;
+            Ok(step_reply(units))
+        }
+        Command::Upgrade => {
+            upgrade(alloc, pool, shelf, pick)?;
+            Ok(Reply::Done)
+        }
         _ => unreachable!(),
     }
 }

@@ -3,15 +3,16 @@ ghost use Rattle.std.specs.Prelude.{◌≡◌, ◌≤◌, ◌⊎◌, ◌&&◌, �
 ghost use Rattle.zr_base.specs.Counts.{HasRisen};
 ghost use Rattle.zr_base.specs.declared.refusal.Refusal.{Refusal};
 ghost use Rattle.zr_script.specs.Grammar.{IsLine};
+ghost use Rattle.zr_script.specs.declared.reply.Reply.TheVariants.{Done};
 ghost use Rattle.zr_shelf.specs.Counts.{NoneFell};
 ghost use Rattle.zr_sync.specs.Pools.{IsOpen};
 ghost use Rattle.zr_sync.specs.Writes.{WorksOnDisks};
 ghost use Rattle.zr_sync.specs.declared.fault.Fault.TheVariants.{No, Stops};
 ghost use Rattle.zr_sync.specs.declared.stop.Stop.TheVariants.{DiskFault};
 ghost use Rattle.zr_model.specs.State.{PoolState};
-ghost use Rattle.zr_sync.specs.Objects.{HoldsObjects};
-ghost use Rattle.zr_pool.specs.Plain.{IsMade, IsPlainOf, IsPlainRefusal, shelf_of};
+ghost use Rattle.zr_pool.specs.Plain.{IsMade, IsOpeningCause, IsPlainOf, IsPlainRefusal, shelf_of};
 ghost use Rattle.zr_pool.specs.Pools.{IsOnShelf};
+ghost use Rattle.zr_sync.specs.States.{HoldsState};
 ghost use Rattle.zr_pool.specs.Ends.{is_closing};
 ghost use Rattle.zr_pool.specs.Turns.{IsServed, IsTurn, IsClosedRefusal, IsOpenRefusal, IsOpenAnswer, is_opener};
 
@@ -19,7 +20,7 @@ use crate::begin::begin;
 use crate::lines::{is_on_objects, is_on_pool, object_line, pool_line};
 use crate::replies::answer_of;
 use std::alloc::Global;
-use zr_base::{Blob, Items, NoMemory, Refusal};
+use zr_base::{Blob, CkptPart, Items, NoMemory, Refusal};
 use zr_choose::Chooser;
 use zr_model::{Actor, Pool, Stop};
 use zr_script::{Command, Reply};
@@ -37,7 +38,14 @@ pub struct DevicePool {
 fn is_opener(command: &Command) -> bool
     ensures { result ≡ is_opener command.now }
 {
-    matches!(command, Command::Create { .. } | Command::Import)
+    matches!(
+        command,
+        Command::Create { .. }
+            | Command::CreateOld { .. }
+            | Command::Import
+            | Command::ImportRewind
+            | Command::ImportTxg { .. }
+    )
 }
 
 /// Whether the pool is not open any more: it was exported, or the run stops.
@@ -71,9 +79,9 @@ fn open_line<S: Shelf>(
     ensures fault { IsErrOf result (Stops DiskFault) → HasRisen (S.counts shelf.old).disk (S.counts shelf.new).disk }
     ensures pool { OnOk result (IsOpen (S.sizes shelf.new) pool.new) }
     ensures pool_no { (r : Refusal) → IsErrOf result (No r) → IsOpen (S.sizes shelf.new) pool.new }
-    ensures acts { (p : PoolState) → HoldsObjects (S.tells shelf.old) (S.world shelf.old).now.seen pool.old p.objects → IfOk result (λ found. IfSome found (IsPlainOf (HoldsObjects (S.tells shelf.new) (S.world shelf.new).now.seen pool.new) p command.now)) }
-    ensures stays { (p : PoolState) → HoldsObjects (S.tells shelf.old) (S.world shelf.old).now.seen pool.old p.objects → (r : Refusal) → IsErrOf result (No r) → HoldsObjects (S.tells shelf.new) (S.world shelf.new).now.seen pool.new p.objects }
-    ensures cause { (p : PoolState) → HoldsObjects (S.tells shelf.old) (S.world shelf.old).now.seen pool.old p.objects → (r : Refusal) → IsErrOf result (No r) → IsPlainRefusal p.objects command.now r }
+    ensures acts { (p : PoolState) → HoldsState (S.tells shelf.old) (S.world shelf.old).now.seen pool.old p → IfOk result (λ found. IfSome found (IsPlainOf (HoldsState (S.tells shelf.new) (S.world shelf.new).now.seen pool.new) p command.now)) }
+    ensures stays { (p : PoolState) → HoldsState (S.tells shelf.old) (S.world shelf.old).now.seen pool.old p → (r : Refusal) → IsErrOf result (No r) → HoldsState (S.tells shelf.new) (S.world shelf.new).now.seen pool.new p }
+    ensures cause { (p : PoolState) → HoldsState (S.tells shelf.old) (S.world shelf.old).now.seen pool.old p → (r : Refusal) → IsErrOf result (No r) → IsPlainRefusal p command.now r }
     ensures answer { IfOk result (λ found. IfSome found (IsOpenAnswer command.now)) }
     ensures refused { (r : Refusal) → IsErrOf result (No r) → IsOpenRefusal command.now r }
     ensures none { IfOk result (λ found. IfNone found (IsServed command.now → ⊥)) }
@@ -110,9 +118,11 @@ impl DevicePool {
         ensures fault { IsErrOf result (Stops DiskFault) → HasRisen (S.counts shelf.old).disk (S.counts shelf.new).disk }
         ensures paths { self.new.paths ≡ self.old.paths }
         ensures pool { IfSome self.new.pool (IsOpen (S.sizes shelf.new)) }
-        ensures made { S.tells shelf.old → IfSome self.new.pool (λ pool. IsMade (shelf_of (S.world shelf.old).now) (HoldsObjects (S.tells shelf.new) (S.world shelf.new).now.seen pool) command.now) }
+        ensures made { S.tells shelf.old → IfSome self.new.pool (λ pool. IsMade (shelf_of (S.world shelf.old).now) (HoldsState (S.tells shelf.new) (S.world shelf.new).now.seen pool) command.now) }
         ensures turn { IfOk result (λ found. IfSome found (λ reply. IsTurn false command.now reply (is_some self.new.pool))) }
         ensures refused { (r : Refusal) → IsErrOf result (No r) → IsClosedRefusal command.now r }
+        ensures done { IfOk result (λ found. IfSome found (λ reply. reply ≡ Done)) }
+        ensures cause { S.tells shelf.old → (r : Refusal) → IsErrOf result (No r) → IsOpeningCause (shelf_of (S.world shelf.old).now) command.now r }
         ensures closed { OnErr result (self.new.pool ≡ None) }
         ensures none { IfOk result (λ found. IfNone found (IsServed command.now → ⊥)) }
     {
@@ -162,7 +172,10 @@ impl Pool for DevicePool {
         answer_of(done)
     }
 
-    fn has_work(&self, _actor: Actor) -> bool {
-        false
+    fn has_work(&self, actor: Actor) -> bool {
+        match (&self.pool, actor) {
+            (Some(pool), Actor::Discard) => pool.space.ckpt() == CkptPart::Discarding,
+            _ => false,
+        }
     }
 }

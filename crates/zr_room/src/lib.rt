@@ -6,4 +6,4 @@
 
 mod room;
 
-pub use room::{demand, owed_with, slop_now};
+pub use room::{demand, metadata_with, owed_with, slop_now};

@@ -2,12 +2,12 @@
 ghost use Rattle.std.specs.Prelude.{◌≡◌, ◌↔◌, ◌≤◌, ◌<◌, ◌^◌, ℕ, List, IsOk, IfErr};
 ghost use Rattle.zr_base.specs.declared.refusal.Refusal.TheVariants.{NoRoom};
 ghost use Rattle.zr_rules.specs.Columns.{free_units, on_units};
-ghost use Rattle.zr_rules.specs.Owed.{AreSmall, owed, slop};
+ghost use Rattle.zr_rules.specs.Owed.{AreSmall, metadata_units, owed, slop};
 ghost use Rattle.zr_sync.specs.Pools.{IsOpen};
 ghost use Rattle.zr_room.specs.Counts.{sizes_with};
 
 use zr_base::{Refusal, Sizes};
-use zr_owed::{owed, slop};
+use zr_owed::{metadata_units, owed, slop};
 use zr_sync::OpenPool;
 
 // The counts of the space with those of a command.
@@ -39,6 +39,18 @@ pub fn owed_with(pool: &OpenPool, blocks: u64, objects: u64, pieces: u64) -> u64
     ensures bound { result < 2 ^ 47 }
 {
     owed(&counts_with(pool, blocks, objects, pieces))
+}
+
+/// In units: what the next metadata takes at most once so many blocks and objects are changed. It costs what
+/// `Space::sizes` does.
+pub fn metadata_with(pool: &OpenPool, blocks: u64, objects: u64) -> u64
+    requires pool { (sizes : List ℕ) × IsOpen sizes pool.now }
+    requires blocks { blocks ≤ 2 ^ 20 }
+    requires objects { objects ≤ 2 ^ 20 }
+    ensures units { result ≡ metadata_units (sizes_with pool.now.space blocks objects 0) }
+    ensures bound { result < 2 ^ 44 }
+{
+    metadata_units(&counts_with(pool, blocks, objects, 0))
 }
 
 /// In units: what new blocks leave free. It goes over the devices.

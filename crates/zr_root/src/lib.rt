@@ -20,6 +20,3 @@ pub use heads::{read_root, units_of};
 pub use laws::{streams_have_one_value, streams_stand_alone, streams_take_what_they_must};
 pub use reads::{read_bytes, read_stream};
 pub use streams::{stream_units, write_stream};
-
-#[cfg(test)]
-mod tests;

@@ -17,6 +17,3 @@ pub use error::ScanErr;
 pub use laws::{a_fresh_slot, one_answer};
 pub use puts::{clear_rings, put_label, put_uber};
 pub use slots::scan;
-
-#[cfg(test)]
-mod tests;

@@ -18,6 +18,3 @@ pub use lines::{MAX_LINE, parse_line};
 pub use replies::{Word, put_line, reply_bytes};
 pub use reply::{AuditLine, CkptLine, ListLine, MapLine, Reply, StatusLines};
 pub use words::{are_paths, is_name, is_path, parse_byte, parse_guid, parse_hex, parse_number};
-
-#[cfg(test)]
-mod tests;

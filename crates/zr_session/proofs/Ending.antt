@@ -1,6 +1,8 @@
 -- What has been answered where a run ends.
 use Rattle.std.proofs.Common.{◌≡◌, ◌≢◌, inl, inr, ℕ, List, [], ◌∷◌, ◌++◌, length, ◌+◌, ◌≤◌, ◌<◌, ◌^◌, refl, sym, ap, subst, ◌∙◌, append_assoc, arith, length-append}
+use Rattle.std.specs.List.{flat_map}
 use Rattle.std.proofs.lemmas.List.{append-nil}
+use Rattle.std.proofs.lemmas.List.Concat.{flat_map-append}
 use Rattle.zr_shelf.specs.Disks.{Stand}
 use Rattle.zr_base.specs.declared.refusal.Refusal.{Refusal}
 use Rattle.zr_script.specs.declared.command.Command.{Command}
@@ -9,7 +11,7 @@ use Rattle.zr_script.specs.Lines.{lines_of}
 use Rattle.zr_script.specs.ReplyText as text
 use Rattle.zr_script.specs.ReplyText.{last_line}
 use Rattle.zr_model.specs.State.{State, no_pool}
-use Rattle.zr_model.specs.Runs.{Meaning, Turn, point, texts, Asks, IsBad}
+use Rattle.zr_model.specs.Runs.{Meaning, Turn, point, texts, Asks, IsBad, bytes_to}
 use Rattle.zr_session.specs.Agenda.{Item, Given, rounds_of, agenda, IsDue}
 use Rattle.zr_session.specs.Answers.{IsOpenLine, Reach, HasReached, IsBetween, IsNextText, reply, bad_line, limit, fault, damage, IsAtBadLine, IsAtCommand, IsAtDamage, IsDone}
 use Rattle.zr_session.specs.declared.replies.Replies.TheVariants.{Sent}
@@ -121,10 +123,11 @@ pub record IsCommandNext (m : Meaning) (rounds : ℕ) (opening now : Stand) (sta
   pub r : Reach
   pub point_is : IsPoint m rounds opening now state r
   pub due : IsDue m Asks r.rest (point now state) c
+  pub prompt : length r.taken < length (flat_map (λ l. l ++ 10 ∷ []) r.lines) + 65536
   pub unserved : (m.serves now.paths state c → ⊥) → IsBadNext m rounds opening now state number
 
 command_at : (m : Meaning) (rounds : ℕ) (opening now : Stand) (state : State) (c : Command) (number : ℕ) (n : IsCommandNext m rounds opening now state c number) → IsAtCommand m opening n.r c
-command_at m rounds opening now state c number n = subst (λ p. IsDue m Asks n.r.rest p c) (sym n.point_is.done.ends) n.due
+command_at m rounds opening now state c number n = record { due = subst (λ p. IsDue m Asks n.r.rest p c) (sym n.point_is.done.ends) n.due; prompt = n.prompt }
 
 damage_at : (m : Meaning) (rounds : ℕ) (opening now : Stand) (state : State) (c : Command) (number : ℕ) (found : Refusal) (n : IsCommandNext m rounds opening now state c number)
     → m.damages (point now state) c found → IsAtDamage m opening n.r found
@@ -161,12 +164,24 @@ ends_command m rounds opening now new state c number InputFault n s = absurd s
 ends_command m rounds opening now new state c number AttachFault n s = absurd s
 ends_command m rounds opening now new state c number InputLimit n s = absurd s
 
+-- less than a piece behind the line is less than one behind all lines to it
+prompt_on : (lines : List (List ℕ)) (line : List ℕ) (taken : ℕ) → taken < bytes_to lines line + 65536 → taken < length (flat_map (λ l. l ++ 10 ∷ []) (lines ++ line ∷ [])) + 65536
+prompt_on lines line taken p =
+    let all = flat_map (λ (l : List ℕ). l ++ 10 ∷ []) lines in
+    let last = line ++ 10 ∷ [] in
+    let e = ap length (flat_map-append (λ (l : List ℕ). l ++ 10 ∷ []) lines (line ∷ [])) in
+    let a = length-append all (last ++ []) in
+    let b = length-append last [] in
+    let d = length-append line (10 ∷ []) in
+    omega arith
+
 -- the command of the next line
 line_command : (m : Meaning) (rounds : ℕ) (opening now : Stand) (state : State) (line : List ℕ) (number : ℕ) (c : Command) → IsNext m rounds opening now state line number → Asks line c → IsCommandNext m rounds opening now state c number
 line_command m rounds opening now state line number c d a = record {
   r = reach_on m rounds d;
   point_is = on_point m rounds opening now state line number d;
   due = a;
+  prompt = prompt_on d.lines line (length d.taken) d.prompt;
   unserved = λ u. bad_next m rounds opening now state line number d (inr (c, a, u));
 }
 
@@ -179,6 +194,7 @@ step_command m rounds opening now mid state after line number end new d h s =
       r = reach_within m rounds d (Given line ∷ s.front) s.rest all.turns;
       point_is = within_point m rounds opening now s.mid state s.state line number (Given line ∷ s.front) s.rest d (ap (λ l. Given line ∷ l) s.split) all;
       due = s.due;
+      prompt = prompt_on d.lines line (length d.taken) d.prompt;
       unserved = λ u. absurd (u s.served);
     }
 
@@ -195,7 +211,7 @@ pub ends_line : (m : Meaning) (rounds : ℕ) (opening now new : Stand) (state : 
 ends_line m rounds opening now new state line number end d (outside none t) = ends_outside m rounds opening now new state number end (bad_next m rounds opening now state line number d (inl none)) t
 ends_line m rounds opening now new state line number end d (quit is e same) =
     subst (λ x. EndsAs m rounds x opening new) (sym e)
-    (reach_before m rounds d, point_reached m rounds opening now new state _ [] (before_point m rounds opening now state line number d) (same_sends now new same), inr (line, record { answered = refl; after = d.more; next = refl }, is))
+    (reach_before m rounds d, point_reached m rounds opening now new state _ [] (before_point m rounds opening now state line number d) (same_sends now new same), inr (line, record { answered = refl; after = d.more; next = refl }, is, d.prompt))
 ends_line m rounds opening now new state line number end d (command c a s) = ends_command m rounds opening now new state c number end (line_command m rounds opening now state line number c d a) s
 ends_line m rounds opening now new state line number end d (within after mid h s) =
     ends_command m rounds opening s.mid new s.state s.command number end (step_command m rounds opening now mid state after line number end new d h s) s.stops

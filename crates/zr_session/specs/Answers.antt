@@ -85,9 +85,10 @@ IsAtBadLine m opening r = (line : List ℕ) × IsAtLine r line × IsBad m (point
 abbrev pub IsAtLimit : Reach → Type 0
 IsAtLimit r = (length r.taken ≡ 2 ^ 32) × IsBetween r
 
--- the command is due, of the line that was taken up last or of a round behind it
-abbrev pub IsAtCommand : Meaning → Stand → Reach → Command → Type 0
-IsAtCommand m opening r command = IsDue m Asks r.rest (point_at opening r) command
+-- the command is due, of the line that was taken up last or of a round behind it, and less than a piece was taken behind that line
+pub record IsAtCommand (m : Meaning) (opening : Stand) (r : Reach) (command : Command) : Type 0 where
+  pub due : IsDue m Asks r.rest (point_at opening r) command
+  pub prompt : length r.taken < length (flat_map (λ l. l ++ 10 ∷ []) r.lines) + 65536
 
 -- a command is due that may meet this damage
 abbrev pub IsAtDamage : Meaning → Stand → Reach → Refusal → Type 0
@@ -100,9 +101,9 @@ pub record IsAtEnd (now : Stand) (r : Reach) : Type 0 where
   pub left : now.left ≡ []
   pub most : length r.taken < 2 ^ 32
 
--- the next line is `quit`
+-- the next line is `quit`, and what was taken behind it is less than a piece
 abbrev pub IsAtQuit : Reach → Type 0
-IsAtQuit r = (line : List ℕ) × IsAtLine r line × IsLine line cmd.Quit
+IsAtQuit r = (line : List ℕ) × IsAtLine r line × IsLine line cmd.Quit × (length r.taken < bytes_to r.lines line + 65536)
 
 -- the text that tells of a bad line
 abbrev pub bad_text : Reach → List ℕ

@@ -23,6 +23,3 @@ mod table;
 mod tally;
 
 pub use program::{run_in_memory, run_on};
-
-#[cfg(test)]
-mod tests;

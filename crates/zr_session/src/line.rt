@@ -1,7 +1,8 @@
 //! Lines within a piece of the input, and what is done for one.
-ghost use Rattle.std.specs.Prelude.{◌≡◌, ◌∷◌, ◌++◌, ℕ, List, IfNone, IfSome, IfErr, OnOk};
+ghost use Rattle.std.specs.Prelude.{◌≡◌, ◌≢◌, true, false, ◌∷◌, ◌++◌, ℕ, List, IfNone, IfSome, IfErr, OnOk};
 ghost use Rattle.zr_shelf.specs.Counts.{NoneFell};
 ghost use Rattle.zr_session.specs.Answers.{IsOpenLine};
+ghost use Rattle.zr_script.specs.declared.command.Command.TheVariants.{Quit};
 ghost use Rattle.zr_model.specs.State.{State};
 ghost use Rattle.zr_model.specs.Runs.{MayBeDamaged};
 ghost use Rattle.zr_session.specs.Ends.{HasCause};
@@ -30,6 +31,14 @@ pub fn split_line(bytes: &[u8]) -> Option<(&[u8], &[u8])>
     Some((line, &more[1..]))
 }
 
+// Whether the command ends the script.
+fn is_quit(command: &Command) -> bool
+    ensures yes { result ≡ true → command.now ≡ Quit }
+    ensures no { result ≡ false → command.now ≢ Quit }
+{
+    matches!(command, Command::Quit)
+}
+
 /// Answers a line, the `number`th of the script from 1, and does the rounds behind it.
 pub fn answer_line<P: Pool, D: Desk>(
     alloc: Global,
@@ -53,7 +62,7 @@ pub fn answer_line<P: Pool, D: Desk>(
     let Some(command) = parse_line(alloc, line)? else {
         return Err(refuse_line(alloc, number, desk));
     };
-    if let Command::Quit = command {
+    if is_quit(&command) {
         return Err(End::Answered);
     }
     do_command(

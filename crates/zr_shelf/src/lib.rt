@@ -14,8 +14,6 @@ mod images;
 mod mem_desk;
 mod memory;
 mod sure_desk;
-#[cfg(test)]
-mod tests;
 
 pub use desk::{Desk, DeskErr, Shelf};
 pub use mem_desk::MemDesk;

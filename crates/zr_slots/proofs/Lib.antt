@@ -9,3 +9,4 @@ pub mod Sizes
 pub mod Pushing
 pub mod Lawful
 pub mod Gathered
+pub mod Window

@@ -6,6 +6,7 @@
 #![tactic(auto)]
 
 mod copies;
+mod kept;
 mod lowest;
 mod pool;
 mod put;
@@ -15,6 +16,7 @@ mod show;
 mod tables;
 mod unknown;
 
+pub use kept::kept_root;
 pub use pool::{Found, find_pool};
 pub use put::{prepare_device, publish};
 pub use refuse::{Identity, refuse_add, refuse_create};

@@ -44,7 +44,7 @@ fn is_same_row(a: &DevRow, b: &DevRow) -> bool
     a.state == b.state && a.added == b.added && a.units == b.units && a.gone == b.gone
 }
 
-fn are_same_rows(a: &[DevRow], b: &[DevRow]) -> bool
+pub fn are_same_rows(a: &[DevRow], b: &[DevRow]) -> bool
     requires { length a.now ≡ length b.now }
     ensures same { IsTrue result → a.now ≡ b.now }
     ensures other { IsFalse result → a.now ≢ b.now }

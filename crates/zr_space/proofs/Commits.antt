@@ -1,99 +1,162 @@
 -- What a commit does to the space.
-use Rattle.std.proofs.Common.{◌≡◌, ℕ, zero, suc, ◌+◌, ◌≤◌, ◌<◌, Bool, true, false, ◌==◌, ◌||◌, nat_lt, List, [], ◌∷◌, ◌++◌, map, length, refl, ◌∙◌, sym, ap, subst, arith, ⊎_elim, if◌then◌else◌}
+use Rattle.std.specs.Prelude.{All}
+use Rattle.std.proofs.Common.{◌≡◌, ℕ, suc, ◌+◌, ◌<◌, Bool, true, false, ◌||◌, List, [], ◌∷◌, ◌++◌, length, refl, ◌∙◌, sym, ap, ap₂, subst, arith, if◌then◌else◌}
 use Rattle.std.proofs.Math.ListN.{set}
-use Rattle.std.proofs.lemmas.Bool.{cases_eq}
 use Rattle.std.proofs.lemmas.Bool.Decides.{nat_tests}
 use Rattle.std.proofs.lemmas.List.{length-map}
 use Rattle.zr_base.specs.declared.space.DevPart.{DevPart}
+use Rattle.zr_base.specs.declared.space.Extent.{Extent}
 use Rattle.zr_base.specs.Extents.{has_unit}
-use Rattle.zr_rules.specs.Places.{part_of, is_leaving}
+use Rattle.zr_rules.specs.Places.{is_leaving}
 use Rattle.zr_rules.specs.Roles.{aged, cleared}
-use Rattle.zr_rules.specs.Space.{nothing_opened}
+use Rattle.zr_base.specs.declared.space.DevRow.{DevRow}
+use Rattle.zr_rules.specs.Mappings.{end_of_last}
+use Rattle.zr_rules.specs.Space.{nothing_opened, IsSet}
+use Rattle.zr_indirect.specs.Mapped.{Mapped, IsLeaving, IsGone}
+use Rattle.zr_space.proofs.Synced.{synced_is, leaving_state}
 use Rattle.zr_rules.specs.Steps as steps
 use Rattle.zr_metaslab.specs.Devices.{Devices, free_at, count_at}
-use Rattle.zr_units.specs.Uses.{Uses, IsAccount, freed_count}
+use Rattle.zr_units.specs.Uses.{Uses, IsAccount, IsSameUses, freed_count}
 use Rattle.zr_units.specs.Changes.{TakesBack, aged_uses, cleared_uses, has_freed}
-use Rattle.zr_space.specs.Views.{Kept, kept_of, part_in, opened_in, space_of, role_in, IsSpace, settled, meta_from, saved_from, addresses}
-use Rattle.zr_space.proofs.Views.{part_is, opened_is, kept_other, kept_same}
+use Rattle.zr_space.specs.Views.{Kept, EndsWithin, kept_of, nothing_kept, part_in, opened_in, space_of, role_in, IsMoved, IsTied, IsSpace, IsSameKept, AreTurned, settled, meta_from, saved_from, addresses}
+use Rattle.zr_space.proofs.Views.{part_is, opened_is}
+use Rattle.zr_space.proofs.Turning.{TurnedBelow, turned_all, turned_next}
 use Rattle.zr_space.proofs.Roles.{roles_are}
-use Rattle.zr_space.proofs.Accounts.{aged_account, aged_roles, cleared_account, cleared_roles}
-use Rattle.zr_space.proofs.Keeps.{IsChange, stays_space, lawful}
+use Rattle.zr_space.proofs.Accounts.{same_account, aged_account, aged_roles, cleared_account, cleared_roles}
+use Rattle.zr_space.proofs.Keeps.{IsChange, IsSameBlocks, uses_tied, stays_space, lawful}
 use Rattle.zr_space.specs.declared.whole.Whole.{Whole}
 
+-- a root has the mapping and the marks as they are
+abbrev pub IsAged : Mapped → Mapped → Type 0
+IsAged old new = new ≡ record old { came = []; went = []; synced = old.opened; spare = new.spare }
+
+-- what a device has beside its units stays of its state
+pub aged_moved : (r : DevRow) (m n : Mapped) → IsAged m n → IsMoved r m → IsMoved r n
+aged_moved r m n ages h = record {
+  state = ap (λ (x : Mapped). x.state) ages ∙ h.state;
+  service = λ on. ages ∙ ap (λ (x : Mapped). record x { came = []; went = []; synced = x.opened; spare = n.spare }) (h.service on);
+  leaving = λ is. aged_leaving (h.leaving is);
+  gone = λ is. aged_gone (h.gone is);
+  fresh = subst (IsSet r.units) (sym (ap (λ (x : Mapped). x.fresh) ages)) h.fresh;
+  came = subst (IsSet r.units) (sym (ap (λ (x : Mapped). x.came) ages)) (record { maximal = tt; within = tt });
+  went = subst (IsSet r.units) (sym (ap (λ (x : Mapped). x.went) ages)) (record { maximal = tt; within = tt });
+  sources = subst (All (EndsWithin r.units)) (sym (ap (λ (x : Mapped). x.entries) ages)) h.sources;
+}
+  where
+    none_in : (u : ℕ) → false ≡ true → ⊥
+    none_in u e = cc
+
+    aged_leaving : IsLeaving m → IsLeaving n
+    aged_leaving l = rw ages (record {
+      marks = record { frontier = l.marks.frontier; sources = l.marks.sources; came_is = λ u is. absurd (none_in u is) };
+      counts = l.counts;
+      rising = l.rising;
+      uncopied = l.uncopied;
+      order = omega arith;
+      bound = l.bound;
+      fresh_maximal = l.fresh_maximal;
+      came_maximal = tt;
+      left_maximal = l.left_maximal;
+      went_none = refl;
+    })
+
+    aged_gone : IsGone m → IsGone n
+    aged_gone g = rw ages (record {
+      counts = record { each = g.counts.each; sources = g.counts.sources; fits = g.counts.fits };
+      turned = record { came_is = λ u is. absurd (none_in u is); went_is = λ u is. refl };
+      rising = g.rising;
+      fresh_maximal = g.fresh_maximal;
+      came_maximal = tt;
+      went_maximal = tt;
+      left_none = g.left_none;
+      synced_none = g.opened_none;
+      opened_none = g.opened_none;
+    })
+
+-- a device stays tied where a root has its mapping
+aged_tied : (whole : Whole) (k : Kept) (y : Uses) (m : Mapped) → IsSameBlocks k.uses y → IsAged k.moves m → IsTied whole k → IsTied whole (record k { uses = y; moves = m })
+aged_tied whole k y m blocks ages t = rw ages (uses_tied whole (record k { moves = record k.moves { came = []; went = []; synced = k.moves.opened; spare = m.spare } }) y blocks (record { left = t.left; copied = t.copied; quiet = t.quiet; unkept = t.unkept; uncopied = t.uncopied }))
+
 -- one device is settled, whose index is the next
-pub record IsNext (s t : Devices) (devs : List Kept) (d : ℕ) (k : Kept) : Type 0 where
-  pub space : IsSpace s devs
+pub record IsNext (whole : Whole) (s t : Devices) (devs : List Kept) (d : ℕ) (k : Kept) : Type 0 where
+  pub space : IsSpace whole s devs
   pub there : d < length devs
   pub kept : k ≡ kept_of devs d
 
-module _ (s t : Devices) (devs : List Kept) (d : ℕ) (k : Kept) (h : IsNext s t devs d k) where
+module _ (whole : Whole) (s t : Devices) (devs : List Kept) (d : ℕ) (k : Kept) (h : IsNext whole s t devs d k) where
   account : IsAccount (free_at s d) (count_at s d) k.uses
   account = subst (λ (x : Kept). IsAccount (free_at s d) (count_at s d) x.uses) (sym h.kept) (h.space.account d)
 
-  change : (y : Uses) (given : ℕ → Bool) (n : ℕ) → TakesBack s t d given n → y.units ≡ k.uses.units → IsAccount (free_at t d) (count_at t d) y → IsChange s t devs d (record { row = k.row; uses = y })
-  change y given n back units a = record {
+  change : (y : Uses) (m : Mapped) (given : ℕ → Bool) (n : ℕ) → TakesBack s t d given n → y.units ≡ k.uses.units → IsSameBlocks k.uses y → IsAged k.moves m → IsAccount (free_at t d) (count_at t d) y
+      → IsChange whole s t devs d (record k { uses = y; moves = m })
+  change y m given n back units blocks ages a = record {
     there = h.there;
     row = ap (λ (x : Kept). x.row) h.kept;
+    entries = ap (λ (x : Mapped). x.entries) ages ∙ ap (λ (x : Kept). x.moves.entries) h.kept;
+    counts = ap (λ (x : Mapped). x.counts) ages ∙ ap (λ (x : Kept). x.moves.counts) h.kept;
+    fresh = ap (λ (x : Mapped). x.fresh) ages ∙ ap (λ (x : Kept). x.moves.fresh) h.kept;
+    moved = aged_moved k.row k.moves m ages (subst (λ (x : Kept). IsMoved x.row x.moves) (sym h.kept) (h.space.moved d));
     units = units ∙ ap (λ (x : Kept). x.uses.units) h.kept;
     account = a;
+    copies = λ u. ap (λ (es : List Extent). has_unit es u) blocks.copies ∙ ap (λ (x : Kept). has_unit x.uses.copies u) h.kept;
     devices = back.devices;
     free = λ j u ne. let f = back.free j u in grind (arith, nat_tests, f, ne);
     count = λ j ne. let c = back.count j in grind (arith, nat_tests, c, ne);
+    tied = λ is. aged_tied whole k y m blocks ages (subst (IsTied whole) (sym h.kept) (h.space.tied d (subst (λ (x : Kept). is_leaving x.row.state ≡ true) h.kept is)));
   }
 
-  pub age_space : TakesBack s t d (has_freed k.uses.late2) (freed_count k.uses.late2) → IsSpace t (set devs d (record { row = k.row; uses = aged_uses k.uses }))
-  age_space back = stays_space s t devs d (record { row = k.row; uses = aged_uses k.uses }) h.space
-      (change (aged_uses k.uses) (has_freed k.uses.late2) (freed_count k.uses.late2) back refl
-      (aged_account (free_at s d) (free_at t d) (count_at s d) (count_at t d) k.uses account (λ u. let f = back.free d u in grind (arith, nat_tests, f)) (let c = back.count d in grind (arith, nat_tests, c))))
+  pub age_space : (y : Uses) (m : Mapped) → IsAged k.moves m → IsSameUses (aged_uses k.uses) y → TakesBack s t d (has_freed k.uses.late2) (freed_count k.uses.late2) → IsSpace whole t (set devs d (record k { uses = y; moves = m }))
+  age_space y m ages same back = stays_space s t devs d (record k { uses = y; moves = m }) h.space
+      (change y m (has_freed k.uses.late2) (freed_count k.uses.late2) back (ap (λ (x : Uses). x.units) same) (record { held = ap (λ (x : Uses). x.held) same; kept = ap (λ (x : Uses). x.kept) same; copies = ap (λ (x : Uses). x.copies) same }) ages
+      (same_account (free_at t d) (count_at t d) (aged_uses k.uses) y same (aged_account (free_at s d) (free_at t d) (count_at s d) (count_at t d) k.uses account (λ u. let f = back.free d u in grind (arith, nat_tests, f)) (let c = back.count d in grind (arith, nat_tests, c)))))
 
-  pub clear_space : TakesBack s t d (λ u. has_freed k.uses.freed u || (has_freed k.uses.late1 u || has_freed k.uses.late2 u)) (freed_count k.uses.freed + freed_count k.uses.late1 + freed_count k.uses.late2) → IsSpace t (set devs d (record { row = k.row; uses = cleared_uses k.uses }))
-  clear_space back = stays_space s t devs d (record { row = k.row; uses = cleared_uses k.uses }) h.space
-      (change (cleared_uses k.uses) (λ u. has_freed k.uses.freed u || (has_freed k.uses.late1 u || has_freed k.uses.late2 u)) (freed_count k.uses.freed + freed_count k.uses.late1 + freed_count k.uses.late2) back refl
-      (cleared_account (free_at s d) (free_at t d) (count_at s d) (count_at t d) k.uses account (λ u. let f = back.free d u in grind (arith, nat_tests, f)) (let c = back.count d in grind (arith, nat_tests, c))))
+  pub clear_space : (y : Uses) (m : Mapped) → IsAged k.moves m → IsSameUses (cleared_uses k.uses) y → TakesBack s t d (λ u. has_freed k.uses.freed u || (has_freed k.uses.late1 u || has_freed k.uses.late2 u)) (freed_count k.uses.freed + freed_count k.uses.late1 + freed_count k.uses.late2) → IsSpace whole t (set devs d (record k { uses = y; moves = m }))
+  clear_space y m ages same back = stays_space s t devs d (record k { uses = y; moves = m }) h.space
+      (change y m (λ u. has_freed k.uses.freed u || (has_freed k.uses.late1 u || has_freed k.uses.late2 u)) (freed_count k.uses.freed + freed_count k.uses.late1 + freed_count k.uses.late2) back (ap (λ (x : Uses). x.units) same) (record { held = ap (λ (x : Uses). x.held) same; kept = ap (λ (x : Uses). x.kept) same; copies = ap (λ (x : Uses). x.copies) same }) ages
+      (same_account (free_at t d) (count_at t d) (cleared_uses k.uses) y same (cleared_account (free_at s d) (free_at t d) (count_at s d) (count_at t d) k.uses account (λ u. let f = back.free d u in grind (arith, nat_tests, f)) (let c = back.count d in grind (arith, nat_tests, c)))))
 
--- so far the devices below the next are settled
-pub settled_more : (reset : Bool) (first devs : List Kept) (n : ℕ) (x : Kept) → n < length devs → x ≡ settled reset (kept_of first n)
-    → ((d : ℕ) → kept_of devs d ≡ (if nat_lt d n then settled reset (kept_of first d) else kept_of first d))
-    → (d : ℕ) → kept_of (set devs n x) d ≡ (if nat_lt d (n + 1) then settled reset (kept_of first d) else kept_of first d)
-settled_more reset first devs n x there is so d =
-    ⊎_elim
-    (λ same. let b : nat_lt d (n + 1) ≡ true = grind (arith, nat_tests, same) in rw b (subst (λ i. kept_of (set devs n x) i ≡ settled reset (kept_of first i)) (sym same) (kept_same devs n x there ∙ is)))
-    (λ other. let ne : (d == n) ≡ false = grind (arith, nat_tests, other) in let b : nat_lt d (n + 1) ≡ nat_lt d n = grind (arith, nat_tests, other) in rw b (kept_other devs n d x ne ∙ so d))
-    (cases_eq d n)
+settled_nothing : (reset : Bool) → settled reset nothing_kept ≡ nothing_kept
+settled_nothing true = refl
+settled_nothing false = refl
 
-none_beyond : (devs : List Kept) (d : ℕ) → length devs ≤ d → (kept_of devs d).uses ≡ record { units = 0; held = []; born = []; kept = []; came = []; went = []; freed = record { blocks = []; meta = [] }; late1 = record { blocks = []; meta = [] }; late2 = record { blocks = []; meta = [] }; meta = []; saved = [] }
-none_beyond [] zero le = refl
-none_beyond [] (suc d) le = refl
-none_beyond (x ∷ xs) zero le = absurd (omega (arith, le))
-none_beyond (x ∷ xs) (suc d) le = none_beyond xs d (omega (arith, le))
+settled_same : (reset : Bool) (x y : Kept) → IsSameKept x y → IsSameKept (settled reset x) (settled reset y)
+settled_same true x y same = ap (settled true) same
+settled_same false x y same = ap (settled false) same
 
 -- each device is settled
-pub settled_all : (reset : Bool) (first devs : List Kept) → length devs ≡ length first → ((d : ℕ) → kept_of devs d ≡ (if nat_lt d (length devs) then settled reset (kept_of first d) else kept_of first d)) → devs ≡ map (settled reset) first
-settled_all reset [] [] e so = refl
-settled_all reset [] (y ∷ ys) e so = absurd (omega (arith, e))
-settled_all reset (x ∷ xs) [] e so = absurd (omega (arith, e))
-settled_all reset (x ∷ xs) (y ∷ ys) e so =
-    let head : y ≡ settled reset x = let b : nat_lt 0 (length (y ∷ ys)) ≡ true = grind (arith, nat_tests) in rw b at (so 0) in
-    let tail = settled_all reset xs ys (omega (arith, e)) (λ d. let b : nat_lt (suc d) (length (y ∷ ys)) ≡ nat_lt d (length ys) = grind (arith, nat_tests) in rw b at (so (suc d))) in
-    rw head rw tail refl
+pub settled_all : (reset : Bool) (first devs : List Kept) → length devs ≡ length first → TurnedBelow (settled reset) first devs (length devs) → AreTurned (settled reset) first devs
+settled_all reset = turned_all (settled reset) (settled_nothing reset) (settled_same reset)
 
-settled_at : (reset : Bool) (devs : List Kept) (d : ℕ) → kept_of (map (settled reset) devs) d ≡ settled reset (kept_of devs d)
-settled_at true [] zero = refl
-settled_at false [] zero = refl
-settled_at true [] (suc d) = refl
-settled_at false [] (suc d) = refl
-settled_at reset (x ∷ xs) zero = refl
-settled_at reset (x ∷ xs) (suc d) = settled_at reset xs d
+-- the next device is settled
+pub settled_next : (reset : Bool) (first devs : List Kept) (n : ℕ) (k : Kept) (y : Uses) (m : Mapped) → n < length devs → k ≡ kept_of devs n → IsAged k.moves m → IsSameUses (if reset then cleared_uses k.uses else aged_uses k.uses) y
+    → TurnedBelow (settled reset) first devs n → TurnedBelow (settled reset) first (set devs n (record k { uses = y; moves = m })) (n + 1)
+settled_next reset first devs n k y m there is ages uses so =
+    turned_next (settled reset) (settled_nothing reset) (settled_same reset) first devs n (record k { uses = y; moves = m }) there
+    (subst (λ (z : Kept). IsSameKept (settled reset z) (record k { uses = y; moves = m })) is (ap₂ (λ (z : Uses) (w : Mapped). record k { uses = z; moves = w }) uses ages)) so
 
-pub meta_settled : (reset : Bool) (i : ℕ) (devs : List Kept) → meta_from i (map (settled reset) devs) ≡ meta_from i devs
-meta_settled reset i [] = refl
-meta_settled true i (x ∷ xs) = ap (λ list. addresses i x.uses.meta ++ list) (meta_settled true (i + 1) xs)
-meta_settled false i (x ∷ xs) = ap (λ list. addresses i x.uses.meta ++ list) (meta_settled false (i + 1) xs)
+pub meta_turned : (reset : Bool) (i : ℕ) (old new : List Kept) → AreTurned (settled reset) old new → meta_from i new ≡ meta_from i old
+meta_turned reset i [] [] t = refl
+meta_turned reset i [] (y ∷ ys) t = let c = t.count in absurd (omega (arith, c))
+meta_turned reset i (x ∷ xs) [] t = let c = t.count in absurd (omega (arith, c))
+meta_turned reset i (x ∷ xs) (y ∷ ys) t =
+    let head : y.uses.meta ≡ x.uses.meta = ap (λ (k : Kept). k.uses.meta) (t.each 0) ∙ settled_meta reset x in
+    rw head (ap (λ list. addresses i x.uses.meta ++ list) (meta_turned reset (i + 1) xs ys (record { count = let c = t.count in omega (arith, c); each = λ d. t.each (suc d) })))
+  where
+    settled_meta : (reset : Bool) (k : Kept) → (settled reset k).uses.meta ≡ k.uses.meta
+    settled_meta true k = refl
+    settled_meta false k = refl
 
-pub saved_settled : (reset : Bool) (i : ℕ) (devs : List Kept) → saved_from i (map (settled reset) devs) ≡ saved_from i devs
-saved_settled reset i [] = refl
-saved_settled true i (x ∷ xs) = ap (λ list. addresses i x.uses.saved ++ list) (saved_settled true (i + 1) xs)
-saved_settled false i (x ∷ xs) = ap (λ list. addresses i x.uses.saved ++ list) (saved_settled false (i + 1) xs)
+pub saved_turned : (reset : Bool) (i : ℕ) (old new : List Kept) → AreTurned (settled reset) old new → saved_from i new ≡ saved_from i old
+saved_turned reset i [] [] t = refl
+saved_turned reset i [] (y ∷ ys) t = let c = t.count in absurd (omega (arith, c))
+saved_turned reset i (x ∷ xs) [] t = let c = t.count in absurd (omega (arith, c))
+saved_turned reset i (x ∷ xs) (y ∷ ys) t =
+    let head : y.uses.saved ≡ x.uses.saved = ap (λ (k : Kept). k.uses.saved) (t.each 0) ∙ settled_saved reset x in
+    rw head (ap (λ list. addresses i x.uses.saved ++ list) (saved_turned reset (i + 1) xs ys (record { count = let c = t.count in omega (arith, c); each = λ d. t.each (suc d) })))
+  where
+    settled_saved : (reset : Bool) (k : Kept) → (settled reset k).uses.saved ≡ k.uses.saved
+    settled_saved true k = refl
+    settled_saved false k = refl
 
 settled_role : (reset : Bool) (f : ℕ → Bool) (n : ℕ) (k : Kept) → IsAccount f n k.uses → (u : ℕ) → role_in (settled reset k).uses u ≡ (if reset then cleared (role_in k.uses u) else aged (role_in k.uses u))
 settled_role true f n k a u = cleared_roles f n k.uses a u
@@ -106,34 +169,28 @@ settled_opened : (reset : Bool) (k : Kept) → opened_in (settled reset k) ≡ n
 settled_opened true k = refl
 settled_opened false k = refl
 
-pub commits : (reset : Bool) (whole : Whole) (s t : Devices) (devs : List Kept) → IsSpace s devs → IsSpace t (map (settled reset) devs) → steps.Commits reset (space_of whole devs) (space_of whole (map (settled reset) devs))
-commits reset whole s t devs old new = record {
+pub commits : (reset : Bool) (whole : Whole) (s t : Devices) (devs next : List Kept) → AreTurned (settled reset) devs next → IsSpace whole s devs → IsSpace whole t next → steps.Commits reset (space_of whole devs) (space_of whole next)
+commits reset whole s t devs next turned old new = record {
   roles = λ d u.
-      roles_are whole (map (settled reset) devs) d u new.on new.rows
-      ∙ (ap (λ (k : Kept). role_in k.uses u) (settled_at reset devs d)
+      roles_are whole next d u new
+      ∙ (ap (λ (k : Kept). role_in k.uses u) (turned.each d)
       ∙ (settled_role reset (free_at s d) (count_at s d) (kept_of devs d) (old.account d) u
-      ∙ ap (λ r. if reset then cleared r else aged r) (sym (roles_are whole devs d u old.on old.rows))));
-  opened = λ d. opened_is whole (map (settled reset) devs) d ∙ (ap opened_in (settled_at reset devs d) ∙ settled_opened reset (kept_of devs d));
-  fresh = λ d u. ap (λ (p : DevPart). has_unit p.fresh u) (part_is (map (settled reset) devs) d) ∙ sym (ap (λ (p : DevPart). has_unit p.fresh u) (part_is devs d));
-  rows = λ d. ap (λ (p : DevPart). p.row) (part_is (map (settled reset) devs) d) ∙ (ap (λ (k : Kept). k.row) (settled_at reset devs d) ∙ sym (ap (λ (p : DevPart). p.row) (part_is devs d)));
-  entries = λ d. ap (λ (p : DevPart). p.entries) (part_is (map (settled reset) devs) d) ∙ sym (ap (λ (p : DevPart). p.entries) (part_is devs d));
-  counts = λ d. ap (λ (p : DevPart). p.counts) (part_is (map (settled reset) devs) d) ∙ sym (ap (λ (p : DevPart). p.counts) (part_is devs d));
-  devices = length-map (map (settled reset) devs) part_in ∙ (length-map devs (settled reset) ∙ sym (length-map devs part_in));
+      ∙ ap (λ r. if reset then cleared r else aged r) (sym (roles_are whole devs d u old))));
+  opened = λ d. opened_is whole next d ∙ (ap opened_in (turned.each d) ∙ settled_opened reset (kept_of devs d));
+  fresh = λ d u. ap (λ (p : DevPart). has_unit p.fresh u) (part_is next d) ∙ (ap (λ (k : Kept). has_unit k.moves.fresh u) (turned.each d) ∙ sym (ap (λ (p : DevPart). has_unit p.fresh u) (part_is devs d)));
+  rows = λ d. ap (λ (p : DevPart). p.row) (part_is next d) ∙ (ap (λ (k : Kept). k.row) (turned.each d) ∙ sym (ap (λ (p : DevPart). p.row) (part_is devs d)));
+  entries = λ d. ap (λ (p : DevPart). p.entries) (part_is next d) ∙ (ap (λ (k : Kept). k.moves.entries) (turned.each d) ∙ sym (ap (λ (p : DevPart). p.entries) (part_is devs d)));
+  counts = λ d. ap (λ (p : DevPart). p.counts) (part_is next d) ∙ (ap (λ (k : Kept). k.moves.counts) (turned.each d) ∙ sym (ap (λ (p : DevPart). p.counts) (part_is devs d)));
+  devices = length-map next part_in ∙ (turned.count ∙ sym (length-map devs part_in));
   version = refl;
   cond = refl;
   ckpt = refl;
   synced = λ d leaving.
-      let on : is_leaving (part_of (map part_in devs) d).row.state ≡ false = ap (λ (p : DevPart). is_leaving p.row.state) (part_is devs d) ∙ ap is_leaving (old.on d) in
-      absurd (grind (arith, on, leaving));
-  lawful = λ was. lawful whole t (map (settled reset) devs) new;
+      let is : is_leaving (kept_of devs d).row.state ≡ true = sym (ap (λ (p : DevPart). is_leaving p.row.state) (part_is devs d)) ∙ leaving in
+      let now : is_leaving (kept_of next d).row.state ≡ true = ap (λ (k : Kept). is_leaving k.row.state) (turned.each d) ∙ is in
+      synced_is t next new d now
+      ∙ (ap (λ (k : Kept). k.moves.synced) (turned.each d)
+      ∙ (((old.moved d).leaving (leaving_state (kept_of devs d).row.state is)).marks.frontier
+      ∙ ap end_of_last (sym (ap (λ (p : DevPart). p.entries) (part_is devs d)))));
+  lawful = λ was. lawful whole t next new;
 }
-
--- the next device is settled
-pub settled_next : (reset : Bool) (first devs : List Kept) (n : ℕ) (k : Kept) (y : Uses) → n < length devs → k ≡ kept_of devs n → y ≡ (if reset then cleared_uses k.uses else aged_uses k.uses)
-    → ((d : ℕ) → kept_of devs d ≡ (if nat_lt d n then settled reset (kept_of first d) else kept_of first d))
-    → (d : ℕ) → kept_of (set devs n (record { row = k.row; uses = y })) d ≡ (if nat_lt d (n + 1) then settled reset (kept_of first d) else kept_of first d)
-settled_next reset first devs n k y there is uses so =
-    let b : nat_lt n n ≡ false = grind (arith, nat_tests) in
-    let same : kept_of devs n ≡ kept_of first n = rw b at (so n) in
-    let x : record { row = k.row; uses = y } ≡ settled reset (kept_of first n) = rw uses (ap (settled reset) (is ∙ same)) in
-    settled_more reset first devs n (record { row = k.row; uses = y }) there x so

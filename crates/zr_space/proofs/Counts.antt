@@ -5,6 +5,7 @@ use Rattle.zr_base.specs.declared.space.Extent.{Extent}
 use Rattle.zr_base.specs.Extents.{has_unit, unit_count, IsMaximal}
 use Rattle.zr_rules.specs.Places.{one_if, count_below}
 use Rattle.zr_rules.specs.Roles.{is_allocated_role, is_deferred_role, is_kept_role}
+use Rattle.zr_rules.specs.Roles.Role.{Absent}
 use Rattle.zr_obsolete.proofs.Counting.{count-gap, count-set}
 use Rattle.zr_units.specs.Apart.{IsWithin}
 use Rattle.zr_units.specs.Uses.{Uses, Freed, IsAccount, use_hits, use_count, freed_count}
@@ -24,6 +25,16 @@ count_within n es m within le =
 pub count_as : (n : ℕ) (f g : ℕ → Bool) → ((u : ℕ) → f u ≡ g u) → count_below n f ≡ count_below n g
 count_as zero f g same = refl
 count_as (suc n) f g same = let r = count_as n f g same in let s = ap one_if (same n) in omega (arith, r, s)
+
+-- no unit beyond a number passes
+pub count_beyond : (n m : ℕ) (f : ℕ → Bool) → m ≤ n → ((u : ℕ) → m ≤ u → f u ≡ false) → count_below n f ≡ count_below m f
+count_beyond n m f le none =
+    let all : m + (n - m) ≡ n = omega (arith, le) in
+    ap (λ (k : ℕ). count_below k f) (sym all) ∙ count-gap m (n - m) f (λ j from lt. none j from)
+
+-- a unit that the device has not is none
+pub absent_in : (x : Uses) (u : ℕ) → x.units ≤ u → role_in x u ≡ Absent
+absent_in x u past = grind (arith, nat_tests, past)
 
 -- the sets of a device, counted unit by unit
 abbrev pub freed_below : ℕ → Freed → ℕ

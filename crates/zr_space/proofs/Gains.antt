@@ -1,20 +1,21 @@
--- What the log of the held set gains.
-use Rattle.std.proofs.Common.{◌≡◌, ℕ, Bool, List, [], sym, ap, arith, subst, Result, Ok, Err}
+-- What the logs of the sets gain.
+use Rattle.std.proofs.Common.{◌≡◌, ℕ, Bool, List, sym, ap, arith, subst, Result, Ok, Err}
 use Rattle.std.specs.Prelude.{IfOk}
 use Rattle.std.proofs.lemmas.Bool.Decides.{nat_tests}
 use Rattle.zr_base.specs.declared.space.Change.{Change}
 use Rattle.zr_base.specs.declared.space.DevPart.{DevPart}
 use Rattle.zr_base.specs.Extents.{has_unit}
-use Rattle.zr_rules.specs.Places.{is_held, is_kept}
-use Rattle.zr_rules.specs.Space.{OpenSets, opened_of, is_born, was_held, was_kept}
+use Rattle.zr_rules.specs.Places.{is_held, is_kept, is_fresh}
+use Rattle.zr_rules.specs.Space.{OpenSets, opened_of, is_born, was_held, was_kept, was_fresh}
 use Rattle.zr_metaslab.specs.Devices.{Devices}
 use Rattle.zr_units.specs.Apart.{AreSetsApart}
 use Rattle.zr_units.specs.Uses.{Uses, IsAccount}
-use Rattle.zr_units.specs.Differences.{IsMerged, IsDifference}
+use Rattle.zr_units.specs.Differences.{IsMerged, IsDifference, Replays}
 use Rattle.zr_units.proofs.Differences.{replays, merged_difference}
-use Rattle.zr_space.specs.declared.records.SetKind.{SetKind}
-use Rattle.zr_space.specs.declared.records.SetKind.TheVariants as kinds
-use Rattle.zr_space.specs.Records.{GainsHeld, GainsKept, Gains}
+use Rattle.std.proofs.Math.Path.{fun_ext}
+use Rattle.zr_indirect.specs.Changes as marks
+use Rattle.zr_space.proofs.Rooted.{was_fresh_is}
+use Rattle.zr_space.specs.Records.{GainsHeld, GainsKept, GainsFresh}
 use Rattle.zr_space.specs.Views.{Kept, kept_of, space_of, IsSpace}
 use Rattle.zr_space.proofs.Views.{part_is, opened_is}
 use Rattle.zr_space.specs.declared.whole.Whole.{Whole}
@@ -22,7 +23,7 @@ use Rattle.zr_space.specs.declared.whole.Whole.{Whole}
 pub born_apart : (f : ℕ → Bool) (n : ℕ) (x : Uses) → IsAccount f n x → AreSetsApart x.born x.freed.blocks
 born_apart f n x a u is = let o = a.once u in let b = a.born u is in grind (arith, nat_tests, o, b)
 
-pub gains_held : (whole : Whole) (slabs : Devices) (devs : List Kept) (d : ℕ) (k : Kept) (cs : List Change) → IsSpace slabs devs → k ≡ kept_of devs d → IsMerged k.uses.born k.uses.freed.blocks cs → GainsHeld (space_of whole devs) d cs
+pub gains_held : (whole : Whole) (slabs : Devices) (devs : List Kept) (d : ℕ) (k : Kept) (cs : List Change) → IsSpace whole slabs devs → k ≡ kept_of devs d → IsMerged k.uses.born k.uses.freed.blocks cs → GainsHeld (space_of whole devs) d cs
 gains_held whole slabs devs d k cs s is m =
     let sp = space_of whole devs in
     let x = (kept_of devs d).uses in
@@ -49,7 +50,7 @@ ok_as (Err e) P Q f h = tt
 pub came_apart : (f : ℕ → Bool) (n : ℕ) (x : Uses) → IsAccount f n x → AreSetsApart x.came x.went
 came_apart f n x a u is = let o = a.once u in let c = a.keeping.came u in let h = a.keeping.held u in let w = a.keeping.went u in grind (arith, nat_tests, o, c, h, w, is)
 
-pub gains_kept : (whole : Whole) (slabs : Devices) (devs : List Kept) (d : ℕ) (k : Kept) (cs : List Change) → IsSpace slabs devs → k ≡ kept_of devs d → IsMerged k.uses.came k.uses.went cs → GainsKept (space_of whole devs) d cs
+pub gains_kept : (whole : Whole) (slabs : Devices) (devs : List Kept) (d : ℕ) (k : Kept) (cs : List Change) → IsSpace whole slabs devs → k ≡ kept_of devs d → IsMerged k.uses.came k.uses.went cs → GainsKept (space_of whole devs) d cs
 gains_kept whole slabs devs d k cs s is m =
     let sp = space_of whole devs in
     let x = (kept_of devs d).uses in
@@ -68,6 +69,15 @@ gains_kept whole slabs devs d k cs s is m =
       replays = replays (was_kept sp d) (is_kept sp.parts.devs d) cs diff;
     }
 
--- no unit is obsolete
-pub gains_none : (whole : Whole) (devs : List Kept) (d : ℕ) (set : SetKind) (cs : List Change) → set ≡ kinds.Fresh → cs ≡ [] → Gains (space_of whole devs) d set cs
-gains_none whole devs d set cs is none = subst (λ (k : SetKind). Gains (space_of whole devs) d k cs) (sym is) (ap (λ (p : DevPart). p.fresh) (part_is devs d), none)
+pub gains_fresh : (whole : Whole) (devs : List Kept) (d : ℕ) (k : Kept) (cs : List Change) → k ≡ kept_of devs d → marks.GainsFresh k.moves cs → GainsFresh (space_of whole devs) d cs
+gains_fresh whole devs d k cs is g =
+    let sp = space_of whole devs in
+    let m = (kept_of devs d).moves in
+    let here : marks.GainsFresh m cs = subst (λ (z : Kept). marks.GainsFresh z.moves cs) is g in
+    let before : was_fresh sp d ≡ marks.was_fresh_in m = fun_ext (was_fresh_is whole devs d) in
+    let after : is_fresh sp.parts.devs d ≡ has_unit m.fresh = fun_ext (λ u. ap (λ (p : DevPart). has_unit p.fresh u) (part_is devs d)) in
+    record {
+      merged = subst (λ (o : OpenSets). IsMerged o.fresh.came o.fresh.went cs) (sym (opened_is whole devs d)) here.merged;
+      difference = subst (λ (f : ℕ → Bool). IsDifference f (is_fresh sp.parts.devs d) cs) (sym before) (subst (λ (f : ℕ → Bool). IsDifference (marks.was_fresh_in m) f cs) (sym after) here.difference);
+      replays = subst (λ (f : ℕ → Bool). Replays f (is_fresh sp.parts.devs d) cs) (sym before) (subst (λ (f : ℕ → Bool). Replays (marks.was_fresh_in m) f cs) (sym after) here.replays);
+    }

@@ -1,5 +1,7 @@
 -- Kept extents are given back one after the other.
-use Rattle.std.proofs.Common.{◌≡◌, ◌⊎◌, inl, inr, ℕ, Bool, true, false, ◌==◌, ◌&&◌, ◌||◌, not, List, [], ◌∷◌, length, refl, ◌∙◌, sym, ap, subst, arith, if◌then◌else◌}
+use Rattle.std.proofs.Common.{◌≡◌, ◌⊎◌, inl, inr, ℕ, ◌<◌, Bool, true, false, ◌==◌, ◌&&◌, ◌||◌, not, List, [], ◌∷◌, length, refl, ◌∙◌, sym, ap, subst, arith, if◌then◌else◌}
+use Rattle.std.specs.List.{sum_by}
+use Rattle.std.proofs.lemmas.List.Sums.{sum_by-cons}
 use Rattle.std.proofs.lemmas.Bool.Decides.{nat_tests}
 use Rattle.zr_base.specs.declared.space.Extent.{Extent}
 use Rattle.zr_base.specs.Extents.{in_extent}
@@ -8,10 +10,10 @@ use Rattle.zr_rules.specs.Roles.{Role, discarded, is_kept_role}
 use Rattle.zr_rules.specs.Space.{Space, role_at}
 use Rattle.zr_rules.specs.Frees.{IsSameFrame}
 use Rattle.zr_rules.specs.Steps.{Discards, is_among}
-use Rattle.zr_space.specs.Discards.{AreKnown, CanDiscard, DiscardsPart}
+use Rattle.zr_space.specs.Discards.{AreApart, AreKnown, CanDiscard, DiscardsPart}
 use Rattle.zr_space.proofs.Discards.{frame_itself}
 
-frames_join : (a b c : Space) → IsSameFrame a b → IsSameFrame b c → IsSameFrame a c
+pub frames_join : (a b c : Space) → IsSameFrame a b → IsSameFrame b c → IsSameFrame a c
 frames_join a b c p q = record {
   version = q.version ∙ p.version;
   cond = q.cond ∙ p.cond;
@@ -125,3 +127,12 @@ gives_part first mid new list rest g p = record {
     join true r m n a (inr x) = inr (x ∙ (ap discarded a ∙ twice r))
     join false r m n a (inl x) = inl (x ∙ a)
     join false r m n a (inr x) = inr (x ∙ ap discarded a)
+
+-- extents that are not empty have units
+pub some_units : (es : List (ℕ × Extent)) → AreApart es → 0 < length es → 0 < sum_by (λ (e : ℕ × Extent). e.1.len) es
+some_units [] a lt = absurd (omega (arith, lt))
+some_units (p ∷ ps) a lt = let first = a.0 in let all = sum_by-cons (λ (e : ℕ × Extent). e.1.len) p ps in omega (arith, first, all)
+
+pub no_extents : (es : List (ℕ × Extent)) → length es ≡ 0 → es ≡ []
+no_extents [] e = refl
+no_extents (p ∷ ps) e = absurd (omega (arith, e))

@@ -187,12 +187,12 @@ known_take m (suc n) [] k = tt
 known_take m (suc n) (e ∷ es) k = (k.0, known_take m n es k.1)
 
 -- the first of them can be given back
-pub can_discard : (whole : Whole) (s : Devices) (devs : List Kept) (n : ℕ) → IsSpace s devs → CanDiscard (space_of whole devs) (take n (kept_from 0 devs))
+pub can_discard : (whole : Whole) (s : Devices) (devs : List Kept) (n : ℕ) → IsSpace whole s devs → CanDiscard (space_of whole devs) (take n (kept_from 0 devs))
 can_discard whole s devs n sp = record {
   known = let l = length-map devs part_in in known_take (length (map part_in devs)) n (kept_from 0 devs) (known_from (length (map part_in devs)) 0 devs (omega (arith, l)));
   apart = apart_take n (kept_from 0 devs) (apart_from 0 devs (λ j. (sp.account j).lists.kept));
   kept = λ d u is.
-      ap is_kept_role (roles_are whole devs d u sp.on sp.rows)
+      ap is_kept_role (roles_are whole devs d u sp)
       ∙ (kept_is (free_at s d) (count_at s d) (kept_of devs d).uses (sp.account d) u
       ∙ (sym (among_kept d u devs) ∙ among_take n (kept_from 0 devs) d u is));
 }

@@ -1,96 +1,144 @@
--- Where no device is leaving or gone, an address leads to its own units.
-use Rattle.std.proofs.Common.{◌≡◌, ◌∙◌, ℕ, zero, suc, ◌+◌, ◌-◌, ◌≤◌, ◌<◌, true, false, nat_lt, List, [], ◌∷◌, ◌++◌, Some, None, refl, subst, map, ◌==◌, Option, sym, ap, arith, if◌then◌else◌}
-use Rattle.std.specs.Prelude.{is_some}
+-- Where no device is leaving or gone a free touches one piece, and where the walk over removed devices comes to.
+use Rattle.std.proofs.Common.{◌≡◌, ◌⊎◌, inl, inr, ◌∙◌, ⊎_elim, ℕ, zero, suc, ◌+◌, ◌-◌, ◌≤◌, ◌<◌, Bool, true, false, ◌||◌, nat_lt, List, [], ◌∷◌, Some, None, length, refl, subst, map, ◌==◌, Option, sym, ap, ap₂, arith, Result, Ok, Err}
+use Rattle.std.specs.Prelude.{is_some, OnOk, IfErr}
+use Rattle.std.specs.Option.{option_and_then}
 use Rattle.std.specs.List.{list_all, list_any, sum_by, range_with_len}
 use Rattle.std.proofs.lemmas.List.{append-nil}
+use Rattle.std.proofs.lemmas.List.Folds.{list_any-append}
+use Rattle.std.proofs.lemmas.Bool.{cases_lt}
 use Rattle.std.proofs.lemmas.Bool.Decides.{nat_tests}
 use Rattle.zr_base.specs.declared.space.Dva.{Dva}
-use Rattle.zr_rules.specs.Places.{Place, one_if, is_place, is_gone, is_leaving}
-use Rattle.zr_rules.specs.Devices.{Devices, state_at}
-use Rattle.zr_rules.specs.Resolve.{resolve, resolved, passed_units, is_there, is_resolved}
-use Rattle.zr_rules.specs.Steps.{pieces}
-use Rattle.zr_chain.specs.declared.visit.Visited.{Visited}
-use Rattle.zr_chain.specs.declared.visit.Visited.TheVariants.{Piece}
-use Rattle.zr_chain.specs.Visits.{Visits}
+use Rattle.zr_base.specs.declared.space.Entry.{Entry}
 use Rattle.zr_base.specs.declared.space.DevPart.{DevPart}
-use Rattle.zr_rules.specs.Equation.{devices_in}
-use Rattle.zr_metaslab.specs.Devices.{Devices as Slabs}
-use Rattle.zr_space.specs.Views.{Kept, space_of, IsSpace}
-use Rattle.zr_space.proofs.Views.{part_is}
-use Rattle.zr_space.specs.Paths.{AreInService}
-use Rattle.zr_space.proofs.Leads.{leads_within, passes_none, hits_none}
-use Rattle.zr_space.specs.declared.whole.Whole.{Whole}
+use Rattle.zr_rules.specs.Places.{Place, one_if, is_place, is_gone, no_part, part_of}
+use Rattle.zr_rules.specs.Devices.{Devices, state_at}
+use Rattle.zr_rules.specs.Mappings.{has_source, in_source, target}
+use Rattle.zr_rules.specs.Resolve.{resolve, resolved, passed, passed_units, is_there, is_resolved}
+use Rattle.zr_rules.specs.Steps.{pieces}
+use Rattle.zr_imap.specs.declared.image.Piece.{Piece as Part}
+use Rattle.zr_imap.specs.Searches.{FollowFrom, piece_target}
+use Rattle.zr_chain.specs.declared.visit.ChainErr.{ChainErr}
+use Rattle.zr_chain.specs.declared.visit.ChainErr.TheVariants.{NoEntry, NoMemory}
+use Rattle.zr_chain.specs.declared.visit.Visited.{Visited}
+use Rattle.zr_chain.specs.Visits.{Visits, HasGap, IsWithin, pieces_of}
+use Rattle.zr_chain.proofs.Ways.{cases_bool}
+use Rattle.zr_space.specs.Paths.{AreInService, LeadsNowhere, StandsWithin}
+use Rattle.zr_space.proofs.Leads.{leads_within}
 
 -- a unit past the end of its device leads nowhere
 pub nowhere : (n : ℕ) (ds : Devices) (d u : ℕ) → is_gone (state_at ds d) ≡ false → is_there ds d u ≡ false → resolve n ds d u ≡ None
 nowhere zero ds d u on past = refl
 nowhere (suc n) ds d u on past = rw on rw past refl
 
+-- a unit that its device does not have is not there
+past_end : (ds : Devices) (d u : ℕ) → (d < ds.count → (ds.row d).units ≤ u) → is_there ds d u ≡ false
+past_end ds d u past = grind (arith, nat_tests, past)
+
+-- a unit past the end of a device that is not gone leads nowhere
+pub leads_nowhere : (ds : Devices) (a : Dva) (k : ℕ) → is_gone (state_at ds a.dev) ≡ false → (a.dev < ds.count → (ds.row a.dev).units ≤ a.start + k) → resolved ds a.dev (a.start + k) ≡ None
+leads_nowhere ds a k there past = nowhere ds.count ds a.dev (a.start + k) there (past_end ds a.dev (a.start + k) past)
+
+-- there is no part past the end
+pub part_past : (parts : List DevPart) (d : ℕ) → length parts ≤ d → part_of parts d ≡ no_part
+part_past [] zero le = refl
+part_past [] (suc d) le = refl
+part_past (p ∷ ps) zero le = absurd (omega (arith, le))
+part_past (p ∷ ps) (suc d) le = part_past ps d (omega (arith, le))
+
 pub one_piece : (n : ℕ) (ds : Devices) (d u len : ℕ) → AreInService ds → pieces n ds d u len ≡ 1
 one_piece zero ds d u len on = refl
 one_piece (suc n) ds d u len on = let g = on.there d in let l = on.stays d in rw g rw l refl
 
-abbrev some_place : ℕ → ℕ → Option Place
-some_place d u = Some (d, u)
+-- ---- results
+
+pub on_ok : {T E : Type 0} (r : Result T E) (P Q : Type 0) → (P → Q) → OnOk r P → OnOk r Q
+on_ok (Ok x) P Q f h = f h
+on_ok (Err e) P Q f h = tt
+
+pub if_err : {T E : Type 0} (r : Result T E) (P Q : E → Type 0) → ((e : E) → P e → Q e) → IfErr r P → IfErr r Q
+if_err (Ok x) P Q f h = tt
+if_err (Err e) P Q f h = f e h
 
 false_true : false ≡ true → ⊥
 false_true e = cc
 
--- a unit that its device does not have is not there
-pub past_end : (ds : Devices) (d u room : ℕ) → room ≡ (if nat_lt d ds.count then (ds.row d).units else 0) → room ≤ u → is_there ds d u ≡ false
-past_end ds d u room is le = grind (arith, nat_tests, is, le)
+-- ---- a unit that passes one without an entry leads nowhere
 
-module _ (ds : Devices) (a : Dva) (on : AreInService ds) where
-  -- a unit past the end leads nowhere
-  pub leads_nowhere : (room k : ℕ) → room ≡ (if nat_lt a.dev ds.count then (ds.row a.dev).units else 0) → room ≤ a.start + k → resolved ds a.dev (a.start + k) ≡ None
-  leads_nowhere room k is le = nowhere ds.count ds a.dev (a.start + k) (on.there a.dev) (past_end ds a.dev (a.start + k) room is le)
+no_target : (es : List Entry) (u : ℕ) → has_source es u ≡ false → target es u ≡ None
+no_target [] u none = refl
+no_target (e ∷ es) u none =
+    let first : in_source e u ≡ false = grind (arith, nat_tests, none) in
+    let rest : has_source es u ≡ false = grind (arith, nat_tests, none) in
+    rw first (no_target es u rest)
 
-  within : (room : ℕ) → room ≡ (if nat_lt a.dev ds.count then (ds.row a.dev).units else 0) → 0 < a.len → a.start + a.len ≤ room → (k : ℕ) → k < a.len → is_there ds a.dev (a.start + k) ≡ true
-  within room is some le k lt = grind (arith, nat_tests, is, some, le, lt)
+-- where an option is none there is none, and else the place that it has leads nowhere
+then_none : (o : Option Place) (f : Place → Option Place) → ((p : Place) → o ≡ Some p → f p ≡ None) → option_and_then f o ≡ None
+then_none None f none = refl
+then_none (Some p) f none = none p refl
 
-  known : (room : ℕ) → room ≡ (if nat_lt a.dev ds.count then (ds.row a.dev).units else 0) → 0 < a.len → a.start + a.len ≤ room → 0 < ds.count
-  known room is some le = grind (arith, nat_tests, is, some, le)
+here_or_later : (d u dev unit : ℕ) (later : Bool) → (is_place (d, u) dev unit || later) ≡ true → ((d ≡ dev) × (u ≡ unit)) ⊎ (later ≡ true)
+here_or_later d u dev unit true is = inr refl
+here_or_later d u dev unit false is = inl (grind (arith, nat_tests, is), grind (arith, nat_tests, is))
 
-  -- an address within its device is visited as one part
-  pub one_visit : (room : ℕ) → room ≡ (if nat_lt a.dev ds.count then (ds.row a.dev).units else 0) → 0 < a.len → a.start + a.len ≤ room → (old new : List Visited)
-      → new ≡ old ++ Piece 0 a.dev (record { start = a.start; len = a.len }) ∷ [] → Visits ds a old new
-  one_visit room is some le old new appended = record {
-    visits = Piece 0 a.dev (record { start = a.start; len = a.len }) ∷ [];
-    appended = appended;
-    order = let ne : (a.len == 0) ≡ false = grind (arith, nat_tests, some) in rw ne (on.there a.dev, refl, refl);
-    follow = (refl, some, omega arith);
-    targets = λ k lt in_it.
-        let here : nat_lt k (0 + a.len) ≡ true = grind (arith, nat_tests, lt) in
-        let less : k - 0 ≡ k = omega arith in
-        let leads = leads_within ds.count ds a.dev (a.start + k) (known room is some le) (on.there a.dev) (within room is some le k lt) in
-        rw here (ap (λ (n : ℕ). some_place a.dev (a.start + n)) less ∙ sym leads);
-    passed = λ d u. sym (hits_none ds a.dev a.start a.len d u (on.there a.dev));
-    entries = λ d u passes.
-        let none = passes_none ds.count ds a.dev (a.start + passes.place) (on.there a.dev) in
-        false_true (sym (ap (λ (ps : List Place). list_any (λ q. is_place q d u) ps) none) ∙ passes.passes);
-    touched = λ lt. let stays = on.stays a.dev in rw stays (sym (one_piece ds.count ds a.dev a.start a.len on));
-  }
+pub passes_gap : (n : ℕ) (ds : Devices) (d u dev unit : ℕ) → has_source (ds.entries dev) unit ≡ false → list_any (λ q. is_place q dev unit) (passed n ds d u) ≡ true → resolve n ds d u ≡ None
+passes_gap zero ds d u dev unit missing passes = refl
+passes_gap (suc n) ds d u dev unit missing passes = ⊎_elim
+    (λ gone. rw gone (then_none (target (ds.entries d) u) (λ (p : Place). resolve n ds p.0 p.1) (λ p is.
+    let way : passed (suc n) ds d u ≡ (d, u) ∷ passed n ds p.0 p.1 = rw (gone, is) (ap (λ (t : List Place). (d, u) ∷ t) (append-nil (passed n ds p.0 p.1))) in
+    let any : (is_place (d, u) dev unit || list_any (λ q. is_place q dev unit) (passed n ds p.0 p.1)) ≡ true = sym (any_cons (d, u) (passed n ds p.0 p.1)) ∙ (sym (ap (λ (ps : List Place). list_any (λ q. is_place q dev unit) ps) way) ∙ passes) in
+    ⊎_elim
+    (λ (same : (d ≡ dev) × (u ≡ unit)).
+    let none : target (ds.entries d) u ≡ None = no_target (ds.entries d) u (ap₂ (λ (i j : ℕ). has_source (ds.entries i) j) same.0 same.1 ∙ missing) in
+    absurd (some_none p (sym is ∙ none)))
+    (λ later. passes_gap n ds p.0 p.1 dev unit missing later)
+    (here_or_later d u dev unit (list_any (λ q. is_place q dev unit) (passed n ds p.0 p.1)) any))))
+    (λ there.
+    let way : passed (suc n) ds d u ≡ [] = rw there refl in
+    absurd (false_true (ap (λ (ps : List Place). list_any (λ q. is_place q dev unit) ps) (sym way) ∙ passes)))
+    (cases_bool (is_gone (state_at ds d)))
+  where
+    some_none : (p : Place) → Some p ≡ None → ⊥
+    some_none p e = cc
 
--- each unit of an address within its device leads somewhere
-all_lead : (ds : Devices) (dev from n : ℕ) → ((u : ℕ) → from ≤ u → u < from + n → resolved ds dev u ≡ Some (dev, u))
+    any_cons : (p : Place) (ps : List Place) → list_any (λ q. is_place q dev unit) (p ∷ ps) ≡ (is_place p dev unit || list_any (λ q. is_place q dev unit) ps)
+    any_cons p ps = list_any-append (λ q. is_place q dev unit) (p ∷ []) ps ∙ grind (arith, nat_tests)
+
+-- the walk ends at a unit that leads nowhere
+pub gap_nowhere : (ds : Devices) (a : Dva) (e : ChainErr) → HasGap ds a e → LeadsNowhere ds a e
+gap_nowhere ds a (NoEntry dev unit) gap = (gap.place, gap.within, passes_gap ds.count ds a.dev (a.start + gap.place) dev unit gap.missing gap.passes)
+gap_nowhere ds a NoMemory gap = tt
+
+-- ---- an address that is visited to its end leads somewhere with each unit
+
+follow_some : (from end : ℕ) (ps : List Part) → FollowFrom from end ps → (k : ℕ) → from ≤ k → k < end → is_some (piece_target ps k) ≡ true
+follow_some from end [] is k le lt = absurd (omega (arith, is, le, lt))
+follow_some from end (p ∷ ps) follow k le lt = ⊎_elim
+    (λ below. let b : nat_lt k (p.split + p.at.len) ≡ true = grind (arith, nat_tests, below) in rw b refl)
+    (λ past. let b : nat_lt k (p.split + p.at.len) ≡ false = grind (arith, nat_tests, past) in rw b (follow_some (p.split + p.at.len) end ps follow.2 k (omega (arith, past)) lt))
+    (cases_lt k (p.split + p.at.len))
+
+all_lead : (ds : Devices) (dev from n : ℕ) → ((u : ℕ) → from ≤ u → u < from + n → is_some (resolved ds dev u) ≡ true)
     → list_all (λ (p : Option Place). is_some p) (map (λ (p : Place). resolved ds p.0 p.1) (map (λ (u : ℕ). (dev, u)) (range_with_len from n))) ≡ true
 all_lead ds dev from zero leads = refl
 all_lead ds dev from (suc n) leads =
-    let first : is_some (resolved ds dev from) ≡ true = ap (λ (p : Option Place). is_some p) (leads from (omega arith) (omega arith)) in
+    let first = leads from (omega arith) (omega arith) in
     rw first (all_lead ds dev (from + 1) n (λ u le lt. leads u (omega (arith, le)) (omega (arith, lt))))
 
-pub within_resolves : (ds : Devices) (a : Dva) (on : AreInService ds) (room len : ℕ) → room ≡ (if nat_lt a.dev ds.count then (ds.row a.dev).units else 0) → len ≡ a.len → 0 < a.len → a.start + a.len ≤ room → is_resolved ds a ≡ true
-within_resolves ds a on room len is same some le = all_lead ds a.dev a.start a.len (λ u from to.
-    leads_within ds.count ds a.dev u (known ds a on room is some le) (on.there a.dev) (subst (λ (w : ℕ). is_there ds a.dev w ≡ true) (omega (arith, from)) (within ds a on room is some le (u - a.start) (omega (arith, from, to)))))
+-- an address within its device leads to its own units, where all devices are in service
+pub within_resolves : (ds : Devices) (a : Dva) → AreInService ds → a.dev < ds.count → a.start + a.len ≤ (ds.row a.dev).units → is_resolved ds a ≡ true
+within_resolves ds a on known within = all_lead ds a.dev a.start a.len (λ u from to.
+    ap (λ (p : Option Place). is_some p) (leads_within ds.count ds a.dev u (omega (arith, known)) (on.there a.dev) (grind (arith, nat_tests, known, within, to))))
 
 pub none_resolves : (ds : Devices) (a : Dva) → a.len ≡ 0 → is_resolved ds a ≡ true
 none_resolves ds a none = all_lead ds a.dev a.start a.len (λ u from to. absurd (omega (arith, none, from, to)))
 
--- the same where the length was read as another number
-pub one_visit_as : (ds : Devices) (a : Dva) (on : AreInService ds) (room len : ℕ) → room ≡ (if nat_lt a.dev ds.count then (ds.row a.dev).units else 0) → len ≡ a.len → 0 < a.len → a.start + a.len ≤ room → (old new : List Visited)
-    → new ≡ old ++ Piece 0 a.dev (record { start = a.start; len = len }) ∷ [] → Visits ds a old new
-one_visit_as ds a on room len is same some le old new appended =
-    one_visit ds a on room is some le old new (subst (λ (n : ℕ). new ≡ old ++ Piece 0 a.dev (record { start = a.start; len = n }) ∷ []) same appended)
+pub visits_resolve : (ds : Devices) (a : Dva) (old new : List Visited) → StandsWithin ds a → Visits ds a old new → is_resolved ds a ≡ true
+visits_resolve ds a old new stands v = all_lead ds a.dev a.start a.len (λ u from to.
+    let k : ℕ = u - a.start in
+    let lt : k < a.len = omega (arith, from, to) in
+    let at : a.start + k ≡ u = omega (arith, from) in
+    let in_it : IsWithin ds a.dev (a.start + k) = ⊎_elim (λ gone. inl gone) (λ there. let w = stands.within there in inr (omega (arith, w, at, to))) (cases_bool (is_gone (state_at ds a.dev))) in
+    ap (λ (w : ℕ). is_some (resolved ds a.dev w)) (sym at) ∙ (ap (λ (p : Option Place). is_some p) (sym (v.targets k lt in_it)) ∙ follow_some 0 a.len (pieces_of v.visits) v.follow k (omega arith) lt))
 
 -- an address of no units is visited as none
 pub no_visit : (ds : Devices) (a : Dva) → a.len ≡ 0 → (v : List Visited) → Visits ds a v v
@@ -103,10 +151,4 @@ no_visit ds a none v = record {
   passed = λ d u. let P : ℕ → Type 0 = λ n. 0 ≡ sum_by (λ (p : Place). sum_by (λ (q : Place). one_if (is_place q d u)) (passed_units ds p.0 p.1)) (map (λ (w : ℕ). (a.dev, w)) (range_with_len a.start n)) in subst P (sym none) refl;
   entries = λ d u passes. let lt = passes.within in absurd (omega (arith, lt, none));
   touched = λ lt. absurd (omega (arith, lt, none));
-}
-
-pub in_service : (whole : Whole) (slabs : Slabs) (devs : List Kept) → IsSpace slabs devs → AreInService (devices_in (space_of whole devs))
-in_service whole slabs devs s = record {
-  there = λ d. ap (λ (p : DevPart). is_gone p.row.state) (part_is devs d) ∙ ap is_gone (s.on d);
-  stays = λ d. ap (λ (p : DevPart). is_leaving p.row.state) (part_is devs d) ∙ ap is_leaving (s.on d);
 }

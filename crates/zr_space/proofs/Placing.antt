@@ -22,7 +22,7 @@ same_back f g s = record {
 has_run : (f g : Free) (want d m : ℕ) → IsSameFree f g → HasRun f want d m → HasRun g want d m
 has_run f g want d m s r = record { at = r.at; from = r.from; to = r.to; free = λ u is. s.is_free d u ∙ r.free u is }
 
-somewhere : (f g : Free) (want : ℕ) → IsSameFree f g → HasRunSomewhere f want → HasRunSomewhere g want
+pub somewhere : (f g : Free) (want : ℕ) → IsSameFree f g → HasRunSomewhere f want → HasRunSomewhere g want
 somewhere f g want s r = record {
   dev = r.dev;
   metaslab = r.metaslab;

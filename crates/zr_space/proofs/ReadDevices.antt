@@ -10,6 +10,7 @@ use Rattle.zr_base.specs.Extents.{has_unit, unit_count, EndsBy}
 use Rattle.zr_rules.specs.Places.{one_if, in_address, address_hits}
 use Rattle.zr_units.specs.Apart.{IsWithin}
 use Rattle.zr_units.specs.Uses.{Freed, unused}
+use Rattle.zr_space.specs.Views.{serving}
 use Rattle.zr_space.specs.Reads.{CanRead, CanKeep, Marks, CanReadLate, MarksLate, CanReadMeta, IsRead}
 
 pub ends_in : (units : ℕ) (es : List Extent) → EndsBy units es → IsWithin es units
@@ -20,10 +21,10 @@ ends_in units [] ends u is = absurd (false_true is)
 ends_in units (e ∷ es) ends u is = let r = ends_in units es ends.1 u in let le = ends.0 in grind (arith, nat_tests, r, le, is)
 
 -- what was read of the device's sets
-pub device_read : (row : DevRow) (held kept : List Extent) (l1 l2 : Freed) (u0 u1 u2 u3 : List Extent) → row.state ≡ On → row.units < 2 ^ 40 → u0 ≡ []
+pub device_read : (row : DevRow) (held kept : List Extent) (l1 l2 : Freed) (spare : ℕ) (u0 u1 u2 u3 : List Extent) → row.state ≡ On → row.units < 2 ^ 40 → u0 ≡ []
     → CanRead held u0 row.units → Marks held u0 u1 → CanKeep kept held row.units → CanReadLate l1 u1 row.units → MarksLate l1 u1 u2 → CanReadLate l2 u2 row.units → MarksLate l2 u2 u3
-    → IsRead (record { row = row; uses = record (unused row.units) { held = held; kept = kept; late1 = l1; late2 = l2 } }) u3
-device_read row held kept l1 l2 u0 u1 u2 u3 on small none ch mh ck c1 m1 c2 m2 = record {
+    → IsRead (serving row (record (unused row.units) { held = held; kept = kept; late1 = l1; late2 = l2; spare = spare })) u3
+device_read row held kept l1 l2 spare u0 u1 u2 u3 on small none ch mh ck c1 m1 c2 m2 = record {
   row_units = refl;
   on = on;
   small = small;
@@ -32,7 +33,9 @@ device_read row held kept l1 l2 u0 u1 u2 u3 on small none ch mh ck c1 m1 c2 m2 =
   among = ck.among;
   came = refl;
   went = refl;
+  copies = refl;
   freed = refl;
+  moves = refl;
   once = λ u. first u (in_two u (in_one u));
   within = λ u is.
       let a = mh.members u in let b = m1.members u in let d = m2.members u in
@@ -44,7 +47,7 @@ device_read row held kept l1 l2 u0 u1 u2 u3 on small none ch mh ck c1 m1 c2 m2 =
       let wm2 = ends_in row.units l2.meta c2.meta.within u in
       grind (arith, nat_tests, a, b, d, n, w, wb1, wm1, wb2, wm2, is);
   count = let a = mh.count in let b = m1.count in let d = m2.count in let n = ap unit_count none in omega (arith, a, b, d, n);
-  lists = record { held = ch.maximal; born = tt; kept = ck.maximal; came = tt; went = tt; freed = record { blocks = tt; meta = tt }; late1 = record { blocks = c1.blocks.maximal; meta = c1.meta.maximal }; late2 = record { blocks = c2.blocks.maximal; meta = c2.meta.maximal }; meta = tt; saved = tt };
+  lists = record { held = ch.maximal; born = tt; kept = ck.maximal; came = tt; went = tt; copies = tt; freed = record { blocks = tt; meta = tt }; late1 = record { blocks = c1.blocks.maximal; meta = c1.meta.maximal }; late2 = record { blocks = c2.blocks.maximal; meta = c2.meta.maximal }; meta = tt; saved = tt };
 }
   where
     none_has : (u : ℕ) → has_unit u0 u ≡ false

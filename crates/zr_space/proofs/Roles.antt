@@ -1,27 +1,16 @@
 -- The role of a unit, from the sets of its device.
-use Rattle.std.proofs.Common.{◌≡◌, ℕ, zero, suc, ◌<◌, true, false, nat_lt, List, [], ◌∷◌, map, length, refl, ◌∙◌, ap, arith, if◌then◌else◌}
-use Rattle.std.specs.List.{sum_by}
-use Rattle.std.proofs.lemmas.List.Sums.{sum_by-cons}
+use Rattle.std.proofs.Common.{◌≡◌, ℕ, zero, suc, ◌<◌, Bool, true, false, nat_lt, List, [], ◌∷◌, map, length, refl, ◌∙◌, ap, arith}
 use Rattle.std.proofs.lemmas.List.{length-map}
 use Rattle.std.proofs.lemmas.Bool.Decides.{nat_tests}
 use Rattle.zr_base.specs.declared.space.DevPart.{DevPart}
-use Rattle.zr_base.specs.declared.space.Entry.{Entry}
-use Rattle.zr_base.specs.declared.space.DevState.TheVariants.{On}
 use Rattle.zr_base.specs.Extents.{has_unit}
-use Rattle.zr_rules.specs.Places.{one_if, part_of, is_leaving, is_gone, address_hits}
-use Rattle.zr_rules.specs.Space.{OpenSets, role_at, copy_hits, is_copy_by, has_late, has_place, opened_of}
-use Rattle.zr_space.specs.Views.{Kept, kept_of, part_in, space_of, role_in}
+use Rattle.zr_rules.specs.Places.{one_if, part_of, is_gone, address_hits}
+use Rattle.zr_rules.specs.Space.{OpenSets, role_at, copy_hits, has_late, has_place, opened_of}
+use Rattle.zr_metaslab.specs.Devices.{Devices as Slabs}
+use Rattle.zr_space.specs.Views.{Kept, kept_of, part_in, space_of, role_in, IsSpace}
 use Rattle.zr_space.proofs.Sums.{some_in, late_blocks_are, late_meta_are}
 use Rattle.zr_space.proofs.Views.{part_is, opened_is, meta_is, saved_is}
 use Rattle.zr_space.specs.declared.whole.Whole.{Whole}
-
--- no device is leaving, so there are no copies
-pub no_copies : (devs : List Kept) (d u : ℕ) → ((k : ℕ) → (kept_of devs k).row.state ≡ On) → copy_hits (map part_in devs) d u ≡ 0
-no_copies [] d u on = refl
-no_copies (x ∷ xs) d u on =
-    let rest = no_copies xs d u (λ k. on (suc k)) in
-    let first : (if is_leaving x.row.state then sum_by (λ (e : Entry). one_if (is_copy_by (part_in x) d u e)) [] else 0) ≡ 0 = rw (on 0) refl in
-    omega (arith, rest, first, sum_by-cons (λ (p : DevPart). if is_leaving p.row.state then sum_by (λ (e : Entry). one_if (is_copy_by p d u e)) p.entries else 0) (part_in x) (map part_in xs))
 
 past_units : (devs : List Kept) (d u : ℕ) → u < (kept_of devs d).uses.units → d < length devs
 past_units [] zero u h = absurd (omega (arith, h))
@@ -29,25 +18,29 @@ past_units [] (suc d) u h = absurd (omega (arith, h))
 past_units (x ∷ xs) zero u h = omega arith
 past_units (x ∷ xs) (suc d) u h = let r = past_units xs d u h in omega (arith, r)
 
--- a unit of a device that is in service is there
-pub place_is : (whole : Whole) (devs : List Kept) (d u : ℕ) → (kept_of devs d).row.state ≡ On → (kept_of devs d).row.units ≡ (kept_of devs d).uses.units → has_place (space_of whole devs) d u ≡ nat_lt u (kept_of devs d).uses.units
-place_is whole devs d u on rows =
+-- a unit of a device that is not gone is there
+pub place_is : {slabs : Slabs} (whole : Whole) (devs : List Kept) (d u : ℕ) → IsSpace whole slabs devs → has_place (space_of whole devs) d u ≡ nat_lt u (kept_of devs d).uses.units
+place_is whole devs d u sp =
     let part = part_is devs d in
     let count : length (map part_in devs) ≡ length devs = length-map devs part_in in
-    let gone : is_gone (part_of (map part_in devs) d).row.state ≡ false = ap (λ (p : DevPart). is_gone p.row.state) part ∙ ap is_gone on in
-    let units : (part_of (map part_in devs) d).row.units ≡ (kept_of devs d).uses.units = ap (λ (p : DevPart). p.row.units) part ∙ rows in
-    grind (arith, nat_tests, count, gone, units, past_units devs d u)
+    let gone : is_gone (part_of (map part_in devs) d).row.state ≡ is_gone (kept_of devs d).row.state = ap (λ (p : DevPart). is_gone p.row.state) part in
+    let units : (part_of (map part_in devs) d).row.units ≡ (kept_of devs d).row.units = ap (λ (p : DevPart). p.row.units) part in
+    grind (arith, nat_tests, count, gone, units, sp.rows d, past_units devs d u)
 
-pub roles_are : (whole : Whole) (devs : List Kept) (d u : ℕ) → ((k : ℕ) → (kept_of devs k).row.state ≡ On) → ((k : ℕ) → (kept_of devs k).row.units ≡ (kept_of devs k).uses.units) → role_at (space_of whole devs) d u ≡ role_in (kept_of devs d).uses u
+one_is : (b : Bool) → nat_lt 0 (one_if b) ≡ b
+one_is true = refl
+one_is false = refl
+
+pub roles_are : {slabs : Slabs} (whole : Whole) (devs : List Kept) (d u : ℕ) → IsSpace whole slabs devs → role_at (space_of whole devs) d u ≡ role_in (kept_of devs d).uses u
 unfolding role_at
-roles_are whole devs d u on rows =
+roles_are whole devs d u sp =
     let s = space_of whole devs in
     let part = part_is devs d in
     let opened = opened_is whole devs d in
-    let place = place_is whole devs d u (on d) (rows d) in
+    let place = place_is whole devs d u sp in
     let held : has_unit (part_of s.parts.devs d).held u ≡ has_unit (kept_of devs d).uses.held u = ap (λ (p : DevPart). has_unit p.held u) part in
     let kept : has_unit (part_of s.parts.devs d).kept u ≡ has_unit (kept_of devs d).uses.kept u = ap (λ (p : DevPart). has_unit p.kept u) part in
-    let copies : copy_hits s.parts.devs d u ≡ 0 = no_copies devs d u on in
+    let copies : nat_lt 0 (copy_hits s.parts.devs d u) ≡ has_unit (kept_of devs d).uses.copies u = ap (λ n. nat_lt 0 n) (sp.copies d u) ∙ one_is (has_unit (kept_of devs d).uses.copies u) in
     let born : has_unit (opened_of s d).born u ≡ has_unit (kept_of devs d).uses.born u = ap (λ (o : OpenSets). has_unit o.born u) opened in
     let deferred : has_unit (opened_of s d).deferred u ≡ has_unit (kept_of devs d).uses.freed.blocks u = ap (λ (o : OpenSets). has_unit o.deferred u) opened in
     let dropped : has_unit (opened_of s d).dropped u ≡ has_unit (kept_of devs d).uses.freed.meta u = ap (λ (o : OpenSets). has_unit o.dropped u) opened in

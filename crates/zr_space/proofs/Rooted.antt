@@ -1,5 +1,5 @@
 -- What the current root has of a device's sets stays while the open group changes them.
-use Rattle.std.proofs.Common.{◌≡◌, ℕ, ◌<◌, Bool, true, false, ◌&&◌, ◌||◌, not, List, length, refl, ◌∙◌, sym, ap₂, arith}
+use Rattle.std.proofs.Common.{◌≡◌, ℕ, ◌<◌, Bool, true, ◌&&◌, ◌||◌, not, List, length, refl, ◌∙◌, sym, ap₂, arith}
 use Rattle.std.proofs.Math.ListN.{set}
 use Rattle.std.proofs.lemmas.Bool.Decides.{nat_tests}
 use Rattle.zr_base.specs.declared.space.Extent.{Extent}
@@ -9,6 +9,7 @@ use Rattle.zr_rules.specs.Space.{OpenSets, was_in, was_held, was_kept, was_fresh
 use Rattle.zr_rules.specs.Frees.{IsSameRoot}
 use Rattle.zr_units.specs.Uses.{Uses, IsAccount}
 use Rattle.zr_units.specs.Changes.{Holds, HoldsMeta, DropsMeta, DropsSaved, FreesUnits, KeepsUnits, DiscardsUnits}
+use Rattle.zr_indirect.specs.Changes.{was_fresh_in}
 use Rattle.zr_space.specs.Views.{Kept, kept_of, space_of}
 use Rattle.zr_space.proofs.Views.{part_is, opened_is}
 use Rattle.zr_space.proofs.Keeps.{on_each}
@@ -69,11 +70,11 @@ was_held_is whole devs d u =
 pub was_kept_is : (whole : Whole) (devs : List Kept) (d u : ℕ) → was_kept (space_of whole devs) d u ≡ was_kept_in (kept_of devs d).uses u
 was_kept_is whole devs d u = ap₂ (λ (p : DevPart) (o : OpenSets). was_in (has_unit p.kept u) o.kept u) (part_is devs d) (opened_is whole devs d)
 
-pub was_fresh_is : (whole : Whole) (devs : List Kept) (d u : ℕ) → was_fresh (space_of whole devs) d u ≡ false
+pub was_fresh_is : (whole : Whole) (devs : List Kept) (d u : ℕ) → was_fresh (space_of whole devs) d u ≡ was_fresh_in (kept_of devs d).moves u
 was_fresh_is whole devs d u = ap₂ (λ (p : DevPart) (o : OpenSets). was_in (has_unit p.fresh u) o.fresh u) (part_is devs d) (opened_is whole devs d)
 
-pub same_root : (whole : Whole) (devs : List Kept) (d : ℕ) (x : Kept) → d < length devs → SameUses (kept_of devs d).uses x.uses → IsSameRoot (space_of whole devs) (space_of whole (set devs d x))
-same_root whole devs d x there same = record {
+pub same_root : (whole : Whole) (devs : List Kept) (d : ℕ) (x : Kept) → d < length devs → SameUses (kept_of devs d).uses x.uses → ((u : ℕ) → was_fresh_in x.moves u ≡ was_fresh_in (kept_of devs d).moves u) → IsSameRoot (space_of whole devs) (space_of whole (set devs d x))
+same_root whole devs d x there same marks = record {
   held = λ j u.
       was_held_is whole (set devs d x) j u
       ∙ (on_each devs d x (λ i y. was_held_in y.uses u ≡ was_held_in (kept_of devs i).uses u) there (same.held u) (λ i ne. refl) j
@@ -82,5 +83,8 @@ same_root whole devs d x there same = record {
       was_kept_is whole (set devs d x) j u
       ∙ (on_each devs d x (λ i y. was_kept_in y.uses u ≡ was_kept_in (kept_of devs i).uses u) there (same.kept u) (λ i ne. refl) j
       ∙ sym (was_kept_is whole devs j u));
-  fresh = λ j u. was_fresh_is whole (set devs d x) j u ∙ sym (was_fresh_is whole devs j u);
+  fresh = λ j u.
+      was_fresh_is whole (set devs d x) j u
+      ∙ (on_each devs d x (λ i y. was_fresh_in y.moves u ≡ was_fresh_in (kept_of devs i).moves u) there (marks u) (λ i ne. refl) j
+      ∙ sym (was_fresh_is whole devs j u));
 }

@@ -1,6 +1,6 @@
 -- The counts from which the room is computed, as sums over the devices.
-use Rattle.std.proofs.Common.{◌≡◌, ℕ, zero, suc, ◌+◌, ◌*◌, ◌<◌, ◌≤◌, ◌^◌, Bool, true, false, ◌==◌, max, List, [], ◌∷◌, ◌++◌, map, length, refl, ◌∙◌, sym, ap, ap₂, arith, add-one, if◌then◌else◌}
-use Rattle.std.specs.Prelude.{filter, count_by}
+use Rattle.std.proofs.Common.{◌≡◌, ℕ, zero, suc, ◌+◌, ◌*◌, ◌<◌, ◌≤◌, ◌^◌, Bool, true, false, ◌==◌, List, [], ◌∷◌, ◌++◌, map, length, refl, ◌∙◌, sym, ap, ap₂, arith, add-one, cond, if◌then◌else◌}
+use Rattle.std.specs.Prelude.{filter}
 use Rattle.std.specs.List.{sum_by, range_with_len}
 use Rattle.std.proofs.lemmas.List.{length-map}
 use Rattle.std.proofs.lemmas.List.Sums.{sum_by-cons, sum_by-append}
@@ -9,25 +9,27 @@ use Rattle.zr_base.specs.declared.space.Extent.{Extent}
 use Rattle.zr_base.specs.declared.space.Dva.{Dva}
 use Rattle.zr_base.specs.declared.space.LateRun.{LateRun}
 use Rattle.zr_base.specs.declared.space.DevPart.{DevPart}
-use Rattle.zr_base.specs.declared.space.DevState.TheVariants.{On}
+use Rattle.zr_base.specs.declared.space.DevState.TheVariants.{On, Leaving, Gone}
 use Rattle.zr_base.specs.declared.space.DevState.{DevState}
 use Rattle.zr_base.specs.Extents.{unit_count, has_unit}
 use Rattle.zr_rules.specs.Owed.{set_words}
 use Rattle.zr_rules.specs.Roles.{is_free_role}
-use Rattle.zr_rules.specs.Places.{one_if, count_below, part_of, is_on, is_leaving, is_gone, units_of_dev, state_of_dev}
-use Rattle.zr_rules.specs.Space.{Space, OpenSets, frontier, role_at}
+use Rattle.zr_rules.specs.Places.{count_below, is_on, is_gone, units_of_dev, state_of_dev}
+use Rattle.zr_rules.specs.Space.{Space, OpenSets, role_at}
 use Rattle.zr_rules.specs.Columns as columns
 use Rattle.zr_rules.specs.Equation.{devices_in}
 use Rattle.zr_rules.specs.Steps.{touch}
-use Rattle.zr_metaslab.specs.Devices.{Devices, count_at, free_at}
-use Rattle.zr_units.specs.Uses.{Uses, Freed}
-use Rattle.zr_space.specs.Views.{Kept, kept_of, part_in, opened_in, late_runs, addresses, meta_from, space_of, IsSpace}
-use Rattle.zr_space.specs.Totals.{AreFew, total_by, current_meta, late1_meta, late2_meta, words_in}
+use Rattle.zr_metaslab.specs.Devices.{Devices, count_at}
+use Rattle.zr_units.specs.Uses.{Freed}
+use Rattle.zr_units.specs.Words.{HasWithin}
+use Rattle.zr_space.specs.Views.{units_there, Kept, kept_of, part_in, opened_in, late_runs, addresses, meta_from, space_of, IsSpace}
+use Rattle.zr_space.specs.Totals.{total_by, serving_units, kept_in, current_meta, late1_meta, late2_meta, words_in}
 use Rattle.zr_space.proofs.Sums.{as_runs}
 use Rattle.zr_space.proofs.Views.{part_is, opened_is}
 use Rattle.zr_space.proofs.Keeps.{same_free}
-use Rattle.zr_space.proofs.Paths.{one_piece, in_service}
-use Rattle.zr_space.proofs.Counts.{allocated_count}
+use Rattle.zr_space.specs.Paths.{AreInService}
+use Rattle.zr_space.proofs.Leads.{are_on}
+use Rattle.zr_space.proofs.Paths.{one_piece}
 use Rattle.zr_space.specs.declared.whole.Whole.{Whole}
 
 -- ---- sums
@@ -39,7 +41,7 @@ all_pass : {X : Type 0} (p : X → Bool) (xs : List X) → ((x : X) → p x ≡ 
 all_pass p [] pass = refl
 all_pass {X} p (x ∷ xs) pass = pass_first p x xs (pass x) ∙ ap (λ (l : List X). x ∷ l) (all_pass p xs pass)
 
-sum_as : {X : Type 0} (f g : X → ℕ) (xs : List X) → ((x : X) → f x ≡ g x) → sum_by f xs ≡ sum_by g xs
+pub sum_as : {X : Type 0} (f g : X → ℕ) (xs : List X) → ((x : X) → f x ≡ g x) → sum_by f xs ≡ sum_by g xs
 sum_as f g [] same = refl
 sum_as f g (x ∷ xs) same =
     let s = same x in
@@ -48,9 +50,18 @@ sum_as f g (x ∷ xs) same =
     let b = sum_by-cons g x xs in
     omega (arith, s, r, a, b)
 
-sum_none : {X : Type 0} (f : X → ℕ) (xs : List X) → ((x : X) → f x ≡ 0) → sum_by f xs ≡ 0
+pub sum_none : {X : Type 0} (f : X → ℕ) (xs : List X) → ((x : X) → f x ≡ 0) → sum_by f xs ≡ 0
 sum_none f [] none = refl
 sum_none f (x ∷ xs) none = let s = none x in let r = sum_none f xs none in let a = sum_by-cons f x xs in omega (arith, s, r, a)
+
+-- a sum over those that pass is one in which the others have none
+pub sum_passing : {X : Type 0} (h : X → ℕ) (p : X → Bool) (xs : List X) → sum_by h (filter p xs) ≡ sum_by (λ x. if p x then h x else 0) xs
+sum_passing h p [] = refl
+sum_passing {X} h p (x ∷ xs) = one (p x) x (filter p xs) ∙ (ap (λ n. (if p x then h x else 0) + n) (sum_passing h p xs) ∙ sym (sum_by-cons (λ (y : X). if p y then h y else 0) x xs))
+  where
+    one : (b : Bool) (y : X) (ys : List X) → sum_by h (cond b (y ∷ ys) ys) ≡ (if b then h y else 0) + sum_by h ys
+    one true y ys = sum_by-cons h y ys
+    one false y ys = omega arith
 
 range_suc : (h : ℕ → ℕ) (a n : ℕ) → sum_by h (range_with_len a (suc n)) ≡ sum_by h (range_with_len a n) + h (a + n)
 range_suc h a zero = let z : a + 0 ≡ a = omega arith in let e = ap h z in omega (arith, e)
@@ -66,7 +77,7 @@ pub range_more : (h : ℕ → ℕ) (a n : ℕ) → sum_by h (range_with_len a (n
 range_more h a n = rw add-one (range_suc h a n)
 
 -- a sum by index is one over the devices
-from_range : (h : ℕ → ℕ) (g : Kept → ℕ) (a : ℕ) (devs : List Kept) → ((i : ℕ) → h (a + i) ≡ g (kept_of devs i)) → sum_by h (range_with_len a (length devs)) ≡ sum_by g devs
+pub from_range : (h : ℕ → ℕ) (g : Kept → ℕ) (a : ℕ) (devs : List Kept) → ((i : ℕ) → h (a + i) ≡ g (kept_of devs i)) → sum_by h (range_with_len a (length devs)) ≡ sum_by g devs
 from_range h g a [] same = refl
 from_range h g a (x ∷ xs) same =
     let here : h a ≡ g x = ap h (let z : a ≡ a + 0 = omega arith in z) ∙ same 0 in
@@ -103,7 +114,7 @@ late_len_of false [] = refl
 late_len_of true (e ∷ es) = let r = late_len_of true es in let a = sum_by-cons late_len (record { at = e; meta = true }) (as_runs true es) in omega (arith, r, a)
 late_len_of false (e ∷ es) = let r = late_len_of false es in let a = sum_by-cons late_len (record { at = e; meta = false }) (as_runs false es) in omega (arith, r, a)
 
-late_meta_is : (f : Freed) → columns.late_meta_units (late_runs f) ≡ unit_count f.meta
+pub late_meta_is : (f : Freed) → columns.late_meta_units (late_runs f) ≡ unit_count f.meta
 late_meta_is f =
     let a = sum_by-append late_len (as_runs false f.blocks) (as_runs true f.meta) in
     let b = late_len_of false f.blocks in
@@ -131,7 +142,7 @@ units_below k d (x ∷ xs) lt =
     let rest = units_below (k + 1) d xs (omega (arith, lt)) in
     grind (arith, nat_tests, lt, rest, units_append (addresses k x.uses.meta) (meta_from (k + 1) xs) d, addresses_units k d x.uses.meta)
 
-units_at : (k j : ℕ) (devs : List Kept) → columns.units_on (meta_from k devs) (k + j) ≡ unit_count (kept_of devs j).uses.meta
+pub units_at : (k j : ℕ) (devs : List Kept) → columns.units_on (meta_from k devs) (k + j) ≡ unit_count (kept_of devs j).uses.meta
 units_at k zero [] = refl
 units_at k (suc j) [] = refl
 units_at k zero (x ∷ xs) =
@@ -149,7 +160,7 @@ addresses_len k (e ∷ es) =
     let more = sum_by-cons (λ (a : Dva). a.len) (record { dev = k; start = e.start; len = e.len }) (addresses k es) in
     omega (arith, rest, more)
 
-meta_len : (k : ℕ) (devs : List Kept) → sum_by (λ (a : Dva). a.len) (meta_from k devs) ≡ total_by current_meta devs
+pub meta_len : (k : ℕ) (devs : List Kept) → sum_by (λ (a : Dva). a.len) (meta_from k devs) ≡ total_by current_meta devs
 meta_len k [] = refl
 meta_len k (x ∷ xs) =
     let rest = meta_len (k + 1) xs in
@@ -163,11 +174,12 @@ meta_len k (x ∷ xs) =
 abbrev AreOn : List Kept → Type 0
 AreOn devs = (d : ℕ) → (kept_of devs d).row.state ≡ On
 
-on_parts_are : (devs : List Kept) → AreOn devs → columns.on_parts (map part_in devs) ≡ map part_in devs
-on_parts_are [] on = refl
-on_parts_are (x ∷ xs) on = pass_first (λ (p : DevPart). is_on p.row.state) (part_in x) (map part_in xs) (ap is_on (on 0)) ∙ ap (λ (l : List DevPart). part_in x ∷ l) (on_parts_are xs (λ d. on (suc d)))
+pub kept_total : (devs : List Kept) → total_by kept_in devs ≡ sum_by (λ (p : DevPart). unit_count p.kept) (map part_in devs)
+kept_total [] = refl
+kept_total (x ∷ xs) =
+    sum_by-cons (λ (k : Kept). kept_in k.uses) x xs ∙ (ap (λ n. unit_count x.uses.kept + n) (kept_total xs) ∙ sym (sum_by-cons (λ (p : DevPart). unit_count p.kept) (part_in x) (map part_in xs)))
 
-late1_total : (devs : List Kept) → columns.late1_meta (map part_in devs) ≡ total_by late1_meta devs
+pub late1_total : (devs : List Kept) → columns.late1_meta (map part_in devs) ≡ total_by late1_meta devs
 late1_total [] = refl
 late1_total (x ∷ xs) =
     let rest = late1_total xs in
@@ -176,7 +188,7 @@ late1_total (x ∷ xs) =
     let q = sum_by-cons (λ (d : Kept). late1_meta d.uses) x xs in
     omega (arith, rest, here, p, q)
 
-late2_total : (devs : List Kept) → columns.late2_meta (map part_in devs) ≡ total_by late2_meta devs
+pub late2_total : (devs : List Kept) → columns.late2_meta (map part_in devs) ≡ total_by late2_meta devs
 late2_total [] = refl
 late2_total (x ∷ xs) =
     let rest = late2_total xs in
@@ -185,87 +197,67 @@ late2_total (x ∷ xs) =
     let q = sum_by-cons (λ (d : Kept). late2_meta d.uses) x xs in
     omega (arith, rest, here, p, q)
 
-streams_total : (devs : List Kept) → AreOn devs → sum_by (λ (p : DevPart). columns.device_streams p.row.state) (map part_in devs) ≡ 4 * length devs
-streams_total [] on = refl
-streams_total (x ∷ xs) on =
-    let rest = streams_total xs (λ d. on (suc d)) in
-    let here : columns.device_streams x.row.state ≡ 4 = ap columns.device_streams (on 0) in
-    let p = sum_by-cons (λ (p : DevPart). columns.device_streams p.row.state) (part_in x) (map part_in xs) in
-    omega (arith, rest, here, p)
-
-none_gone : (devs : List Kept) → AreOn devs → count_by (λ (p : DevPart). is_gone p.row.state) (map part_in devs) ≡ 0
-none_gone [] on = refl
-none_gone (x ∷ xs) on =
-    let rest = none_gone xs (λ d. on (suc d)) in
-    let here = ap (λ (st : DevState). one_if (is_gone st)) (on 0) in
-    let p = sum_by-cons (λ (p : DevPart). if is_gone p.row.state then 1 else 0) (part_in x) (map part_in xs) in
-    omega (arith, rest, here, p)
-
 -- the words of a device, by its part and what the open group did on it
 abbrev words_by : ℕ → DevPart → OpenSets → ℕ
 words_by version p o =
     set_words version p.held + 3 * set_words version p.kept + 8 * length p.entries + set_words version p.fresh
     + set_words version o.deferred + set_words version (columns.late_blocks p.late1) + set_words version (columns.late_blocks p.late2)
 
-words_are : (whole : Whole) (devs : List Kept) (d : ℕ) → columns.device_words (space_of whole devs) d ≡ words_in whole.version (kept_of devs d).uses
+pub words_are : (whole : Whole) (devs : List Kept) (d : ℕ) → columns.device_words (space_of whole devs) d ≡ words_in whole.version (kept_of devs d)
 words_are whole devs d =
     let k = kept_of devs d in
     let both : columns.device_words (space_of whole devs) d ≡ words_by whole.version (part_in k) (opened_in k) = ap₂ (words_by whole.version) (part_is devs d) (opened_is whole devs d) in
     let one : set_words whole.version (columns.late_blocks (late_runs k.uses.late1)) ≡ set_words whole.version k.uses.late1.blocks = ap (set_words whole.version) (late_blocks_of k.uses.late1.blocks k.uses.late1.meta) in
     let two : set_words whole.version (columns.late_blocks (late_runs k.uses.late2)) ≡ set_words whole.version k.uses.late2.blocks = ap (set_words whole.version) (late_blocks_of k.uses.late2.blocks k.uses.late2.meta) in
-    let none : words_by whole.version (part_in k) (opened_in k) ≡ words_in whole.version k.uses = omega (arith, one, two) in
-    both ∙ none
+    let all : words_by whole.version (part_in k) (opened_in k) ≡ words_in whole.version k = omega (arith, one, two) in
+    both ∙ all
 
-module _ (whole : Whole) (slabs : Devices) (devs : List Kept) (s : IsSpace slabs devs) where
+-- the free units of a device, where it is in service
+abbrev pub free_on : Devices → List Kept → ℕ → ℕ
+free_on slabs devs d = if is_on (kept_of devs d).row.state then count_at slabs d else 0
+
+module _ (whole : Whole) (slabs : Devices) (devs : List Kept) (s : IsSpace whole slabs devs) where
   count_is : length (map part_in devs) ≡ length devs
   count_is = length-map devs part_in
 
-  on_are : columns.on_devices (space_of whole devs) ≡ range_with_len 0 (length devs)
-  on_are =
-      all_pass (λ (d : ℕ). is_on (state_of_dev (map part_in devs) d)) (range_with_len 0 (length (map part_in devs))) (λ d. ap (λ (p : DevPart). is_on p.row.state) (part_is devs d) ∙ ap is_on (s.on d))
-      ∙ ap (range_with_len 0) count_is
+  on_is : (d : ℕ) → is_on (state_of_dev (map part_in devs) d) ≡ is_on (kept_of devs d).row.state
+  on_is d = ap (λ (p : DevPart). is_on p.row.state) (part_is devs d)
 
-  pub free_units_are : sum_by (count_at slabs) (range_with_len 0 (length devs)) ≡ columns.free_units (space_of whole devs)
+  pub free_units_are : sum_by (free_on slabs devs) (range_with_len 0 (length devs)) ≡ columns.free_units (space_of whole devs)
   free_units_are =
-      sum_as (count_at slabs) (λ (d : ℕ). (columns.columns (space_of whole devs) d).free) (range_with_len 0 (length devs)) (λ d. sym ((same_free whole slabs devs s).count d))
-      ∙ ap (sum_by (λ (d : ℕ). (columns.columns (space_of whole devs) d).free)) (sym on_are)
+      sum_as (free_on slabs devs) (λ (d : ℕ). if is_on (state_of_dev (map part_in devs) d) then (columns.columns (space_of whole devs) d).free else 0) (range_with_len 0 (length devs))
+      (λ d. ap₂ (λ (b : Bool) (n : ℕ). if b then n else 0) (sym (on_is d)) (sym ((same_free whole slabs devs s).count d)))
+      ∙ (ap (λ n. sum_by (λ (d : ℕ). if is_on (state_of_dev (map part_in devs) d) then (columns.columns (space_of whole devs) d).free else 0) (range_with_len 0 n)) (sym count_is)
+      ∙ sym (sum_passing (λ (d : ℕ). (columns.columns (space_of whole devs) d).free) (λ d. is_on (state_of_dev (map part_in devs) d)) (range_with_len 0 (length (map part_in devs)))))
 
-  pub free_at_most : (d : ℕ) → count_at slabs d < 2 ^ 40
-  free_at_most d = let a = (s.account d).sum in let m = (s.account d).small in omega (arith, a, m)
+  pub free_at_most : (d : ℕ) → free_on slabs devs d < 2 ^ 40
+  free_at_most d = let a = (s.account d).sum in let m = (s.account d).small in grind (arith, nat_tests, a, m)
 
-  pub one_touched : (a : Dva) → 1 ≡ touch (devices_in (space_of whole devs)) a
-  one_touched a = sym (one_piece (length (map part_in devs)) (devices_in (space_of whole devs)) a.dev a.start a.len (in_service whole slabs devs s))
+  serving : (d : ℕ) → (if is_on (state_of_dev (map part_in devs) d) then units_of_dev (map part_in devs) d else 0) ≡ (if is_on (kept_of devs d).row.state then (kept_of devs d).uses.units else 0)
+  serving d =
+      let on = on_is d in
+      let units : units_of_dev (map part_in devs) d ≡ (kept_of devs d).row.units = ap (λ (p : DevPart). p.row.units) (part_is devs d) in
+      let rows = s.rows d in
+      let there = on_there (kept_of devs d).row.state in
+      grind (arith, nat_tests, on, units, rows, there)
+    where
+      on_there : (st : DevState) → is_on st ≡ true → is_gone st ≡ false
+      on_there On is = refl
+      on_there Leaving is = refl
+      on_there Gone is = absurd (false_true is)
+        where
+          false_true : false ≡ true → ⊥
+          false_true e = cc
 
-  pub on_units_are : total_by (λ (x : Uses). x.units) devs ≡ columns.on_units (space_of whole devs)
+  pub on_units_are : serving_units devs ≡ columns.on_units (space_of whole devs)
   on_units_are =
-      sym (from_range (units_of_dev (map part_in devs)) (λ (k : Kept). k.uses.units) 0 devs (λ i. ap (units_of_dev (map part_in devs)) (let z : 0 + i ≡ i = omega arith in z) ∙ (ap (λ (p : DevPart). p.row.units) (part_is devs i) ∙ s.rows i)))
-      ∙ ap (sum_by (units_of_dev (map part_in devs))) (sym on_are)
+      sym (from_range (λ d. if is_on (state_of_dev (map part_in devs) d) then units_of_dev (map part_in devs) d else 0) (λ (k : Kept). if is_on k.row.state then k.uses.units else 0) 0 devs
+      (λ i. ap (λ d. if is_on (state_of_dev (map part_in devs) d) then units_of_dev (map part_in devs) d else 0) (let z : 0 + i ≡ i = omega arith in z) ∙ serving i))
+      ∙ (ap (λ n. sum_by (λ d. if is_on (state_of_dev (map part_in devs) d) then units_of_dev (map part_in devs) d else 0) (range_with_len 0 n)) (sym count_is)
+      ∙ sym (sum_passing (units_of_dev (map part_in devs)) (λ d. is_on (state_of_dev (map part_in devs) d)) (range_with_len 0 (length (map part_in devs)))))
 
-  pub units_here : (items : List Kept) → items ≡ devs → total_by (λ (x : Uses). x.units) items ≡ columns.on_units (space_of whole devs)
-  units_here items is = ap (λ (xs : List Kept). total_by (λ (x : Uses). x.units) xs) is ∙ on_units_are
-
-  words_total : sum_by (columns.device_words (space_of whole devs)) (range_with_len 0 (length (map part_in devs))) ≡ total_by (words_in whole.version) devs
-  words_total =
-      ap (λ n. sum_by (columns.device_words (space_of whole devs)) (range_with_len 0 n)) count_is
-      ∙ from_range (columns.device_words (space_of whole devs)) (λ (k : Kept). words_in whole.version k.uses) 0 devs (λ i. ap (columns.device_words (space_of whole devs)) (let z : 0 + i ≡ i = omega arith in z) ∙ words_are whole devs i)
-
-  turning_meta : sum_by (columns.units_on (meta_from 0 devs)) (columns.on_devices (space_of whole devs)) ≡ total_by current_meta devs
-  turning_meta =
-      ap (sum_by (columns.units_on (meta_from 0 devs))) on_are
-      ∙ from_range (columns.units_on (meta_from 0 devs)) (λ (k : Kept). current_meta k.uses) 0 devs (λ i. units_at 0 i devs)
-
-  none_uncopied : columns.uncopied_units (space_of whole devs) ≡ 0
-  none_uncopied = sum_none (λ (d : ℕ). if is_leaving (part_of (map part_in devs) d).row.state then sum_by (columns.units_from (frontier (space_of whole devs) d)) (part_of (map part_in devs) d).held else 0) (range_with_len 0 (length (map part_in devs)))
-      (λ d. let l : is_leaving (part_of (map part_in devs) d).row.state ≡ false = ap (λ (p : DevPart). is_leaving p.row.state) (part_is devs d) ∙ ap is_leaving (s.on d) in rw l refl)
-
-  pub are_few : AreFew devs
-  are_few = record {
-    few = s.few;
-    within = λ d. record { held = within d; kept = kept d; freed = freed d; late1 = late1 d; late2 = late2 d };
-    used = λ d. let a = (s.account d).sum in omega (arith, a);
-    small = λ d. (s.account d).small;
-    kept = λ d. let c = allocated_count (free_at slabs d) (count_at slabs d) (kept_of devs d).uses (s.account d) in let a = (s.account d).sum in omega (arith, c, a);
-  }
+  pub sets_within : (d : ℕ) → HasWithin (kept_of devs d).uses
+  sets_within d = record { held = within d; kept = kept d; freed = freed d; late1 = late1 d; late2 = late2 d }
     where
       within : (d u : ℕ) → has_unit (kept_of devs d).uses.held u ≡ true → u < (kept_of devs d).uses.units
       within d u is = let o = (s.account d).once u in grind (arith, nat_tests, o, is)
@@ -282,17 +274,33 @@ module _ (whole : Whole) (slabs : Devices) (devs : List Kept) (s : IsSpace slabs
       late2 : (d u : ℕ) → has_unit (kept_of devs d).uses.late2.blocks u ≡ true → u < (kept_of devs d).uses.units
       late2 d u is = let o = (s.account d).once u in grind (arith, nat_tests, o, is)
 
-  pub sizes_are : (words streams current late1 late2 turning past : ℕ) → words ≡ total_by (words_in whole.version) devs → streams ≡ 2 + 4 * length devs
-      → current ≡ total_by current_meta devs → late1 ≡ total_by late1_meta devs → late2 ≡ total_by late2_meta devs → turning ≡ current + late1 + late2 → past ≡ max current (max late1 late2)
-      → record { blocks = 0; objects = 0; words = words; streams = streams; gone = 0; uncopied = 0; turning = turning; past = past; snaps = false } ≡ columns.sizes (space_of whole devs) 0 0
-  sizes_are words streams current late1 late2 turning past w st c a b t p =
-      let on = on_parts_are devs s.on in
-      let e1 : sum_by (columns.device_words (space_of whole devs)) (range_with_len 0 (length (map part_in devs))) ≡ words = words_total ∙ sym w in
-      let e2 : sum_by (λ (q : DevPart). columns.device_streams q.row.state) (map part_in devs) ≡ 4 * length devs = streams_total devs s.on in
-      let e3 = none_gone devs s.on in
-      let e4 = none_uncopied in
-      let e5 : sum_by (columns.units_on (meta_from 0 devs)) (columns.on_devices (space_of whole devs)) ≡ current = turning_meta ∙ sym c in
-      let e6 : columns.late1_meta (map part_in devs) ≡ late1 = late1_total devs ∙ sym a in
-      let e7 : columns.late2_meta (map part_in devs) ≡ late2 = late2_total devs ∙ sym b in
-      let e8 : sum_by (λ (d : Dva). d.len) (meta_from 0 devs) ≡ current = meta_len 0 devs ∙ sym c in
-      rw on rw e1 rw e2 rw e3 rw e4 rw e5 rw e6 rw e7 rw e8 rw st rw t rw p refl
+-- ---- all devices are in service
+
+module _ (whole : Whole) (slabs : Devices) (devs : List Kept) (s : IsSpace whole slabs devs) (service : AreInService (devices_in (space_of whole devs))) where
+  on : AreOn devs
+  on = are_on whole devs service
+
+  on_are : columns.on_devices (space_of whole devs) ≡ range_with_len 0 (length devs)
+  on_are =
+      all_pass (λ (d : ℕ). is_on (state_of_dev (map part_in devs) d)) (range_with_len 0 (length (map part_in devs))) (λ d. ap (λ (p : DevPart). is_on p.row.state) (part_is devs d) ∙ ap is_on (on d))
+      ∙ ap (range_with_len 0) (length-map devs part_in)
+
+  pub one_touched : (a : Dva) → 1 ≡ touch (devices_in (space_of whole devs)) a
+  one_touched a = sym (one_piece (length (map part_in devs)) (devices_in (space_of whole devs)) a.dev a.start a.len service)
+
+  pub units_here : sum_by (λ (p : DevPart). p.row.units) (map part_in devs) ≡ columns.on_units (space_of whole devs)
+  units_here = all_rows devs ∙ (all_serve devs on (λ d. s.rows d) ∙ on_units_are whole slabs devs s)
+    where
+      all_rows : (ks : List Kept) → sum_by (λ (p : DevPart). p.row.units) (map part_in ks) ≡ sum_by (λ (k : Kept). k.row.units) ks
+      all_rows [] = refl
+      all_rows (k ∷ ks) = sum_by-cons (λ (p : DevPart). p.row.units) (part_in k) (map part_in ks) ∙ (ap (λ n. k.row.units + n) (all_rows ks) ∙ sym (sum_by-cons (λ (x : Kept). x.row.units) k ks))
+
+      all_serve : (ks : List Kept) → AreOn ks → ((d : ℕ) → (kept_of ks d).uses.units ≡ units_there (kept_of ks d).row) → sum_by (λ (x : Kept). x.row.units) ks ≡ serving_units ks
+      all_serve [] all rows = refl
+      all_serve (k ∷ ks) all rows =
+          let rest = all_serve ks (λ d. all (suc d)) (λ d. rows (suc d)) in
+          let there : k.uses.units ≡ k.row.units = rows 0 ∙ (rw (all 0) refl) in
+          let here : (if is_on k.row.state then k.uses.units else 0) ≡ k.uses.units = rw (all 0) refl in
+          let a = sum_by-cons (λ (x : Kept). x.row.units) k ks in
+          let b = sum_by-cons (λ (x : Kept). if is_on x.row.state then x.uses.units else 0) k ks in
+          omega (arith, rest, here, there, a, b)

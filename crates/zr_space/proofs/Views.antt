@@ -1,7 +1,8 @@
 -- What the space of a pool shows of its devices.
-use Rattle.std.proofs.Common.{◌≡◌, ℕ, zero, suc, ◌+◌, ◌<◌, false, ◌==◌, List, [], ◌∷◌, map, length, refl, ◌∙◌, sym, ap, arith, get_or}
+use Rattle.std.proofs.Common.{◌≡◌, ℕ, zero, suc, ◌+◌, ◌<◌, false, ◌==◌, List, [], ◌∷◌, ◌++◌, map, length, refl, ◌∙◌, sym, ap, subst, arith, ⊎_elim, get_or}
 use Rattle.std.proofs.Math.ListN.{set}
 use Rattle.std.proofs.lemmas.List.{get_or-set_same, get_or-set_other}
+use Rattle.std.proofs.lemmas.Bool.{cases_eq}
 use Rattle.std.proofs.lemmas.Bool.Decides.{nat_tests}
 use Rattle.std.proofs.lemmas.Grind.{common_steps}
 use Rattle.zr_rules.specs.Places.{part_of, address_hits}
@@ -72,3 +73,23 @@ kept_same devs k x there = grind (arith, common_steps, get_or-set_same devs k x 
 
 pub kept_read : (devs : List Kept) (k : ℕ) (x : Kept) → k < length devs → x ≡ get_or devs k x → x ≡ kept_of devs k
 kept_read devs k x there is = grind (arith, common_steps, is)
+
+-- ---- one device more
+
+pub kept_last : (devs : List Kept) (k : Kept) → kept_of (devs ++ k ∷ []) (length devs) ≡ k
+kept_last [] k = refl
+kept_last (x ∷ xs) k = kept_last xs k
+
+pub kept_before : (devs : List Kept) (k : Kept) (d : ℕ) → (d == length devs) ≡ false → kept_of (devs ++ k ∷ []) d ≡ kept_of devs d
+kept_before [] k zero ne = absurd (grind (arith, nat_tests, ne))
+kept_before [] k (suc zero) ne = refl
+kept_before [] k (suc (suc d)) ne = refl
+kept_before (x ∷ xs) k zero ne = refl
+kept_before (x ∷ xs) k (suc d) ne = kept_before xs k d (grind (arith, nat_tests, ne))
+
+pub on_all : (devs : List Kept) (k : Kept) (P : ℕ → Kept → Type 0) → P (length devs) k → ((d : ℕ) → (d == length devs) ≡ false → P d (kept_of devs d)) → (d : ℕ) → P d (kept_of (devs ++ k ∷ []) d)
+on_all devs k P here others d =
+    ⊎_elim
+    (λ same. subst (λ i. P i (kept_of (devs ++ k ∷ []) i)) (sym same) (subst (P (length devs)) (sym (kept_last devs k)) here))
+    (λ other. let ne : (d == length devs) ≡ false = grind (arith, nat_tests, other) in subst (P d) (sym (kept_before devs k d ne)) (others d ne))
+    (cases_eq d (length devs))

@@ -1,10 +1,17 @@
 pub mod Views
 pub mod Live
+pub mod Freeing
 pub mod Causes
 pub mod Drops
+pub mod Saved
 pub mod Discards
 pub mod Paths
 pub mod Totals
 pub mod Records
 pub mod Reads
 pub mod Opens
+pub mod Plans
+pub mod Copying
+pub mod Leavings
+pub mod Condensing
+pub mod FreeVisits

@@ -3,6 +3,7 @@ use Rattle.std.specs.Prelude.{◌≡◌, ℕ, ◌+◌, ◌≤◌, ◌<◌, ◌==
 use Rattle.zr_base.specs.declared.space.Dva.{Dva}
 use Rattle.zr_base.specs.declared.space.DevPart.{DevPart}
 use Rattle.zr_base.specs.declared.space.SpaceParts.{SpaceParts}
+use Rattle.zr_base.specs.declared.space.DevState.TheVariants.{On}
 use Rattle.zr_rules.specs.Places.{address_hits, part_of}
 use Rattle.zr_rules.specs.Space.{Space, nothing_opened, opened_of, role_at, IsLawful}
 use Rattle.zr_rules.specs.Equation.{root_space}
@@ -30,10 +31,11 @@ pub record CanOpen (parts : SpaceParts) (meta saved : List Dva) : Type 0 where
   pub late2 : (d : ℕ) → d < length parts.devs → IsLateSet (part_of parts.devs d).late2
   pub lawful : IsLawful (root_space parts meta saved)
 
--- one device more, with what a root records of it and the metadata of both roots
+-- one device more, which is in service, with what a root records of it and the metadata of both roots
 pub record OpensDevice (old new : Space) (part : DevPart) (meta saved : List Dva) : Type 0 where
   pub parts : new.parts ≡ record old.parts { devs = old.parts.devs ++ part ∷ [] }
   pub opened : new.opened ≡ old.opened ++ nothing_opened ∷ []
   pub synced : new.synced ≡ old.synced
+  pub service : part.row.state ≡ On
   pub meta_is : (d u : ℕ) → address_hits new.meta d u ≡ address_hits old.meta d u + (if d == length old.parts.devs then address_hits meta d u else 0)
   pub saved_is : (d u : ℕ) → address_hits new.saved_meta d u ≡ address_hits old.saved_meta d u + (if d == length old.parts.devs then address_hits saved d u else 0)

@@ -1,5 +1,5 @@
--- Addresses that lead nowhere.
-use Rattle.std.specs.Prelude.{◌≡◌, ℕ, ◌+◌, ◌<◌, false, None}
+-- Devices that are all in service, and addresses that lead nowhere.
+use Rattle.std.specs.Prelude.{◌≡◌, ℕ, ◌+◌, ◌≤◌, ◌<◌, false, None}
 use Rattle.zr_base.specs.declared.space.Dva.{Dva}
 use Rattle.zr_rules.specs.Devices.{Devices, state_at}
 use Rattle.zr_rules.specs.Places.{is_gone, is_leaving}
@@ -11,6 +11,11 @@ use Rattle.zr_chain.specs.declared.visit.ChainErr.TheVariants.{NoEntry, NoMemory
 pub record AreInService (ds : Devices) : Type 0 where
   pub there : (d : ℕ) → is_gone (state_at ds d) ≡ false
   pub stays : (d : ℕ) → is_leaving (state_at ds d) ≡ false
+
+-- the address lies on a device, and within its units where it is not gone
+pub record StandsWithin (ds : Devices) (a : Dva) : Type 0 where
+  pub known : a.dev < ds.count
+  pub within : is_gone (state_at ds a.dev) ≡ false → a.start + a.len ≤ (ds.row a.dev).units
 
 -- the unit that is named is on the way of a unit of the address that leads nowhere
 abbrev pub LeadsNowhere : Devices → Dva → ChainErr → Type 0

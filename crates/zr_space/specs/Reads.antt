@@ -11,6 +11,7 @@ use Rattle.zr_rules.specs.Space.{IsSet}
 use Rattle.zr_units.specs.Apart.{AreSetsApart, IsWithin}
 use Rattle.zr_units.specs.Uses.{Uses, Freed, AreMaximal, HasLists, none_freed, use_hits, use_count, freed_count}
 use Rattle.zr_units.specs.Changes.{has_freed}
+use Rattle.zr_indirect.specs.Mapped.{in_service}
 use Rattle.zr_space.specs.Views.{Kept, late_runs}
 
 -- the extents are those of a set of so many units, none of which is used already
@@ -44,12 +45,16 @@ CanReadMeta list dev used units = (u : ℕ) → address_hits list dev u + one_if
 
 -- the metadata of a device is read, and its units are used from now on
 pub record ReadsMeta (list : List Dva) (dev : ℕ) (old new : Uses) (used_old used_new : List Extent) : Type 0 where
-  pub others : new ≡ record old { meta = new.meta }
+  pub others : new ≡ record old { meta = new.meta; spare = new.spare }
   pub maximal : IsMaximal new.meta
   pub hits : (u : ℕ) → address_hits list dev u ≡ one_if (has_unit new.meta u)
   pub apart : AreSetsApart new.meta used_old
   pub within : IsWithin new.meta old.units
   pub used : Marks new.meta used_old used_new
+
+-- the set has the units of the metadata that lies on the device, each of which is there once
+abbrev pub HasMeta : List Dva → ℕ → List Extent → Type 0
+HasMeta list dev es = (u : ℕ) → address_hits list dev u ≡ one_if (has_unit es u)
 
 -- the device is in service, with nothing mapped or obsolete
 pub record IsPlain (p : DevPart) : Type 0 where
@@ -94,7 +99,9 @@ pub record IsRead (k : Kept) (used : List Extent) : Type 0 where
   pub among : IsAmong k.uses.kept k.uses.held
   pub came : k.uses.came ≡ []
   pub went : k.uses.went ≡ []
+  pub copies : k.uses.copies ≡ []
   pub freed : k.uses.freed ≡ none_freed
+  pub moves : k.moves ≡ in_service
   pub once : (u : ℕ) → use_hits k.uses u ≡ one_if (has_unit used u)
   pub within : IsWithin used k.uses.units
   pub count : use_count k.uses ≡ unit_count used

@@ -1,8 +1,8 @@
 -- What the logs of a space's sets gain over what the current root records.
-use Rattle.std.specs.Prelude.{◌≡◌, ℕ, List, []}
+use Rattle.std.specs.Prelude.{ℕ, List}
 use Rattle.zr_base.specs.declared.space.Change.{Change}
-use Rattle.zr_rules.specs.Places.{part_of, is_held, is_kept}
-use Rattle.zr_rules.specs.Space.{Space, opened_of, was_held, was_kept}
+use Rattle.zr_rules.specs.Places.{is_held, is_kept, is_fresh}
+use Rattle.zr_rules.specs.Space.{Space, opened_of, was_held, was_kept, was_fresh}
 use Rattle.zr_units.specs.Differences.{IsDifference, IsMerged, Replays}
 use Rattle.zr_space.specs.declared.records.SetKind.{SetKind}
 use Rattle.zr_space.specs.declared.records.SetKind.TheVariants.{Held, Kept, Fresh}
@@ -19,8 +19,13 @@ pub record GainsKept (s : Space) (d : ℕ) (changes : List Change) : Type 0 wher
   pub difference : IsDifference (was_kept s d) (is_kept s.parts.devs d) changes
   pub replays : Replays (was_kept s d) (is_kept s.parts.devs d) changes
 
--- no unit is obsolete, so that set is empty
+-- The changes take what the open group marked, and give back what it counted. They lead from the fresh set of the current root to the one now.
+pub record GainsFresh (s : Space) (d : ℕ) (changes : List Change) : Type 0 where
+  pub merged : IsMerged (opened_of s d).fresh.came (opened_of s d).fresh.went changes
+  pub difference : IsDifference (was_fresh s d) (is_fresh s.parts.devs d) changes
+  pub replays : Replays (was_fresh s d) (is_fresh s.parts.devs d) changes
+
 abbrev pub Gains : Space → ℕ → SetKind → List Change → Type 0
 Gains s d Held changes = GainsHeld s d changes
 Gains s d Kept changes = GainsKept s d changes
-Gains s d Fresh changes = ((part_of s.parts.devs d).fresh ≡ []) × (changes ≡ [])
+Gains s d Fresh changes = GainsFresh s d changes

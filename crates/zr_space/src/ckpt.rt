@@ -4,8 +4,9 @@
 //! and a unit of a block that it may have is not given back when the block is freed: it stays held, as kept. When the
 //! checkpoint is discarded no more is kept, and the kept units are given back a few extents at a time, so that no
 //! transaction group has to bear them all. The rules are zpool-checkpoint(8)'s.
-ghost use Rattle.std.specs.Prelude.{◌≡◌, ◌⊎◌, ◌+◌, ◌++◌, ◌<◌, ◌≤◌, ◌^◌, ◌∷◌, [], ℕ, true, length, take, sum_by, IfOk, OnOk, OnErr};
+ghost use Rattle.std.specs.Prelude.{◌≡◌, ◌⊎◌, ◌+◌, ◌++◌, ◌<◌, ◌≤◌, ◌^◌, ◌∷◌, [], ℕ, true, false, length, take, sum_by, ◌==◌, if◌then◌else◌, IfOk, OnOk, OnErr};
 ghost use Rattle.zr_base.specs.Extents.{in_extent, IsMaximal};
+ghost use Rattle.zr_rules.specs.Places.{is_leaving, state_of_dev};
 ghost use Rattle.zr_rules.specs.Space.{role_at};
 ghost use Rattle.zr_rules.specs.Roles.{is_kept_role};
 ghost use Rattle.zr_rules.specs.Steps.{HoldsCheckpoint, Discards, DiscardsSome, is_among, kept_extents, with_ckpt};
@@ -41,9 +42,10 @@ impl Space {
     }
 
     /// Holds the root of a transaction group: the metadata of the current root is the saved root's from now on. There was
-    /// no saved root. It goes over the devices, and takes no memory.
+    /// no saved root, and no device is leaving. It goes over the devices, and takes no memory.
     pub fn hold(&mut self, txg: u64)
         requires none { self.old.saved_meta ≡ [] }
+        requires stays { (d : ℕ) → is_leaving (state_of_dev self.old.parts.devs d) ≡ false }
         ensures { HoldsCheckpoint self.old self.new txg }
     {
         for dev in 0..self.devs.len() {
@@ -53,8 +55,9 @@ impl Space {
         self.whole.ckpt = CkptPart::Held(txg);
     }
 
-    /// Holds no root any more. What is kept stays so until steps give it back.
+    /// Holds no root any more. What is kept stays so until steps give it back. No device is leaving.
     pub fn discard(&mut self)
+        requires stays { (d : ℕ) → is_leaving (state_of_dev self.old.parts.devs d) ≡ false }
         ensures { self.new ≡ with_ckpt self.old CkptPart.Discarding }
     {
         self.whole.ckpt = CkptPart::Discarding;
@@ -66,6 +69,7 @@ impl Space {
     /// given back.
     pub fn discard_step(&mut self) -> Result<u64, NoMemory>
         ensures ok { IfOk result (λ units. DiscardsSome self.old units self.new) }
+        ensures ended { IfOk result (λ units. self.new.parts.ckpt ≡ (if units == 0 then CkptPart.Clear else self.old.parts.ckpt)) }
         ensures err { OnErr result (DiscardsPart self.old self.new) }
     {
         let list = self.lowest_kept(STEP)?;
@@ -101,6 +105,7 @@ impl Space {
         requires few { length list.now ≤ 64 }
         ensures ok { OnOk result (Discards self.old self.new list.now) }
         ensures units { IfOk result (λ units. units ≡ sum_by (λ (e : ℕ × Extent). e.1.len) list.now) }
+        ensures some { 0 < length list.now → IfOk result (λ units. 0 < units) }
         ensures err { OnErr result (DiscardsPart self.old self.new) }
     {
         let mut rest = list;

@@ -6,19 +6,32 @@
 #![tactic(auto)]
 
 mod ckpt;
+mod condense;
+mod copy;
+mod copying;
 mod device;
+mod each;
+mod free;
+mod freeable;
+mod images;
+mod laws;
+mod leave;
 mod live;
 mod open;
 mod reads;
 mod records;
 mod remap;
 mod room;
+mod saved;
 mod service;
 mod space;
-#[cfg(test)]
-mod tests;
+mod upgrade;
+mod visits;
 mod whole;
 
+pub use copy::Plan;
+pub use copying::Copying;
+pub use laws::plan_and_entry;
 pub use records::SetKind;
 pub use space::{Space, SpaceErr};
 pub use whole::Whole;

@@ -5,13 +5,14 @@
 ghost use Rattle.std.specs.Prelude.{◌≡◌, ◌↔◌, ◌<◌, ◌≤◌, ◌++◌, ◌∷◌, ℕ, true, false, length, vec_len, IsTrue, IfOk, IfSome, IfNone, OnErr};
 ghost use Rattle.zr_rules.specs.Places.{address_hits};
 ghost use Rattle.zr_space.specs.Opens.{CanOpen, IsOpened, IsQuiet, OpensDevice};
+ghost use Rattle.zr_rules.specs.Equation.{devices_in};
+ghost use Rattle.zr_space.specs.Paths.{AreInService};
 ghost use Rattle.zr_space.specs.Reads.{CanReadPart};
 
-use crate::reads::{read_device, read_meta};
-use crate::space::{Space, push_reserved};
+use crate::reads::read_part;
+use crate::space::{Space, push_reserved, serving};
 use std::alloc::Global;
 use zr_base::{DevPart, Dva, NoMemory, SpaceParts};
-use zr_ranges::RangeSet;
 
 // Whether there are at most 32 devices, and no condensing.
 fn is_quiet(parts: &SpaceParts) -> bool
@@ -43,6 +44,7 @@ impl Space {
         saved: &[Dva],
     ) -> Result<Option<Space>, NoMemory>
         ensures some { IfOk result (λ o. IfSome o (IsOpened parts.now meta.now saved.now)) }
+        ensures service { IfOk result (λ o. IfSome o (λ space. AreInService (devices_in space))) }
         ensures none { IfOk result (λ o. IfNone o (¬ CanOpen parts.now meta.now saved.now)) }
     {
         let devices = parts.devs.len();
@@ -66,20 +68,12 @@ impl Space {
         ensures no { IfOk result (λ b. b ≡ false → ¬ CanReadPart part.now meta.now saved.now (length self.old.parts.devs)) }
     {
         let dev = self.devs.len() as u32;
-        let mut used = RangeSet::new(self.alloc);
-        let Some(mut device) = read_device(self.alloc, part, &mut used)? else {
+        let Some(read) = read_part(self.alloc, part, dev, meta, saved)? else {
             return Ok(false);
         };
-        if !read_meta(&mut device.units, &mut used, dev, saved)? {
-            return Ok(false);
-        }
-        device.units.save();
-        if !read_meta(&mut device.units, &mut used, dev, meta)? {
-            return Ok(false);
-        }
         self.devs.reserve(1)?;
-        self.slabs.add_dev(dev, part.row.units, &used)?;
-        push_reserved(&mut self.devs, device);
+        self.slabs.add_dev(dev, part.row.units, &read.used)?;
+        push_reserved(&mut self.devs, serving(part.row, read.into_units()));
         Ok(true)
     }
 }

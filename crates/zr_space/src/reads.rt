@@ -7,10 +7,9 @@ ghost use Rattle.std.specs.Prelude.{◌≡◌, ◌↔◌, ◌+◌, ◌<◌, ◌�
 ghost use Rattle.zr_base.specs.Extents.{HasNone};
 ghost use Rattle.zr_base.specs.declared.space.Dva.{Dva};
 ghost use Rattle.zr_units.specs.Uses.{Freed};
-ghost use Rattle.zr_space.specs.Reads.{CanRead, Marks, CanReadLate, MarksLate, IsListed, CanReadMeta, ReadsMeta, IsPlain, IsRead, CanReadPart, IsAmong, CanKeep};
-ghost use Rattle.zr_space.specs.Views.{part_in};
+ghost use Rattle.zr_space.specs.Reads.{CanRead, Marks, CanReadLate, MarksLate, IsListed, CanReadMeta, ReadsMeta, IsPlain, IsRead, CanReadPart, IsAmong, CanKeep, HasMeta};
+ghost use Rattle.zr_space.specs.Views.{part_in, serving};
 
-use crate::device::Device;
 use std::alloc::Global;
 use zr_base::{DevPart, DevState, Dva, Extent, LateRun, NoMemory};
 use zr_ranges::RangeSet;
@@ -90,9 +89,9 @@ pub fn read_late(
     units: u64,
 ) -> Result<Option<FreedSets>, NoMemory>
     requires { units < 2 ^ 40 }
-    ensures listed { IfOk result (λ o. IfSome o (IsListed runs.now)) }
-    ensures some { IfOk result (λ o. IfSome o (λ f. CanReadLate f used.old.extents units)) }
-    ensures used { IfOk result (λ o. IfSome o (λ f. MarksLate f used.old.extents used.new.extents)) }
+    ensures listed { IfOk result (λ o. IfSome o (λ f. IsListed runs.now f.sets)) }
+    ensures some { IfOk result (λ o. IfSome o (λ f. CanReadLate f.sets used.old.extents units)) }
+    ensures used { IfOk result (λ o. IfSome o (λ f. MarksLate f.sets used.old.extents used.new.extents)) }
     ensures none { IfOk result (λ o. IfNone o ((f : Freed) → IsListed runs.now f → ¬ CanReadLate f used.old.extents units)) }
 {
     let Some(kinds) = kinds_of(alloc, runs)? else {
@@ -187,18 +186,19 @@ fn read_kept(
     Ok(Some(kept))
 }
 
-/// A device as a root records it, without metadata. Its units are added to those that are used, of which there are none.
-/// None where it is not in service, a set is not kept as its maximal extents, or a unit has two uses.
-pub fn read_device(
+// The units of a device in service as a root records them, without metadata. They are added to those that are used, of
+// which there are none. None where the device is not in service, a set is not kept as its maximal extents, or a unit has two
+// uses.
+fn read_device(
     alloc: Global,
     part: &DevPart,
     used: &mut RangeSet,
-) -> Result<Option<Device>, NoMemory>
+) -> Result<Option<Units>, NoMemory>
     requires { used.old.extents ≡ [] }
-    ensures part { IfOk result (λ o. IfSome o (λ k. part_in k ≡ part.now)) }
-    ensures meta { IfOk result (λ o. IfSome o (λ k. k.uses.meta ≡ [])) }
-    ensures some { IfOk result (λ o. IfSome o (λ k. IsRead k used.new.extents)) }
-    ensures saved { IfOk result (λ o. IfSome o (λ k. k.uses.saved ≡ [])) }
+    ensures part { IfOk result (λ o. IfSome o (λ x. part_in (serving part.now.row x) ≡ part.now)) }
+    ensures meta { IfOk result (λ o. IfSome o (λ x. x.meta ≡ [])) }
+    ensures some { IfOk result (λ o. IfSome o (λ x. IsRead (serving part.now.row x) used.new.extents)) }
+    ensures saved { IfOk result (λ o. IfSome o (λ x. x.saved ≡ [])) }
     ensures none { IfOk result (λ o. IfNone o ((meta saved : List Dva) (dev : ℕ) → ¬ CanReadPart part.now meta saved dev)) }
 {
     if !is_plain(part) {
@@ -217,8 +217,50 @@ pub fn read_device(
     let Some(late2) = read_late(alloc, used, part.late2.as_slice(), units)? else {
         return Ok(None);
     };
-    Ok(Some(Device {
-        row: part.row,
-        units: Units::of_sets(alloc, units, held, kept, late1, late2),
-    }))
+    Ok(Some(Units::of_sets(alloc, units, held, kept, late1, late2)))
+}
+
+/// The units of a device by use, and all of them that have a use.
+#[derive(Drop)]
+pub struct Gathered {
+    pub units: Units,
+    pub used: RangeSet,
+}
+
+impl Gathered {
+    /// The units by use alone.
+    pub fn into_units(self) -> Units
+        ensures { result ≡ self.units }
+    {
+        self.units
+    }
+}
+
+/// Reads a device with this index, and the metadata of the current and of the saved root that lies on it. None exactly
+/// where a set is not as a root records it, or a unit has two uses.
+pub fn read_part(
+    alloc: Global,
+    part: &DevPart,
+    dev: u32,
+    meta: &[Dva],
+    saved: &[Dva],
+) -> Result<Option<Gathered>, NoMemory>
+    ensures part { IfOk result (λ o. IfSome o (λ g. part_in (serving part.now.row g.units) ≡ part.now)) }
+    ensures read { IfOk result (λ o. IfSome o (λ g. IsRead (serving part.now.row g.units) g.used.extents)) }
+    ensures meta { IfOk result (λ o. IfSome o (λ g. HasMeta meta.now dev g.units.meta)) }
+    ensures saved { IfOk result (λ o. IfSome o (λ g. HasMeta saved.now dev g.units.saved)) }
+    ensures none { IfOk result (λ o. IfNone o (¬ CanReadPart part.now meta.now saved.now dev)) }
+{
+    let mut used = RangeSet::new(alloc);
+    let Some(mut units) = read_device(alloc, part, &mut used)? else {
+        return Ok(None);
+    };
+    if !read_meta(&mut units, &mut used, dev, saved)? {
+        return Ok(None);
+    }
+    units.save();
+    if !read_meta(&mut units, &mut used, dev, meta)? {
+        return Ok(None);
+    }
+    Ok(Some(Gathered { units, used }))
 }

@@ -11,8 +11,9 @@ ghost use Rattle.zr_space.specs.Views.{late_runs, part_in};
 
 use crate::device::Device;
 use crate::space::Space;
+use crate::whole::Whole;
 use std::alloc::Global;
-use zr_base::{Change, DevPart, Extent, Items, LateRun, NoMemory, SpaceParts};
+use zr_base::{Change, CondPart, DevPart, Extent, Items, LateRun, NoMemory, SpaceParts};
 use zr_ranges::RangeSet;
 use zr_units::FreedSets;
 
@@ -37,7 +38,7 @@ fn put_runs(runs: &mut Items<LateRun>, extents: &[Extent], meta: bool) -> Result
 
 // A late set, blocks first.
 fn late_of(alloc: Global, freed: &FreedSets) -> Result<Items<LateRun>, NoMemory>
-    ensures { IfOk result (λ runs. runs ≡ late_runs freed.now) }
+    ensures { IfOk result (λ runs. runs ≡ late_runs freed.now.sets) }
 {
     let mut runs = Items::new(alloc);
     put_runs(&mut runs, freed.blocks().extents(), false)?;
@@ -53,7 +54,7 @@ fn copy_of(alloc: Global, set: &RangeSet) -> Result<Items<Extent>, NoMemory>
     Ok(Items::from_vec(copy))
 }
 
-// What a root records of a device in service.
+// What a root records of a device.
 fn part_of(alloc: Global, device: &Device) -> Result<DevPart, NoMemory>
     ensures { IfOk result (λ p. p ≡ part_in device.now) }
 {
@@ -61,19 +62,22 @@ fn part_of(alloc: Global, device: &Device) -> Result<DevPart, NoMemory>
     let kept = copy_of(alloc, device.units.kept())?;
     let late1 = late_of(alloc, device.units.late1())?;
     let late2 = late_of(alloc, device.units.late2())?;
+    let entries = device.moves.entries(alloc)?;
+    let counts = device.moves.counts(alloc)?;
+    let fresh = device.moves.fresh(alloc)?;
     Ok(DevPart {
         row: device.row,
         held,
         kept,
-        entries: Items::new(alloc),
-        counts: Items::new(alloc),
-        fresh: Items::new(alloc),
+        entries,
+        counts,
+        fresh,
         late1,
         late2,
     })
 }
 
-// What a root records of devices in service.
+// What a root records of devices.
 fn parts_of(alloc: Global, devs: &[Device]) -> Result<Items<DevPart>, NoMemory>
     ensures { IfOk result (λ ps. ps ≡ map part_in devs.now) }
 {
@@ -82,6 +86,16 @@ fn parts_of(alloc: Global, devs: &[Device]) -> Result<Items<DevPart>, NoMemory>
         parts.push(part_of(alloc, device)?)?;
     }
     Ok(parts)
+}
+
+// What a root records of the condensing that goes on.
+fn cond_of(whole: &Whole) -> Result<Option<CondPart>, NoMemory>
+    ensures { IfOk result (λ cond. cond ≡ whole.now.cond) }
+{
+    match &whole.cond {
+        None => Ok(None),
+        Some(cond) => Ok(Some(cond.part()?)),
+    }
 }
 
 impl Space {
@@ -105,8 +119,8 @@ impl Space {
     /// reset the next root has none. It costs nothing.
     pub fn freed(&self, dev: u32) -> &FreedSets
         requires { dev < length self.now.parts.devs }
-        ensures blocks { result.now.blocks ≡ (opened_of self.now dev).deferred }
-        ensures meta { result.now.meta ≡ (opened_of self.now dev).dropped }
+        ensures blocks { result.now.sets.blocks ≡ (opened_of self.now dev).deferred }
+        ensures meta { result.now.sets.meta ≡ (opened_of self.now dev).dropped }
     {
         self.devs[dev as usize].units.freed()
     }
@@ -115,7 +129,7 @@ impl Space {
     /// none. It costs nothing.
     pub fn late1(&self, dev: u32) -> &FreedSets
         requires { dev < length self.now.parts.devs }
-        ensures { late_runs result.now ≡ (part_of self.now.parts.devs dev).late1 }
+        ensures { late_runs result.now.sets ≡ (part_of self.now.parts.devs dev).late1 }
     {
         self.devs[dev as usize].units.late1()
     }
@@ -129,7 +143,7 @@ impl Space {
         match set {
             SetKind::Held => self.devs[dev as usize].units.changes(self.alloc),
             SetKind::Kept => self.devs[dev as usize].units.kept_changes(self.alloc),
-            SetKind::Fresh => Ok(Vec::new(self.alloc)),
+            SetKind::Fresh => self.devs[dev as usize].moves.changes(self.alloc),
         }
     }
 
@@ -141,7 +155,7 @@ impl Space {
         Ok(SpaceParts {
             version: self.whole.version,
             devs,
-            cond: None,
+            cond: cond_of(&self.whole)?,
             ckpt: self.whole.ckpt,
         })
     }

@@ -1,15 +1,15 @@
 //! The space of an open pool, and what happens to it.
-ghost use Rattle.std.specs.Prelude.{◌≡◌, ℕ, ◌+◌, ◌^◌, ◌<◌, ◌≤◌, true, false, [], IfOk, IfErr, OnOk, OnErr, length, vec_len, ◌∷◌, ◌++◌};
+ghost use Rattle.std.specs.Prelude.{◌≡◌, ℕ, ◌+◌, ◌^◌, ◌<◌, ◌≤◌, [], IfOk, IfErr, OnOk, OnErr, length, vec_len, ◌∷◌, ◌++◌, true, false, None};
 ghost use Rattle.std.specs.Vec.{vec_capacity};
 ghost use Rattle.zr_base.specs.declared.space.Dva.{Dva};
 ghost use Rattle.zr_rules.specs.Columns.{columns};
 ghost use Rattle.zr_rules.specs.Places.{state_of_dev, units_of_dev};
 ghost use Rattle.zr_space.specs.Drops.{IsMeta, KeepsParts};
-ghost use Rattle.zr_rules.specs.Frees.{Allocates, AllocatesMeta, Frees, DropsMeta, keeps};
+ghost use Rattle.zr_rules.specs.Frees.{Allocates, AllocatesMeta, DropsMeta};
 ghost use Rattle.zr_rules.specs.Steps.{AddsDevice, Commits};
 ghost use Rattle.zr_space.specs.Live.{IsLive};
 ghost use Rattle.zr_metaslab.specs.Devices.{extent_of};
-ghost use Rattle.zr_space.specs.Views.{space_of, fresh_device};
+ghost use Rattle.zr_space.specs.Views.{space_of, serving, fresh_device};
 ghost use Rattle.zr_space.specs.Causes.{HasCause};
 
 use crate::device::Device;
@@ -18,6 +18,7 @@ use std::alloc::Global;
 use std::marker::Model;
 use zr_base::{CkptPart, Columns, DevRow, DevState, Dva, Extent, NoMemory};
 use zr_choose::Chooser;
+use zr_indirect::Mapping;
 use zr_metaslab::{NoRun, Slabs};
 use zr_ranges::RangeSet;
 use zr_units::Units;
@@ -48,7 +49,7 @@ impl Model for Space {
 
     ghost view = { λ a. space_of a.whole a.devs.items };
 
-    ghost invariant = { λ a. IsSpace a.slabs a.devs.items };
+    ghost invariant = { λ a. IsSpace a.whole a.slabs a.devs.items };
 }
 
 // The units of an address.
@@ -61,9 +62,20 @@ pub(crate) fn extent_of(at: &Dva) -> Extent
     }
 }
 
+/// A device in service with these units.
+pub(crate) fn serving(row: DevRow, units: Units) -> Device
+    ensures { result ≡ serving row units }
+{
+    Device {
+        row,
+        units,
+        moves: Mapping::in_service(),
+    }
+}
+
 // A device in service of which no unit is used.
 fn new_device(alloc: Global, units: u64, txg: u64) -> Device
-    ensures { result ≡ fresh_device units txg }
+    ensures { result ≡ fresh_device units txg result.uses.spare }
 {
     let row = DevRow {
         state: DevState::On,
@@ -71,10 +83,7 @@ fn new_device(alloc: Global, units: u64, txg: u64) -> Device
         units,
         gone: 0,
     };
-    Device {
-        row,
-        units: Units::new(alloc, units),
-    }
+    serving(row, Units::new(alloc, units))
 }
 
 /// Adds a device where there is room for it.
@@ -91,13 +100,14 @@ pub fn push_reserved(devs: &mut Vec<Device>, device: Device)
 impl Space {
     /// The space of a pool without devices. It takes no memory.
     pub fn new(alloc: Global, version: u64) -> Space
-        ensures { result ≡ space_of (record { version = version; ckpt = CkptPart.Clear }) [] }
+        ensures { result ≡ space_of (record { version = version; ckpt = CkptPart.Clear; cond = None }) [] }
     {
         Space {
             alloc,
             whole: Whole {
                 version,
                 ckpt: CkptPart::Clear,
+                cond: None,
             },
             slabs: Slabs::new(alloc),
             devs: Vec::new(alloc),
@@ -169,56 +179,6 @@ impl Space {
         }
     }
 
-    /// Frees a block that was born in this transaction group. What the open group allocated is free at once. The rest is
-    /// kept where a checkpoint is held that may have the block, and else deferred. Memory is taken first. It is logarithmic
-    /// in the extents of the device, for each run of the address that the open group has or has not allocated.
-    pub fn free(&mut self, a: Dva, birth: u64) -> Result<(), NoMemory>
-        requires live { IsLive self.old a }
-        ensures ok { OnOk result (Frees self.old self.new a birth) }
-        ensures err { OnErr result (self.new ≡ self.old) }
-    {
-        if self.keeps(birth) {
-            return self.keep(a, birth);
-        }
-        self.give_up(a, birth)
-    }
-
-    // Whether the units of a block that was born in this transaction group are kept when it is freed.
-    fn keeps(&self, birth: u64) -> bool
-        ensures { result ≡ keeps self.now.parts.ckpt birth }
-    {
-        match self.whole.ckpt {
-            CkptPart::Held(txg) => birth <= txg,
-            CkptPart::Clear | CkptPart::Discarding => false,
-        }
-    }
-
-    // Frees a block that the checkpoint may have.
-    fn keep(&mut self, a: Dva, _birth: u64) -> Result<(), NoMemory>
-        requires live { IsLive self.old a }
-        requires kept { keeps self.old.parts.ckpt _birth ≡ true }
-        ensures ok { OnOk result (Frees self.old self.new a _birth) }
-        ensures err { OnErr result (self.new ≡ self.old) }
-    {
-        let e = extent_of(&a);
-        let device = &mut self.devs[a.dev as usize];
-        device.units.keep(&mut self.slabs, a.dev, e)?;
-        Ok(())
-    }
-
-    // Frees a block that no checkpoint has.
-    fn give_up(&mut self, a: Dva, _birth: u64) -> Result<(), NoMemory>
-        requires live { IsLive self.old a }
-        requires free { keeps self.old.parts.ckpt _birth ≡ false }
-        ensures ok { OnOk result (Frees self.old self.new a _birth) }
-        ensures err { OnErr result (self.new ≡ self.old) }
-    {
-        let e = extent_of(&a);
-        let device = &mut self.devs[a.dev as usize];
-        device.units.free(&mut self.slabs, a.dev, e)?;
-        Ok(())
-    }
-
     /// Gives back metadata of the current or of the saved root. It is free two commits later. Logarithmic in the extents
     /// of the device.
     pub fn drop_meta(&mut self, a: Dva) -> Result<(), NoMemory>
@@ -276,7 +236,8 @@ impl Space {
     }
 
     /// Ends the transaction group: what it allocated is settled, and what the group two before it freed is free. At a
-    /// reset all that was freed is free. It takes no memory, and costs a release for each extent that becomes free.
+    /// reset all that was freed is free. The entries of a device that is leaving are synced. It takes no memory, and costs
+    /// a release for each extent that becomes free.
     pub fn commit_done(&mut self, reset: bool)
         ensures commits { Commits reset self.old self.new }
         ensures live { (a : Dva) → IsLive self.old a → IsLive self.new a }
@@ -286,6 +247,7 @@ impl Space {
     {
         for dev in 0..self.devs.len() {
             let device = &mut self.devs[dev];
+            device.moves.age();
             if reset {
                 device.units.reset(&mut self.slabs, dev as u32);
                 continue;

@@ -138,6 +138,3 @@ pub trait Blocks {
     /// An address at which a block is stored leads to units.
     ghost resolved: { (store : Self) (s : Stored) → holds store s → (at : Dva) → 0 < hits s.pointers at → (account store).resolves at ≡ true };
 }
-
-#[cfg(test)]
-mod tests;

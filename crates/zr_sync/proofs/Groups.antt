@@ -1,14 +1,16 @@
 -- The end of a group: the next one is open.
-use Rattle.std.proofs.Common.{◌≡◌, ℕ, ◌+◌, ◌≤◌, Bool, List, [], length, Some, sym, ◌∙◌, ap, subst, arith}
+use Rattle.std.proofs.Common.{◌≡◌, ℕ, ◌+◌, ◌≤◌, Bool, List, [], length, Some, inl, inr, refl, sym, ◌∙◌, ap, subst, arith}
 use Rattle.std.specs.List.{AllByRecursion}
 use Rattle.std.specs.Int.{div_ceil}
 use Rattle.std.proofs.Math.Path.{fun_ext}
 use Rattle.zr_base.specs.Trees.{IsHeight}
+use Rattle.zr_base.specs.declared.space.CkptPart.{CkptPart}
 use Rattle.zr_base.specs.declared.space.DevRow.{DevRow}
 use Rattle.zr_base.specs.declared.space.Entry.{Entry}
 use Rattle.zr_label.specs.Blocks.{IsUber}
 use Rattle.zr_label.specs.declared.root.Uber.{Uber}
 use Rattle.zr_lookup.specs.Groups.{IsChangeOf, IsLawfulGroup}
+use Rattle.zr_meta.specs.Heads.{IsSaved}
 use Rattle.zr_rules.specs.Devices.{Devices}
 use Rattle.zr_rules.specs.Equation.{devices_in}
 use Rattle.zr_rules.specs.Space.{Space}
@@ -19,8 +21,9 @@ use Rattle.zr_vdev.specs.Mounts.{AreMounted}
 use Rattle.zr_commit.proofs.Roots.{meta_tree}
 use Rattle.zr_shelf.specs.Counts.{Counts}
 use Rattle.zr_shelf.specs.Moments.{World}
-use Rattle.zr_sync.specs.Commits.{IsNextRoot, IsShownFrom}
-use Rattle.zr_sync.specs.Pools.{IsOpen, IsInLimits, AreRows}
+use Rattle.zr_shelf.proofs.Runs.{still}
+use Rattle.zr_sync.specs.Commits.{IsNextRoot, IsShownFrom, IsShownInPart, PublishesRoot, WritesRoot}
+use Rattle.zr_sync.specs.Pools.{IsOpen, IsInLimits, AreRows, saved_block}
 use Rattle.zr_sync.specs.Writes.{WritesAll}
 use Rattle.zr_sync.specs.declared.open.OpenPool.{OpenPool}
 use Rattle.zr_sync.proofs.Rows.{rows_later}
@@ -66,6 +69,8 @@ ended sizes reset x y u height o next lawful tall commits txg none rest =
       head = meta_tree u.len height u.root lawful.root tall;
       streams = o.streams;
       count = o.count;
+      saved = subst (λ (k : CkptPart). IsSaved k (saved_block x.saved)) (sym commits.ckpt) o.saved;
+      checkpoint = o.checkpoint;
       spelled = commits.version ∙ o.spelled;
       devices = commits.devices ∙ o.devices;
       rows = λ d lt. commits.rows d ∙ o.rows d lt;
@@ -82,3 +87,26 @@ shown_before {n1 = n1} {n2 = n2} {x = x} {y = y} p u a b h =
     let is : IsShownFrom n1 (record x { space = y.space; cache = y.cache; dir = y.dir; streams = y.streams }) u a b =
     subst (λ (o : OpenPool). IsShownFrom n1 o u a b) p.rest (subst (λ (n : List ℕ). IsShownFrom n y u a b) p.sizes h) in
     record { both = is.both; all = is.all; in_both = is.in_both; all_both = is.all_both; in_all = is.in_all; all_all = is.all_all; published = is.published }
+
+-- the root that follows is the next one of the pool whose blocks were written
+pub next_before : {n1 n2 : List ℕ} {c1 c2 : Counts} {t1 t2 : Type 0} {w1 w2 : World} {x y : OpenPool} → WritesAll n1 n2 c1 c2 t1 t2 w1 w2 x y → (reset : Bool) (u : Uber) → IsNextRoot y reset u → IsNextRoot x reset u
+next_before {x = x} {y = y} p reset u h =
+    let is : IsNextRoot (record x { space = y.space; cache = y.cache; dir = y.dir; streams = y.streams }) reset u = subst (λ (o : OpenPool). IsNextRoot o reset u) p.rest h in
+    record { txg = is.txg; version = is.version; guid = is.guid; name = is.name; count = is.count; rows = is.rows; reset_is = is.reset_is }
+
+part_before : {n1 n2 : List ℕ} {c1 c2 : Counts} {t1 t2 : Type 0} {w1 w2 : World} {x y : OpenPool} → WritesAll n1 n2 c1 c2 t1 t2 w1 w2 x y → (u : Uber) (a b : World) → IsShownInPart n2 y u a b → IsShownInPart n1 x u a b
+part_before {n1 = n1} {n2 = n2} {x = x} {y = y} p u a b h =
+    let is : IsShownInPart n1 (record x { space = y.space; cache = y.cache; dir = y.dir; streams = y.streams }) u a b =
+    subst (λ (o : OpenPool). IsShownInPart n1 o u a b) p.rest (subst (λ (n : List ℕ). IsShownInPart n y u a b) p.sizes h) in
+    record { both = is.both; all = is.all; in_both = is.in_both; all_both = is.all_both; in_all = is.in_all; all_all = is.all_all; published = is.published }
+
+-- where it stops before a root is published, blocks alone were written
+pub stops_early : {n1 n2 : List ℕ} {c1 c2 : Counts} {t1 t2 : Type 0} {w1 w2 : World} {x y : OpenPool} → WritesAll n1 n2 c1 c2 t1 t2 w1 w2 x y → t1 → (reset : Bool) → WritesRoot n1 x reset w1 w2
+stops_early {w2 = w2} p told reset = (w2, p.written told, inl (still w2 w2 refl))
+
+-- and then the root is
+pub publishes_then : {n1 n2 : List ℕ} {c1 c2 : Counts} {t1 t2 : Type 0} {w1 w2 : World} {x y : OpenPool} → WritesAll n1 n2 c1 c2 t1 t2 w1 w2 x y → t1 → (reset : Bool) (u : Uber) → IsNextRoot y reset u → (w : World) → PublishesRoot n2 y u w2 w
+    → WritesRoot n1 x reset w1 w
+publishes_then {w2 = w2} p told reset u next w (inl unmoved) = (w2, p.written told, inl unmoved)
+publishes_then {w2 = w2} p told reset u next w (inr (inl part)) = (w2, p.written told, inr (u, next_before p reset u next, inl (part_before p u w2 w part)))
+publishes_then {w2 = w2} p told reset u next w (inr (inr shown)) = (w2, p.written told, inr (u, next_before p reset u next, inr (shown_before p u w2 w shown)))

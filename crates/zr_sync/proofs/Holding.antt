@@ -93,17 +93,21 @@ published_holds sizes both all u r a b pool t1 t2 s o lawful published told held
 
 -- ---- the end of a group
 
--- a group that ends leaves the blocks of objects
-ended_holds : (reset : Bool) (t : Type 0) (disks : List (List ℕ)) (x y : OpenPool) (s : Stored) → AreInService (devices_in x.space) → y.table ≡ x.table → y.cache ≡ x.cache → ((a : Dva) → IsLive x.space a → IsLive y.space a) → Commits reset x.space y.space
+-- where the devices and what is live stay, the blocks of objects do
+pub live_holds : (t : Type 0) (disks : List (List ℕ)) (x y : OpenPool) (s : Stored) → AreInService (devices_in x.space) → devices_in y.space ≡ devices_in x.space → y.table ≡ x.table → y.cache ≡ x.cache → ((a : Dva) → IsLive x.space a → IsLive y.space a)
     → HasBlocks t disks x s → Now (HasBlocks t disks y) (λ n. Swaps s n [] [])
-ended_holds reset t disks x y s on table cache live commits held =
-    let devices = commits_devices reset x.space y.space commits in
+live_holds t disks x y s on devices table cache live held =
     subst (λ (w : Table). Now (HoldsBlocks Block w.slots t disks y.space None y.cache) (λ n. Swaps s n [] [])) (sym table)
     (subst (λ (k : Cache). Now (HoldsBlocks Block x.table.slots t disks y.space None k) (λ n. Swaps s n [] [])) (sym cache)
     (held_anew Block x.table.slots t t disks disks x.space y.space None x.cache x.cache s (subst AreInService (sym devices) on) held.told (read_same disks x.table.slots x.space y.space x.cache devices held.read)
     (λ a h. record { used = live a h.used; whole = tt })
     (λ a h. ap (λ (ds : Devices). address_bytes (record { disks = disks; slots = x.table.slots; devices = ds }) a) devices)
     held))
+
+-- a group that ends leaves the blocks of objects
+ended_holds : (reset : Bool) (t : Type 0) (disks : List (List ℕ)) (x y : OpenPool) (s : Stored) → AreInService (devices_in x.space) → y.table ≡ x.table → y.cache ≡ x.cache → ((a : Dva) → IsLive x.space a → IsLive y.space a) → Commits reset x.space y.space
+    → HasBlocks t disks x s → Now (HasBlocks t disks y) (λ n. Swaps s n [] [])
+ended_holds reset t disks x y s on table cache live commits held = live_holds t disks x y s on (commits_devices reset x.space y.space commits) table cache live held
 
 -- so a group that was written is written once it ended
 pub ended_written : (reset : Bool) (t0 t : Type 0) (disks0 disks : List (List ℕ)) (x y z : OpenPool) (s : Stored) → AreInService (devices_in y.space) → z.table ≡ y.table → z.cache ≡ y.cache → z.dir ≡ y.dir → ((a : Dva) → IsLive y.space a → IsLive z.space a) → Commits reset y.space z.space

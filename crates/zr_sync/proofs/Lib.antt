@@ -10,3 +10,7 @@ pub mod Rings
 pub mod Sizes
 pub mod Stays
 pub mod Standing
+pub mod SavedRoots
+pub mod Streams
+pub mod Growing
+pub mod Anew

@@ -1,24 +1,31 @@
 -- An open pool through the steps of a commit.
-use Rattle.std.proofs.Common.{◌≡◌, ℕ, ◌≤◌, ◌<◌, ◌^◌, List, length, get_or, Option, Some, refl, sym, ◌∙◌, ap, subst, arith}
+use Rattle.std.proofs.Common.{◌≡◌, ℕ, ◌≤◌, ◌<◌, ◌^◌, true, List, length, get_or, Option, Some, refl, sym, ◌∙◌, ap, subst, arith}
 use Rattle.std.specs.Prelude.{IsTrue, slice_index, slice_index_or, slice_set, All}
 use Rattle.std.proofs.lemmas.List.Elements.{All-set}
 use Rattle.std.proofs.lemmas.Bool.Decides.{nat_tests}
 use Rattle.zr_base.specs.Counts.{HasRisen}
+use Rattle.zr_base.specs.declared.space.CkptPart.{CkptPart}
 use Rattle.zr_label.specs.Blocks.{no_row}
 use Rattle.zr_label.specs.Geometry.{is_disk_size, units_of_size, unit_at}
+use Rattle.zr_meta.specs.Heads.{IsSaved}
 use Rattle.zr_rules.specs.Equation.{devices_in}
 use Rattle.zr_rules.specs.Places.{units_of_dev}
+use Rattle.zr_rules.specs.Roles.{Role}
+use Rattle.zr_rules.specs.Space.{role_at}
 use Rattle.zr_shelf.specs.Counts.{Counts, NoneFell}
+use Rattle.zr_shelf.specs.Doings.{WritesOnly}
 use Rattle.zr_shelf.specs.Moments.{World}
+use Rattle.zr_shelf.proofs.Doings.{writes_more}
 use Rattle.zr_view.specs.Runs.{HasDisk}
-use Rattle.zr_vdev.specs.Stores.{Continues}
-use Rattle.zr_vdev.specs.declared.kind.Kind.TheVariants.{Meta}
-use Rattle.zr_vdev.proofs.Follows.{continues_itself, continues_more, others_itself}
+use Rattle.zr_vdev.specs.Puts.{IsWriteOf}
+use Rattle.zr_vdev.specs.Stores.{Continues, IsWriteInto, KeepsOthers, may_write}
+use Rattle.zr_vdev.specs.declared.kind.Kind.TheVariants.{Block, Meta}
+use Rattle.zr_vdev.proofs.Follows.{continues_itself, continues_more, narrower, others_itself, widen}
 use Rattle.zr_vdev.proofs.Frames.{continues_mounted, continues_service}
 use Rattle.zr_sync.specs.declared.open.DeviceStreams.{DeviceStreams}
 use Rattle.zr_sync.specs.declared.open.OpenPool.{OpenPool}
 use Rattle.zr_lookup.specs.Groups.{IsLawfulGroup}
-use Rattle.zr_sync.specs.Pools.{AreStreams, IsOpen, IsInLimits, AreRows, IsAfter, IsDirectory}
+use Rattle.zr_sync.specs.Pools.{AreStreams, IsOpen, IsInLimits, AreRows, IsAfter, IsDirectory, saved_block}
 use Rattle.zr_sync.specs.Writes.{WritesMetadata, WritesTrees, WritesBlocks, WritesAll}
 use Rattle.zr_sync.proofs.Sizes.{disk_used}
 use Rattle.zr_sync.proofs.Disks.{works_more, works_trees, works_metadata}
@@ -75,6 +82,8 @@ metadata_open n1 n2 c1 c2 t1 t2 w1 w2 x y o p streams =
       head = o.head;
       streams = streams;
       count = p.count ∙ o.count;
+      saved = subst (λ (k : CkptPart). IsSaved k (saved_block x.saved)) (sym rows.ckpt) o.saved;
+      checkpoint = o.checkpoint;
       spelled = rows.version ∙ o.spelled;
       devices = rows.devices ∙ o.devices;
       rows = λ d lt. (rows.each d).row ∙ o.rows d lt;
@@ -127,6 +136,8 @@ blocks_open n1 n2 c1 c2 t1 t2 w1 w2 x y o p lawful limits =
       head = o.head;
       streams = o.streams;
       count = o.count;
+      saved = subst (λ (k : CkptPart). IsSaved k (saved_block x.saved)) (sym rows.ckpt) o.saved;
+      checkpoint = o.checkpoint;
       spelled = rows.version ∙ o.spelled;
       devices = rows.devices ∙ o.devices;
       rows = λ d lt. (rows.each d).row ∙ o.rows d lt;
@@ -156,6 +167,8 @@ trees_open n1 n2 c1 c2 t1 t2 w1 w2 x y o p dir =
       head = o.head;
       streams = o.streams;
       count = o.count;
+      saved = subst (λ (k : CkptPart). IsSaved k (saved_block x.saved)) (sym rows.ckpt) o.saved;
+      checkpoint = o.checkpoint;
       spelled = rows.version ∙ o.spelled;
       devices = rows.devices ∙ o.devices;
       rows = λ d lt. (rows.each d).row ∙ o.rows d lt;
@@ -175,6 +188,17 @@ pub metadata_table : {n1 n2 : List ℕ} {c1 c2 : Counts} {t1 t2 : Type 0} {w1 w2
     → WritesMetadata n1 n2 c1 c2 t1 t2 w1 w2 x y → y.table ≡ x.table
 metadata_table p = ap (λ (o : OpenPool). o.table) p.rest
 
+-- what is free to metadata is free to blocks, and was so before blocks were put
+metadata_may : (r : Role) → may_write Meta r ≡ true → may_write Block r ≡ true
+metadata_may r may = grind (arith, may)
+
+metadata_into_free : (x y : OpenPool) → KeepsOthers Block x.space y.space → y.table.slots ≡ x.table.slots → (a b : World) → WritesOnly (IsWriteInto Meta y.table.slots y.space) a b → WritesOnly (IsWriteInto Block x.table.slots x.space) a b
+metadata_into_free x y others slots a b writes =
+    narrower Block x.table.slots x.space y.space others a b
+    (widen (IsWriteInto Meta y.table.slots y.space) (IsWriteInto Block x.table.slots y.space)
+    (λ w into. record { at = into.at; is = subst (λ (s : List (Option ℕ)). IsWriteOf s into.at w) slots into.is; some = into.some; open_units = λ u in_it. metadata_may (role_at y.space into.at.dev u) (into.open_units u in_it) })
+    a b writes)
+
 -- the trees, and then the metadata
 pub all_written : {n1 n2 n3 : List ℕ} {c1 c2 c3 : Counts} {t1 t2 t3 : Type 0} {w1 w2 w3 : World} {x y z : OpenPool}
     → WritesTrees n1 n2 c1 c2 t1 t2 w1 w2 x y → WritesMetadata n2 n3 c2 c3 t2 t3 w2 w3 y z → WritesAll n1 n3 c1 c3 t1 t3 w1 w3 x z
@@ -183,6 +207,7 @@ all_written {n1} {n2} {n3} {c1} {c2} {c3} {t1} {t2} {t3} {w1} {w2} {w3} {x} {y} 
   none_fell = falls_more c1 c2 c3 p.goes.none_fell q.goes.none_fell;
   told = λ t. q.goes.told (p.goes.told t);
   disks = λ t. works_more w1 w2 w3 (works_trees n1 n2 c1 c2 t1 t2 w1 w2 x y t p) (works_metadata n2 n3 c2 c3 t2 t3 w2 w3 y z (p.goes.told t) q);
+  written = λ t. writes_more (IsWriteInto Block x.table.slots x.space) w1 w2 w3 (p.goes.written t) (metadata_into_free x y p.goes.space (ap (λ (o : OpenPool). o.table.slots) p.rest) w2 w3 (q.goes.written (p.goes.told t)));
   mid = y.space;
   blocks = p.goes.space;
   metadata = q.goes.space;
@@ -199,6 +224,7 @@ trees_written {n1} {n2} {c1} {c2} {t1} {t2} {w1} {w2} {x} {y} p = record {
   none_fell = p.goes.none_fell;
   told = p.goes.told;
   disks = λ t. works_trees n1 n2 c1 c2 t1 t2 w1 w2 x y t p;
+  written = p.goes.written;
   mid = y.space;
   blocks = p.goes.space;
   metadata = others_itself Meta y.space;

@@ -10,10 +10,10 @@ use Rattle.zr_rules.specs.Equation.{devices_in}
 use Rattle.zr_rules.specs.Places.{is_gone}
 use Rattle.zr_image.specs.Current.{row_at}
 use Rattle.zr_shelf.specs.Moments.{World}
-use Rattle.zr_slots.specs.Phases.{AreDisks, IsPublished}
+use Rattle.zr_slots.specs.Phases.{AreDisks, IsPublished, IsPublishedInPart}
 use Rattle.zr_slots.specs.Tables.{IsSlotInBoth, is_concrete_in}
 use Rattle.zr_view.specs.Runs.{HasDisk}
-use Rattle.zr_sync.specs.Commits.{IsNextRoot, IsShownFrom, last_reset}
+use Rattle.zr_sync.specs.Commits.{IsNextRoot, IsShownFrom, IsShownInPart, last_reset}
 use Rattle.zr_sync.specs.Pools.{IsOpen, IsAfter}
 use Rattle.zr_sync.specs.declared.open.OpenPool.{OpenPool}
 use Rattle.zr_sync.proofs.Rows.{rows_table}
@@ -105,4 +105,19 @@ shown sizes pool last u both all firsts rest before now is firsts_are rest_are i
   in_all = in_all;
   all_all = all_all;
   published = subst (λ (xs : List ℕ). IsPublished sizes xs all u before now) firsts_are (subst (λ (xs : List ℕ). IsPublished sizes firsts xs u before now) rest_are published);
+}
+
+-- one that was stopped is shown in part
+pub shown_in_part : (sizes : List ℕ) (pool : OpenPool) (last u : Uber) (both all firsts rest : List ℕ) (before now : World) → last ≡ unwrap_or pool.last u → firsts ≡ both → rest ≡ all
+    → ((slot : ℕ) → Contains both slot → IsSlotInBoth last u pool.table.slots slot) → ((slot : ℕ) → IsSlotInBoth last u pool.table.slots slot → Contains both slot)
+    → ((slot : ℕ) → Contains all slot → IsSlotInBoth u u pool.table.slots slot) → ((slot : ℕ) → IsSlotInBoth u u pool.table.slots slot → Contains all slot)
+    → IsPublishedInPart sizes firsts rest u before now → IsShownInPart sizes pool u before now
+shown_in_part sizes pool last u both all firsts rest before now is firsts_are rest_are in_both all_both in_all all_all published = record {
+  both = both;
+  all = all;
+  in_both = λ slot h. subst (λ (l : Uber). IsSlotInBoth l u pool.table.slots slot) is (in_both slot h);
+  all_both = λ slot h. all_both slot (subst (λ (l : Uber). IsSlotInBoth l u pool.table.slots slot) (sym is) h);
+  in_all = in_all;
+  all_all = all_all;
+  published = subst (λ (xs : List ℕ). IsPublishedInPart sizes xs all u before now) firsts_are (subst (λ (xs : List ℕ). IsPublishedInPart sizes firsts xs u before now) rest_are published);
 }

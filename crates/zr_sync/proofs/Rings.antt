@@ -49,7 +49,7 @@ summed_long content long =
     let d = length-sha256 body in
     omega (arith, a, b, c, d, long)
 
-uber_long : (u : Uber) → IsUber u → length (uber_block u) ≡ 4096
+pub uber_long : (u : Uber) → IsUber u → length (uber_block u) ≡ 4096
 unfolding uber_block
 uber_long u h =
     summed_long _ (long_content (uber_words u) (pointer_bytes u.root) (flat_map row_bytes u.rows) u.name.len u.name.bytes refl (pointer_long u.root (root_lawful u.root u.len h.root)) (table_long u.rows 32 h.table.size) h.name.size)

@@ -20,10 +20,12 @@ use Rattle.zr_units.specs.Uses.{Freed}
 use Rattle.zr_units.specs.Differences.{runs_of}
 use Rattle.zr_units.proofs.SetWords.{words_at_most}
 use Rattle.zr_space.specs.Views as views
-use Rattle.zr_space.specs.Records.{GainsHeld}
+use Rattle.zr_space.specs.Records.{GainsHeld, GainsKept}
 use Rattle.zr_space.proofs.Sums.{late_hits_are, some_in, extent_hits}
 use Rattle.zr_space.proofs.Counts.{count_within}
-use Rattle.zr_sync.specs.Words.{IsRun, AreFreed}
+use Rattle.zr_sync.specs.Words.{IsRun, AreFreed, log_set}
+use Rattle.zr_sync.specs.declared.words.Log.{Log}
+use Rattle.zr_sync.specs.declared.words.Log.TheVariants.{Held, Kept}
 
 -- ---- changes
 
@@ -66,6 +68,13 @@ gains_runs s d changes l small g =
     let born = set_runs (units_of_dev s.parts.devs d) (opened_of s d).born sets.born small in
     let deferred = set_runs (units_of_dev s.parts.devs d) (opened_of s d).deferred sets.deferred small in
     both_kinds changes (subst (AllByRecursion IsRun) (sym g.merged.came_is) born) (subst (AllByRecursion IsRun) (sym g.merged.went_is) deferred)
+
+pub kept_runs : (s : Space) (d : ℕ) (changes : List Change) → IsLawful s → units_of_dev s.parts.devs d ≤ 2 ^ 26 → GainsKept s d changes → AllByRecursion (λ (c : Change). IsRun c.at) changes
+kept_runs s d changes l small g =
+    let sets = l.sets d in
+    let came = set_runs (units_of_dev s.parts.devs d) (opened_of s d).kept.came sets.kept_came small in
+    let went = set_runs (units_of_dev s.parts.devs d) (opened_of s d).kept.went sets.kept_went small in
+    both_kinds changes (subst (AllByRecursion IsRun) (sym g.merged.came_is) came) (subst (AllByRecursion IsRun) (sym g.merged.went_is) went)
 
 -- ---- sets
 
@@ -147,11 +156,21 @@ late_freed s d f l small are = record {
 
 -- ---- logs
 
-pub few_held : (version : ℕ) (s : Space) (d : ℕ) (es : List Extent) → IsLawful s → units_of_dev s.parts.devs d ≤ 2 ^ 26 → es ≡ (part_of s.parts.devs d).held → set_words version es ≤ 2 ^ 26
-few_held version s d es l small is =
-    let sets = l.sets d in
-    subst (λ (xs : List Extent). set_words version xs ≤ 2 ^ 26) (sym is)
-    (few_words version (part_of s.parts.devs d).held sets.held.maximal (set_within (units_of_dev s.parts.devs d) (part_of s.parts.devs d).held sets.held small))
+pub log_is_set : (s : Space) (d : ℕ) (log : Log) → IsLawful s → IsSet (units_of_dev s.parts.devs d) (log_set log (part_of s.parts.devs d))
+log_is_set s d Held l = let sets = l.sets d in sets.held
+log_is_set s d Kept l = let sets = l.sets d in sets.kept
+
+log_within : (s : Space) (d : ℕ) (log : Log) (es : List Extent) → IsLawful s → units_of_dev s.parts.devs d ≤ 2 ^ 26 → es ≡ log_set log (part_of s.parts.devs d) → IsWithin es (2 ^ 26)
+log_within s d log es l small is =
+    subst (λ (xs : List Extent). IsWithin xs (2 ^ 26)) (sym is) (set_within (units_of_dev s.parts.devs d) (log_set log (part_of s.parts.devs d)) (log_is_set s d log l) small)
+
+pub log_reach : (s : Space) (d : ℕ) (log : Log) (es : List Extent) → IsLawful s → units_of_dev s.parts.devs d ≤ 2 ^ 26 → es ≡ log_set log (part_of s.parts.devs d) → (version : ℕ) → (version ≡ 1) ⊎ (version ≡ 2) → IsInReach version es
+log_reach s d log es l small is version v = in_reach version es v (log_within s d log es l small is)
+
+pub few_log : (s : Space) (d : ℕ) (log : Log) (es : List Extent) → IsLawful s → units_of_dev s.parts.devs d ≤ 2 ^ 26 → es ≡ log_set log (part_of s.parts.devs d) → (version : ℕ) → set_words version es ≤ 2 ^ 26
+few_log s d log es l small is version =
+    let set = log_is_set s d log l in
+    few_words version es (subst IsMaximal (sym is) set.maximal) (log_within s d log es l small is)
 
 pub not_long : (b : Bool) (words added anew : ℕ) → b ≡ is_long words added anew → b ≡ false → anew ≤ 2 ^ 26 → words + added ≤ 2 ^ 34
 not_long b words added anew is short few = grind (arith, nat_tests, is, short, few)

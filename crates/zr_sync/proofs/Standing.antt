@@ -24,6 +24,7 @@ use Rattle.zr_vdev.specs.Runs.{view_of}
 use Rattle.zr_vdev.specs.Stores.{HoldsBlocks, IsStoredAt}
 use Rattle.zr_vdev.specs.declared.kind.Kind.{Kind}
 use Rattle.zr_vdev.specs.declared.kind.Kind.TheVariants.{Meta}
+use Rattle.zr_vdev.proofs.Held.{read_same}
 use Rattle.zr_vdev.proofs.Moves.{holds_these, bytes_now}
 use Rattle.zr_view.specs.Views.{View, address_bytes}
 use Rattle.zr_sync.specs.Heads.{IsSeen, StandsHead, HasHead, head_of}
@@ -68,6 +69,20 @@ seen_trees n1 n2 c1 c2 t1 t2 w1 w2 x y wrote seen =
     let slots : y.table.slots ≡ x.table.slots = ap (λ (p : OpenPool). p.table.slots) wrote.rest in
     record { told = wrote.goes.told seen.told; read = subst (λ (ss : List (Option ℕ)). AreRead w2.now.seen ss y.space y.cache) (sym slots) (wrote.goes.read seen.told seen.read) }
 
+-- where each address has its bytes
+pub seen_same : (t1 t2 : Type 0) (before now : List (List ℕ)) (x : OpenPool) → t2 → ((a : Dva) → address_bytes (view_of now x.table.slots x.space) a ≡ address_bytes (view_of before x.table.slots x.space) a) → IsSeen t1 before x → IsSeen t2 now x
+seen_same t1 t2 before now x told same seen = record {
+  told = told;
+  read = λ e among. let was = seen.read e among in record { runs_of = was.runs_of; same = was.same ∙ sym (same e.0.pointer.at) };
+}
+
+-- where the devices stay
+pub seen_devices : (t : Type 0) (disks : List (List ℕ)) (x y : OpenPool) → devices_in y.space ≡ devices_in x.space → y.table ≡ x.table → y.cache ≡ x.cache → IsSeen t disks x → IsSeen t disks y
+seen_devices t disks x y devices table cache seen = record {
+  told = seen.told;
+  read = subst (λ (w : Table). AreRead disks w.slots y.space y.cache) (sym table) (subst (λ (k : Cache). AreRead disks x.table.slots y.space k) (sym cache) (read_same disks x.table.slots x.space y.space x.cache devices seen.read));
+}
+
 -- ---- a head that stands
 
 -- a head stands where each address has its bytes
@@ -79,8 +94,9 @@ head_same table v w h root len same has = record {
 }
 
 -- a group that ends leaves the head
-pub ended_head : (reset : Bool) (disks : List (List ℕ)) (x y : OpenPool) (root : Ptr) (len : ℕ) → y.table ≡ x.table → y.dir ≡ x.dir → y.streams ≡ x.streams → Commits reset x.space y.space → HasHead disks x root len → HasHead disks y root len
-ended_head reset disks x y root len table dir streams commits has =
+pub ended_head : (reset : Bool) (disks : List (List ℕ)) (x y : OpenPool) (root : Ptr) (len : ℕ) → y.table ≡ x.table → y.dir ≡ x.dir → y.streams ≡ x.streams → y.saved ≡ x.saved → Commits reset x.space y.space → HasHead disks x root len → HasHead disks y root len
+ended_head reset disks x y root len table dir streams saved commits has =
+    let ckpt = commits.ckpt in
     let devices = commits_devices reset x.space y.space commits in
     let heads : head_of y ≡ head_of x = cc in
     let rows : take y.table.count y.table.rows ≡ take x.table.count x.table.rows = ap (λ (t : Table). take t.count t.rows) table in

@@ -1,7 +1,6 @@
 -- The head of an open pool, as it stands on the disks.
 use Rattle.std.specs.Prelude.{◌≡◌, ℕ, List, [], ◌∷◌, length, take, None}
 use Rattle.std.specs.List.{flat_map}
-use Rattle.zr_base.specs.declared.space.CkptPart.TheVariants.{Clear}
 use Rattle.zr_base.specs.declared.space.DevRow.{DevRow}
 use Rattle.zr_bptr.specs.declared.Ptr.{Ptr}
 use Rattle.zr_bptr.specs.declared.Tree.{Tree}
@@ -13,6 +12,7 @@ use Rattle.zr_image.specs.Reading.{store_of}
 use Rattle.zr_view.specs.Views.{View}
 use Rattle.zr_vdev.specs.Caches.{AreRead}
 use Rattle.zr_vdev.specs.Runs.{view_of}
+use Rattle.zr_sync.specs.Pools.{saved_block}
 use Rattle.zr_sync.specs.declared.open.DeviceStreams.{DeviceStreams}
 use Rattle.zr_sync.specs.declared.open.OpenPool.{OpenPool}
 
@@ -20,9 +20,9 @@ use Rattle.zr_sync.specs.declared.open.OpenPool.{OpenPool}
 abbrev pub streams_in : DeviceStreams → List Stream
 streams_in d = d.held ∷ d.kept ∷ d.late1 ∷ d.late2 ∷ []
 
--- the head of an open pool: its directory and its streams, with nothing saved
+-- the head of an open pool: its directory, its streams and its checkpoint
 abbrev pub head_of : OpenPool → Head
-head_of pool = record { form = 2; dir = pool.dir; saved = None; ckpt = Clear; cond = None; streams = flat_map streams_in pool.streams.items }
+head_of pool = record { form = 2; dir = pool.dir; saved = saved_block pool.saved; ckpt = pool.space.parts.ckpt; cond = None; streams = flat_map streams_in pool.streams.items }
 
 -- what the disks have is told as they read, and what is cached is what stands there
 pub record IsSeen (tells : Type 0) (disks : List (List ℕ)) (pool : OpenPool) : Type 0 where

@@ -6,3 +6,7 @@ pub mod Commits
 pub mod Holds
 pub mod Objects
 pub mod Heads
+pub mod Checkpoints
+pub mod States
+pub mod Streams
+pub mod Anew

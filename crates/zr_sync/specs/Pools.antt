@@ -1,5 +1,5 @@
 -- An open pool, as each call needs it and leaves it.
-use Rattle.std.specs.Prelude.{◌≡◌, ℕ, ◌+◌, ◌≤◌, ◌<◌, ◌⊎◌, List, All, length, take, drop, slice_index, slice_index_or, IsTrue, Option, Some, None}
+use Rattle.std.specs.Prelude.{◌≡◌, ℕ, ◌+◌, ◌≤◌, ◌<◌, ◌⊎◌, List, All, length, take, drop, slice_index, slice_index_or, IsTrue, Option, Some, None, IfSome}
 use Rattle.std.specs.List.{list_all}
 use Rattle.zr_bptr.specs.declared.Tree.{Tree}
 use Rattle.zr_bptr.specs.Spelling.{IsTree}
@@ -8,7 +8,7 @@ use Rattle.zr_label.specs.Blocks.{IsName, IsUber, is_row, is_no_row, no_row}
 use Rattle.zr_label.specs.Geometry.{units_of_size}
 use Rattle.zr_label.specs.declared.root.Uber.{Uber}
 use Rattle.zr_lookup.specs.Groups.{IsLawfulGroup}
-use Rattle.zr_meta.specs.Heads.{IsStream, IsRootOf}
+use Rattle.zr_meta.specs.Heads.{IsStream, IsRootOf, IsSaved}
 use Rattle.zr_rules.specs.Equation.{devices_in}
 use Rattle.zr_rules.specs.Places.{is_on, part_of}
 use Rattle.zr_rules.specs.Space.{IsLawful}
@@ -16,6 +16,7 @@ use Rattle.zr_txg.specs.Changes.{Changes, block_count}
 use Rattle.zr_space.specs.Paths.{AreInService}
 use Rattle.zr_view.specs.Views.{slot_of}
 use Rattle.zr_vdev.specs.Mounts.{AreMounted}
+use Rattle.zr_sync.specs.declared.open.Checkpoint.{Checkpoint}
 use Rattle.zr_sync.specs.declared.open.DeviceStreams.{DeviceStreams}
 use Rattle.zr_sync.specs.declared.open.OpenPool.{OpenPool}
 
@@ -24,6 +25,16 @@ pub record AreStreams (s : DeviceStreams) : Type 0 where
   pub kept : IsStream s.kept
   pub late1 : IsStream s.late1
   pub late2 : IsStream s.late2
+
+-- the trees of the metadata of the root that a checkpoint holds are lawful
+pub record IsCheckpoint (c : Checkpoint) : Type 0 where
+  pub head : IsTree c.head
+  pub streams : All AreStreams c.streams.items
+
+-- the block of that root
+abbrev pub saved_block : Option Checkpoint → Option (List ℕ)
+saved_block None = None
+saved_block (Some c) = Some c.block
 
 -- the group follows that of the root that was committed last, or is the first
 abbrev pub IsAfter : Option Uber → ℕ → Type 0
@@ -48,7 +59,7 @@ pub record IsInLimits (g : Changes) : Type 0 where
   pub blocks : block_count g.objects ≤ 64
   pub objects : length g.objects ≤ 64
 
--- A pool of so many devices at least and of 32 at most, all in service, whose disks have these sizes. Each device has the units of its disk, so none lies in a label.
+-- A pool of so many devices at least and of 32 at most, all in service, whose disks have these sizes. Each device has the units of its disk, so none lies in a label. A root is saved exactly while a checkpoint is held.
 pub record IsPool (least : ℕ) (sizes : List ℕ) (pool : OpenPool) : Type 0 where
   pub version : (pool.version ≡ 1) ⊎ (pool.version ≡ 2)
   pub guid : 0 < pool.guid
@@ -65,6 +76,8 @@ pub record IsPool (least : ℕ) (sizes : List ℕ) (pool : OpenPool) : Type 0 wh
   pub head : IsTree pool.head
   pub streams : All AreStreams pool.streams.items
   pub count : length pool.streams.items ≡ pool.table.count
+  pub saved : IsSaved pool.space.parts.ckpt (saved_block pool.saved)
+  pub checkpoint : IfSome pool.saved IsCheckpoint
   pub spelled : pool.space.parts.version ≡ pool.version
   pub devices : length pool.space.parts.devs ≡ pool.table.count
   pub rows : (d : ℕ) → d < pool.table.count → (part_of pool.space.parts.devs d).row ≡ slice_index_or pool.table.rows d no_row
@@ -78,8 +91,16 @@ abbrev pub IsOpen : List ℕ → OpenPool → Type 0
 IsOpen sizes pool = IsPool 1 sizes pool
 
 -- the two pools have the same name, identity and devices
+pub record IsSameIdentity (old new : OpenPool) : Type 0 where
+  pub name : new.name ≡ old.name
+  pub guid : new.guid ≡ old.guid
+  pub version : new.version ≡ old.version
+  pub table : new.table ≡ old.table
+
+-- they have the same name, identity and devices, and their checkpoint stands as it did
 pub record IsSamePool (old new : OpenPool) : Type 0 where
   pub name : new.name ≡ old.name
   pub guid : new.guid ≡ old.guid
   pub version : new.version ≡ old.version
   pub table : new.table ≡ old.table
+  pub ckpt : new.space.parts.ckpt ≡ old.space.parts.ckpt

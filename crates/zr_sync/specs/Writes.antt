@@ -1,10 +1,10 @@
 -- What the steps of a commit do.
 use Rattle.std.specs.Prelude.{◌≡◌, ℕ, List, length}
 use Rattle.zr_shelf.specs.Counts.{Counts, NoneFell}
-use Rattle.zr_shelf.specs.Doings.{DoesOnly}
+use Rattle.zr_shelf.specs.Doings.{DoesOnly, WritesOnly}
 use Rattle.zr_shelf.specs.Moments.{World}
 use Rattle.zr_rules.specs.Space.{Space}
-use Rattle.zr_vdev.specs.Stores.{Continues, KeepsOthers}
+use Rattle.zr_vdev.specs.Stores.{Continues, IsWriteInto, KeepsOthers}
 use Rattle.zr_vdev.specs.declared.kind.Kind.TheVariants.{Block, Meta}
 use Rattle.zr_sync.specs.declared.open.OpenPool.{OpenPool}
 
@@ -29,6 +29,10 @@ pub record WritesBlocks (sizes_old sizes_new : List ℕ) (counts_old counts_new 
 abbrev pub WorksOnDisks : World → World → Type 0
 WorksOnDisks before now = DoesOnly (λ _. Unit {0}) before now
 
+-- nothing was written but units that were free, or that the open group had allocated
+abbrev pub WritesIntoFree : OpenPool → World → World → Type 0
+WritesIntoFree pool before now = WritesOnly (IsWriteInto Block pool.table.slots pool.space) before now
+
 -- All blocks of a root were written, those of trees and then those of metadata: the space, the cache, the directory and the streams changed, and all else of the
 -- pool is the same.
 pub record WritesAll (sizes_old sizes_new : List ℕ) (counts_old counts_new : Counts) (told_old told_new : Type 0) (before now : World) (old new : OpenPool) : Type 0 where
@@ -36,6 +40,7 @@ pub record WritesAll (sizes_old sizes_new : List ℕ) (counts_old counts_new : C
   pub none_fell : NoneFell counts_old counts_new
   pub told : told_old → told_new
   pub disks : told_old → WorksOnDisks before now
+  pub written : told_old → WritesIntoFree old before now
   pub mid : Space
   pub blocks : KeepsOthers Block old.space mid
   pub metadata : KeepsOthers Meta mid new.space

@@ -3,7 +3,7 @@
 //! Nothing that the last root leads to is written over, so until the new root is durable a crash finds the last one whole.
 //! What the metadata says of the space is said behind the last block that is given back, so the old head and the old late
 //! sets go before the new ones are written.
-ghost use Rattle.std.specs.Prelude.{◌≡◌, ◌≤◌, ◌+◌, ◌%◌, ℕ, [], IfSome, IsErrOf, IfOk, OnOk};
+ghost use Rattle.std.specs.Prelude.{◌≡◌, ◌≤◌, ◌+◌, ◌%◌, ℕ, [], true, IfSome, IsErrOf, IfOk, OnOk};
 ghost use Rattle.zr_base.specs.Counts.{HasRisen};
 ghost use Rattle.zr_label.specs.Blocks.{IsMetaRoot};
 ghost use Rattle.zr_rules.specs.Space.{Space};
@@ -11,19 +11,21 @@ ghost use Rattle.zr_rules.specs.Steps.{Commits};
 ghost use Rattle.zr_shelf.specs.Counts.{NoneFell};
 ghost use Rattle.zr_shelf.specs.Moments.{World};
 ghost use Rattle.zr_store.specs.Store.{Stored};
-ghost use Rattle.zr_sync.specs.Commits.{EndsGroup, IsNextRoot, IsShownFrom};
+ghost use Rattle.zr_sync.specs.Anew.{AreRenewed, RenewsLogs};
+ghost use Rattle.zr_sync.specs.Commits.{EndsGroup, IsNextRoot, IsShownFrom, WritesRoot};
 ghost use Rattle.zr_model.specs.Objects.{Objects};
 ghost use Rattle.zr_sync.specs.Objects.{HoldsObjects};
 ghost use Rattle.zr_sync.specs.Heads.{HasHead, IsSeen};
 ghost use Rattle.zr_sync.specs.Holds.{AreTreesStored, HasBlocks, HasWritten};
 ghost use Rattle.zr_sync.specs.Pools.{IsOpen, IsSamePool};
-ghost use Rattle.zr_sync.specs.Writes.{WorksOnDisks, WritesAll, WritesMetadata};
+ghost use Rattle.zr_sync.specs.Writes.{WorksOnDisks, WritesAll, WritesIntoFree, WritesMetadata};
+ghost use Rattle.zr_sync.specs.declared.logs.Logs.TheVariants.{Anew};
 ghost use Rattle.zr_sync.specs.declared.stop.Stop.TheVariants.{DiskFault};
 
 use crate::ends::end_group;
 use crate::heads::write_head;
 use crate::late::{give_head, give_lates, write_lates};
-use crate::logs::write_logs;
+use crate::logs::{Logs, write_logs};
 use crate::open::OpenPool;
 use crate::roots::{next_root, publish_root};
 use crate::stop::Stop;
@@ -45,6 +47,7 @@ fn write_late_sets<S: Shelf, P: Place>(
     ensures wrote { WritesMetadata (S.sizes shelf.old) (S.sizes shelf.new) (S.counts shelf.old) (S.counts shelf.new) (S.tells shelf.old) (S.tells shelf.new) (S.world shelf.old) (S.world shelf.new) pool.old pool.new }
     ensures pool { OnOk result (IsOpen (S.sizes shelf.new) pool.new) }
     ensures fault { IsErrOf result DiskFault → HasRisen (S.counts shelf.old).disk (S.counts shelf.new).disk }
+    ensures none { reset ≡ true → pool.new.streams ≡ pool.old.streams }
 {
     if reset {
         return Ok(());
@@ -58,13 +61,15 @@ fn turn_metadata<S: Shelf, P: Place>(
     pool: &mut OpenPool,
     shelf: &mut S,
     pick: &P,
+    logs: Logs,
 ) -> Result<(), Stop>
     requires pool { IsOpen (S.sizes shelf.old) pool.old }
     ensures wrote { WritesMetadata (S.sizes shelf.old) (S.sizes shelf.new) (S.counts shelf.old) (S.counts shelf.new) (S.tells shelf.old) (S.tells shelf.new) (S.world shelf.old) (S.world shelf.new) pool.old pool.new }
     ensures pool { OnOk result (IsOpen (S.sizes shelf.new) pool.new) }
     ensures fault { IsErrOf result DiskFault → HasRisen (S.counts shelf.old).disk (S.counts shelf.new).disk }
+    ensures anew { logs ≡ Anew → OnOk result (AreRenewed pool.old.version pool.old.space pool.new.streams.items pool.old.table.count) }
 {
-    write_logs(alloc, pool, shelf, pick)?;
+    write_logs(alloc, pool, shelf, pick, logs)?;
     give_head(alloc, pool, shelf, pick)?;
     give_lates(alloc, pool, shelf, pick)
 }
@@ -76,6 +81,7 @@ fn write_metadata<S: Shelf, P: Place>(
     shelf: &mut S,
     pick: &P,
     reset: bool,
+    logs: Logs,
 ) -> Result<(Ptr, u64), Stop>
     requires pool { IsOpen (S.sizes shelf.old) pool.old }
     ensures wrote { WritesMetadata (S.sizes shelf.old) (S.sizes shelf.new) (S.counts shelf.old) (S.counts shelf.new) (S.tells shelf.old) (S.tells shelf.new) (S.world shelf.old) (S.world shelf.new) pool.old pool.new }
@@ -86,8 +92,9 @@ fn write_metadata<S: Shelf, P: Place>(
     ensures least { IfOk result (λ head. 8 ≤ head.1) }
     ensures short { IfOk result (λ head. head.1 ≤ 35016) }
     ensures stands { IsSeen (S.tells shelf.old) (S.world shelf.old).now.seen pool.old → IfOk result (λ head. HasHead (S.world shelf.new).now.seen pool.new head.0 head.1) }
+    ensures anew { reset ≡ true → logs ≡ Anew → OnOk result (AreRenewed pool.old.version pool.old.space pool.new.streams.items pool.old.table.count) }
 {
-    turn_metadata(alloc, pool, shelf, pick)?;
+    turn_metadata(alloc, pool, shelf, pick, logs)?;
     write_late_sets(alloc, pool, shelf, pick, reset)?;
     write_head(alloc, pool, shelf, pick)
 }
@@ -99,6 +106,7 @@ fn write_all<S: Shelf, P: Place>(
     shelf: &mut S,
     pick: &P,
     reset: bool,
+    logs: Logs,
 ) -> Result<(Ptr, u64), Stop>
     requires pool { IsOpen (S.sizes shelf.old) pool.old }
     ensures wrote { WritesAll (S.sizes shelf.old) (S.sizes shelf.new) (S.counts shelf.old) (S.counts shelf.new) (S.tells shelf.old) (S.tells shelf.new) (S.world shelf.old) (S.world shelf.new) pool.old pool.new }
@@ -109,10 +117,56 @@ fn write_all<S: Shelf, P: Place>(
     ensures least { IfOk result (λ head. 8 ≤ head.1) }
     ensures short { IfOk result (λ head. head.1 ≤ 35016) }
     ensures stands { IsSeen (S.tells shelf.old) (S.world shelf.old).now.seen pool.old → IfOk result (λ head. HasHead (S.world shelf.new).now.seen pool.new head.0 head.1) }
+    ensures seen { IsSeen (S.tells shelf.old) (S.world shelf.old).now.seen pool.old → OnOk result (IsSeen (S.tells shelf.new) (S.world shelf.new).now.seen pool.new) }
     ensures objects { (s : Stored) → HasBlocks (S.tells shelf.old) (S.world shelf.old).now.seen pool.old s → AreTreesStored pool.old s → OnOk result (HasWritten (S.tells shelf.new) (S.world shelf.new).now.seen pool.old pool.new s) }
+    ensures anew { reset ≡ true → logs ≡ Anew → OnOk result (RenewsLogs pool.old pool.new) }
 {
     write_trees(alloc, pool, shelf, pick)?;
-    write_metadata(alloc, pool, shelf, pick, reset)
+    write_metadata(alloc, pool, shelf, pick, reset, logs)
+}
+
+// Ends the open group, its logs written as is told.
+fn commit_with<S: Shelf, P: Place>(
+    alloc: Global,
+    pool: &mut OpenPool,
+    shelf: &mut S,
+    pick: &P,
+    reset: bool,
+    logs: Logs,
+) -> Result<(), Stop>
+    requires pool { IsOpen (S.sizes shelf.old) pool.old }
+    ensures sizes { S.sizes shelf.new ≡ S.sizes shelf.old }
+    ensures none_fell { NoneFell (S.counts shelf.old) (S.counts shelf.new) }
+    ensures told { S.tells shelf.old → S.tells shelf.new }
+    ensures disks { S.tells shelf.old → WorksOnDisks (S.world shelf.old) (S.world shelf.new) }
+    ensures fault { IsErrOf result DiskFault → HasRisen (S.counts shelf.old).disk (S.counts shelf.new).disk }
+    ensures pool { OnOk result (IsOpen (S.sizes shelf.new) pool.new) }
+    ensures saved { OnOk result (pool.new.saved ≡ pool.old.saved) }
+    ensures same { OnOk result (IsSamePool pool.old pool.new) }
+    ensures last { OnOk result (IfSome pool.new.last (IsNextRoot pool.old reset)) }
+    ensures head { OnOk result (IfSome pool.new.last (λ u. pool.new.head.root ≡ u.root)) }
+    ensures stands { IsSeen (S.tells shelf.old) (S.world shelf.old).now.seen pool.old → OnOk result (IfSome pool.new.last (λ u. HasHead (S.world shelf.new).now.seen pool.new u.root u.len)) }
+    ensures seen { IsSeen (S.tells shelf.old) (S.world shelf.old).now.seen pool.old → OnOk result (IsSeen (S.tells shelf.new) (S.world shelf.new).now.seen pool.new) }
+    ensures shown { S.tells shelf.old → OnOk result (IfSome pool.new.last (λ u. (before : World) × IsShownFrom (S.sizes shelf.old) pool.old u before (S.world shelf.new))) }
+    ensures written { S.tells shelf.old → OnOk result (IfSome pool.new.last (λ u. (mid : World) × WritesIntoFree pool.old (S.world shelf.old) mid × IsShownFrom (S.sizes shelf.old) pool.old u mid (S.world shelf.new))) }
+    ensures order { S.tells shelf.old → WritesRoot (S.sizes shelf.old) pool.old reset (S.world shelf.old) (S.world shelf.new) }
+    ensures space { OnOk result ((before : Space) × Commits reset before pool.new.space) }
+    ensures ends { OnOk result (EndsGroup reset pool.old.space pool.new.space) }
+    ensures anew { reset ≡ true → logs ≡ Anew → OnOk result (RenewsLogs pool.old pool.new) }
+    ensures empty { OnOk result (pool.new.group.objects ≡ []) }
+    ensures txg { OnOk result (pool.new.group.txg ≡ pool.old.group.txg + 1) }
+    ensures objects { (s : Stored) → HasBlocks (S.tells shelf.old) (S.world shelf.old).now.seen pool.old s → AreTreesStored pool.old s → OnOk result (HasWritten (S.tells shelf.new) (S.world shelf.new).now.seen pool.old pool.new s) }
+    ensures stays { (objects : Objects) → HoldsObjects (S.tells shelf.old) (S.world shelf.old).now.seen pool.old objects → OnOk result (HoldsObjects (S.tells shelf.new) (S.world shelf.new).now.seen pool.new objects) }
+{
+    if pool.group.txg() == u64::MAX {
+        return Err(Stop::NoMemory);
+    }
+    pool.group.is_in_order();
+    let (root, len) = write_all(alloc, pool, shelf, pick, reset, logs)?;
+    let next = next_root(pool, root, len, reset);
+    publish_root(alloc, pool, shelf, &next)?;
+    end_group(alloc, pool, next, reset);
+    Ok(())
 }
 
 /// Ends the open group: all that it changed is in the root that the shelf has from now on. A reset has no late sets, and
@@ -134,11 +188,15 @@ pub fn commit<S: Shelf, P: Place>(
     ensures disks { S.tells shelf.old → WorksOnDisks (S.world shelf.old) (S.world shelf.new) }
     ensures fault { IsErrOf result DiskFault → HasRisen (S.counts shelf.old).disk (S.counts shelf.new).disk }
     ensures pool { OnOk result (IsOpen (S.sizes shelf.new) pool.new) }
+    ensures saved { OnOk result (pool.new.saved ≡ pool.old.saved) }
     ensures same { OnOk result (IsSamePool pool.old pool.new) }
     ensures last { OnOk result (IfSome pool.new.last (IsNextRoot pool.old reset)) }
     ensures head { OnOk result (IfSome pool.new.last (λ u. pool.new.head.root ≡ u.root)) }
     ensures stands { IsSeen (S.tells shelf.old) (S.world shelf.old).now.seen pool.old → OnOk result (IfSome pool.new.last (λ u. HasHead (S.world shelf.new).now.seen pool.new u.root u.len)) }
+    ensures seen { IsSeen (S.tells shelf.old) (S.world shelf.old).now.seen pool.old → OnOk result (IsSeen (S.tells shelf.new) (S.world shelf.new).now.seen pool.new) }
     ensures shown { S.tells shelf.old → OnOk result (IfSome pool.new.last (λ u. (before : World) × IsShownFrom (S.sizes shelf.old) pool.old u before (S.world shelf.new))) }
+    ensures written { S.tells shelf.old → OnOk result (IfSome pool.new.last (λ u. (mid : World) × WritesIntoFree pool.old (S.world shelf.old) mid × IsShownFrom (S.sizes shelf.old) pool.old u mid (S.world shelf.new))) }
+    ensures order { S.tells shelf.old → WritesRoot (S.sizes shelf.old) pool.old reset (S.world shelf.old) (S.world shelf.new) }
     ensures space { OnOk result ((before : Space) × Commits reset before pool.new.space) }
     ensures ends { OnOk result (EndsGroup reset pool.old.space pool.new.space) }
     ensures empty { OnOk result (pool.new.group.objects ≡ []) }
@@ -146,13 +204,40 @@ pub fn commit<S: Shelf, P: Place>(
     ensures objects { (s : Stored) → HasBlocks (S.tells shelf.old) (S.world shelf.old).now.seen pool.old s → AreTreesStored pool.old s → OnOk result (HasWritten (S.tells shelf.new) (S.world shelf.new).now.seen pool.old pool.new s) }
     ensures stays { (objects : Objects) → HoldsObjects (S.tells shelf.old) (S.world shelf.old).now.seen pool.old objects → OnOk result (HoldsObjects (S.tells shelf.new) (S.world shelf.new).now.seen pool.new objects) }
 {
-    if pool.group.txg() == u64::MAX {
-        return Err(Stop::NoMemory);
-    }
-    pool.group.is_in_order();
-    let (root, len) = write_all(alloc, pool, shelf, pick, reset)?;
-    let next = next_root(pool, root, len, reset);
-    publish_root(alloc, pool, shelf, &next)?;
-    end_group(alloc, pool, next, reset);
-    Ok(())
+    commit_with(alloc, pool, shelf, pick, reset, Logs::Grow)
+}
+
+/// Ends the open group by a reset that writes every log anew. Each costs its set, whatever changed. Errors are those of
+/// `commit`.
+pub fn commit_anew<S: Shelf, P: Place>(
+    alloc: Global,
+    pool: &mut OpenPool,
+    shelf: &mut S,
+    pick: &P,
+) -> Result<(), Stop>
+    requires pool { IsOpen (S.sizes shelf.old) pool.old }
+    ensures sizes { S.sizes shelf.new ≡ S.sizes shelf.old }
+    ensures none_fell { NoneFell (S.counts shelf.old) (S.counts shelf.new) }
+    ensures told { S.tells shelf.old → S.tells shelf.new }
+    ensures disks { S.tells shelf.old → WorksOnDisks (S.world shelf.old) (S.world shelf.new) }
+    ensures fault { IsErrOf result DiskFault → HasRisen (S.counts shelf.old).disk (S.counts shelf.new).disk }
+    ensures pool { OnOk result (IsOpen (S.sizes shelf.new) pool.new) }
+    ensures saved { OnOk result (pool.new.saved ≡ pool.old.saved) }
+    ensures same { OnOk result (IsSamePool pool.old pool.new) }
+    ensures last { OnOk result (IfSome pool.new.last (IsNextRoot pool.old true)) }
+    ensures head { OnOk result (IfSome pool.new.last (λ u. pool.new.head.root ≡ u.root)) }
+    ensures stands { IsSeen (S.tells shelf.old) (S.world shelf.old).now.seen pool.old → OnOk result (IfSome pool.new.last (λ u. HasHead (S.world shelf.new).now.seen pool.new u.root u.len)) }
+    ensures seen { IsSeen (S.tells shelf.old) (S.world shelf.old).now.seen pool.old → OnOk result (IsSeen (S.tells shelf.new) (S.world shelf.new).now.seen pool.new) }
+    ensures shown { S.tells shelf.old → OnOk result (IfSome pool.new.last (λ u. (before : World) × IsShownFrom (S.sizes shelf.old) pool.old u before (S.world shelf.new))) }
+    ensures written { S.tells shelf.old → OnOk result (IfSome pool.new.last (λ u. (mid : World) × WritesIntoFree pool.old (S.world shelf.old) mid × IsShownFrom (S.sizes shelf.old) pool.old u mid (S.world shelf.new))) }
+    ensures order { S.tells shelf.old → WritesRoot (S.sizes shelf.old) pool.old true (S.world shelf.old) (S.world shelf.new) }
+    ensures space { OnOk result ((before : Space) × Commits true before pool.new.space) }
+    ensures ends { OnOk result (EndsGroup true pool.old.space pool.new.space) }
+    ensures anew { OnOk result (RenewsLogs pool.old pool.new) }
+    ensures empty { OnOk result (pool.new.group.objects ≡ []) }
+    ensures txg { OnOk result (pool.new.group.txg ≡ pool.old.group.txg + 1) }
+    ensures objects { (s : Stored) → HasBlocks (S.tells shelf.old) (S.world shelf.old).now.seen pool.old s → AreTreesStored pool.old s → OnOk result (HasWritten (S.tells shelf.new) (S.world shelf.new).now.seen pool.old pool.new s) }
+    ensures stays { (objects : Objects) → HoldsObjects (S.tells shelf.old) (S.world shelf.old).now.seen pool.old objects → OnOk result (HoldsObjects (S.tells shelf.new) (S.world shelf.new).now.seen pool.new objects) }
+{
+    commit_with(alloc, pool, shelf, pick, true, Logs::Anew)
 }

@@ -27,6 +27,7 @@ pub fn end_group(alloc: Global, pool: &mut OpenPool, root: Uber, reset: bool)
     ensures cache { pool.new.cache ≡ pool.old.cache }
     ensures dir { pool.new.dir ≡ pool.old.dir }
     ensures streams { pool.new.streams ≡ pool.old.streams }
+    ensures saved { pool.new.saved ≡ pool.old.saved }
     ensures live { (a : Dva) → IsLive pool.old.space a → IsLive pool.new.space a }
     ensures space { Commits reset pool.old.space pool.new.space }
     ensures empty { pool.new.group.objects ≡ [] }

@@ -5,15 +5,15 @@ ghost use Rattle.zr_base.specs.Counts.{HasRisen};
 ghost use Rattle.zr_label.specs.Blocks.{IsMetaRoot};
 ghost use Rattle.zr_meta.specs.Heads.{IsHead, IsStream, head_words};
 ghost use Rattle.zr_sync.specs.Heads.{HasHead, IsSeen, head_of, streams_in};
-ghost use Rattle.zr_sync.specs.Pools.{AreStreams, IsOpen};
+ghost use Rattle.zr_sync.specs.Pools.{AreStreams, IsOpen, saved_block};
 ghost use Rattle.zr_sync.specs.Writes.{WritesMetadata};
 ghost use Rattle.zr_sync.specs.declared.stop.Stop.TheVariants.{DiskFault};
 
-use crate::open::{DeviceStreams, OpenPool};
+use crate::open::{Checkpoint, DeviceStreams, OpenPool};
 use crate::stop::Stop;
 use crate::stores::put_head;
 use std::alloc::Global;
-use zr_base::{CkptPart, Items, NoMemory};
+use zr_base::{Blob, Items, NoMemory};
 use zr_bptr::Ptr;
 use zr_meta::{Head, Stream};
 use zr_shelf::Shelf;
@@ -33,6 +33,16 @@ fn add_streams(streams: &mut Items<Stream>, device: &DeviceStreams) -> Result<()
     streams.push(device.late2)
 }
 
+// A copy of the block of the root that a checkpoint holds.
+fn block_of(alloc: Global, saved: &Option<Checkpoint>) -> Result<Option<Blob>, NoMemory>
+    ensures { IfOk result (λ block. block ≡ saved_block saved.now) }
+{
+    match saved {
+        None => Ok(None),
+        Some(held) => Ok(Some(Blob::copy_of(alloc, held.block.as_slice())?)),
+    }
+}
+
 // The head of the next root.
 fn head_of(alloc: Global, pool: &OpenPool) -> Result<Head, NoMemory>
     requires { (sizes : List ℕ) × IsOpen sizes pool.now }
@@ -43,11 +53,12 @@ fn head_of(alloc: Global, pool: &OpenPool) -> Result<Head, NoMemory>
     for device in pool.streams.as_slice() {
         add_streams(&mut streams, device)?;
     }
+    let saved = block_of(alloc, &pool.saved)?;
     Ok(Head {
         form: 2,
         dir: pool.dir,
-        saved: None,
-        ckpt: CkptPart::Clear,
+        saved,
+        ckpt: pool.space.ckpt(),
         cond: None,
         streams,
     })
@@ -64,6 +75,7 @@ pub fn write_head<S: Shelf, P: Place>(
     ensures wrote { WritesMetadata (S.sizes shelf.old) (S.sizes shelf.new) (S.counts shelf.old) (S.counts shelf.new) (S.tells shelf.old) (S.tells shelf.new) (S.world shelf.old) (S.world shelf.new) pool.old pool.new }
     ensures pool { OnOk result (IsOpen (S.sizes shelf.new) pool.new) }
     ensures fault { IsErrOf result DiskFault → HasRisen (S.counts shelf.old).disk (S.counts shelf.new).disk }
+    ensures streams { pool.new.streams ≡ pool.old.streams }
     ensures root { IfOk result (λ head. IsMetaRoot head.0 head.1) }
     ensures whole { IfOk result (λ head. head.1 % 8 ≡ 0) }
     ensures least { IfOk result (λ head. 8 ≤ head.1) }

@@ -2,10 +2,16 @@
 //!
 //! The next root's late sets name all that the open group has freed, the metadata that this very commit gives back among
 //! it. So all of that is given back before they are written.
-ghost use Rattle.std.specs.Prelude.{◌≡◌, ◌<◌, ◌≤◌, ◌^◌, length, IsErrOf, IfOk, OnOk};
+ghost use Rattle.std.specs.Prelude.{◌≡◌, ◌<◌, ◌≤◌, ◌^◌, [], length, IsErrOf, IfOk, OnOk};
 ghost use Rattle.zr_base.specs.Counts.{HasRisen};
+ghost use Rattle.zr_commit.specs.Logs.{streams_reach};
 ghost use Rattle.zr_meta.specs.Heads.{IsStream};
+ghost use Rattle.zr_root.specs.Streams.{StoresWords};
+ghost use Rattle.zr_store.specs.Store.{AreStored, Now, Stored, Swaps};
+ghost use Rattle.zr_tree.specs.Trees.{tree_reach};
+ghost use Rattle.zr_sync.specs.Anew.{KeepsCounts};
 ghost use Rattle.zr_sync.specs.Pools.{IsOpen};
+ghost use Rattle.zr_sync.specs.Streams.{HasMeta, HasNoLates, WritesLates, late_streams, streams_at};
 ghost use Rattle.zr_sync.specs.Writes.{WritesMetadata};
 ghost use Rattle.zr_sync.specs.declared.stop.Stop.TheVariants.{DiskFault};
 
@@ -29,6 +35,8 @@ pub fn give_head<S: Shelf, P: Place>(
     ensures wrote { WritesMetadata (S.sizes shelf.old) (S.sizes shelf.new) (S.counts shelf.old) (S.counts shelf.new) (S.tells shelf.old) (S.tells shelf.new) (S.world shelf.old) (S.world shelf.new) pool.old pool.new }
     ensures pool { OnOk result (IsOpen (S.sizes shelf.new) pool.new) }
     ensures fault { IsErrOf result DiskFault → HasRisen (S.counts shelf.old).disk (S.counts shelf.new).disk }
+    ensures streams { pool.new.streams ≡ pool.old.streams }
+    ensures gives { (s : Stored) → HasMeta (S.tells shelf.old) (S.world shelf.old).now.seen pool.old s → AreStored (tree_reach s pool.old.head) s → OnOk result (Now (HasMeta (S.tells shelf.new) (S.world shelf.new).now.seen pool.new) (λ n. Swaps s n (tree_reach s pool.old.head) [])) }
 {
     let mount = Mount {
         slots: &pool.table.slots,
@@ -59,6 +67,8 @@ fn give_late<S: Shelf, P: Place>(
     ensures wrote { WritesMetadata (S.sizes shelf.old) (S.sizes shelf.new) (S.counts shelf.old) (S.counts shelf.new) (S.tells shelf.old) (S.tells shelf.new) (S.world shelf.old) (S.world shelf.new) pool.old pool.new }
     ensures pool { OnOk result (IsOpen (S.sizes shelf.new) pool.new) }
     ensures fault { IsErrOf result DiskFault → HasRisen (S.counts shelf.old).disk (S.counts shelf.new).disk }
+    ensures gives { (s : Stored) → HasMeta (S.tells shelf.old) (S.world shelf.old).now.seen pool.old s → AreStored (streams_reach s (late_streams (streams_at pool.old dev))) s → OnOk result (Now (HasMeta (S.tells shelf.new) (S.world shelf.new).now.seen pool.new) (λ n. Swaps s n (streams_reach s (late_streams (streams_at pool.old dev))) [])) }
+    ensures none { OnOk result (HasNoLates pool.old pool.new dev) }
 {
     let index = dev as usize;
     let old = pool.streams[index];
@@ -93,6 +103,7 @@ pub fn give_lates<S: Shelf, P: Place>(
     ensures wrote { WritesMetadata (S.sizes shelf.old) (S.sizes shelf.new) (S.counts shelf.old) (S.counts shelf.new) (S.tells shelf.old) (S.tells shelf.new) (S.world shelf.old) (S.world shelf.new) pool.old pool.new }
     ensures pool { OnOk result (IsOpen (S.sizes shelf.new) pool.new) }
     ensures fault { IsErrOf result DiskFault → HasRisen (S.counts shelf.old).disk (S.counts shelf.new).disk }
+    ensures counts { OnOk result (KeepsCounts pool.old pool.new) }
 {
     for dev in 0..pool.table.count {
         give_late(alloc, pool, shelf, pick, dev)?;
@@ -113,6 +124,7 @@ fn write_late<S: Shelf, P: Place>(
     ensures wrote { WritesMetadata (S.sizes shelf.old) (S.sizes shelf.new) (S.counts shelf.old) (S.counts shelf.new) (S.tells shelf.old) (S.tells shelf.new) (S.world shelf.old) (S.world shelf.new) pool.old pool.new }
     ensures pool { OnOk result (IsOpen (S.sizes shelf.new) pool.new) }
     ensures fault { IsErrOf result DiskFault → HasRisen (S.counts shelf.old).disk (S.counts shelf.new).disk }
+    ensures writes { (s : Stored) → HasMeta (S.tells shelf.old) (S.world shelf.old).now.seen pool.old s → OnOk result (Now (HasMeta (S.tells shelf.new) (S.world shelf.new).now.seen pool.new) (λ n. WritesLates s n pool.old pool.new dev)) }
 {
     let first = first_late_words(alloc, &pool.space, dev, pool.version)?;
     let second = second_late_words(alloc, &pool.space, dev, pool.version)?;
@@ -138,6 +150,8 @@ fn write_words<S: Shelf, P: Place>(
     ensures pool { OnOk result (IsOpen (S.sizes shelf.new) pool.new) }
     ensures fault { IsErrOf result DiskFault → HasRisen (S.counts shelf.old).disk (S.counts shelf.new).disk }
     ensures stream { IfOk result IsStream }
+    ensures same { pool.new.streams ≡ pool.old.streams }
+    ensures stores { (s : Stored) → HasMeta (S.tells shelf.old) (S.world shelf.old).now.seen pool.old s → IfOk result (λ now. Now (HasMeta (S.tells shelf.new) (S.world shelf.new).now.seen pool.new) (λ n. StoresWords s n now words.now)) }
 {
     let mount = Mount {
         slots: &pool.table.slots,

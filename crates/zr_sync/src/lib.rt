@@ -5,6 +5,7 @@
 //! the pool, and says what it left alone, so that the next one may follow.
 #![tactic(auto)]
 
+mod checkpoints;
 mod commits;
 mod ends;
 mod fault;
@@ -18,9 +19,11 @@ mod stores;
 mod trees;
 mod words;
 
-pub use commits::commit;
+pub use checkpoints::{checkpoint, discard_some, give_up_checkpoint};
+pub use commits::{commit, commit_anew};
 pub use fault::Fault;
-pub use open::{DeviceStreams, EMPTY, OpenPool, Table};
+pub use logs::Logs;
+pub use open::{Checkpoint, DeviceStreams, EMPTY, OpenPool, Table};
 pub use stop::Stop;
 pub use stores::{give_streams, give_tree, put_group, put_head, put_log, put_words};
-pub use words::{LogWords, first_late_words, log_words, second_late_words};
+pub use words::{Log, LogWords, anew_words, first_late_words, log_words, second_late_words};

@@ -1,5 +1,5 @@
 //! What an open pool holds beside its disks.
-use zr_base::DevRow;
+use zr_base::{Blob, DevRow};
 use zr_bptr::{Ptr, Tree};
 use zr_cache::Cache;
 use zr_label::{Name, Uber};
@@ -24,8 +24,18 @@ pub struct Table {
     pub slots: [Option<u32>; 32],
 }
 
+/// The root that a checkpoint holds: its block, as each later head has it, and where its metadata stands, which are the
+/// tree of its head and the streams of each device that it had.
+#[derive(Drop)]
+pub struct Checkpoint {
+    pub block: Blob,
+    pub head: Tree,
+    pub streams: Vec<DeviceStreams>,
+}
+
 /// An open pool. `last` is the root that was committed last, none before the first. `dir`, `head` and `streams` are its
-/// directory, the tree of its head, and the streams of each device. `group` is what was changed since.
+/// directory, the tree of its head, and the streams of each device. `saved` is the root that a checkpoint holds,
+/// none where no checkpoint is held. `group` is what was changed since.
 #[derive(Drop)]
 pub struct OpenPool {
     pub name: Name,
@@ -38,6 +48,7 @@ pub struct OpenPool {
     pub dir: Tree,
     pub head: Tree,
     pub streams: Vec<DeviceStreams>,
+    pub saved: Option<Checkpoint>,
     pub group: Group,
 }
 
@@ -48,4 +59,12 @@ pub const EMPTY: Stream = Stream {
         root: Ptr::Hole,
         height: 0,
     },
+};
+
+/// Streams without words.
+pub const NO_STREAMS: DeviceStreams = DeviceStreams {
+    held: EMPTY,
+    kept: EMPTY,
+    late1: EMPTY,
+    late2: EMPTY,
 };

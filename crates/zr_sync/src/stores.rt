@@ -1,23 +1,26 @@
 //! The device calls of a commit, each with a store of its own.
 //!
 //! A store borrows the space, the disks and the cache. With its end they go on, and what it left alone is said of them.
-ghost use Rattle.std.specs.Prelude.{◌≡◌, ◌≤◌, ◌*◌, ◌^◌, ◌++◌, All, length, None, IfOk, IsErrOf};
+ghost use Rattle.std.specs.Prelude.{◌≡◌, ℕ, ◌≤◌, ◌*◌, ◌^◌, List, [], ◌++◌, All, length, None, IfOk, OnOk, IsErrOf};
 ghost use Rattle.zr_base.specs.Counts.{HasRisen};
 ghost use Rattle.zr_bptr.specs.Spelling.{IsTree};
+ghost use Rattle.zr_commit.specs.Logs.{Rewrites, streams_reach};
 ghost use Rattle.zr_commit.specs.Objects.{blocks_of, WritesGroup};
 ghost use Rattle.zr_label.specs.Blocks.{IsMetaRoot};
 ghost use Rattle.zr_lookup.specs.Groups.{IsLawfulGroup};
 ghost use Rattle.zr_meta.specs.Heads.{IsStream, IsHead, head_words};
+ghost use Rattle.zr_root.specs.Streams.{HasWords, StoresWords};
 ghost use Rattle.zr_rules.specs.Equation.{devices_in};
 ghost use Rattle.zr_space.specs.Paths.{AreInService};
-ghost use Rattle.zr_store.specs.Store.{AreStored, Now, Stored};
+ghost use Rattle.zr_store.specs.Store.{AreStored, Now, Stored, Swaps};
 ghost use Rattle.zr_store.specs.declared.StoreErr.TheVariants.{Failed};
 ghost use Rattle.zr_tree.specs.Trees.{tree_reach};
 ghost use Rattle.zr_vdev.specs.Mounts.{AreMounted};
 ghost use Rattle.zr_vdev.specs.Runs.{view_of};
 ghost use Rattle.zr_vdev.specs.Stores.{Continues, HoldsBlocks};
+ghost use Rattle.zr_sync.specs.Anew.{HasCountOf};
 ghost use Rattle.zr_sync.specs.Heads.{StandsHead};
-ghost use Rattle.zr_sync.specs.Words.{HasRoomFor};
+ghost use Rattle.zr_sync.specs.Words.{HasRoomFor, words_then};
 ghost use Rattle.zr_sync.specs.declared.stop.Stop.TheVariants.{DiskFault};
 
 use crate::stop::Stop;
@@ -73,6 +76,8 @@ fn put_log_words<B: Blocks>(
     ensures follows { (start : B) → B.follows start store.old → B.follows start store.new }
     ensures failed { IsErrOf result Failed → HasRisen (B.account store.old).faults (B.account store.new).faults }
     ensures stream { IfOk result IsStream }
+    ensures count { IfOk result (HasCountOf words.now) }
+    ensures writes { (s : Stored) (had : List ℕ) → B.holds store.old s → AreStored (tree_reach s old.now.tree) s → HasWords s old.now had → IfOk result (λ now. Now (B.holds store.new) (λ n. Rewrites s n old.now now (words_then had words.now))) }
 {
     match words {
         LogWords::Stays => Ok(*old),
@@ -99,6 +104,8 @@ pub fn put_log<S: Shelf, P: Place>(
     ensures continues { Continues mount.entry.kind mount.entry.slots.now (S.sizes shelf.old) (S.sizes shelf.new) (S.counts shelf.old) (S.counts shelf.new) (S.tells shelf.old) (S.tells shelf.new) (S.world shelf.old) (S.world shelf.new) space.old space.new cache.old cache.new }
     ensures fault { IsErrOf result DiskFault → HasRisen (S.counts shelf.old).disk (S.counts shelf.new).disk }
     ensures stream { IfOk result IsStream }
+    ensures count { IfOk result (HasCountOf words.now) }
+    ensures writes { (s : Stored) (had : List ℕ) → HoldsBlocks mount.entry.kind mount.entry.slots.now (S.tells shelf.old) (S.world shelf.old).now.seen space.old None cache.old s → AreStored (tree_reach s old.now.tree) s → HasWords s old.now had → IfOk result (λ now. Now (HoldsBlocks mount.entry.kind mount.entry.slots.now (S.tells shelf.new) (S.world shelf.new).now.seen space.new None cache.new) (λ n. Rewrites s n old.now now (words_then had words.now))) }
 {
     let mut store = Vdev::new(space, shelf, cache, mount);
     Ok(put_log_words(alloc, &mut store, old, words)?)
@@ -120,6 +127,7 @@ pub fn put_words<S: Shelf, P: Place>(
     ensures continues { Continues mount.entry.kind mount.entry.slots.now (S.sizes shelf.old) (S.sizes shelf.new) (S.counts shelf.old) (S.counts shelf.new) (S.tells shelf.old) (S.tells shelf.new) (S.world shelf.old) (S.world shelf.new) space.old space.new cache.old cache.new }
     ensures fault { IsErrOf result DiskFault → HasRisen (S.counts shelf.old).disk (S.counts shelf.new).disk }
     ensures stream { IfOk result IsStream }
+    ensures stores { (s : Stored) → HoldsBlocks mount.entry.kind mount.entry.slots.now (S.tells shelf.old) (S.world shelf.old).now.seen space.old None cache.old s → IfOk result (λ now. Now (HoldsBlocks mount.entry.kind mount.entry.slots.now (S.tells shelf.new) (S.world shelf.new).now.seen space.new None cache.new) (λ n. StoresWords s n now words.now)) }
 {
     let mut store = Vdev::new(space, shelf, cache, mount);
     Ok(write_stream(alloc, &mut store, words)?)
@@ -130,6 +138,7 @@ fn give_blocks<B: Blocks>(alloc: Global, store: &mut B, t: &Tree) -> Result<(), 
     requires tree { IsTree t.now }
     ensures follows { (start : B) → B.follows start store.old → B.follows start store.new }
     ensures failed { IsErrOf result Failed → HasRisen (B.account store.old).faults (B.account store.new).faults }
+    ensures gives { (s : Stored) → B.holds store.old s → AreStored (tree_reach s t.now) s → OnOk result (Now (B.holds store.new) (λ n. Swaps s n (tree_reach s t.now) [])) }
 {
     free_tree(alloc, store, t)
 }
@@ -149,6 +158,7 @@ pub fn give_tree<S: Shelf, P: Place>(
     requires tree { IsTree t.now }
     ensures continues { Continues mount.entry.kind mount.entry.slots.now (S.sizes shelf.old) (S.sizes shelf.new) (S.counts shelf.old) (S.counts shelf.new) (S.tells shelf.old) (S.tells shelf.new) (S.world shelf.old) (S.world shelf.new) space.old space.new cache.old cache.new }
     ensures fault { IsErrOf result DiskFault → HasRisen (S.counts shelf.old).disk (S.counts shelf.new).disk }
+    ensures gives { (s : Stored) → HoldsBlocks mount.entry.kind mount.entry.slots.now (S.tells shelf.old) (S.world shelf.old).now.seen space.old None cache.old s → AreStored (tree_reach s t.now) s → OnOk result (Now (HoldsBlocks mount.entry.kind mount.entry.slots.now (S.tells shelf.new) (S.world shelf.new).now.seen space.new None cache.new) (λ n. Swaps s n (tree_reach s t.now) [])) }
 {
     let mut store = Vdev::new(space, shelf, cache, mount);
     Ok(give_blocks(alloc, &mut store, t)?)
@@ -159,6 +169,7 @@ fn give_each<B: Blocks>(alloc: Global, store: &mut B, streams: &[Stream]) -> Res
     requires streams { All IsStream streams.now }
     ensures follows { (start : B) → B.follows start store.old → B.follows start store.new }
     ensures failed { IsErrOf result Failed → HasRisen (B.account store.old).faults (B.account store.new).faults }
+    ensures gives { (s : Stored) → B.holds store.old s → AreStored (streams_reach s streams.now) s → OnOk result (Now (B.holds store.new) (λ n. Swaps s n (streams_reach s streams.now) [])) }
 {
     free_streams(alloc, store, streams)
 }
@@ -178,6 +189,7 @@ pub fn give_streams<S: Shelf, P: Place>(
     requires streams { All IsStream streams.now }
     ensures continues { Continues mount.entry.kind mount.entry.slots.now (S.sizes shelf.old) (S.sizes shelf.new) (S.counts shelf.old) (S.counts shelf.new) (S.tells shelf.old) (S.tells shelf.new) (S.world shelf.old) (S.world shelf.new) space.old space.new cache.old cache.new }
     ensures fault { IsErrOf result DiskFault → HasRisen (S.counts shelf.old).disk (S.counts shelf.new).disk }
+    ensures gives { (s : Stored) → HoldsBlocks mount.entry.kind mount.entry.slots.now (S.tells shelf.old) (S.world shelf.old).now.seen space.old None cache.old s → AreStored (streams_reach s streams.now) s → OnOk result (Now (HoldsBlocks mount.entry.kind mount.entry.slots.now (S.tells shelf.new) (S.world shelf.new).now.seen space.new None cache.new) (λ n. Swaps s n (streams_reach s streams.now) [])) }
 {
     let mut store = Vdev::new(space, shelf, cache, mount);
     Ok(give_each(alloc, &mut store, streams)?)

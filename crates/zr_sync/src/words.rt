@@ -2,20 +2,35 @@
 //!
 //! The space tells its changes as maximal extents. A version may have no word for so long a run, so each is cut from its
 //! front first.
-ghost use Rattle.std.specs.Prelude.{◌≡◌, ◌⊎◌, ◌+◌, ◌^◌, ◌<◌, ◌≤◌, length, IfOk, OnOk};
+ghost use Rattle.std.specs.Prelude.{◌≡◌, ◌⊎◌, ◌+◌, ◌^◌, ◌<◌, ◌≤◌, ℕ, List, length, IfOk, OnOk};
 ghost use Rattle.std.specs.List.{AllByRecursion};
 ghost use Rattle.zr_commit.specs.Logs.{is_long};
 ghost use Rattle.zr_meta.specs.Heads.{IsStream};
-ghost use Rattle.zr_rules.specs.Logs.{IsChange, longest_run};
-ghost use Rattle.zr_rules.specs.Places.{units_of_dev};
-ghost use Rattle.zr_rules.specs.Space.{IsLawful};
-ghost use Rattle.zr_sync.specs.Words.{HasRoomFor, IsRun, AreFreed};
+ghost use Rattle.zr_meta.specs.Streams.{late_list};
+ghost use Rattle.zr_meta.specs.declared.Stream.{Stream};
+ghost use Rattle.zr_base.specs.declared.space.Change.{Change};
+ghost use Rattle.zr_rules.specs.Logs.{IsChange, IsLate, longest_run};
+ghost use Rattle.zr_rules.specs.Owed.{set_words};
+ghost use Rattle.zr_rules.specs.Places.{part_of, units_of_dev};
+ghost use Rattle.zr_rules.specs.Space.{IsLawful, opened_of};
+ghost use Rattle.zr_smap.specs.Cuts.{IsInReach};
+ghost use Rattle.zr_units.specs.Differences.{Replays};
+ghost use Rattle.zr_sync.specs.Anew.{AreAnew};
+ghost use Rattle.zr_sync.specs.Words.{AddsCut, HasRoomFor, IsLastLog, IsLogNow, IsRun, AreFreed, ReplaysAs, log_has, log_set, log_was, words_then};
 
 use std::alloc::Global;
 use zr_base::{Change, Extent, NoMemory};
 use zr_meta::{Stream, late_words};
+use zr_ranges::RangeSet;
 use zr_smap::{condensed, words_of};
 use zr_space::{FreedSets, SetKind, Space};
+
+/// The logs of a device in service: that of its held units, and that of those which only the checkpoint has.
+#[derive(Clone, Copy, PartialEq, Eq, Debug)]
+pub enum Log {
+    Held,
+    Kept,
+}
 
 /// What becomes of a log.
 #[derive(Drop)]
@@ -40,7 +55,8 @@ fn longest(version: u64) -> u64
 fn put_cut(cut: &mut Vec<Change>, change: &Change, version: u64) -> Result<(), NoMemory>
     requires run { IsRun change.now.at }
     requires lawful { AllByRecursion (IsChange version) cut.old.items }
-    ensures { AllByRecursion (IsChange version) cut.new.items }
+    ensures lawful { AllByRecursion (IsChange version) cut.new.items }
+    ensures cut { OnOk result (AddsCut cut.old.items cut.new.items change.now) }
 {
     let most = longest(version);
     let end = change.at.start + change.at.len;
@@ -59,7 +75,8 @@ fn put_cut(cut: &mut Vec<Change>, change: &Change, version: u64) -> Result<(), N
 // The changes, each cut from its front.
 fn cut_changes(alloc: Global, changes: &[Change], version: u64) -> Result<Vec<Change>, NoMemory>
     requires { AllByRecursion (λ (c : Change). IsRun c.at) changes.now }
-    ensures { IfOk result (λ cut. AllByRecursion (IsChange version) cut.items) }
+    ensures lawful { IfOk result (λ cut. AllByRecursion (IsChange version) cut.items) }
+    ensures replays { IfOk result (λ cut. ReplaysAs changes.now cut.items) }
 {
     let mut cut = Vec::new(alloc);
     let mut rest = changes;
@@ -80,13 +97,42 @@ fn is_long(words: u64, added: usize, anew: usize) -> bool
     2 * anew as u64 + 512 < words + added as u64
 }
 
-/// What the open group makes of the log of a device's held units. It goes over what changed, and over the set where
-/// anything did.
+// The set of a log.
+fn set_of(space: &Space, dev: u32, log: Log) -> &RangeSet
+    requires dev { dev < length space.now.parts.devs }
+    requires lawful { IsLawful space.now }
+    requires small { units_of_dev space.now.parts.devs dev ≤ 2 ^ 26 }
+    ensures set { result.now.extents ≡ log_set log (part_of space.now.parts.devs dev) }
+    ensures reach { (version : ℕ) → (version ≡ 1) ⊎ (version ≡ 2) → IsInReach version result.now.extents }
+    ensures few { (version : ℕ) → set_words version result.now.extents ≤ 2 ^ 26 }
+{
+    match log {
+        Log::Held => space.held(dev),
+        Log::Kept => space.kept(dev),
+    }
+}
+
+// What a log gains.
+fn changes_of(space: &Space, dev: u32, log: Log) -> Result<Vec<Change>, NoMemory>
+    requires dev { dev < length space.now.parts.devs }
+    requires lawful { IsLawful space.now }
+    requires small { units_of_dev space.now.parts.devs dev ≤ 2 ^ 26 }
+    ensures runs { IfOk result (λ changes. AllByRecursion (λ (c : Change). IsRun c.at) changes.items) }
+    ensures replays { IfOk result (λ changes. Replays (log_was log space.now dev) (log_has log space.now dev) changes.items) }
+{
+    match log {
+        Log::Held => space.changes(dev, SetKind::Held),
+        Log::Kept => space.changes(dev, SetKind::Kept),
+    }
+}
+
+/// What the open group makes of a log of a device. It goes over what changed, and over the set where anything did.
 pub fn log_words(
     alloc: Global,
     space: &Space,
     old: &Stream,
     dev: u32,
+    log: Log,
     version: u64,
 ) -> Result<LogWords, NoMemory>
     requires dev { dev < length space.now.parts.devs }
@@ -95,19 +141,41 @@ pub fn log_words(
     requires lawful { IsLawful space.now }
     requires small { units_of_dev space.now.parts.devs dev ≤ 2 ^ 26 }
     requires stream { IsStream old.now }
-    ensures { IfOk result (HasRoomFor old.now) }
+    ensures room { IfOk result (HasRoomFor old.now) }
+    ensures log { (had : List ℕ) → length had ≡ old.now.words → IsLastLog version space.now dev log had → IfOk result (λ words. IsLogNow version space.now dev log (words_then had words)) }
 {
-    let changes = space.changes(dev, SetKind::Held)?;
+    let changes = changes_of(space, dev, log)?;
     let cut = cut_changes(alloc, changes.as_slice(), version)?;
     let added = words_of(alloc, cut.as_slice(), version, dev)?;
     if added.is_empty() {
         return Ok(LogWords::Stays);
     }
-    let anew = condensed(alloc, space.held(dev), version, dev)?;
+    let anew = condensed(alloc, set_of(space, dev, log), version, dev)?;
     if is_long(old.words, added.len(), anew.len()) {
         return Ok(LogWords::Anew(anew));
     }
     Ok(LogWords::Grows(added))
+}
+
+/// What becomes of a log whose set is written anew, whatever changed. It goes over the set.
+pub fn anew_words(
+    alloc: Global,
+    space: &Space,
+    dev: u32,
+    log: Log,
+    version: u64,
+) -> Result<LogWords, NoMemory>
+    requires dev { dev < length space.now.parts.devs }
+    requires few { length space.now.parts.devs ≤ 32 }
+    requires version { (version ≡ 1) ⊎ (version ≡ 2) }
+    requires lawful { IsLawful space.now }
+    requires small { units_of_dev space.now.parts.devs dev ≤ 2 ^ 26 }
+    ensures room { (old : Stream) → IfOk result (HasRoomFor old) }
+    ensures log { (had : List ℕ) → IfOk result (λ words. IsLogNow version space.now dev log (words_then had words)) }
+    ensures anew { IfOk result (AreAnew version space.now dev log) }
+{
+    let anew = condensed(alloc, set_of(space, dev, log), version, dev)?;
+    Ok(LogWords::Anew(anew))
 }
 
 // The words of a late set.
@@ -119,8 +187,9 @@ fn words_of_late(
 ) -> Result<Vec<u64>, NoMemory>
     requires dev { dev < 32 }
     requires version { (version ≡ 1) ⊎ (version ≡ 2) }
-    requires freed { AreFreed freed.now }
-    ensures { IfOk result (λ words. length words.items ≤ 2 ^ 34) }
+    requires freed { AreFreed freed.now.sets }
+    ensures few { IfOk result (λ words. length words.items ≤ 2 ^ 34) }
+    ensures late { IfOk result (λ words. IsLate version dev words.items (late_list freed.now.sets.blocks freed.now.sets.meta)) }
 {
     let blocks = freed.blocks();
     let meta = freed.meta();
@@ -141,7 +210,8 @@ pub fn first_late_words(
     requires version { (version ≡ 1) ⊎ (version ≡ 2) }
     requires lawful { IsLawful space.now }
     requires small { units_of_dev space.now.parts.devs dev ≤ 2 ^ 26 }
-    ensures { IfOk result (λ words. length words.items ≤ 2 ^ 34) }
+    ensures few { IfOk result (λ words. length words.items ≤ 2 ^ 34) }
+    ensures late { IfOk result (λ words. IsLate version dev words.items (late_list (opened_of space.now dev).deferred (opened_of space.now dev).dropped)) }
 {
     words_of_late(alloc, space.freed(dev), dev, version)
 }
@@ -158,7 +228,8 @@ pub fn second_late_words(
     requires version { (version ≡ 1) ⊎ (version ≡ 2) }
     requires lawful { IsLawful space.now }
     requires small { units_of_dev space.now.parts.devs dev ≤ 2 ^ 26 }
-    ensures { IfOk result (λ words. length words.items ≤ 2 ^ 34) }
+    ensures few { IfOk result (λ words. length words.items ≤ 2 ^ 34) }
+    ensures late { IfOk result (λ words. IsLate version dev words.items (part_of space.now.parts.devs dev).late1) }
 {
     words_of_late(alloc, space.late1(dev), dev, version)
 }

@@ -1,5 +1,5 @@
 -- What an audit of an open pool says.
-use Rattle.std.specs.Prelude.{◌≡◌, ℕ, List, length, map, slice_index, Option}
+use Rattle.std.specs.Prelude.{◌≡◌, ◌++◌, ℕ, List, length, map, slice_index, Option}
 use Rattle.std.specs.List.{range_with_len}
 use Rattle.zr_audit.specs.Found.{found, for_each_device, AreMeta}
 use Rattle.zr_base.specs.declared.space.Dva.{Dva}
@@ -8,11 +8,11 @@ use Rattle.zr_script.specs.declared.reply.AuditLine.{AuditLine}
 use Rattle.zr_store.specs.Store.{Stored}
 use Rattle.zr_sync.specs.declared.open.OpenPool.{OpenPool}
 use Rattle.zr_vdev.specs.Stores.{addresses_of}
-use Rattle.zr_tables.specs.Walks.{AreLiveAddresses, metadata_reach}
+use Rattle.zr_tables.specs.Walks.{AreLiveAddresses, metadata_reach, saved_reach}
 
--- the addresses of the metadata of an open pool
+-- the addresses of the metadata of an open pool, and of the root that its checkpoint holds
 abbrev pub metadata_of : Stored → OpenPool → List Dva
-metadata_of s pool = addresses_of (metadata_reach s pool.head pool.streams.items)
+metadata_of s pool = addresses_of (metadata_reach s pool.head pool.streams.items) ++ addresses_of (saved_reach s pool.saved)
 
 -- of each device as many different units as a walk over the live pointers and the metadata finds
 pub record IsWalk (s : Stored) (pool : OpenPool) (walked : List ℕ) : Type 0 where

@@ -7,7 +7,12 @@ use Rattle.zr_rules.specs.Owed.{owed, slop}
 use Rattle.zr_rules.specs.Places.{state_of_dev, units_of_dev}
 use Rattle.zr_script.specs.declared.reply.ListLine.{ListLine}
 use Rattle.zr_script.specs.declared.reply.StatusLines.{StatusLines}
-use Rattle.zr_script.specs.declared.reply.CkptLine.TheVariants.{Clear}
+use Rattle.zr_base.specs.declared.space.CkptPart.{CkptPart}
+use Rattle.zr_base.specs.declared.space.CkptPart.TheVariants as ckpt
+use Rattle.zr_rules.specs.Space.{Space}
+use Rattle.zr_script.specs.declared.reply.CkptLine.{CkptLine}
+use Rattle.zr_script.specs.declared.reply.CkptLine.TheVariants.{Clear, Held, Discarding}
+use Rattle.zr_space.specs.Totals.{kept_units}
 use Rattle.zr_sync.specs.declared.open.OpenPool.{OpenPool}
 use Rattle.zr_txg.specs.Changes.{block_count}
 use Rattle.zr_view.specs.Views.{slot_of}
@@ -39,6 +44,15 @@ list_lines pool paths = map (list_line pool paths) (range_with_len 0 (length poo
 abbrev pub owed_now : OpenPool → ℕ
 owed_now pool = owed (sizes pool.space (block_count pool.group.objects) (length pool.group.objects))
 
+-- how the checkpoint stands: held since its group, or being discarded with so many kept units
+abbrev pub checkpoint_of : Space → CkptLine
+checkpoint_of s = line_of s.parts.ckpt
+  where
+    line_of : CkptPart → CkptLine
+    line_of ckpt.Clear = Clear
+    line_of (ckpt.Held txg) = Held txg
+    line_of ckpt.Discarding = Discarding (kept_units s)
+
 -- how the pool stands, in its open group
 abbrev pub status_of : OpenPool → StatusLines
 status_of pool =
@@ -47,7 +61,7 @@ status_of pool =
       guid = pool.guid;
       txg = pool.group.txg;
       removal = None;
-      checkpoint = Clear;
+      checkpoint = checkpoint_of pool.space;
       condense = None;
       free = free_units pool.space;
       owed = owed_now pool;

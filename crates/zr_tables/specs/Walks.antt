@@ -7,6 +7,7 @@ use Rattle.zr_bptr.specs.declared.Tree.{Tree}
 use Rattle.zr_bptr.specs.declared.ObjRec.{ObjRec}
 use Rattle.zr_lookup.specs.Objects.{record_now, AreObjectBlocks}
 use Rattle.zr_store.specs.Store.{Stored}
+use Rattle.zr_sync.specs.declared.open.Checkpoint.{Checkpoint}
 use Rattle.zr_sync.specs.declared.open.DeviceStreams.{DeviceStreams}
 use Rattle.zr_tree.specs.Trees.{tree_reach}
 use Rattle.zr_txg.specs.Changes.{Changes}
@@ -42,6 +43,11 @@ pub record AreLiveAddresses (s : Stored) (dir : Tree) (g : Changes) (live : List
 abbrev pub streams_reach : Stored → DeviceStreams → List Bptr
 streams_reach s d = tree_reach s d.held.tree ++ tree_reach s d.kept.tree ++ tree_reach s d.late1.tree ++ tree_reach s d.late2.tree
 
--- the blocks of the metadata: of the head, and of each device's streams
+-- the blocks of a root's metadata: of the head, and of each device's streams
 abbrev pub metadata_reach : Stored → Tree → List DeviceStreams → List Bptr
 metadata_reach s head streams = tree_reach s head ++ flat_map (streams_reach s) streams
+
+-- the blocks of the metadata of the root that a checkpoint holds, if there is one
+abbrev pub saved_reach : Stored → Option Checkpoint → List Bptr
+saved_reach s None = []
+saved_reach s (Some c) = metadata_reach s c.head c.streams.items

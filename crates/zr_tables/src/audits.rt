@@ -1,5 +1,5 @@
 //! The units that a walk over an open pool finds, beside those that are counted.
-ghost use Rattle.std.specs.Prelude.{◌≡◌, ◌≤◌, ℕ, List, All, IfOk, IsErrOf, length, map};
+ghost use Rattle.std.specs.Prelude.{◌≡◌, ◌≤◌, ◌++◌, ℕ, List, All, IfOk, IfSome, IsErrOf, length, map};
 ghost use Rattle.std.specs.List.{range_with_len};
 ghost use Rattle.zr_audit.specs.Found.{for_each_device, allocated_units};
 ghost use Rattle.zr_base.specs.Counts.{HasRisen};
@@ -12,15 +12,15 @@ ghost use Rattle.zr_shelf.specs.Counts.{NoneFell};
 ghost use Rattle.zr_shelf.specs.Moments.{IsStill};
 ghost use Rattle.zr_store.specs.Causes.{Costs, HasCause};
 ghost use Rattle.zr_store.specs.Store.{Stored};
-ghost use Rattle.zr_sync.specs.Pools.{AreStreams, IsOpen};
+ghost use Rattle.zr_sync.specs.Pools.{AreStreams, IsCheckpoint, IsOpen};
 ghost use Rattle.zr_sync.specs.Writes.{WorksOnDisks};
 ghost use Rattle.zr_sync.specs.declared.fault.Fault.TheVariants.{No, Stops};
 ghost use Rattle.zr_sync.specs.declared.stop.Stop.TheVariants.{DiskFault};
 ghost use Rattle.zr_vdev.specs.Stores.{HoldsRead, GoesOnReading, addresses_of};
 ghost use Rattle.zr_model.specs.Objects.{Objects};
 ghost use Rattle.zr_sync.specs.Objects.{HoldsObjects};
-ghost use Rattle.zr_tables.specs.Audits.{IsWalk, AddsUp, lines_from};
-ghost use Rattle.zr_tables.specs.Walks.{AreLiveAddresses, metadata_reach};
+ghost use Rattle.zr_tables.specs.Audits.{IsWalk, AddsUp, lines_from, metadata_of};
+ghost use Rattle.zr_tables.specs.Walks.{AreLiveAddresses, metadata_reach, saved_reach};
 
 use crate::live::live_addresses;
 use crate::metadata::metadata_addresses;
@@ -31,7 +31,7 @@ use zr_bptr::Tree;
 use zr_script::AuditLine;
 use zr_shelf::Shelf;
 use zr_store::{Blocks, StoreErr};
-use zr_sync::{DeviceStreams, Fault, OpenPool};
+use zr_sync::{Checkpoint, DeviceStreams, Fault, OpenPool};
 use zr_txg::Group;
 use zr_vdev::Reader;
 
@@ -50,21 +50,23 @@ fn meet<B: Blocks>(
     group: &Group,
     head: &Tree,
     streams: &[DeviceStreams],
+    saved: &Option<Checkpoint>,
 ) -> Result<Met, StoreErr>
     requires dir { IsTree dir.now }
     requires low { dir.now.height ≤ 3 }
     requires group { IsLawfulGroup group.now }
     requires head { IsTree head.now }
     requires streams { All AreStreams streams.now }
+    requires saved { IfSome saved.now IsCheckpoint }
     ensures follows { (start : B) → B.follows start store.old → B.follows start store.new }
     ensures costs { Costs 0 0 (B.account store.old) (B.account store.new) }
     ensures cause { HasCause 0 (B.account store.old) (B.account store.new) result }
     ensures same { (s : Stored) → B.holds store.old s → B.holds store.new s }
     ensures live { (s : Stored) → B.holds store.old s → IfOk result (λ met. AreLiveAddresses s dir.now group.now met.live.items) }
-    ensures metadata { (s : Stored) → B.holds store.old s → IfOk result (λ met. met.meta.items ≡ addresses_of (metadata_reach s head.now streams.now)) }
+    ensures metadata { (s : Stored) → B.holds store.old s → IfOk result (λ met. met.meta.items ≡ addresses_of (metadata_reach s head.now streams.now) ++ addresses_of (saved_reach s saved.now)) }
 {
     let live = live_addresses(alloc, store, dir, group)?;
-    let meta = metadata_addresses(alloc, store, head, streams)?;
+    let meta = metadata_addresses(alloc, store, head, streams, saved)?;
     Ok(Met { live, meta })
 }
 
@@ -76,7 +78,7 @@ fn meet_all<S: Shelf>(alloc: Global, pool: &mut OpenPool, shelf: &mut S) -> Resu
     ensures fault { IsErrOf result (Stops DiskFault) → HasRisen (S.counts shelf.old).disk (S.counts shelf.new).disk }
     ensures refused { (r : Refusal) → IsErrOf result (No r) → (at : Dva) × (expected found : List ℕ) × (r ≡ Damaged at expected found) }
     ensures live { (s : Stored) → HoldsRead pool.old.table.slots (S.tells shelf.old) (S.world shelf.old).now.seen pool.old.space pool.old.cache s → IfOk result (λ met. AreLiveAddresses s pool.old.dir pool.old.group met.live.items) }
-    ensures metadata { (s : Stored) → HoldsRead pool.old.table.slots (S.tells shelf.old) (S.world shelf.old).now.seen pool.old.space pool.old.cache s → IfOk result (λ met. met.meta.items ≡ addresses_of (metadata_reach s pool.old.head pool.old.streams.items)) }
+    ensures metadata { (s : Stored) → HoldsRead pool.old.table.slots (S.tells shelf.old) (S.world shelf.old).now.seen pool.old.space pool.old.cache s → IfOk result (λ met. met.meta.items ≡ metadata_of s pool.old) }
 {
     let mut store = Reader::new(&pool.space, shelf, &mut pool.cache, &pool.table.slots);
     Ok(meet(
@@ -86,6 +88,7 @@ fn meet_all<S: Shelf>(alloc: Global, pool: &mut OpenPool, shelf: &mut S) -> Resu
         &pool.group,
         &pool.head,
         pool.streams.as_slice(),
+        &pool.saved,
     )?)
 }
 

@@ -1,19 +1,20 @@
-//! The addresses of a pool's metadata, met by a walk: its head and the streams that the head leads to.
-ghost use Rattle.std.specs.Prelude.{◌≡◌, ◌++◌, All, OnOk, IfOk};
+//! The addresses of a pool's metadata, met by a walk: its head and the streams that the head leads to, and those of the
+//! root that a checkpoint holds, which are units of their own until it is given up.
+ghost use Rattle.std.specs.Prelude.{◌≡◌, ◌++◌, All, OnOk, IfOk, IfSome};
 ghost use Rattle.zr_bptr.specs.Spelling.{IsTree};
 ghost use Rattle.zr_store.specs.Causes.{Costs, HasCause};
 ghost use Rattle.zr_store.specs.Store.{Stored};
 ghost use Rattle.zr_tree.specs.Trees.{tree_reach};
 ghost use Rattle.zr_vdev.specs.Stores.{addresses_of};
-ghost use Rattle.zr_sync.specs.Pools.{AreStreams};
-ghost use Rattle.zr_tables.specs.Walks.{streams_reach, metadata_reach};
+ghost use Rattle.zr_sync.specs.Pools.{AreStreams, IsCheckpoint};
+ghost use Rattle.zr_tables.specs.Walks.{streams_reach, metadata_reach, saved_reach};
 
 use crate::live::put_addresses;
 use std::alloc::Global;
 use zr_base::Dva;
 use zr_bptr::Tree;
 use zr_store::{Blocks, StoreErr};
-use zr_sync::DeviceStreams;
+use zr_sync::{Checkpoint, DeviceStreams};
 use zr_tree::walk;
 
 // Puts the addresses of a tree's blocks behind others.
@@ -56,26 +57,51 @@ fn put_streams<B: Blocks>(
     Ok(())
 }
 
-/// The addresses of the blocks of the head and then those of each device's streams, each block before what lies below it.
-/// It reads each tree block once.
-pub fn metadata_addresses<B: Blocks>(
+// Puts the addresses of the blocks of a head and then of those of each device's streams behind others.
+fn put_root<B: Blocks>(
     alloc: Global,
     store: &mut B,
     head: &Tree,
     streams: &[DeviceStreams],
-) -> Result<Vec<Dva>, StoreErr>
+    out: &mut Vec<Dva>,
+) -> Result<(), StoreErr>
     requires head { IsTree head.now }
     requires streams { All AreStreams streams.now }
     ensures follows { (start : B) → B.follows start store.old → B.follows start store.new }
     ensures costs { Costs 0 0 (B.account store.old) (B.account store.new) }
     ensures cause { HasCause 0 (B.account store.old) (B.account store.new) result }
     ensures same { (s : Stored) → B.holds store.old s → B.holds store.new s }
-    ensures metadata { (s : Stored) → B.holds store.old s → IfOk result (λ ats. ats.items ≡ addresses_of (metadata_reach s head.now streams.now)) }
+    ensures metadata { (s : Stored) → B.holds store.old s → OnOk result (out.new.items ≡ out.old.items ++ addresses_of (metadata_reach s head.now streams.now)) }
+{
+    put_tree(alloc, store, head, out)?;
+    for device in streams {
+        put_streams(alloc, store, device, out)?;
+    }
+    Ok(())
+}
+
+/// The addresses of the blocks of the head and then those of each device's streams, each block before what lies below it,
+/// and behind them the same of the root that a checkpoint holds. It reads each tree block once.
+pub fn metadata_addresses<B: Blocks>(
+    alloc: Global,
+    store: &mut B,
+    head: &Tree,
+    streams: &[DeviceStreams],
+    saved: &Option<Checkpoint>,
+) -> Result<Vec<Dva>, StoreErr>
+    requires head { IsTree head.now }
+    requires streams { All AreStreams streams.now }
+    requires saved { IfSome saved.now IsCheckpoint }
+    ensures follows { (start : B) → B.follows start store.old → B.follows start store.new }
+    ensures costs { Costs 0 0 (B.account store.old) (B.account store.new) }
+    ensures cause { HasCause 0 (B.account store.old) (B.account store.new) result }
+    ensures same { (s : Stored) → B.holds store.old s → B.holds store.new s }
+    ensures metadata { (s : Stored) → B.holds store.old s → IfOk result (λ ats. ats.items ≡ addresses_of (metadata_reach s head.now streams.now) ++ addresses_of (saved_reach s saved.now)) }
 {
     let mut out = Vec::new(alloc);
-    put_tree(alloc, store, head, &mut out)?;
-    for device in streams {
-        put_streams(alloc, store, device, &mut out)?;
+    put_root(alloc, store, head, streams, &mut out)?;
+    if let Some(held) = saved {
+        put_root(alloc, store, &held.head, held.streams.as_slice(), &mut out)?;
     }
     Ok(out)
 }

@@ -2,10 +2,10 @@
 ghost use Rattle.std.specs.Prelude.{◌≡◌, ℕ, List, IfOk};
 ghost use Rattle.zr_label.specs.Blocks.{IsName, name_of};
 ghost use Rattle.zr_sync.specs.Pools.{IsOpen};
-ghost use Rattle.zr_tables.specs.Tables.{owed_now, status_of};
+ghost use Rattle.zr_tables.specs.Tables.{checkpoint_of, owed_now, status_of};
 
 use std::alloc::Global;
-use zr_base::{Blob, NoMemory};
+use zr_base::{Blob, CkptPart, NoMemory};
 use zr_label::Name;
 use zr_room::{owed_with, slop_now};
 use zr_script::{CkptLine, StatusLines};
@@ -27,7 +27,18 @@ fn owed_now(pool: &OpenPool) -> u64
     owed_with(pool, pool.group.blocks(), pool.group.objects(), 0)
 }
 
-/// The pool's name, its open group and its room, in units. Nothing is removed, saved or condensed. It costs what the
+// Whether a checkpoint is held, or the units that are given back when it is discarded.
+fn checkpoint_of(pool: &OpenPool) -> CkptLine
+    ensures { result ≡ checkpoint_of pool.now.space }
+{
+    match pool.space.ckpt() {
+        CkptPart::Clear => CkptLine::Clear,
+        CkptPart::Held(txg) => CkptLine::Held(txg),
+        CkptPart::Discarding => CkptLine::Discarding(pool.space.kept_units()),
+    }
+}
+
+/// The pool's name, its open group and its room, in units. Nothing is removed or condensed. It costs what the
 /// counts of the room cost.
 pub fn status(alloc: Global, pool: &OpenPool) -> Result<StatusLines, NoMemory>
     requires pool { (sizes : List ℕ) × IsOpen sizes pool.now }
@@ -38,7 +49,7 @@ pub fn status(alloc: Global, pool: &OpenPool) -> Result<StatusLines, NoMemory>
         guid: pool.guid,
         txg: pool.group.txg(),
         removal: None,
-        checkpoint: CkptLine::Clear,
+        checkpoint: checkpoint_of(pool),
         condense: None,
         free: pool.space.free_units(),
         owed: owed_now(pool),

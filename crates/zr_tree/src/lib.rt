@@ -16,6 +16,3 @@ mod walks;
 pub use reads::get;
 pub use trees::{frame, set_all};
 pub use walks::{Mark, walk, walk_marked};
-
-#[cfg(test)]
-mod tests;

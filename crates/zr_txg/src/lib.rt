@@ -10,6 +10,3 @@ mod changed;
 mod group;
 
 pub use group::{GROUP_LIMIT, Group};
-
-#[cfg(test)]
-mod tests;

@@ -9,9 +9,15 @@ pub record Freed : Type 0 where
   pub blocks : List Extent
   pub meta : List Extent
 
--- The sets of a device. `born` is the part of `held` that the open group allocated, and `kept` the part that only the checkpoint has; `came` and `went` are what
--- came to `kept` in the open group and what went from it. `freed` is what the open group has freed of earlier groups' units, `late1` what the last group freed
--- and `late2` what the one before it did. `meta` is metadata of the current root, `saved` that of the saved one.
+-- the same, with how many more changes of the units of blocks take no memory
+pub record Waiting : Type 0 where
+  pub sets : Freed
+  pub spare : ℕ
+
+-- The sets of a device. `born` is the part of `held` that the open group allocated, `kept` the part that only the checkpoint has, and `copies` the part that has
+-- copies of a device that is leaving; `came` and `went` are what came to `kept` in the open group and what went from it. `freed` is what the open group has freed of
+-- earlier groups' units, `late1` what the last group freed and `late2` what the one before it did. `meta` is metadata of the current root, `saved` that of the
+-- saved one. `spare` is how many changes of the sets of blocks take no memory.
 pub record Uses : Type 0 where
   pub units : ℕ
   pub held : List Extent
@@ -19,18 +25,24 @@ pub record Uses : Type 0 where
   pub kept : List Extent
   pub came : List Extent
   pub went : List Extent
+  pub copies : List Extent
   pub freed : Freed
   pub late1 : Freed
   pub late2 : Freed
   pub meta : List Extent
   pub saved : List Extent
+  pub spare : ℕ
 
 abbrev pub none_freed : Freed
 none_freed = record { blocks = []; meta = [] }
 
 -- so many units of which none is used
 abbrev pub unused : ℕ → Uses
-unused units = record { units = units; held = []; born = []; kept = []; came = []; went = []; freed = none_freed; late1 = none_freed; late2 = none_freed; meta = []; saved = [] }
+unused units = record { units = units; held = []; born = []; kept = []; came = []; went = []; copies = []; freed = none_freed; late1 = none_freed; late2 = none_freed; meta = []; saved = []; spare = 0 }
+
+-- all is the same but for the changes that take no memory
+abbrev pub IsSameUses : Uses → Uses → Type 0
+IsSameUses old new = new ≡ record old { spare = new.spare }
 
 abbrev pub freed_hits : Freed → ℕ → ℕ
 freed_hits f u = one_if (has_unit f.blocks u) + one_if (has_unit f.meta u)
@@ -57,6 +69,7 @@ pub record HasLists (x : Uses) : Type 0 where
   pub kept : IsMaximal x.kept
   pub came : IsMaximal x.came
   pub went : IsMaximal x.went
+  pub copies : IsMaximal x.copies
   pub freed : AreMaximal x.freed
   pub late1 : AreMaximal x.late1
   pub late2 : AreMaximal x.late2
@@ -70,11 +83,17 @@ pub record IsKeeping (x : Uses) : Type 0 where
   pub came : (u : ℕ) → has_unit x.came u ≡ true → has_unit x.kept u ≡ true
   pub went : (u : ℕ) → has_unit x.went u ≡ true → has_unit x.freed.blocks u ≡ true
 
+-- copies are held, and not kept
+pub record IsCopying (x : Uses) : Type 0 where
+  pub held : (u : ℕ) → has_unit x.copies u ≡ true → has_unit x.held u ≡ true
+  pub unkept : (u : ℕ) → has_unit x.copies u ≡ true → has_unit x.kept u ≡ false
+
 -- each unit of the device is once free or in one of the sets, and they add up
 pub record IsAccount (is_free : ℕ → Bool) (free : ℕ) (x : Uses) : Type 0 where
   pub once : (u : ℕ) → one_if (is_free u) + use_hits x u ≡ one_if (nat_lt u x.units)
   pub born : (u : ℕ) → has_unit x.born u ≡ true → has_unit x.held u ≡ true
   pub keeping : IsKeeping x
+  pub copying : IsCopying x
   pub sum : free + use_count x ≡ x.units
   pub small : x.units < 2 ^ 40
   pub lists : HasLists x

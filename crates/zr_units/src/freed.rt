@@ -20,17 +20,17 @@ pub struct FreedSets {
 }
 
 impl Model for FreedSets {
-    ghost use Rattle.zr_units.specs.Uses.{Freed};
+    ghost use Rattle.zr_units.specs.Uses.{Waiting};
 
-    ghost Value = { Freed };
+    ghost Value = { Waiting };
 
-    ghost view = { λ a. record { blocks = a.blocks.extents; meta = a.meta.extents } };
+    ghost view = { λ a. record { sets = record { blocks = a.blocks.extents; meta = a.meta.extents }; spare = a.blocks.spare } };
 }
 
 impl FreedSets {
     /// Nothing. It takes no memory.
     pub fn new(alloc: Global) -> FreedSets
-        ensures { result ≡ none_freed }
+        ensures { result.sets ≡ none_freed }
     {
         FreedSets {
             blocks: RangeSet::new(alloc),
@@ -40,30 +40,30 @@ impl FreedSets {
 
     /// These units of blocks and of metadata.
     pub fn of_sets(blocks: RangeSet, meta: RangeSet) -> FreedSets
-        ensures blocks { result.blocks ≡ blocks.extents }
-        ensures meta { result.meta ≡ meta.extents }
+        ensures blocks { result.sets.blocks ≡ blocks.extents }
+        ensures meta { result.sets.meta ≡ meta.extents }
     {
         FreedSets { blocks, meta }
     }
 
     /// The units of blocks.
     pub fn blocks(&self) -> &RangeSet
-        ensures { result.now.extents ≡ self.now.blocks }
+        ensures { result.now.extents ≡ self.now.sets.blocks }
     {
         &self.blocks
     }
 
     /// The units of metadata.
     pub fn meta(&self) -> &RangeSet
-        ensures { result.now.extents ≡ self.now.meta }
+        ensures { result.now.extents ≡ self.now.sets.meta }
     {
         &self.meta
     }
 
     /// How many units they are.
     pub fn units(&self) -> u64
-        requires { freed_count self.now ≤ 2 ^ 62 }
-        ensures { result ≡ freed_count self.now }
+        requires { freed_count self.now.sets ≤ 2 ^ 62 }
+        ensures { result ≡ freed_count self.now.sets }
     {
         self.blocks.units() + self.meta.units()
     }
@@ -71,13 +71,13 @@ impl FreedSets {
     /// Gives all back to the allocator.
     pub fn let_go(&mut self, slabs: &mut Slabs, dev: u32)
         requires device { dev < length slabs.old }
-        requires blocks { IsWithin self.old.blocks (units_at slabs.old dev) }
-        requires meta { IsWithin self.old.meta (units_at slabs.old dev) }
-        requires apart { AreSetsApart self.old.blocks self.old.meta }
-        requires blocks_apart { AreApart self.old.blocks (free_at slabs.old dev) }
-        requires meta_apart { AreApart self.old.meta (free_at slabs.old dev) }
-        ensures none { self.new ≡ none_freed }
-        ensures taken { TakesBack slabs.old slabs.new dev (has_freed self.old) (freed_count self.old) }
+        requires blocks { IsWithin self.old.sets.blocks (units_at slabs.old dev) }
+        requires meta { IsWithin self.old.sets.meta (units_at slabs.old dev) }
+        requires apart { AreSetsApart self.old.sets.blocks self.old.sets.meta }
+        requires blocks_apart { AreApart self.old.sets.blocks (free_at slabs.old dev) }
+        requires meta_apart { AreApart self.old.sets.meta (free_at slabs.old dev) }
+        ensures none { self.new.sets ≡ none_freed }
+        ensures taken { TakesBack slabs.old slabs.new dev (has_freed self.old.sets) (freed_count self.old.sets) }
     {
         let_go(&mut self.blocks, slabs, dev);
         let_go(&mut self.meta, slabs, dev);

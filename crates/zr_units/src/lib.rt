@@ -13,5 +13,8 @@ mod parts;
 mod units;
 mod words;
 
+pub use changes::merged;
 pub use freed::FreedSets;
+pub use parts::{Front, uniform_front};
 pub use units::Units;
+pub use words::{extent_words, set_words};

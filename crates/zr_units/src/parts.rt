@@ -2,8 +2,8 @@
 ghost use Rattle.std.specs.Prelude.{◌≡◌, ℕ, ◌+◌, ◌^◌, ◌<◌, ◌≤◌, ◌||◌, ◌&&◌, not, true, false, [], length};
 ghost use Rattle.zr_base.specs.Extents.{HasAll, HasNone, has_unit, in_extent, unit_count, IsMaximal};
 ghost use Rattle.zr_metaslab.specs.Devices.{free_at, units_at, count_at};
-ghost use Rattle.zr_units.specs.Apart.{AreApart, IsWithin, IsUniform};
-ghost use Rattle.zr_units.specs.Changes.{TakesBack, FreesBorn, KeepsBorn};
+ghost use Rattle.zr_units.specs.Apart.{AreApart, AreSetsApart, IsWithin, IsUniform};
+ghost use Rattle.zr_units.specs.Changes.{TakesBack, FreesBorn, GivesUpSet, KeepsBorn};
 
 use zr_base::Extent;
 use zr_metaslab::Slabs;
@@ -64,7 +64,9 @@ pub fn free_parts(
     requires not_free { (u : ℕ) → in_extent e u ≡ true → free_at slabs.old dev u ≡ false }
     requires born_maximal { IsMaximal born.old.extents }
     requires deferred_maximal { IsMaximal deferred.old.extents }
-    ensures { FreesBorn born.old.extents born.new.extents deferred.old.extents deferred.new.extents slabs.old slabs.new dev e }
+    ensures frees { FreesBorn born.old.extents born.new.extents deferred.old.extents deferred.new.extents slabs.old slabs.new dev e }
+    ensures born_spare { born.old.spare ≤ born.new.spare + e.len }
+    ensures deferred_spare { deferred.old.spare ≤ deferred.new.spare + e.len }
 {
     let end = e.start + e.len;
     let mut at = e.start;
@@ -81,6 +83,45 @@ pub fn free_parts(
             continue;
         }
         deferred.add_reserved(front.at);
+    }
+}
+
+/// Lets all units of a set of copies go, which are then held no more: those that the open group made to the allocator, the
+/// others to what is deferred. It takes no memory, and costs a change of each set for each extent.
+pub fn give_up_parts(
+    copies: &mut RangeSet,
+    held: &mut RangeSet,
+    born: &mut RangeSet,
+    deferred: &mut RangeSet,
+    slabs: &mut Slabs,
+    dev: u32,
+)
+    requires device { dev < length slabs.old }
+    requires small { units_at slabs.old dev < 2 ^ 40 }
+    requires within { IsWithin copies.old.extents (units_at slabs.old dev) }
+    requires there { (u : ℕ) → has_unit copies.old.extents u ≡ true → has_unit held.old.extents u ≡ true }
+    requires held_room { unit_count copies.old.extents ≤ held.old.spare }
+    requires born_room { unit_count copies.old.extents ≤ born.old.spare }
+    requires deferred_room { unit_count copies.old.extents ≤ deferred.old.spare }
+    requires apart { AreSetsApart copies.old.extents deferred.old.extents }
+    requires not_free { AreApart copies.old.extents (free_at slabs.old dev) }
+    requires held_maximal { IsMaximal held.old.extents }
+    requires born_maximal { IsMaximal born.old.extents }
+    requires deferred_maximal { IsMaximal deferred.old.extents }
+    ensures empty { copies.new.extents ≡ [] }
+    ensures held { (u : ℕ) → has_unit held.new.extents u ≡ (has_unit held.old.extents u && not (has_unit copies.old.extents u)) }
+    ensures born { (u : ℕ) → has_unit born.new.extents u ≡ (has_unit born.old.extents u && not (has_unit copies.old.extents u)) }
+    ensures deferred { (u : ℕ) → has_unit deferred.new.extents u ≡ (has_unit deferred.old.extents u || (has_unit copies.old.extents u && not (has_unit born.old.extents u))) }
+    ensures count { unit_count held.new.extents + unit_count copies.old.extents ≡ unit_count held.old.extents }
+    ensures held_maximal { IsMaximal held.new.extents }
+    ensures born_maximal { IsMaximal born.new.extents }
+    ensures deferred_maximal { IsMaximal deferred.new.extents }
+    ensures given { GivesUpSet copies.old.extents born.old.extents deferred.old.extents deferred.new.extents slabs.old slabs.new dev }
+{
+    while !copies.extents().is_empty() {
+        let e = copies.take_front(u64::MAX);
+        held.remove_reserved(e);
+        free_parts(born, deferred, slabs, dev, e);
     }
 }
 
@@ -110,7 +151,11 @@ pub fn keep_parts(
     requires born_maximal { IsMaximal born.old.extents }
     requires kept_maximal { IsMaximal kept.old.extents }
     requires came_maximal { IsMaximal came.old.extents }
-    ensures { KeepsBorn held.old.extents held.new.extents born.old.extents born.new.extents kept.old.extents kept.new.extents came.old.extents came.new.extents slabs.old slabs.new dev e }
+    ensures keeps { KeepsBorn held.old.extents held.new.extents born.old.extents born.new.extents kept.old.extents kept.new.extents came.old.extents came.new.extents slabs.old slabs.new dev e }
+    ensures held_spare { held.old.spare ≤ held.new.spare + e.len }
+    ensures born_spare { born.old.spare ≤ born.new.spare + e.len }
+    ensures kept_spare { kept.old.spare ≤ kept.new.spare + e.len }
+    ensures came_spare { came.old.spare ≤ came.new.spare + e.len }
 {
     let end = e.start + e.len;
     let mut at = e.start;

@@ -2,15 +2,15 @@
 ghost use Rattle.std.specs.Prelude.{◌≡◌, ℕ, ◌+◌, ◌*◌, ◌^◌, ◌<◌, ◌≤◌, ◌||◌, true, false, OnOk, OnErr, IfOk, length, []};
 ghost use Rattle.zr_base.specs.Extents.{HasAll, HasNone, in_extent, has_unit, unit_count};
 ghost use Rattle.zr_metaslab.specs.Devices.{Devices, free_at, count_at, units_at};
-ghost use Rattle.zr_units.specs.Uses.{IsAccount, IsKeeping, unused, use_count, freed_count};
+ghost use Rattle.zr_units.specs.Uses.{IsAccount, IsKeeping, IsSameUses, unused, use_count, freed_count};
 ghost use Rattle.zr_units.specs.Apart.{AreSetsApart};
 ghost use Rattle.zr_units.specs.Differences.{IsMerged};
 ghost use Rattle.zr_units.specs.Words.{HasWithin, use_words};
-ghost use Rattle.zr_units.specs.Changes.{Holds, HoldsMeta, DropsMeta, DropsSaved, FreesUnits, KeepsUnits, KeepsBorn, DiscardsUnits, DiscardsFront, TakesBack, FreesBorn, aged_uses, cleared_uses, saved_uses, has_freed};
+ghost use Rattle.zr_units.specs.Changes.{Holds, HoldsCopy, TurnsCopies, GivesUpCopies, GivesUpSet, HoldsMeta, DropsMeta, DropsSaved, FreesUnits, FreesCopies, KeepsUnits, KeepsBorn, DiscardsUnits, DiscardsFront, TakesBack, FreesBorn, aged_uses, cleared_uses, saved_uses, taken_uses, has_freed};
 
 use crate::changes::merged;
 use crate::freed::FreedSets;
-use crate::parts::{free_parts, keep_parts, uniform_front};
+use crate::parts::{free_parts, give_up_parts, keep_parts, uniform_front};
 use crate::words::set_words;
 use std::alloc::Global;
 use std::marker::Model;
@@ -28,6 +28,7 @@ pub struct Units {
     kept: RangeSet,
     came: RangeSet,
     went: RangeSet,
+    copies: RangeSet,
     freed: FreedSets,
     late1: FreedSets,
     late2: FreedSets,
@@ -36,17 +37,18 @@ pub struct Units {
 }
 
 impl Model for Units {
+    ghost use Rattle.std.specs.Prelude.{min};
     ghost use Rattle.zr_units.specs.Uses.{Uses};
 
     ghost Value = { Uses };
 
-    ghost view = { λ a. record { units = a.units; held = a.held.extents; born = a.born.extents; kept = a.kept.extents; came = a.came.extents; went = a.went.extents; freed = a.freed; late1 = a.late1; late2 = a.late2; meta = a.meta.extents; saved = a.saved.extents } };
+    ghost view = { λ a. record { units = a.units; held = a.held.extents; born = a.born.extents; kept = a.kept.extents; came = a.came.extents; went = a.went.extents; copies = a.copies.extents; freed = a.freed.sets; late1 = a.late1.sets; late2 = a.late2.sets; meta = a.meta.extents; saved = a.saved.extents; spare = min a.held.spare (min a.born.spare (min a.kept.spare (min a.came.spare (min a.copies.spare a.freed.spare)))) } };
 }
 
 impl Units {
     /// So many units of which none is used. It takes no memory.
     pub fn new(alloc: Global, units: u64) -> Units
-        ensures { result ≡ unused units }
+        ensures { IsSameUses (unused units) result }
     {
         Units {
             units,
@@ -55,6 +57,7 @@ impl Units {
             kept: RangeSet::new(alloc),
             came: RangeSet::new(alloc),
             went: RangeSet::new(alloc),
+            copies: RangeSet::new(alloc),
             freed: FreedSets::new(alloc),
             late1: FreedSets::new(alloc),
             late2: FreedSets::new(alloc),
@@ -72,7 +75,7 @@ impl Units {
         late1: FreedSets,
         late2: FreedSets,
     ) -> Units
-        ensures { result ≡ record (unused units) { held = held.extents; kept = kept.extents; late1 = late1; late2 = late2 } }
+        ensures { result ≡ record (unused units) { held = held.extents; kept = kept.extents; late1 = late1.sets; late2 = late2.sets; spare = result.spare } }
     {
         Units {
             units,
@@ -81,6 +84,7 @@ impl Units {
             kept,
             came: RangeSet::new(alloc),
             went: RangeSet::new(alloc),
+            copies: RangeSet::new(alloc),
             freed: FreedSets::new(alloc),
             late1,
             late2,
@@ -117,6 +121,13 @@ impl Units {
         &self.kept
     }
 
+    /// The held units that have copies of a device that is leaving.
+    pub fn copies(&self) -> &RangeSet
+        ensures { result.now.extents ≡ self.now.copies }
+    {
+        &self.copies
+    }
+
     /// The metadata units of the current root.
     pub fn meta(&self) -> &RangeSet
         ensures { result.now.extents ≡ self.now.meta }
@@ -133,21 +144,21 @@ impl Units {
 
     /// What the open group has freed of earlier groups' units.
     pub fn freed(&self) -> &FreedSets
-        ensures { result.now ≡ self.now.freed }
+        ensures { result.now.sets ≡ self.now.freed }
     {
         &self.freed
     }
 
     /// What the last group freed.
     pub fn late1(&self) -> &FreedSets
-        ensures { result.now ≡ self.now.late1 }
+        ensures { result.now.sets ≡ self.now.late1 }
     {
         &self.late1
     }
 
     /// What the group before the last freed.
     pub fn late2(&self) -> &FreedSets
-        ensures { result.now ≡ self.now.late2 }
+        ensures { result.now.sets ≡ self.now.late2 }
     {
         &self.late2
     }
@@ -202,6 +213,20 @@ impl Units {
         self.freed.units() + self.late1.units() + self.late2.units()
     }
 
+    /// Makes room, so that frees of `n` units, or so many changes of the sets of blocks, take no memory.
+    pub fn reserve(&mut self, n: usize) -> Result<(), NoMemory>
+        ensures ok { OnOk result (n ≤ self.new.spare) }
+        ensures same { IsSameUses self.old self.new }
+        ensures spare { self.old.spare ≤ self.new.spare }
+    {
+        self.held.reserve(n)?;
+        self.born.reserve(n)?;
+        self.kept.reserve(n)?;
+        self.came.reserve(n)?;
+        self.copies.reserve(n)?;
+        self.freed.blocks.reserve(n)
+    }
+
     /// Holds units for a block of the open group.
     pub fn hold(&mut self, e: Extent) -> Result<(), NoMemory>
         requires not_empty { 0 < e.len }
@@ -209,7 +234,7 @@ impl Units {
         requires held { HasNone self.old.held e }
         requires born { HasNone self.old.born e }
         ensures ok { OnOk result (Holds self.old self.new e) }
-        ensures err { OnErr result (self.new ≡ self.old) }
+        ensures err { OnErr result (IsSameUses self.old self.new) }
     {
         self.held.reserve(1)?;
         self.born.reserve(1)?;
@@ -218,13 +243,28 @@ impl Units {
         Ok(())
     }
 
+    /// Holds units for a copy of the open group, for which there is room. It takes no memory.
+    pub fn hold_copy(&mut self, e: Extent)
+        requires not_empty { 0 < e.len }
+        requires in_range { e.start + e.len ≤ 2 ^ 62 }
+        requires held { HasNone self.old.held e }
+        requires born { HasNone self.old.born e }
+        requires copies { HasNone self.old.copies e }
+        requires room { 0 < self.old.spare }
+        ensures { HoldsCopy self.old self.new e }
+    {
+        self.held.add_reserved(e);
+        self.born.add_reserved(e);
+        self.copies.add_reserved(e);
+    }
+
     /// Has units for metadata.
     pub fn hold_meta(&mut self, e: Extent) -> Result<(), NoMemory>
         requires not_empty { 0 < e.len }
         requires in_range { e.start + e.len ≤ 2 ^ 62 }
         requires apart { HasNone self.old.meta e }
         ensures ok { OnOk result (HoldsMeta self.old self.new e) }
-        ensures err { OnErr result (self.new ≡ self.old) }
+        ensures err { OnErr result (IsSameUses self.old self.new) }
     {
         self.meta.add(e)
     }
@@ -236,7 +276,7 @@ impl Units {
         requires there { HasAll self.old.meta e }
         requires apart { HasNone self.old.freed.meta e }
         ensures ok { OnOk result (DropsMeta self.old self.new e) }
-        ensures err { OnErr result (self.new ≡ self.old) }
+        ensures err { OnErr result (IsSameUses self.old self.new) }
     {
         self.freed.meta.reserve(1)?;
         self.meta.remove(e)?;
@@ -251,7 +291,7 @@ impl Units {
         requires there { HasAll self.old.saved e }
         requires apart { HasNone self.old.freed.meta e }
         ensures ok { OnOk result (DropsSaved self.old self.new e) }
-        ensures err { OnErr result (self.new ≡ self.old) }
+        ensures err { OnErr result (IsSameUses self.old self.new) }
     {
         self.freed.meta.reserve(1)?;
         self.saved.remove(e)?;
@@ -269,15 +309,82 @@ impl Units {
         requires account { IsAccount (free_at slabs.old dev) (count_at slabs.old dev) self.old }
         ensures ok { OnOk result (FreesUnits self.old self.new e) }
         ensures given { OnOk result (FreesBorn self.old.born self.new.born self.old.freed.blocks self.new.freed.blocks slabs.old slabs.new dev e) }
-        ensures err { OnErr result (self.new ≡ self.old) }
+        ensures err { OnErr result (IsSameUses self.old self.new) }
         ensures err_slabs { OnErr result (slabs.new ≡ slabs.old) }
     {
-        let pieces = e.len as usize;
-        self.born.reserve(pieces)?;
-        self.freed.blocks.reserve(pieces)?;
-        self.held.remove(e)?;
-        free_parts(&mut self.born, &mut self.freed.blocks, slabs, dev, e);
+        self.reserve(e.len as usize)?;
+        self.free_reserved(slabs, dev, e);
         Ok(())
+    }
+
+    /// Frees held units for which there is room. It takes no memory.
+    pub fn free_reserved(&mut self, slabs: &mut Slabs, dev: u32, e: Extent)
+        requires device { dev < length slabs.old }
+        requires units { units_at slabs.old dev ≡ self.old.units }
+        requires not_empty { 0 < e.len }
+        requires held { HasAll self.old.held e }
+        requires room { e.len ≤ self.old.spare }
+        requires account { IsAccount (free_at slabs.old dev) (count_at slabs.old dev) self.old }
+        ensures frees { FreesUnits self.old self.new e }
+        ensures given { FreesBorn self.old.born self.new.born self.old.freed.blocks self.new.freed.blocks slabs.old slabs.new dev e }
+        ensures spare { self.old.spare ≤ self.new.spare + e.len }
+    {
+        self.held.remove_reserved(e);
+        free_parts(&mut self.born, &mut self.freed.blocks, slabs, dev, e);
+    }
+
+    /// Frees copies for which there is room, as other held units. It takes no memory.
+    pub fn free_copies(&mut self, slabs: &mut Slabs, dev: u32, e: Extent)
+        requires device { dev < length slabs.old }
+        requires units { units_at slabs.old dev ≡ self.old.units }
+        requires not_empty { 0 < e.len }
+        requires copies { HasAll self.old.copies e }
+        requires room { e.len ≤ self.old.spare }
+        requires account { IsAccount (free_at slabs.old dev) (count_at slabs.old dev) self.old }
+        ensures frees { FreesCopies self.old self.new e }
+        ensures given { FreesBorn self.old.born self.new.born self.old.freed.blocks self.new.freed.blocks slabs.old slabs.new dev e }
+        ensures spare { self.old.spare ≤ self.new.spare + e.len }
+    {
+        self.held.remove_reserved(e);
+        self.copies.remove_reserved(e);
+        free_parts(&mut self.born, &mut self.freed.blocks, slabs, dev, e);
+    }
+
+    /// Units that the open group has for a block are for a copy from now on. It takes no memory.
+    pub fn turn_copies(&mut self, e: Extent)
+        requires not_empty { 0 < e.len }
+        requires in_range { e.start + e.len ≤ 2 ^ 62 }
+        requires apart { HasNone self.old.copies e }
+        requires room { 0 < self.old.spare }
+        ensures turns { TurnsCopies self.old self.new e }
+    {
+        self.copies.add_reserved(e);
+    }
+
+    /// Gives up all copies, for which there is room. It takes no memory.
+    pub fn give_up_copies(&mut self, slabs: &mut Slabs, dev: u32)
+        requires device { dev < length slabs.old }
+        requires units { units_at slabs.old dev ≡ self.old.units }
+        requires room { unit_count self.old.copies ≤ self.old.spare }
+        requires account { IsAccount (free_at slabs.old dev) (count_at slabs.old dev) self.old }
+        ensures gives { GivesUpCopies self.old self.new }
+        ensures given { GivesUpSet self.old.copies self.old.born self.old.freed.blocks self.new.freed.blocks slabs.old slabs.new dev }
+    {
+        give_up_parts(
+            &mut self.copies,
+            &mut self.held,
+            &mut self.born,
+            &mut self.freed.blocks,
+            slabs,
+            dev,
+        );
+    }
+
+    /// Copies are units of blocks like others from now on.
+    pub fn take_over(&mut self)
+        ensures { IsSameUses (taken_uses self.old) self.new }
+    {
+        self.copies.clear();
     }
 
     /// Frees held units of a block that the checkpoint may have: those that the open group allocated go back to the
@@ -291,14 +398,27 @@ impl Units {
         requires account { IsAccount (free_at slabs.old dev) (count_at slabs.old dev) self.old }
         ensures ok { OnOk result (KeepsUnits self.old self.new e) }
         ensures given { OnOk result (KeepsBorn self.old.held self.new.held self.old.born self.new.born self.old.kept self.new.kept self.old.came self.new.came slabs.old slabs.new dev e) }
-        ensures err { OnErr result (self.new ≡ self.old) }
+        ensures err { OnErr result (IsSameUses self.old self.new) }
         ensures err_slabs { OnErr result (slabs.new ≡ slabs.old) }
     {
-        let pieces = e.len as usize;
-        self.held.reserve(pieces)?;
-        self.born.reserve(pieces)?;
-        self.kept.reserve(pieces)?;
-        self.came.reserve(pieces)?;
+        self.reserve(e.len as usize)?;
+        self.keep_reserved(slabs, dev, e);
+        Ok(())
+    }
+
+    /// Frees held units of a block that the checkpoint may have, where there is room for it. It takes no memory.
+    pub fn keep_reserved(&mut self, slabs: &mut Slabs, dev: u32, e: Extent)
+        requires device { dev < length slabs.old }
+        requires units { units_at slabs.old dev ≡ self.old.units }
+        requires not_empty { 0 < e.len }
+        requires held { HasAll self.old.held e }
+        requires unkept { HasNone self.old.kept e }
+        requires room { e.len ≤ self.old.spare }
+        requires account { IsAccount (free_at slabs.old dev) (count_at slabs.old dev) self.old }
+        ensures keeps { KeepsUnits self.old self.new e }
+        ensures given { KeepsBorn self.old.held self.new.held self.old.born self.new.born self.old.kept self.new.kept self.old.came self.new.came slabs.old slabs.new dev e }
+        ensures spare { self.old.spare ≤ self.new.spare + e.len }
+    {
         keep_parts(
             &mut self.held,
             &mut self.born,
@@ -308,7 +428,6 @@ impl Units {
             dev,
             e,
         );
-        Ok(())
     }
 
     // Gives up a front of kept units: those that came to them in the open group, or those that did not. It answers how
@@ -322,7 +441,7 @@ impl Units {
         ensures ok { IfOk result (λ n. DiscardsUnits self.old self.new (record { start = e.start; len = n })) }
         ensures some { IfOk result (λ n. 0 < n) }
         ensures most { IfOk result (λ n. n ≤ e.len) }
-        ensures err { OnErr result (self.new ≡ self.old) }
+        ensures err { OnErr result (IsSameUses self.old self.new) }
     {
         self.held.reserve(1)?;
         self.kept.reserve(1)?;
@@ -369,7 +488,7 @@ impl Units {
         requires device { dev < length slabs.old }
         requires units { units_at slabs.old dev ≡ self.old.units }
         requires account { IsAccount (free_at slabs.old dev) (count_at slabs.old dev) self.old }
-        ensures aged { self.new ≡ aged_uses self.old }
+        ensures aged { IsSameUses (aged_uses self.old) self.new }
         ensures taken { TakesBack slabs.old slabs.new dev (has_freed self.old.late2) (freed_count self.old.late2) }
     {
         self.born.clear();
@@ -385,7 +504,7 @@ impl Units {
         requires device { dev < length slabs.old }
         requires units { units_at slabs.old dev ≡ self.old.units }
         requires account { IsAccount (free_at slabs.old dev) (count_at slabs.old dev) self.old }
-        ensures cleared { self.new ≡ cleared_uses self.old }
+        ensures cleared { IsSameUses (cleared_uses self.old) self.new }
         ensures taken { TakesBack slabs.old slabs.new dev (λ u. has_freed self.old.freed u || (has_freed self.old.late1 u || has_freed self.old.late2 u)) (freed_count self.old.freed + freed_count self.old.late1 + freed_count self.old.late2) }
     {
         self.born.clear();
@@ -399,7 +518,7 @@ impl Units {
     /// The metadata of the current root is the saved root's from now on. There was no saved root.
     pub fn save(&mut self)
         requires { self.old.saved ≡ [] }
-        ensures { self.new ≡ saved_uses self.old }
+        ensures { IsSameUses (saved_uses self.old) self.new }
     {
         mem::swap(&mut self.meta, &mut self.saved);
     }

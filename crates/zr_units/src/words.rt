@@ -13,8 +13,8 @@ use zr_ranges::RangeSet;
 /// The longest run, in units, that is one word.
 const SHORT: u64 = 32_768;
 
-// The words of an extent.
-fn extent_words(e: Extent, version: u64) -> u64
+/// The words of an extent.
+pub fn extent_words(e: Extent, version: u64) -> u64
     ensures { result ≡ extent_words version e }
 {
     if version == 1 {

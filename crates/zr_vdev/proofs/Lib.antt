@@ -9,3 +9,5 @@ pub mod Follows
 pub mod Held
 pub mod Moves
 pub mod Frames
+pub mod Mounting
+pub mod Carrying

@@ -146,7 +146,7 @@ use_along kinds.Meta s t a same on roles h =
 pub use_resolves : (kind : Kind) (s : Space) (a : Dva) → AreInService (devices_in s) → IsInUse kind s a → is_resolved (devices_in s) a ≡ true
 use_resolves kind s a on h =
     let known = use_known kind s a h in let within = use_within kind s a h in
-    within_resolves (devices_in s) a on (if nat_lt a.dev (length s.parts.devs) then units_of_dev s.parts.devs a.dev else 0) a.len refl refl (use_some kind s a h) (grind (arith, nat_tests, known, within))
+    within_resolves (devices_in s) a on known within
 
 -- ---- units that are taken
 

@@ -4,3 +4,4 @@ pub mod Puts
 pub mod Caches
 pub mod Stores
 pub mod Fails
+pub mod Copies

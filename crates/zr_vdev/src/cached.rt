@@ -1,5 +1,5 @@
 //! Blocks through the cache.
-ghost use Rattle.std.specs.Prelude.{◌≡◌, ◌≢◌, ◌+◌, ◌-◌, ◌*◌, ◌/◌, ◌<◌, ◌≤◌, ◌⊎◌, ◌∷◌, [], ℕ, List, true, length, IsErrOf, OnOk, OnErr, IfOk, IfErr, IfSome};
+ghost use Rattle.std.specs.Prelude.{◌≡◌, ◌≢◌, ◌+◌, ◌-◌, ◌*◌, ◌/◌, ◌<◌, ◌≤◌, ◌⊎◌, ◌∷◌, [], ℕ, List, true, length, IsErrOf, OnOk, OnErr, IfOk, IfErr, IfSome, Some};
 ghost use Rattle.sha2.specs.Sha256.{sha256};
 ghost use Rattle.zr_base.specs.Counts.{HasRisen};
 ghost use Rattle.zr_base.specs.declared.space.Dva.{Dva};
@@ -12,7 +12,7 @@ ghost use Rattle.zr_store.specs.declared.StoreErr.TheVariants.{NoMemory, Malform
 ghost use Rattle.zr_store.specs.Causes.{HasCause, IsOf};
 ghost use Rattle.zr_store.specs.Store.{IsPointerTo, IsBlockOf, is_size};
 ghost use Rattle.zr_view.specs.Views.{address_bytes};
-ghost use Rattle.zr_cache.specs.Entries.{capacity};
+ghost use Rattle.zr_cache.specs.Entries.{bytes_in, capacity, is_recent};
 ghost use Rattle.zr_vdev.specs.Mounts.{AreMounted};
 ghost use Rattle.zr_rules.specs.Columns.{free_of};
 ghost use Rattle.zr_rules.specs.Placement.{HasNoPlacement};
@@ -33,7 +33,8 @@ use zr_shelf::Shelf;
 use zr_space::Space;
 use zr_store::StoreErr;
 
-/// The bytes of a block. One that is cached makes no call on a disk, and costs a copy; another is cached.
+/// The bytes of a block. One that is cached makes no call on a disk, and costs a copy; another is cached, and one whose sum is
+/// wrong is not.
 pub fn get_block<S: Shelf>(
     alloc: Global,
     space: &Space,
@@ -55,6 +56,8 @@ pub fn get_block<S: Shelf>(
     ensures sum { IfOk result (λ bytes. sha256 bytes.items ≡ b.now.sum) }
     ensures bytes { S.tells shelf.old → AreRead (S.world shelf.old).now.seen slots.now space.now cache.old → IfOk result (λ bytes. bytes.items ≡ address_bytes (view_of (S.world shelf.old).now.seen slots.now space.now) b.now.at) }
     ensures cache { S.tells shelf.old → AreRead (S.world shelf.old).now.seen slots.now space.now cache.old → AreRead (S.world shelf.new).now.seen slots.now space.now cache.new }
+    ensures cached { (bytes : List ℕ) → bytes_in cache.old b.now ≡ Some bytes → shelf.new ≡ shelf.old }
+    ensures recent { OnOk result (is_recent cache.new b.now ≡ true) }
     ensures room { capacity cache.new ≡ capacity cache.old }
 {
     if let Some(bytes) = cache.get(alloc, b)? {
@@ -67,7 +70,7 @@ pub fn get_block<S: Shelf>(
 }
 
 // The units of an address that stand where it says.
-fn run_at(at: &Dva) -> Piece
+pub(crate) fn run_at(at: &Dva) -> Piece
     ensures { result ≡ as_part at.now }
 {
     Piece {
@@ -89,6 +92,7 @@ fn keep_block(
 ) -> Result<(), zr_base::NoMemory>
     requires { b.now.sum ≡ sha256 bytes.now }
     ensures kept { KeepsBlock cache.old cache.new b.now bytes.now }
+    ensures recent { OnOk result (is_recent cache.new b.now ≡ true) }
     ensures room { capacity cache.new ≡ capacity cache.old }
 {
     let run = run_at(&b.at);
@@ -99,8 +103,7 @@ fn keep_block(
     Ok(())
 }
 
-/// Stores a new block, and caches it where there is memory for that. After an error nothing is cached, and nothing was
-/// done or the units that it names stay taken.
+/// Stores a new block, and caches it. After an error nothing was done, or the units that it names stay taken.
 pub fn put_block<S: Shelf, P: Place>(
     alloc: Global,
     space: &mut Space,
@@ -134,13 +137,17 @@ pub fn put_block<S: Shelf, P: Place>(
     ensures kept { IfErr result (λ e. MayTake mount.now.kind (P.policy mount.now.pick.now) (length bytes.now / 4096) space.old space.new e.taken) }
     ensures err { S.tells shelf.old → IfErr result (λ e. MayPut mount.now.kind (P.policy mount.now.pick.now) (length bytes.now / 4096) mount.now.slots.now space.old space.new (S.world shelf.old) (S.world shelf.new) e.taken) }
     ensures cache { S.tells shelf.old → AreRead (S.world shelf.old).now.seen mount.now.slots.now space.old cache.old → AreRead (S.world shelf.new).now.seen mount.now.slots.now space.new cache.new }
+    ensures recent { IfOk result (λ b. is_recent cache.new b ≡ true) }
     ensures room { capacity cache.new ≡ capacity cache.old }
 {
     match write_block(alloc, space, shelf, mount, bytes, level) {
-        Ok(b) => {
-            let _ = keep_block(alloc, cache, &b, bytes);
-            Ok(b)
-        }
+        Ok(b) => match keep_block(alloc, cache, &b, bytes) {
+            Ok(()) => Ok(b),
+            Err(_) => Err(NotPut {
+                error: StoreErr::NoMemory,
+                taken: Some(b.at),
+            }),
+        },
         Err(error) => {
             cache.clear();
             Err(error)

@@ -9,6 +9,7 @@
 #![tactic(auto)]
 
 mod cached;
+mod copy;
 mod kind;
 mod laws;
 mod nothing;
@@ -19,6 +20,7 @@ mod vdev;
 mod writes;
 
 pub use cached::{get_block, put_block};
+pub use copy::{Copied, copy_step};
 pub use kind::{Kind, Mount, Place};
 pub use laws::held_by_the_next;
 pub use reader::Reader;
@@ -26,6 +28,3 @@ pub use reads::read_block;
 pub use runs::resolve;
 pub use vdev::Vdev;
 pub use writes::{NotPut, write_block};
-
-#[cfg(test)]
-mod tests;

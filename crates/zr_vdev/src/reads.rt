@@ -26,8 +26,8 @@ use zr_space::Space;
 use zr_store::StoreErr;
 use zr_view::read_runs;
 
-// Reads the runs of a pointer's address.
-fn read_all<S: Shelf>(
+// Reads the runs of an address.
+pub(crate) fn read_all<S: Shelf>(
     alloc: Global,
     shelf: &mut S,
     slots: &[Option<u32>],
@@ -43,6 +43,7 @@ fn read_all<S: Shelf>(
     ensures errors { IfErr result (λ e. (e ≡ Failed) ⊎ (e ≡ NoMemory)) }
     ensures told { S.tells shelf.old → S.tells shelf.new }
     ensures still { S.tells shelf.old → IsStill (S.world shelf.old) (S.world shelf.new) }
+    ensures length { IfOk result (λ bytes. length bytes.items ≡ 4096 * units) }
     ensures bytes { S.tells shelf.old → IfOk result (λ bytes. bytes.items ≡ flat_map (run_bytes (S.world shelf.old).now.seen slots.now) runs.now) }
 {
     let mut bytes = vec![in alloc; 0u8; 4096 * units as usize]?;
@@ -89,6 +90,7 @@ pub fn read_block<S: Shelf>(
     ensures damaged { (at : Dva) (expected found : List ℕ) → IsErrOf result (Damaged at expected found) → IsOf b.now at expected }
     ensures found { S.tells shelf.old → (at : Dva) (expected found : List ℕ) → IsErrOf result (Damaged at expected found) → found ≡ sha256 (address_bytes (view_of (S.world shelf.old).now.seen slots.now space.now) b.now.at) }
     ensures formed { (at : Dva) (expected : List ℕ) → IsErrOf result (Malformed at expected) → ⊥ }
+    ensures nowhere { is_resolved (devices_in space.now) b.now.at ≡ false → IfErr result (λ e. (e ≡ NoMemory) ⊎ (e ≡ Unresolved b.now.at b.now.sum)) }
     ensures runs { IfOk result (λ x. AreRunsOf (devices_in space.now) b.now.at x.runs.items) }
     ensures sum { IfOk result (λ x. sha256 x.bytes.items ≡ b.now.sum) }
     ensures bytes { S.tells shelf.old → IfOk result (λ x. x.bytes.items ≡ address_bytes (view_of (S.world shelf.old).now.seen slots.now space.now) b.now.at) }

@@ -61,6 +61,7 @@ fn is_apart(lost: Option<Dva>, at: &Dva) -> bool
 
 // Whether the units of the address are in use by what is of the kind.
 fn is_in_use(space: &Space, kind: Kind, at: &Dva) -> bool
+    requires { AreInService (devices_in space.now) }
     ensures { IsTrue result ↔ IsInUse kind space.now at.now }
 {
     match kind {
@@ -71,13 +72,17 @@ fn is_in_use(space: &Space, kind: Kind, at: &Dva) -> bool
 
 // Gives back what is in use.
 fn give_back(space: &mut Space, kind: Kind, at: Dva, birth: u64) -> Result<(), NoMemory>
-    requires { IsInUse kind space.old at }
+    requires service { AreInService (devices_in space.old) }
+    requires used { IsInUse kind space.old at }
     ensures ok { OnOk result (GivesBack kind space.old space.new at birth) }
     ensures devices { devices_in space.new ≡ devices_in space.old }
     ensures err { OnErr result (space.new ≡ space.old) }
 {
     match kind {
-        Kind::Block => space.free(at, birth),
+        Kind::Block => {
+            space.freeable_in_service();
+            space.free(at, birth)
+        }
         Kind::Meta => space.drop_meta(at),
     }
 }
@@ -89,6 +94,7 @@ fn give_back_lost(
     lost: Option<Dva>,
     txg: u64,
 ) -> Result<(), NoMemory>
+    requires { AreInService (devices_in space.old) }
     ensures ok { OnOk result (GivesBackLost kind space.old space.new lost txg) }
     ensures devices { devices_in space.new ≡ devices_in space.old }
     ensures err { OnErr result (space.new ≡ space.old) }

@@ -98,7 +98,7 @@ fn leaves_of_bytes(alloc: Global, bytes: &[u8], level: u8) -> Result<u64, zr_bas
 }
 
 // Writes the bytes of an address that lies on one device.
-fn write_at<S: Shelf>(
+pub(crate) fn write_at<S: Shelf>(
     shelf: &mut S,
     slots: &[Option<u32>],
     at: &Dva,

@@ -8,6 +8,3 @@
 mod runs;
 
 pub use runs::{place_of_unit, read_runs, write_run};
-
-#[cfg(test)]
-mod tests;

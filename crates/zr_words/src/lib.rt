@@ -20,6 +20,3 @@ pub use choose::chooser_named;
 pub use device::Device;
 pub use line::CommandLine;
 pub use words::parse_words;
-
-#[cfg(test)]
-mod tests;

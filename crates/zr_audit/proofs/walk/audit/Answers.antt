@@ -11,7 +11,7 @@ loop-dev-preserved c =
     let count = c.devices-dev-end.ensures in
     let known : c.loop-dev.dev < length s.parts.devs = omega (arith, below, count) in
     record {
-      walked = next_found s c.args.live.now c.args.meta.now c.loop-dev.dev c.units_of.result c.in_ok-units.units c.loop-dev.walked c.push.new.self c.all_in_service.ensures.service known c.units_of.ensures c.in_ok-units.ensures c.loop-dev.invariant.walked c.in_ok-push.ensures;
+      walked = next_found s c.args.live.now c.args.meta.now c.loop-dev.dev c.units_of.result c.in_ok-units.units c.loop-dev.walked c.push.new.self c.requires known c.units_of.ensures c.in_ok-units.ensures c.loop-dev.invariant.walked c.in_ok-push.ensures;
       allocated = one_more (allocated_units s) c.loop-dev.dev c.columns.result.allocated c.loop-dev.allocated c.push-in-loop-dev.new.self (ap (λ (x : Columns). x.allocated) c.columns.ensures) c.loop-dev.invariant.allocated c.in_ok-push-2.ensures;
     }
 

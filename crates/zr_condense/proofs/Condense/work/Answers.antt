@@ -4,7 +4,8 @@ use Rattle.std.proofs.lemmas.Bool.Decides.{nat_tests}
 use Rattle.zr_base.specs.declared.space.Entry.{Entry}
 use Rattle.zr_rules.specs.Condense.{condensed, is_used}
 use Rattle.zr_rules.specs.Mappings.{entry_at}
-use Rattle.zr_condense.specs.Condensing.{Condensing, HasWorked}
+use Rattle.zr_base.specs.declared.space.CondPart.{CondPart}
+use Rattle.zr_condense.specs.Condensing.{HasWorked}
 use Rattle.zr_condense.proofs.Keeping.{condensed_more, zip_push, after_kept}
 use Rattle.zr_condense.proofs.Condense.work.Goals as goal
 
@@ -19,8 +20,8 @@ pub returns-then-count-entry-clause-worked : goal.returns-then-count-entry-claus
 returns-then-count-entry-clause-worked c =
     let es = c.args.map.now.entries in
     let at : ℕ = c.self.inside.at in
-    let worked = subst (λ (v : Condensing). HasWorked es c.args.counts.now v) (sym c.self.view_is) c.requires.worked in
-    let more : at < length es = rw (ap (λ (v : Condensing). v.at) c.self.view_is) c.requires.more in
+    let worked = subst (λ (v : CondPart). HasWorked es c.args.counts.now v) (sym c.self.view_is) c.requires.worked in
+    let more : at < length es = rw (ap (λ (v : CondPart). v.at) c.self.view_is) c.requires.more in
     let step = condensed_more es c.args.counts.now at more c.requires.count in
     let out = left_out (entry_at es at) (get_or c.args.counts.now at 0) (c.if-count-entry.true ∙ ap (λ (e : Entry). e.len) c.entry-entry.ensures.value) in
     record {
@@ -32,16 +33,16 @@ returns-then-count-entry-clause-worked c =
 pub push-requires-clause-after : goal.push-requires-clause-after
 push-requires-clause-after c =
     let es = c.args.map.now.entries in
-    let worked = subst (λ (v : Condensing). HasWorked es c.args.counts.now v) (sym c.self.view_is) c.requires.worked in
-    let more : c.self.inside.at < length es = rw (ap (λ (v : Condensing). v.at) c.self.view_is) c.requires.more in
+    let worked = subst (λ (v : CondPart). HasWorked es c.args.counts.now v) (sym c.self.view_is) c.requires.worked in
+    let more : c.self.inside.at < length es = rw (ap (λ (v : CondPart). v.at) c.self.view_is) c.requires.more in
     rw c.entry-entry.ensures.value (after_kept es c.args.counts.now c.self.inside.at c.self.inside.kept.entries c.self.inside.counts.items c.entry-entry.ensures.rising more c.requires.count worked.each worked.kept)
 
 pub returns-clause-worked : goal.returns-clause-worked
 returns-clause-worked c =
     let es = c.args.map.now.entries in
     let at : ℕ = c.self.inside.at in
-    let worked = subst (λ (v : Condensing). HasWorked es c.args.counts.now v) (sym c.self.view_is) c.requires.worked in
-    let more : at < length es = rw (ap (λ (v : Condensing). v.at) c.self.view_is) c.requires.more in
+    let worked = subst (λ (v : CondPart). HasWorked es c.args.counts.now v) (sym c.self.view_is) c.requires.worked in
+    let more : at < length es = rw (ap (λ (v : CondPart). v.at) c.self.view_is) c.requires.more in
     let step = condensed_more es c.args.counts.now at more c.requires.count in
     let e : Entry = entry_at es at in
     let n : ℕ = get_or c.args.counts.now at 0 in

@@ -1,6 +1,7 @@
 use Rattle.std.proofs.Common.{ℕ, List, subst, sym, ◌∙◌, ap}
 use Rattle.std.specs.FinMap as map
 use Rattle.zr_cache.specs.Entries.{entries}
+use Rattle.zr_rules.specs.Space.{Space}
 use Rattle.zr_txg.specs.declared.group.Group.{Group}
 use Rattle.zr_create.specs.Devices.{HaveDisks, HasDevicesIn}
 use Rattle.zr_create.proofs.Staying.{still_in}
@@ -68,3 +69,6 @@ returns-clause-devices g c =
     let same = c.in_ok-commit.ensures.same in
     still_in (g.S.Shelf.sizes c.args.shelf.now) (g.S.Shelf.sizes c.check_new.new.shelf) 1 c.args.named.now c.take_all.new.pool c.commit.new.pool c.check_new.ensures.sizes same.table same.version
     (subst (λ (t : ℕ). HasDevicesIn (g.S.Shelf.sizes c.check_new.new.shelf) t c.args.named.now c.take_all.new.pool) blank.txg c.in_ok-take_all.ensures.devices)
+
+pub returns-clause-clear : goal.returns-clause-clear
+returns-clause-clear g c = c.in_ok-commit.ensures.same.ckpt ∙ (c.in_ok-take_all.ensures.same.ckpt ∙ ap (λ (x : Space). x.parts.ckpt) c.in_ok-pool.ensures.blank.space)

@@ -1,4 +1,4 @@
-use Rattle.std.proofs.Common.{◌∙◌, ◌≤◌, List, length, subst, sym, ap}
+use Rattle.std.proofs.Common.{rules, ◌≡◌, None, ◌∙◌, ◌≤◌, List, length, subst, sym, ap}
 use Rattle.std.specs.Prelude.{All}
 use Rattle.zr_base.specs.declared.space.SpaceParts.{SpaceParts}
 use Rattle.std.proofs.Common.{ℕ, ◌++◌, map}
@@ -12,7 +12,7 @@ use Rattle.zr_image.specs.Roots.{head_tree, rows_of}
 use Rattle.zr_import.specs.Words.{HaveWords}
 use Rattle.zr_import.specs.Units.{HasMaximal, MarksAll}
 use Rattle.zr_import.proofs.Marking.{marks_then}
-use Rattle.zr_import.proofs.Rows.{all_of, parts_maximal, counted_maximal, counted_few}
+use Rattle.zr_import.proofs.Rows.{all_of, parts_maximal, counted_maximal, counted_few, counted_quiet}
 use Rattle.zr_import.proofs.metadata.read_meta.Goals as goal
 
 pub of_held-requires : goal.of_held-requires
@@ -30,6 +30,9 @@ returns-clause-held g c =
 pub returns-clause-few : goal.returns-clause-few
 returns-clause-few g c =
     subst (λ (p : SpaceParts). length p.devs ≤ 32) (sym c.in_ok-parts-2.ensures) (counted_few c.args.uber.now c.in_ok-head.head _ c.in_ok-parts.parts c.requires.uber.head.devices c.in_ok-parts.ensures.parts)
+
+pub returns-clause-quiet : goal.returns-clause-quiet
+returns-clause-quiet g c = subst (λ (p : SpaceParts). p.cond ≡ None) (sym c.in_ok-parts-2.ensures) (counted_quiet c.args.uber.now c.in_ok-parts.parts (search rules))
 
 pub returns-clause-reads : goal.returns-clause-reads
 returns-clause-reads g c = λ s holds.

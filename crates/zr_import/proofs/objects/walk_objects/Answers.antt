@@ -13,5 +13,6 @@ returns-clause-marks g c = λ s holds. record {
   held_is = c.in_ok-left.ensures ∙ ap (map (λ (p : DevPart). p.held)) c.as_slice-devs.ensures;
   marks = c.in_ok-walk_all.ensures.marks s holds;
   kept = subst (λ (parts : List DevPart). (d u : ℕ) → is_kept parts d u ≡ true → has_unit (units_at c.walk_all.new.held d) u ≡ true) c.as_slice-devs.ensures c.in_ok-spend_held.ensures.kept;
+  just = subst (λ (parts : List DevPart). (d u : ℕ) → has_unit (units_at c.walk_all.new.held d) u ≡ true → is_kept parts d u ≡ true) c.as_slice-devs.ensures c.in_ok-spend_held.ensures.just;
   spent = λ none. c.in_ok-spend_held.ensures.none (subst (All (λ (p : DevPart). p.kept ≡ [])) (sym c.as_slice-devs.ensures) none);
 }

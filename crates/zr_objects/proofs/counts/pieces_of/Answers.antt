@@ -21,7 +21,7 @@ one_more ds blocks i pieces one d on most is =
 pub loop-b-preserved : goal.loop-b-preserved
 loop-b-preserved c =
     let ds = devices_in c.args.pool.now.space in
-    let h = c.touch-pieces.ensures in
+    let h = c.touch-pieces.ensures.pieces in
     let lt = c.loop-b-test.true in
     record {
       pieces = pieces_more ds c.args.blocks.now c.loop-b.b-index c.loop-b.pieces c.touch-pieces.result _ c.requires.service lt c.loop-b.invariant.pieces h;

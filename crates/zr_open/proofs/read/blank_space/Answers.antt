@@ -1,4 +1,4 @@
-use Rattle.std.proofs.Common.{◌≡◌, ◌∙◌, ◌<◌, length, take, get_or, arith}
+use Rattle.std.proofs.Common.{◌∙◌, ◌<◌, length, take, get_or, arith}
 use Rattle.std.specs.Prelude.{IsTrue}
 use Rattle.std.proofs.lemmas.List.{get_or-take}
 use Rattle.zr_base.specs.declared.space.DevRow.{DevRow}

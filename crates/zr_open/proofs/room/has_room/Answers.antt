@@ -5,9 +5,10 @@ use Rattle.zr_open.proofs.room.has_room.Goals as goal
 
 pub owed-requires : goal.owed-requires
 owed-requires c =
-    let few = few_units c.requires.0 c.args.space.now c.requires.1 c.requires.2 in
+    let few = few_units c.requires.rows.0 c.args.space.now c.requires.rows.1 c.requires.rows.2 in
     let blocks = ap (λ (z : Sizes). z.blocks) c.sizes.ensures.sizes in
     let objects = ap (λ (z : Sizes). z.objects) c.sizes.ensures.sizes in
+    let all = c.sizes.ensures.service c.requires.service in
     let words = c.sizes.ensures.words in
     let streams = c.sizes.ensures.streams in
     let gone = c.sizes.ensures.gone in
@@ -17,10 +18,10 @@ owed-requires c =
     record {
       blocks = omega (arith, blocks);
       objects = omega (arith, objects);
-      words = omega (arith, words, few);
+      words = omega (arith, words, few, all);
       streams = omega (arith, streams);
       gone = omega (arith, gone);
-      uncopied = omega (arith, uncopied);
+      uncopied = omega (arith, uncopied, few, all);
       turning = omega (arith, turning);
-      past = omega (arith, past, few);
+      past = omega (arith, past, few, all);
     }

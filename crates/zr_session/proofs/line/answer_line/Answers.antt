@@ -10,7 +10,7 @@ use Rattle.zr_session.proofs.line.answer_line.Goals as goal
 pub returns-in_err-do_command-clause-stopped : goal.returns-in_err-do_command-clause-stopped
 returns-in_err-do_command-clause-stopped g c = λ t n before s.
     let reads = rw c.in-Some.is at c.in_ok-command.ensures in
-    let asks : Asks c.args.line.now c.in-Some.command = (reads, c.in_default-command.not-Quit) in
+    let asks : Asks c.args.line.now c.in-Some.command = (reads, c.is_quit.ensures.no c.if-is_quit.false) in
     let p = err_from_is_err_and c.from_residual-in_err-do_command.result c.from_residual-in_err-do_command.ensures.1 in
     rw p.1 (
     let stop : StopsAtLine g.P.Pool.meaning c.args.course.now.rounds c.args.line.now c.args.number before (g.D.Shelf.world c.args.desk.now).now (g.D.Shelf.world c.do_command.new.desk).now c.in_err-do_command.field-0.0 =
@@ -20,7 +20,7 @@ returns-in_err-do_command-clause-stopped g c = λ t n before s.
 pub returns-clause-answered : goal.returns-clause-answered
 returns-clause-answered g c = λ t n before s.
     let reads = rw c.in-Some.is at c.in_ok-command.ensures in
-    let asks : Asks c.args.line.now c.in-Some.command = (reads, c.in_default-command.not-Quit) in
+    let asks : Asks c.args.line.now c.in-Some.command = (reads, c.is_quit.ensures.no c.if-is_quit.false) in
     let o = c.in_ok-do_command.ensures in
     let d = o.done t n before s in
     let given = does_given (List ℕ) g.P.Pool.meaning Asks Sent c.args.line.now c.in-Some.command _ before d.state _ _ asks d.holds in
@@ -30,7 +30,7 @@ returns-clause-answered g c = λ t n before s.
 pub returns-clause-stopped : goal.returns-clause-stopped
 returns-clause-stopped g c = λ t n before s.
     let reads = rw c.in-Some.is at c.in_ok-command.ensures in
-    let asks : Asks c.args.line.now c.in-Some.command = (reads, c.in_default-command.not-Quit) in
+    let asks : Asks c.args.line.now c.in-Some.command = (reads, c.is_quit.ensures.no c.if-is_quit.false) in
     let o = c.in_ok-do_command.ensures in
     let d = o.done t n before s in
     let given = does_given (List ℕ) g.P.Pool.meaning Asks Sent c.args.line.now c.in-Some.command _ before d.state _ _ asks d.holds in

@@ -4,6 +4,7 @@ use Rattle.zr_units.specs.Uses.{Uses, Freed}
 use Rattle.zr_space.specs.Reads.{IsRead, IsPlain, CanRead, CanKeep, Marks, CanReadLate}
 use Rattle.zr_base.specs.declared.space.LateRun.{LateRun}
 use Rattle.zr_space.specs.Reads.{IsListed}
+use Rattle.zr_space.specs.Views.{serving}
 use Rattle.zr_space.proofs.ReadDevices.{device_read}
 use Rattle.zr_space.proofs.Refusing.{kept_fails, late1_fails, late2_fails}
 use Rattle.zr_space.proofs.reads.read_device.Goals as goal
@@ -21,8 +22,8 @@ returns-clause-some c =
     let marks1 = rw c.in-Some-3.is at c.in_ok-late1.ensures.used in
     let late2 = rw c.in-Some-4.is at c.in_ok-late2.ensures.some in
     let marks2 = rw c.in-Some-4.is at c.in_ok-late2.ensures.used in
-    subst (λ (x : Uses). IsRead (record { row = row; uses = x }) c.read_late-2.new.used.extents) (sym c.of_sets.ensures)
-    (device_read row c.in-Some.held.extents c.in-Some-2.kept.extents c.in-Some-3.late1 c.in-Some-4.late2 c.args.used.now.extents c.read_set.new.used.extents c.read_late.new.used.extents c.read_late-2.new.used.extents
+    subst (λ (x : Uses). IsRead (serving row x) c.read_late-2.new.used.extents) (sym c.of_sets.ensures)
+    (device_read row c.in-Some.held.extents c.in-Some-2.kept.extents c.in-Some-3.late1.sets c.in-Some-4.late2.sets c.of_sets.result.spare c.args.used.now.extents c.read_set.new.used.extents c.read_late.new.used.extents c.read_late-2.new.used.extents
     plain.on plain.small c.requires
     (subst (λ (es : List Extent). CanRead es c.args.used.now.extents row.units) (sym set) held)
     (subst (λ (es : List Extent). Marks es c.args.used.now.extents c.read_set.new.used.extents) (sym set) marks)
@@ -42,8 +43,8 @@ returns-in_default-4-clause-none c = λ meta saved dev can.
     let p = c.args.part.now in
     let held = c.as_slice.ensures in
     let marks : Marks p.held c.args.used.now.extents c.read_set.new.used.extents = subst (λ (es : List Extent). Marks es c.args.used.now.extents c.read_set.new.used.extents) held (rw c.in-Some.is at c.in_ok-held.ensures.used) in
-    let listed1 = subst (λ (rs : List LateRun). IsListed rs c.in-Some-3.late1) c.as_slice-3.ensures (rw c.in-Some-3.is at c.in_ok-late1.ensures.listed) in
-    late2_fails p meta saved dev c.in-Some-3.late1 c.args.used.now.extents c.read_set.new.used.extents c.read_late.new.used.extents c.requires marks listed1
+    let listed1 = subst (λ (rs : List LateRun). IsListed rs c.in-Some-3.late1.sets) c.as_slice-3.ensures (rw c.in-Some-3.is at c.in_ok-late1.ensures.listed) in
+    late2_fails p meta saved dev c.in-Some-3.late1.sets c.args.used.now.extents c.read_set.new.used.extents c.read_late.new.used.extents c.requires marks listed1
     (rw c.in-Some-3.is at c.in_ok-late1.ensures.some) (rw c.in-Some-3.is at c.in_ok-late1.ensures.used)
     (subst (λ (rs : List LateRun). (f : Freed) → IsListed rs f → CanReadLate f c.read_late.new.used.extents p.row.units → ⊥) c.as_slice-4.ensures (rw c.in_default-4.is at c.in_ok-late2.ensures.none)) can
 

@@ -1,10 +1,9 @@
-use Rattle.std.proofs.Common.{◌∙◌, subst, sym}
-use Rattle.zr_units.specs.Words.{HasWithin}
-use Rattle.zr_space.specs.Views.{Kept}
+use Rattle.std.proofs.Common.{subst, sym}
+use Rattle.zr_space.specs.Totals.{HasWords}
 use Rattle.zr_space.proofs.Views.{kept_read}
 use Rattle.zr_space.proofs.room.words.Goals as goal
 
-pub words-words-requires-clause-within : goal.words-words-requires-clause-within
-words-words-requires-clause-within c =
+pub words_of-words-requires : goal.words_of-words-requires
+words_of-words-requires c =
     let is = kept_read c.args.devs.now c.loop-device.device-index c.device-item.result c.loop-device-test.true c.device-item.is in
-    subst (λ (k : Kept). HasWithin k.uses) (sym (c.device.view_is ∙ is)) (c.requires.within c.loop-device.device-index)
+    subst HasWords (sym is) (c.requires.words c.loop-device.device-index)

@@ -1,4 +1,6 @@
-use Rattle.std.proofs.Common.{List, length, ap, arith}
+use Rattle.std.proofs.Common.{ℕ, List, Option, length, sym, ap, subst, arith}
+use Rattle.zr_base.specs.declared.space.CkptPart.{CkptPart}
+use Rattle.zr_meta.specs.Heads.{IsSaved}
 use Rattle.zr_sync.specs.declared.open.DeviceStreams.{DeviceStreams}
 use Rattle.zr_sync.proofs.Rows.{four_streams}
 use Rattle.zr_sync.proofs.heads.head_of.Goals as goal
@@ -18,7 +20,7 @@ returns-clause-lawful c =
       newest = omega arith;
       low = o.dir.low;
       dir = o.dir.unit;
-      saved = tt;
+      saved = subst (λ (k : CkptPart). IsSaved k c.in_ok-saved.saved) (sym c.ckpt.ensures) (subst (λ (b : Option (List ℕ)). IsSaved pool.space.parts.ckpt b) (sym c.in_ok-saved.ensures) o.saved);
       cond = tt;
       streams = c.loop-device.invariant.lawful;
       count = omega (arith, four, added, long, count, past, end);

@@ -1,3 +1,4 @@
+use Rattle.zr_sync.specs.Anew.{KeepsCounts}
 use Rattle.zr_sync.specs.Pools.{IsOpen}
 use Rattle.zr_sync.specs.Writes.{WritesMetadata}
 use Rattle.zr_sync.proofs.late.give_lates.Given as goal
@@ -6,4 +7,5 @@ abbrev pub invariant-loop-dev : goal.invariant-loop-dev
 invariant-loop-dev g l = record {
   wrote : WritesMetadata (g.S.Shelf.sizes l.fn.shelf) (g.S.Shelf.sizes l.shelf) (g.S.Shelf.counts l.fn.shelf) (g.S.Shelf.counts l.shelf) (g.S.Shelf.tells l.fn.shelf) (g.S.Shelf.tells l.shelf) (g.S.Shelf.world l.fn.shelf) (g.S.Shelf.world l.shelf) l.fn.pool l.pool;
   pool : IsOpen (g.S.Shelf.sizes l.shelf) l.pool;
+  counts : KeepsCounts l.fn.pool l.pool;
 }

@@ -1,17 +1,67 @@
-use Rattle.std.proofs.Common.{refl, arith}
+use Rattle.std.proofs.Common.{◌≡◌, ◌∙◌, List, ℕ, refl, sym, ap, subst, arith}
+use Rattle.std.proofs.lemmas.List.{get_or_default}
 use Rattle.std.proofs.Math.ListN.{length-set}
-use Rattle.zr_sync.proofs.Pools.{small_device, step_open, streams_at, streams_set}
+use Rattle.std.specs.Prelude.{slice_set}
+use Rattle.zr_meta.specs.declared.Stream.{Stream}
+use Rattle.zr_root.specs.Streams.{HasWords}
+use Rattle.zr_store.specs.Store.{AreStored, Stored}
+use Rattle.zr_tree.specs.Trees.{tree_reach}
+use Rattle.zr_commit.specs.Logs.{Rewrites}
+use Rattle.zr_sync.specs.Checkpoints.{no_streams}
+use Rattle.zr_sync.specs.Streams.{log_stream, streams_at as device_streams, with_log}
+use Rattle.zr_sync.specs.Words.{words_then}
+use Rattle.zr_sync.specs.declared.open.DeviceStreams.{DeviceStreams}
+use Rattle.zr_sync.proofs.Anew.{counted}
+use Rattle.zr_sync.proofs.Pools.{step_open, streams_at, streams_set}
 use Rattle.zr_sync.proofs.logs.write_log.Goals as goal
 
-pub log_words-requires-clause-small : goal.log_words-requires-clause-small
-log_words-requires-clause-small g c = small_device (g.S.Shelf.sizes c.args.shelf.now) c.args.pool.now c.args.dev c.requires.pool c.requires.dev
+pub stream_of-old-requires : goal.stream_of-old-requires
+stream_of-old-requires g c =
+    let count = c.requires.pool.count in
+    streams_at c.args.pool.now.streams.items c.args.dev c.index.result.now (omega (arith, count, c.requires.dev)) c.index.ensures c.requires.pool.streams
 
 pub returns-clause-pool : goal.returns-clause-pool
 returns-clause-pool g c =
     let old = c.args.pool.now.streams.items in
-    let was = c.index_mut.result.now in
-    let count = c.requires.pool.count in
-    let are = streams_at old c.args.dev was (omega (arith, count, c.requires.dev)) c.index_mut.ensures.value c.requires.pool.streams in
-    let now = record was { held = c.in_ok-held.held } in
+    let now = c.with_stream.result in
     step_open c.args.pool.now _ c.requires.pool c.put_log.ensures.continues refl (length-set old c.args.dev now)
-    (streams_set old c.args.dev now (record { held = c.in_ok-held.ensures.stream; kept = are.kept; late1 = are.late1; late2 = are.late2 }) c.requires.pool.streams)
+    (streams_set old c.args.dev now c.with_stream.ensures.lawful c.requires.pool.streams)
+
+pub returns-clause-writes : goal.returns-clause-writes
+returns-clause-writes g c = λ s had held stored has last.
+    let pool = c.args.pool.now in
+    let log = c.args.log in
+    let dev = c.args.dev in
+    let count = c.requires.pool.count in
+    let t = c.index.result.now in
+    let is : t ≡ device_streams pool dev = c.index.ensures ∙ get_or_default pool.streams.items dev t no_streams (omega (arith, count, c.requires.dev)) in
+    let old_is : c.stream_of-old.result ≡ log_stream log (device_streams pool dev) = c.stream_of-old.ensures.value ∙ ap (λ (x : DeviceStreams). log_stream log x) is in
+    let now_is : c.with_stream.result ≡ with_log log (device_streams pool dev) c.in_ok-stream.stream = c.with_stream.ensures.value ∙ ap (λ (x : DeviceStreams). with_log log x c.in_ok-stream.stream) is in
+    let here = subst (λ (x : Stream). HasWords s x had) (sym old_is) has in
+    let wrote = c.in_ok-stream.ensures.writes s had held (subst (λ (x : Stream). AreStored (tree_reach s x.tree) s) (sym old_is) stored) here in
+    record {
+      stored = wrote.stored;
+      held = wrote.held;
+      is = record {
+        words = words_then had c.in_ok-words.words;
+        log_is = c.in_ok-words.ensures.log had here.count last;
+        stream = c.in_ok-stream.stream;
+        rewrites = subst (λ (x : Stream). Rewrites s wrote.stored x c.in_ok-stream.stream (words_then had c.in_ok-words.words)) old_is wrote.is;
+        streams = ap (λ (x : DeviceStreams). slice_set pool.streams.items dev x) now_is;
+      };
+    }
+
+pub returns-clause-anew : goal.returns-clause-anew
+returns-clause-anew g c = λ is.
+    let pool = c.args.pool.now in
+    let log = c.args.log in
+    let dev = c.args.dev in
+    let count = c.requires.pool.count in
+    let t = c.index.result.now in
+    let at : t ≡ device_streams pool dev = c.index.ensures ∙ get_or_default pool.streams.items dev t no_streams (omega (arith, count, c.requires.dev)) in
+    let now_is : c.with_stream.result ≡ with_log log (device_streams pool dev) c.in_ok-stream.stream = c.with_stream.ensures.value ∙ ap (λ (x : DeviceStreams). with_log log x c.in_ok-stream.stream) at in
+    record {
+      stream = c.in_ok-stream.stream;
+      words = counted pool.version pool.space dev log c.in_ok-words.words c.in_ok-stream.stream (c.in_ok-words.ensures.anew is) c.in_ok-stream.ensures.count;
+      streams = ap (λ (x : DeviceStreams). slice_set pool.streams.items dev x) now_is;
+    }

@@ -1,3 +1,6 @@
+use Rattle.std.proofs.Common.{◌≡◌}
+use Rattle.zr_sync.specs.Anew.{AreRenewed}
+use Rattle.zr_sync.specs.declared.logs.Logs.TheVariants.{Anew}
 use Rattle.zr_sync.specs.Pools.{IsOpen}
 use Rattle.zr_sync.specs.Writes.{WritesMetadata}
 use Rattle.zr_sync.proofs.logs.write_logs.Given as goal
@@ -6,4 +9,5 @@ abbrev pub invariant-loop-dev : goal.invariant-loop-dev
 invariant-loop-dev g l = record {
   wrote : WritesMetadata (g.S.Shelf.sizes l.fn.shelf) (g.S.Shelf.sizes l.shelf) (g.S.Shelf.counts l.fn.shelf) (g.S.Shelf.counts l.shelf) (g.S.Shelf.tells l.fn.shelf) (g.S.Shelf.tells l.shelf) (g.S.Shelf.world l.fn.shelf) (g.S.Shelf.world l.shelf) l.fn.pool l.pool;
   pool : IsOpen (g.S.Shelf.sizes l.shelf) l.pool;
+  anew : l.logs ≡ Anew → AreRenewed l.fn.pool.version l.fn.pool.space l.pool.streams.items l.dev;
 }

@@ -1,8 +1,9 @@
-use Rattle.std.proofs.Common.{sym, subst}
+use Rattle.std.proofs.Common.{inl, inr, refl, sym, subst}
+use Rattle.zr_shelf.proofs.Runs.{still}
 use Rattle.zr_slots.specs.Phases.{AreDisks}
 use Rattle.zr_sync.proofs.Disks.{works_published}
 use Rattle.zr_sync.proofs.Holding.{published_holds, published_bytes}
-use Rattle.zr_sync.proofs.Publishing.{slots_disks, shown}
+use Rattle.zr_sync.proofs.Publishing.{slots_disks, shown, shown_in_part}
 use Rattle.zr_sync.proofs.roots.publish_root.Goals as goal
 
 pub publish-requires-clause-both : goal.publish-requires-clause-both
@@ -53,3 +54,23 @@ returns-clause-bytes g c = λ told.
     let old = c.args.shelf.now in
     let new = c.publish.new.shelf in
     published_bytes (g.S.Shelf.sizes old) c.as_slice.result.now c.as_slice-2.result.now c.args.root.now c.publish.result (g.S.Shelf.world old) (g.S.Shelf.world new) c.args.pool.now c.requires.pool c.requires.lawful (c.publish.ensures.order told)
+
+pub returns-in_err-both-clause-order : goal.returns-in_err-both-clause-order
+returns-in_err-both-clause-order g c = λ t. inl (still (g.S.Shelf.world c.args.shelf.now) (g.S.Shelf.world c.args.shelf.now) refl)
+
+pub returns-in_err-all-clause-order : goal.returns-in_err-all-clause-order
+returns-in_err-all-clause-order g c = λ t. inl (still (g.S.Shelf.world c.args.shelf.now) (g.S.Shelf.world c.args.shelf.now) refl)
+
+pub returns-in_err-publish-clause-order : goal.returns-in_err-publish-clause-order
+returns-in_err-publish-clause-order g c = λ t.
+    inr (inl (shown_in_part (g.S.Shelf.sizes c.args.shelf.now) c.args.pool.now c.unwrap_or-last.result c.args.root.now c.in_ok-both.both c.in_ok-all.all c.as_slice.result.now c.as_slice-2.result.now (g.S.Shelf.world c.args.shelf.now) (g.S.Shelf.world c.publish.new.shelf)
+    c.unwrap_or-last.ensures c.as_slice.ensures c.as_slice-2.ensures
+    c.in_ok-both.ensures.each c.in_ok-both.ensures.all c.in_ok-all.ensures.each c.in_ok-all.ensures.all
+    (c.in_err-publish.ensures.order t)))
+
+pub returns-clause-order : goal.returns-clause-order
+returns-clause-order g c = λ t.
+    inr (inr (shown (g.S.Shelf.sizes c.args.shelf.now) c.args.pool.now c.unwrap_or-last.result c.args.root.now c.in_ok-both.both c.in_ok-all.all c.as_slice.result.now c.as_slice-2.result.now (g.S.Shelf.world c.args.shelf.now) (g.S.Shelf.world c.publish.new.shelf)
+    c.unwrap_or-last.ensures c.as_slice.ensures c.as_slice-2.ensures
+    c.in_ok-both.ensures.each c.in_ok-both.ensures.all c.in_ok-all.ensures.each c.in_ok-all.ensures.all
+    (c.in_ok-publish.ensures.order t)))

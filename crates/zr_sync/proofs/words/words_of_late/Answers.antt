@@ -13,8 +13,8 @@ late_words-requires-clause-blocks c = in_reach c.args.version c.blocks-blocks.re
 pub late_words-requires-clause-meta : goal.late_words-requires-clause-meta
 late_words-requires-clause-meta c = in_reach c.args.version c.meta-meta.result.now.extents c.requires.version (subst (λ (es : List Extent). IsWithin es (2 ^ 26)) (sym c.meta-meta.ensures) c.requires.freed.meta)
 
-pub returns : goal.returns
-returns c =
+pub returns-clause-few : goal.returns-clause-few
+returns-clause-few c =
     let bs = c.blocks-blocks.result.now.extents in
     let ms = c.meta-meta.result.now.extents in
     let within_blocks = subst (λ (es : List Extent). IsWithin es (2 ^ 26)) (sym c.blocks-blocks.ensures) c.requires.freed.blocks in

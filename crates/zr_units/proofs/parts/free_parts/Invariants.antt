@@ -11,6 +11,8 @@ invariant-loop-at l = record {
   device : l.dev < length l.slabs;
   born_room : l.end - l.at ≤ l.born.spare;
   deferred_room : l.end - l.at ≤ l.deferred.spare;
+  born_spare : l.initial.born.spare + l.fn.e.start ≤ l.born.spare + l.at;
+  deferred_spare : l.initial.deferred.spare + l.fn.e.start ≤ l.deferred.spare + l.at;
   free : (d u : ℕ) → free_at l.slabs d u ≡ (free_at l.initial.slabs d u || ((d == l.dev) && ((nat_le l.fn.e.start u && nat_lt u l.at) && has_unit l.initial.born.extents u)));
   deferred : (u : ℕ) → has_unit l.deferred.extents u ≡ (has_unit l.initial.deferred.extents u || ((nat_le l.fn.e.start u && nat_lt u l.at) && not (has_unit l.initial.born.extents u)));
   born : (u : ℕ) → has_unit l.born.extents u ≡ (has_unit l.initial.born.extents u && not (nat_le l.fn.e.start u && nat_lt u l.at));

@@ -13,6 +13,10 @@ invariant-loop-at l = record {
   born_room : l.end - l.at ≤ l.born.spare;
   kept_room : l.end - l.at ≤ l.kept.spare;
   came_room : l.end - l.at ≤ l.came.spare;
+  held_spare : l.initial.held.spare + l.fn.e.start ≤ l.held.spare + l.at;
+  born_spare : l.initial.born.spare + l.fn.e.start ≤ l.born.spare + l.at;
+  kept_spare : l.initial.kept.spare + l.fn.e.start ≤ l.kept.spare + l.at;
+  came_spare : l.initial.came.spare + l.fn.e.start ≤ l.came.spare + l.at;
   free : (d u : ℕ) → free_at l.slabs d u ≡ (free_at l.initial.slabs d u || ((d == l.dev) && ((nat_le l.fn.e.start u && nat_lt u l.at) && has_unit l.initial.born.extents u)));
   held : (u : ℕ) → has_unit l.held.extents u ≡ (has_unit l.initial.held.extents u && not ((nat_le l.fn.e.start u && nat_lt u l.at) && has_unit l.initial.born.extents u));
   born : (u : ℕ) → has_unit l.born.extents u ≡ (has_unit l.initial.born.extents u && not (nat_le l.fn.e.start u && nat_lt u l.at));

@@ -33,7 +33,7 @@ returns-in_default-clause-step g c = λ told paths before stood.
     let closed : before.is_open ≡ false = subst (λ (o : Option OpenPool). StandsFor o old.seen before) c.in_default.is stood in
     subst (λ r. IfOk r (λ found. IfSome found (λ answer. TurnsTo on_devices (λ disks state. StandsFor pool disks state) before old c.args.command.now answer new))) (sym c.answer_of.ensures)
     (closed_turns old new before closed (g.S.Shelf.tells c.closed_line.new.shelf) (c.closed_line.ensures.told told) c.args.command.now pool c.closed_line.result
-    c.closed_line.ensures.turn c.closed_line.ensures.refused c.closed_line.ensures.closed (c.closed_line.ensures.made told))
+    c.closed_line.ensures.done c.closed_line.ensures.turn c.closed_line.ensures.refused (c.closed_line.ensures.cause told) c.closed_line.ensures.closed (c.closed_line.ensures.made told))
 
 pub returns-clause-step : goal.returns-clause-step
 returns-clause-step g c = λ told paths before stood.

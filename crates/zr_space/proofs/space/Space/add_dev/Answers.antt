@@ -10,25 +10,25 @@ use Rattle.zr_space.proofs.space.Space.add_dev.Goals as goal
 pub invariant_of-self-2 : goal.invariant_of-self-2
 invariant_of-self-2 c =
     let devs : List Kept = c.self.inside.devs.items in
-    let items : c.push_reserved.new.devs.items ≡ devs ++ fresh_device c.args.units c.args.txg ∷ [] = c.push_reserved.ensures ∙ (ap (λ (xs : List Kept). xs ++ c.new_device.result ∷ []) c.reserve.ensures.items ∙ ap (λ (k : Kept). devs ++ k ∷ []) c.new_device.ensures) in
+    let items : c.push_reserved.new.devs.items ≡ devs ++ fresh_device c.args.units c.args.txg c.new_device.result.uses.spare ∷ [] = c.push_reserved.ensures ∙ (ap (λ (xs : List Kept). xs ++ c.new_device.result ∷ []) c.reserve.ensures.items ∙ ap (λ (k : Kept). devs ++ k ∷ []) c.new_device.ensures) in
     let few : length devs < 32 = let l = length-map devs part_in in let f : length (map part_in devs) < 32 = subst (λ s. length s.parts.devs < 32) (sym c.self.view_is) c.requires.few in omega (arith, l, f) in
     let len : c.len-dev.result ≡ length devs = let e = c.len-dev.ensures in let o = c.self.inside.devs.ok.0 in omega (arith, e, o) in
-    let added : IsAdded c.self.inside.slabs c.add_dev.new.self devs c.args.units = record {
+    let added : IsAdded c.self.inside.whole c.self.inside.slabs c.add_dev.new.self devs c.args.units = record {
       space = c.self.invariant;
       few = few;
       small = c.requires.small;
       slabs = subst (λ (es : List Extent). slab.AddsDevice c.self.inside.slabs c.add_dev.new.self (length devs) c.args.units es) c.new-none.ensures
           (subst (λ n. slab.AddsDevice c.self.inside.slabs c.add_dev.new.self n c.args.units c.new-none.result.extents) len c.in_ok-add_dev.ensures.ok);
     } in
-    subst (λ (xs : List Kept). IsSpace c.add_dev.new.self xs) (sym items) (added_space c.self.inside.slabs c.add_dev.new.self devs c.args.units c.args.txg added)
+    subst (λ (xs : List Kept). IsSpace c.self.inside.whole c.add_dev.new.self xs) (sym items) (added_space c.self.inside.whole c.self.inside.slabs c.add_dev.new.self devs c.args.units c.args.txg c.new_device.result.uses.spare added)
 
 pub returns-clause-ok : goal.returns-clause-ok
 returns-clause-ok c =
     let devs : List Kept = c.self.inside.devs.items in
-    let items : c.push_reserved.new.devs.items ≡ devs ++ fresh_device c.args.units c.args.txg ∷ [] = c.push_reserved.ensures ∙ (ap (λ (xs : List Kept). xs ++ c.new_device.result ∷ []) c.reserve.ensures.items ∙ ap (λ (k : Kept). devs ++ k ∷ []) c.new_device.ensures) in
+    let items : c.push_reserved.new.devs.items ≡ devs ++ fresh_device c.args.units c.args.txg c.new_device.result.uses.spare ∷ [] = c.push_reserved.ensures ∙ (ap (λ (xs : List Kept). xs ++ c.new_device.result ∷ []) c.reserve.ensures.items ∙ ap (λ (k : Kept). devs ++ k ∷ []) c.new_device.ensures) in
     let few : length devs < 32 = let l = length-map devs part_in in let f : length (map part_in devs) < 32 = subst (λ s. length s.parts.devs < 32) (sym c.self.view_is) c.requires.few in omega (arith, l, f) in
     let len : c.len-dev.result ≡ length devs = let e = c.len-dev.ensures in let o = c.self.inside.devs.ok.0 in omega (arith, e, o) in
-    let added : IsAdded c.self.inside.slabs c.add_dev.new.self devs c.args.units = record {
+    let added : IsAdded c.self.inside.whole c.self.inside.slabs c.add_dev.new.self devs c.args.units = record {
       space = c.self.invariant;
       few = few;
       small = c.requires.small;
@@ -36,4 +36,4 @@ returns-clause-ok c =
           (subst (λ n. slab.AddsDevice c.self.inside.slabs c.add_dev.new.self n c.args.units c.new-none.result.extents) len c.in_ok-add_dev.ensures.ok);
     } in
     rw (← c.self.view_is)
-    (subst (λ (xs : List Kept). AddsDevice (space_of c.self.inside.whole devs) (space_of c.self.inside.whole xs) c.args.units c.args.txg) (sym items) (adds c.self.inside.slabs c.add_dev.new.self devs c.args.units c.args.txg added c.self.inside.whole))
+    (subst (λ (xs : List Kept). AddsDevice (space_of c.self.inside.whole devs) (space_of c.self.inside.whole xs) c.args.units c.args.txg) (sym items) (adds c.self.inside.whole c.self.inside.slabs c.add_dev.new.self devs c.args.units c.args.txg c.new_device.result.uses.spare added))

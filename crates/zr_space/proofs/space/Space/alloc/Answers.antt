@@ -5,6 +5,7 @@ use Rattle.std.proofs.lemmas.List.{length-set}
 use Rattle.zr_space.specs.Views.{Kept}
 use Rattle.zr_space.proofs.Lives.{is_live}
 use Rattle.zr_space.proofs.Views.{kept_read}
+use Rattle.zr_space.proofs.Frames.{space_itself}
 use Rattle.zr_space.proofs.Allocs.{IsTaken, block_space, allocates, given_back, no_run}
 use Rattle.zr_space.proofs.space.Space.alloc.Goals as goal
 
@@ -14,69 +15,80 @@ returns-in-Err-clause-cause g c =
 
 pub invariant_of-self-in-Ok-hold : goal.invariant_of-self-in-Ok-hold
 invariant_of-self-in-Ok-hold g c =
-    let k : Kept = record { row = c.device.inside.row; uses = c.device.inside.units } in
+    let k : Kept = record { row = c.device.inside.row; uses = c.device.inside.units; moves = c.device.inside.moves } in
     let known = c.in-Ok.ensures.placed.known in
     let there : c.in-Ok.at.dev < length c.self.inside.devs.items = let e = c.self.invariant.devices in omega (arith, known, e) in
     let here = kept_read c.self.inside.devs.items c.in-Ok.at.dev c.index_mut-device.result.now there c.index_mut-device.ensures.value in
-    let taken : IsTaken c.self.inside.slabs c.alloc.new.self c.self.inside.devs.items c.in-Ok.at k = record {
+    let taken : IsTaken c.self.inside.whole c.self.inside.slabs c.alloc.new.self c.self.inside.devs.items c.in-Ok.at k = record {
       space = c.self.invariant;
       takes = c.in-Ok.ensures.taken;
       known = known;
+      serves = c.in-Ok.ensures.placed.serves;
       kept = c.device.view_is ∙ here;
     } in
-    block_space c.self.inside.slabs c.alloc.new.self c.self.inside.devs.items c.in-Ok.at k taken c.hold.new.self (rw c.extent_of-e.ensures at c.in-Ok-hold.ensures.ok)
+    block_space c.self.inside.whole c.self.inside.slabs c.alloc.new.self c.self.inside.devs.items c.in-Ok.at k taken c.hold.new.self (rw c.extent_of-e.ensures at c.in-Ok-hold.ensures.ok)
 
 pub invariant_of-self-in-Err-hold : goal.invariant_of-self-in-Err-hold
 invariant_of-self-in-Err-hold g c =
-    let k : Kept = record { row = c.device.inside.row; uses = c.device.inside.units } in
+    let k : Kept = record { row = c.device.inside.row; uses = c.device.inside.units; moves = c.device.inside.moves } in
     let known = c.in-Ok.ensures.placed.known in
     let there : c.in-Ok.at.dev < length c.self.inside.devs.items = let e = c.self.invariant.devices in omega (arith, known, e) in
     let here = kept_read c.self.inside.devs.items c.in-Ok.at.dev c.index_mut-device.result.now there c.index_mut-device.ensures.value in
-    let taken : IsTaken c.self.inside.slabs c.alloc.new.self c.self.inside.devs.items c.in-Ok.at k = record {
+    let taken : IsTaken c.self.inside.whole c.self.inside.slabs c.alloc.new.self c.self.inside.devs.items c.in-Ok.at k = record {
       space = c.self.invariant;
       takes = c.in-Ok.ensures.taken;
       known = known;
+      serves = c.in-Ok.ensures.placed.serves;
       kept = c.device.view_is ∙ here;
     } in
-    rw c.in-Err-hold.ensures.err
-    (given_back c.self.inside.slabs c.alloc.new.self c.release.new.self c.self.inside.devs.items c.in-Ok.at k taken (rw c.extent_of-e.ensures at c.release.ensures))
+    given_back c.self.inside.slabs c.alloc.new.self c.release.new.self c.self.inside.devs.items c.in-Ok.at k c.hold.new.self taken c.in-Err-hold.ensures.err (rw c.extent_of-e.ensures at c.release.ensures)
 
 pub returns-in-Ok-hold-clause-ok : goal.returns-in-Ok-hold-clause-ok
 returns-in-Ok-hold-clause-ok g c =
-    let k : Kept = record { row = c.device.inside.row; uses = c.device.inside.units } in
+    let k : Kept = record { row = c.device.inside.row; uses = c.device.inside.units; moves = c.device.inside.moves } in
     let known = c.in-Ok.ensures.placed.known in
     let there : c.in-Ok.at.dev < length c.self.inside.devs.items = let e = c.self.invariant.devices in omega (arith, known, e) in
     let here = kept_read c.self.inside.devs.items c.in-Ok.at.dev c.index_mut-device.result.now there c.index_mut-device.ensures.value in
-    let taken : IsTaken c.self.inside.slabs c.alloc.new.self c.self.inside.devs.items c.in-Ok.at k = record {
+    let taken : IsTaken c.self.inside.whole c.self.inside.slabs c.alloc.new.self c.self.inside.devs.items c.in-Ok.at k = record {
       space = c.self.invariant;
       takes = c.in-Ok.ensures.taken;
       known = known;
+      serves = c.in-Ok.ensures.placed.serves;
       kept = c.device.view_is ∙ here;
     } in
     rw (← c.self.view_is)
-    (allocates c.self.inside.slabs c.alloc.new.self c.self.inside.devs.items c.in-Ok.at k taken c.self.inside.whole c.args.want _ c.hold.new.self (rw c.extent_of-e.ensures at c.in-Ok-hold.ensures.ok) c.in-Ok.ensures.placed)
+    (allocates c.self.inside.whole c.self.inside.slabs c.alloc.new.self c.self.inside.devs.items c.in-Ok.at k taken c.args.want _ c.hold.new.self (rw c.extent_of-e.ensures at c.in-Ok-hold.ensures.ok) c.in-Ok.ensures.placed)
 
 pub returns-in-Ok-hold-clause-live : goal.returns-in-Ok-hold-clause-live
 returns-in-Ok-hold-clause-live g c =
-    let k : Kept = record { row = c.device.inside.row; uses = c.device.inside.units } in
+    let k : Kept = record { row = c.device.inside.row; uses = c.device.inside.units; moves = c.device.inside.moves } in
     let known = c.in-Ok.ensures.placed.known in
     let there : c.in-Ok.at.dev < length c.self.inside.devs.items = let e = c.self.invariant.devices in omega (arith, known, e) in
     let here = kept_read c.self.inside.devs.items c.in-Ok.at.dev c.index_mut-device.result.now there c.index_mut-device.ensures.value in
-    let taken : IsTaken c.self.inside.slabs c.alloc.new.self c.self.inside.devs.items c.in-Ok.at k = record {
+    let taken : IsTaken c.self.inside.whole c.self.inside.slabs c.alloc.new.self c.self.inside.devs.items c.in-Ok.at k = record {
       space = c.self.invariant;
       takes = c.in-Ok.ensures.taken;
       known = known;
+      serves = c.in-Ok.ensures.placed.serves;
       kept = c.device.view_is ∙ here;
     } in
     let y = rw c.extent_of-e.ensures at c.in-Ok-hold.ensures.ok in
-    let devs : List Kept = set c.self.inside.devs.items c.in-Ok.at.dev (record { row = k.row; uses = c.hold.new.self }) in
-    let space = block_space c.self.inside.slabs c.alloc.new.self c.self.inside.devs.items c.in-Ok.at k taken c.hold.new.self y in
-    let moved = allocates c.self.inside.slabs c.alloc.new.self c.self.inside.devs.items c.in-Ok.at k taken c.self.inside.whole c.args.want _ c.hold.new.self y c.in-Ok.ensures.placed in
+    let devs : List Kept = set c.self.inside.devs.items c.in-Ok.at.dev (record { row = k.row; uses = c.hold.new.self; moves = k.moves }) in
+    let space = block_space c.self.inside.whole c.self.inside.slabs c.alloc.new.self c.self.inside.devs.items c.in-Ok.at k taken c.hold.new.self y in
+    let moved = allocates c.self.inside.whole c.self.inside.slabs c.alloc.new.self c.self.inside.devs.items c.in-Ok.at k taken c.args.want _ c.hold.new.self y c.in-Ok.ensures.placed in
     is_live c.self.inside.whole c.alloc.new.self devs c.in-Ok.at
     (record {
       space = space;
-      known = let l = length-set c.self.inside.devs.items c.in-Ok.at.dev (record { row = k.row; uses = c.hold.new.self }) in omega (arith, there, l);
+      known = let l = length-set c.self.inside.devs.items c.in-Ok.at.dev (record { row = k.row; uses = c.hold.new.self; moves = k.moves }) in omega (arith, there, l);
       some = let l = c.in-Ok.ensures.placed.len in let w = c.requires.some in omega (arith, l, w);
       within = let w = c.in-Ok.ensures.taken.within in let u = c.in-Ok.ensures.taken.devices.units c.in-Ok.at.dev in omega (arith, w, u);
     })
     (λ d u is. moved.roles d u ∙ rw is refl)
+
+pub returns-in-Err-hold-clause-err : goal.returns-in-Err-hold-clause-err
+returns-in-Err-hold-clause-err g c =
+    let k : Kept = record { row = c.device.inside.row; uses = c.device.inside.units; moves = c.device.inside.moves } in
+    let known = c.in-Ok.ensures.placed.known in
+    let there : c.in-Ok.at.dev < length c.self.inside.devs.items = let e = c.self.invariant.devices in omega (arith, known, e) in
+    let here = kept_read c.self.inside.devs.items c.in-Ok.at.dev c.index_mut-device.result.now there c.index_mut-device.ensures.value in
+    space_itself c.self.inside.whole c.self.inside.devs.items c.in-Ok.at.dev k c.hold.new.self (c.device.view_is ∙ here) c.in-Err-hold.ensures.err ∙ c.self.view_is

@@ -10,7 +10,7 @@ use Rattle.zr_space.proofs.space.Space.columns.Goals as goal
 
 pub overflow_sub-result : goal.overflow_sub-result
 overflow_sub-result c =
-    let k : Kept = record { row = c.device.inside.row; uses = c.device.inside.units } in
+    let k : Kept = record { row = c.device.inside.row; uses = c.device.inside.units; moves = c.device.inside.moves } in
     let there : c.args.dev < length c.self.inside.devs.items = let l : c.args.dev < length (space_of c.self.inside.whole c.self.inside.devs.items).parts.devs = subst (λ s. c.args.dev < length s.parts.devs) (sym c.self.view_is) c.requires in let e = length-map c.self.inside.devs.items part_in in omega (arith, l, e) in
     let is = c.device.view_is ∙ kept_read c.self.inside.devs.items c.args.dev c.index-device.result.now there c.index-device.ensures in
     let kept : c.units-kept.result ≡ unit_count k.uses.kept = c.units-kept.ensures.units ∙ ap (λ (es : List Extent). unit_count es) c.kept.ensures in
@@ -19,7 +19,7 @@ overflow_sub-result c =
 
 pub returns : goal.returns
 returns c =
-    let k : Kept = record { row = c.device.inside.row; uses = c.device.inside.units } in
+    let k : Kept = record { row = c.device.inside.row; uses = c.device.inside.units; moves = c.device.inside.moves } in
     let there : c.args.dev < length c.self.inside.devs.items = let l : c.args.dev < length (space_of c.self.inside.whole c.self.inside.devs.items).parts.devs = subst (λ s. c.args.dev < length s.parts.devs) (sym c.self.view_is) c.requires in let e = length-map c.self.inside.devs.items part_in in omega (arith, l, e) in
     let is = c.device.view_is ∙ kept_read c.self.inside.devs.items c.args.dev c.index-device.result.now there c.index-device.ensures in
     let kept : c.units-kept.result ≡ unit_count k.uses.kept = c.units-kept.ensures.units ∙ ap (λ (es : List Extent). unit_count es) c.kept.ensures in

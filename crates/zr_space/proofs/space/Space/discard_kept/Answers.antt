@@ -11,7 +11,7 @@ use Rattle.zr_space.proofs.space.Space.discard_kept.Goals as goal
 
 pub discard-requires-clause-in_range : goal.discard-requires-clause-in_range
 discard-requires-clause-in_range c =
-    let k : Kept = record { row = c.device.inside.row; uses = c.device.inside.units } in
+    let k : Kept = record { row = c.device.inside.row; uses = c.device.inside.units; moves = c.device.inside.moves } in
     let there : c.args.dev < length c.self.inside.devs.items = let l : c.args.dev < length (space_of c.self.inside.whole c.self.inside.devs.items).parts.devs = subst (λ (s : Space). c.args.dev < length s.parts.devs) (sym c.self.view_is) c.requires.known in let e = length-map c.self.inside.devs.items part_in in omega (arith, l, e) in
     let here : k ≡ kept_of c.self.inside.devs.items c.args.dev = c.device.view_is ∙ kept_read c.self.inside.devs.items c.args.dev c.index_mut-device.result.now there c.index_mut-device.ensures.value in
     let given : IsGivenUp c.self.inside.whole c.self.inside.slabs c.self.inside.devs.items c.args.dev c.args.e k = record {
@@ -21,14 +21,14 @@ discard-requires-clause-in_range c =
       here = here;
       all = λ u is.
           let kept : is_kept_role (role_at (space_of c.self.inside.whole c.self.inside.devs.items) c.args.dev u) ≡ true = subst (λ (s : Space). is_kept_role (role_at s c.args.dev u) ≡ true) (sym c.self.view_is) (c.requires.kept u is) in
-          let role = roles_are c.self.inside.whole c.self.inside.devs.items c.args.dev u c.self.invariant.on c.self.invariant.rows in
+          let role = roles_are c.self.inside.whole c.self.inside.devs.items c.args.dev u c.self.invariant in
           ap (λ (x : Kept). has_unit x.uses.kept u) here ∙ kept_unit (kept_of c.self.inside.devs.items c.args.dev).uses u (sym (ap is_kept_role role) ∙ kept);
     } in
     in_range c.self.inside.whole c.self.inside.slabs c.self.inside.devs.items c.args.dev c.args.e k given
 
 pub discard-requires-clause-kept : goal.discard-requires-clause-kept
 discard-requires-clause-kept c =
-    let k : Kept = record { row = c.device.inside.row; uses = c.device.inside.units } in
+    let k : Kept = record { row = c.device.inside.row; uses = c.device.inside.units; moves = c.device.inside.moves } in
     let there : c.args.dev < length c.self.inside.devs.items = let l : c.args.dev < length (space_of c.self.inside.whole c.self.inside.devs.items).parts.devs = subst (λ (s : Space). c.args.dev < length s.parts.devs) (sym c.self.view_is) c.requires.known in let e = length-map c.self.inside.devs.items part_in in omega (arith, l, e) in
     let here : k ≡ kept_of c.self.inside.devs.items c.args.dev = c.device.view_is ∙ kept_read c.self.inside.devs.items c.args.dev c.index_mut-device.result.now there c.index_mut-device.ensures.value in
     let given : IsGivenUp c.self.inside.whole c.self.inside.slabs c.self.inside.devs.items c.args.dev c.args.e k = record {
@@ -38,14 +38,14 @@ discard-requires-clause-kept c =
       here = here;
       all = λ u is.
           let kept : is_kept_role (role_at (space_of c.self.inside.whole c.self.inside.devs.items) c.args.dev u) ≡ true = subst (λ (s : Space). is_kept_role (role_at s c.args.dev u) ≡ true) (sym c.self.view_is) (c.requires.kept u is) in
-          let role = roles_are c.self.inside.whole c.self.inside.devs.items c.args.dev u c.self.invariant.on c.self.invariant.rows in
+          let role = roles_are c.self.inside.whole c.self.inside.devs.items c.args.dev u c.self.invariant in
           ap (λ (x : Kept). has_unit x.uses.kept u) here ∙ kept_unit (kept_of c.self.inside.devs.items c.args.dev).uses u (sym (ap is_kept_role role) ∙ kept);
     } in
     given.all
 
 pub discard-requires-clause-keeping : goal.discard-requires-clause-keeping
 discard-requires-clause-keeping c =
-    let k : Kept = record { row = c.device.inside.row; uses = c.device.inside.units } in
+    let k : Kept = record { row = c.device.inside.row; uses = c.device.inside.units; moves = c.device.inside.moves } in
     let there : c.args.dev < length c.self.inside.devs.items = let l : c.args.dev < length (space_of c.self.inside.whole c.self.inside.devs.items).parts.devs = subst (λ (s : Space). c.args.dev < length s.parts.devs) (sym c.self.view_is) c.requires.known in let e = length-map c.self.inside.devs.items part_in in omega (arith, l, e) in
     let here : k ≡ kept_of c.self.inside.devs.items c.args.dev = c.device.view_is ∙ kept_read c.self.inside.devs.items c.args.dev c.index_mut-device.result.now there c.index_mut-device.ensures.value in
     let given : IsGivenUp c.self.inside.whole c.self.inside.slabs c.self.inside.devs.items c.args.dev c.args.e k = record {
@@ -55,14 +55,14 @@ discard-requires-clause-keeping c =
       here = here;
       all = λ u is.
           let kept : is_kept_role (role_at (space_of c.self.inside.whole c.self.inside.devs.items) c.args.dev u) ≡ true = subst (λ (s : Space). is_kept_role (role_at s c.args.dev u) ≡ true) (sym c.self.view_is) (c.requires.kept u is) in
-          let role = roles_are c.self.inside.whole c.self.inside.devs.items c.args.dev u c.self.invariant.on c.self.invariant.rows in
+          let role = roles_are c.self.inside.whole c.self.inside.devs.items c.args.dev u c.self.invariant in
           ap (λ (x : Kept). has_unit x.uses.kept u) here ∙ kept_unit (kept_of c.self.inside.devs.items c.args.dev).uses u (sym (ap is_kept_role role) ∙ kept);
     } in
     let a = account c.self.inside.whole c.self.inside.slabs c.self.inside.devs.items c.args.dev c.args.e k given in a.keeping
 
 pub discard-requires-clause-apart : goal.discard-requires-clause-apart
 discard-requires-clause-apart c =
-    let k : Kept = record { row = c.device.inside.row; uses = c.device.inside.units } in
+    let k : Kept = record { row = c.device.inside.row; uses = c.device.inside.units; moves = c.device.inside.moves } in
     let there : c.args.dev < length c.self.inside.devs.items = let l : c.args.dev < length (space_of c.self.inside.whole c.self.inside.devs.items).parts.devs = subst (λ (s : Space). c.args.dev < length s.parts.devs) (sym c.self.view_is) c.requires.known in let e = length-map c.self.inside.devs.items part_in in omega (arith, l, e) in
     let here : k ≡ kept_of c.self.inside.devs.items c.args.dev = c.device.view_is ∙ kept_read c.self.inside.devs.items c.args.dev c.index_mut-device.result.now there c.index_mut-device.ensures.value in
     let given : IsGivenUp c.self.inside.whole c.self.inside.slabs c.self.inside.devs.items c.args.dev c.args.e k = record {
@@ -72,14 +72,14 @@ discard-requires-clause-apart c =
       here = here;
       all = λ u is.
           let kept : is_kept_role (role_at (space_of c.self.inside.whole c.self.inside.devs.items) c.args.dev u) ≡ true = subst (λ (s : Space). is_kept_role (role_at s c.args.dev u) ≡ true) (sym c.self.view_is) (c.requires.kept u is) in
-          let role = roles_are c.self.inside.whole c.self.inside.devs.items c.args.dev u c.self.invariant.on c.self.invariant.rows in
+          let role = roles_are c.self.inside.whole c.self.inside.devs.items c.args.dev u c.self.invariant in
           ap (λ (x : Kept). has_unit x.uses.kept u) here ∙ kept_unit (kept_of c.self.inside.devs.items c.args.dev).uses u (sym (ap is_kept_role role) ∙ kept);
     } in
     apart c.self.inside.whole c.self.inside.slabs c.self.inside.devs.items c.args.dev c.args.e k given
 
 pub invariant_of-self : goal.invariant_of-self
 invariant_of-self c =
-    let k : Kept = record { row = c.device.inside.row; uses = c.device.inside.units } in
+    let k : Kept = record { row = c.device.inside.row; uses = c.device.inside.units; moves = c.device.inside.moves } in
     let there : c.args.dev < length c.self.inside.devs.items = let l : c.args.dev < length (space_of c.self.inside.whole c.self.inside.devs.items).parts.devs = subst (λ (s : Space). c.args.dev < length s.parts.devs) (sym c.self.view_is) c.requires.known in let e = length-map c.self.inside.devs.items part_in in omega (arith, l, e) in
     let here : k ≡ kept_of c.self.inside.devs.items c.args.dev = c.device.view_is ∙ kept_read c.self.inside.devs.items c.args.dev c.index_mut-device.result.now there c.index_mut-device.ensures.value in
     let given : IsGivenUp c.self.inside.whole c.self.inside.slabs c.self.inside.devs.items c.args.dev c.args.e k = record {
@@ -89,14 +89,14 @@ invariant_of-self c =
       here = here;
       all = λ u is.
           let kept : is_kept_role (role_at (space_of c.self.inside.whole c.self.inside.devs.items) c.args.dev u) ≡ true = subst (λ (s : Space). is_kept_role (role_at s c.args.dev u) ≡ true) (sym c.self.view_is) (c.requires.kept u is) in
-          let role = roles_are c.self.inside.whole c.self.inside.devs.items c.args.dev u c.self.invariant.on c.self.invariant.rows in
+          let role = roles_are c.self.inside.whole c.self.inside.devs.items c.args.dev u c.self.invariant in
           ap (λ (x : Kept). has_unit x.uses.kept u) here ∙ kept_unit (kept_of c.self.inside.devs.items c.args.dev).uses u (sym (ap is_kept_role role) ∙ kept);
     } in
     front_space c.self.inside.whole c.self.inside.slabs c.self.inside.devs.items c.args.dev c.args.e k given c.discard.new.self c.in_err-discard.ensures.err
 
 pub invariant_of-self-2 : goal.invariant_of-self-2
 invariant_of-self-2 c =
-    let k : Kept = record { row = c.device.inside.row; uses = c.device.inside.units } in
+    let k : Kept = record { row = c.device.inside.row; uses = c.device.inside.units; moves = c.device.inside.moves } in
     let there : c.args.dev < length c.self.inside.devs.items = let l : c.args.dev < length (space_of c.self.inside.whole c.self.inside.devs.items).parts.devs = subst (λ (s : Space). c.args.dev < length s.parts.devs) (sym c.self.view_is) c.requires.known in let e = length-map c.self.inside.devs.items part_in in omega (arith, l, e) in
     let here : k ≡ kept_of c.self.inside.devs.items c.args.dev = c.device.view_is ∙ kept_read c.self.inside.devs.items c.args.dev c.index_mut-device.result.now there c.index_mut-device.ensures.value in
     let given : IsGivenUp c.self.inside.whole c.self.inside.slabs c.self.inside.devs.items c.args.dev c.args.e k = record {
@@ -106,14 +106,14 @@ invariant_of-self-2 c =
       here = here;
       all = λ u is.
           let kept : is_kept_role (role_at (space_of c.self.inside.whole c.self.inside.devs.items) c.args.dev u) ≡ true = subst (λ (s : Space). is_kept_role (role_at s c.args.dev u) ≡ true) (sym c.self.view_is) (c.requires.kept u is) in
-          let role = roles_are c.self.inside.whole c.self.inside.devs.items c.args.dev u c.self.invariant.on c.self.invariant.rows in
+          let role = roles_are c.self.inside.whole c.self.inside.devs.items c.args.dev u c.self.invariant in
           ap (λ (x : Kept). has_unit x.uses.kept u) here ∙ kept_unit (kept_of c.self.inside.devs.items c.args.dev).uses u (sym (ap is_kept_role role) ∙ kept);
     } in
     discarded_space c.self.inside.whole c.self.inside.slabs c.self.inside.devs.items c.args.dev c.args.e k given c.discard.new.self c.in_ok-discard.ensures.ok
 
 pub returns-clause-ok : goal.returns-clause-ok
 returns-clause-ok c =
-    let k : Kept = record { row = c.device.inside.row; uses = c.device.inside.units } in
+    let k : Kept = record { row = c.device.inside.row; uses = c.device.inside.units; moves = c.device.inside.moves } in
     let there : c.args.dev < length c.self.inside.devs.items = let l : c.args.dev < length (space_of c.self.inside.whole c.self.inside.devs.items).parts.devs = subst (λ (s : Space). c.args.dev < length s.parts.devs) (sym c.self.view_is) c.requires.known in let e = length-map c.self.inside.devs.items part_in in omega (arith, l, e) in
     let here : k ≡ kept_of c.self.inside.devs.items c.args.dev = c.device.view_is ∙ kept_read c.self.inside.devs.items c.args.dev c.index_mut-device.result.now there c.index_mut-device.ensures.value in
     let given : IsGivenUp c.self.inside.whole c.self.inside.slabs c.self.inside.devs.items c.args.dev c.args.e k = record {
@@ -123,14 +123,14 @@ returns-clause-ok c =
       here = here;
       all = λ u is.
           let kept : is_kept_role (role_at (space_of c.self.inside.whole c.self.inside.devs.items) c.args.dev u) ≡ true = subst (λ (s : Space). is_kept_role (role_at s c.args.dev u) ≡ true) (sym c.self.view_is) (c.requires.kept u is) in
-          let role = roles_are c.self.inside.whole c.self.inside.devs.items c.args.dev u c.self.invariant.on c.self.invariant.rows in
+          let role = roles_are c.self.inside.whole c.self.inside.devs.items c.args.dev u c.self.invariant in
           ap (λ (x : Kept). has_unit x.uses.kept u) here ∙ kept_unit (kept_of c.self.inside.devs.items c.args.dev).uses u (sym (ap is_kept_role role) ∙ kept);
     } in
     rw (← c.self.view_is) (discards c.self.inside.whole c.self.inside.slabs c.self.inside.devs.items c.args.dev c.args.e k given c.discard.new.self c.in_ok-discard.ensures.ok)
 
 pub returns-in_err-discard-clause-err : goal.returns-in_err-discard-clause-err
 returns-in_err-discard-clause-err c =
-    let k : Kept = record { row = c.device.inside.row; uses = c.device.inside.units } in
+    let k : Kept = record { row = c.device.inside.row; uses = c.device.inside.units; moves = c.device.inside.moves } in
     let there : c.args.dev < length c.self.inside.devs.items = let l : c.args.dev < length (space_of c.self.inside.whole c.self.inside.devs.items).parts.devs = subst (λ (s : Space). c.args.dev < length s.parts.devs) (sym c.self.view_is) c.requires.known in let e = length-map c.self.inside.devs.items part_in in omega (arith, l, e) in
     let here : k ≡ kept_of c.self.inside.devs.items c.args.dev = c.device.view_is ∙ kept_read c.self.inside.devs.items c.args.dev c.index_mut-device.result.now there c.index_mut-device.ensures.value in
     let given : IsGivenUp c.self.inside.whole c.self.inside.slabs c.self.inside.devs.items c.args.dev c.args.e k = record {
@@ -140,14 +140,14 @@ returns-in_err-discard-clause-err c =
       here = here;
       all = λ u is.
           let kept : is_kept_role (role_at (space_of c.self.inside.whole c.self.inside.devs.items) c.args.dev u) ≡ true = subst (λ (s : Space). is_kept_role (role_at s c.args.dev u) ≡ true) (sym c.self.view_is) (c.requires.kept u is) in
-          let role = roles_are c.self.inside.whole c.self.inside.devs.items c.args.dev u c.self.invariant.on c.self.invariant.rows in
+          let role = roles_are c.self.inside.whole c.self.inside.devs.items c.args.dev u c.self.invariant in
           ap (λ (x : Kept). has_unit x.uses.kept u) here ∙ kept_unit (kept_of c.self.inside.devs.items c.args.dev).uses u (sym (ap is_kept_role role) ∙ kept);
     } in
     on_err c.from_residual.result _ (rw (← c.self.view_is) (front_part c.self.inside.whole c.self.inside.slabs c.self.inside.devs.items c.args.dev c.args.e k given c.discard.new.self c.in_err-discard.ensures.err))
 
 pub returns-clause-small : goal.returns-clause-small
 returns-clause-small c =
-    let k : Kept = record { row = c.device.inside.row; uses = c.device.inside.units } in
+    let k : Kept = record { row = c.device.inside.row; uses = c.device.inside.units; moves = c.device.inside.moves } in
     let there : c.args.dev < length c.self.inside.devs.items = let l : c.args.dev < length (space_of c.self.inside.whole c.self.inside.devs.items).parts.devs = subst (λ (s : Space). c.args.dev < length s.parts.devs) (sym c.self.view_is) c.requires.known in let e = length-map c.self.inside.devs.items part_in in omega (arith, l, e) in
     let here : k ≡ kept_of c.self.inside.devs.items c.args.dev = c.device.view_is ∙ kept_read c.self.inside.devs.items c.args.dev c.index_mut-device.result.now there c.index_mut-device.ensures.value in
     let given : IsGivenUp c.self.inside.whole c.self.inside.slabs c.self.inside.devs.items c.args.dev c.args.e k = record {
@@ -157,14 +157,14 @@ returns-clause-small c =
       here = here;
       all = λ u is.
           let kept : is_kept_role (role_at (space_of c.self.inside.whole c.self.inside.devs.items) c.args.dev u) ≡ true = subst (λ (s : Space). is_kept_role (role_at s c.args.dev u) ≡ true) (sym c.self.view_is) (c.requires.kept u is) in
-          let role = roles_are c.self.inside.whole c.self.inside.devs.items c.args.dev u c.self.invariant.on c.self.invariant.rows in
+          let role = roles_are c.self.inside.whole c.self.inside.devs.items c.args.dev u c.self.invariant in
           ap (λ (x : Kept). has_unit x.uses.kept u) here ∙ kept_unit (kept_of c.self.inside.devs.items c.args.dev).uses u (sym (ap is_kept_role role) ∙ kept);
     } in
     short c.self.inside.whole c.self.inside.slabs c.self.inside.devs.items c.args.dev c.args.e k given
 
 pub returns-in_err-discard-clause-small : goal.returns-in_err-discard-clause-small
 returns-in_err-discard-clause-small c =
-    let k : Kept = record { row = c.device.inside.row; uses = c.device.inside.units } in
+    let k : Kept = record { row = c.device.inside.row; uses = c.device.inside.units; moves = c.device.inside.moves } in
     let there : c.args.dev < length c.self.inside.devs.items = let l : c.args.dev < length (space_of c.self.inside.whole c.self.inside.devs.items).parts.devs = subst (λ (s : Space). c.args.dev < length s.parts.devs) (sym c.self.view_is) c.requires.known in let e = length-map c.self.inside.devs.items part_in in omega (arith, l, e) in
     let here : k ≡ kept_of c.self.inside.devs.items c.args.dev = c.device.view_is ∙ kept_read c.self.inside.devs.items c.args.dev c.index_mut-device.result.now there c.index_mut-device.ensures.value in
     let given : IsGivenUp c.self.inside.whole c.self.inside.slabs c.self.inside.devs.items c.args.dev c.args.e k = record {
@@ -174,7 +174,7 @@ returns-in_err-discard-clause-small c =
       here = here;
       all = λ u is.
           let kept : is_kept_role (role_at (space_of c.self.inside.whole c.self.inside.devs.items) c.args.dev u) ≡ true = subst (λ (s : Space). is_kept_role (role_at s c.args.dev u) ≡ true) (sym c.self.view_is) (c.requires.kept u is) in
-          let role = roles_are c.self.inside.whole c.self.inside.devs.items c.args.dev u c.self.invariant.on c.self.invariant.rows in
+          let role = roles_are c.self.inside.whole c.self.inside.devs.items c.args.dev u c.self.invariant in
           ap (λ (x : Kept). has_unit x.uses.kept u) here ∙ kept_unit (kept_of c.self.inside.devs.items c.args.dev).uses u (sym (ap is_kept_role role) ∙ kept);
     } in
     short c.self.inside.whole c.self.inside.slabs c.self.inside.devs.items c.args.dev c.args.e k given

@@ -4,7 +4,7 @@ use Rattle.zr_rules.specs.Places.{part_of}
 use Rattle.zr_base.specs.declared.space.SpaceParts.{SpaceParts}
 use Rattle.zr_space.specs.Reads.{CanReadPart}
 use Rattle.zr_base.specs.declared.space.DevPart.{DevPart}
-use Rattle.zr_space.proofs.Opening.{all_opened, opens_more, len_take}
+use Rattle.zr_space.proofs.Opening.{all_opened, opens_more, opened_service, len_take}
 use Rattle.zr_space.proofs.Openable.{can_read}
 use Rattle.zr_space.proofs.space.Space.from_parts.Goals as goal
 
@@ -14,6 +14,9 @@ returns-clause-some c =
     let same = ap (λ (ps : List DevPart). length ps) c.as_slice-part-items.ensures in
     let len = c.len-devices.ensures in
     all_opened c.args.parts.now c.args.meta.now c.args.saved.now c.loop-part.part-index c.loop-part.space c.loop-part.invariant (omega (arith, end, same)) (λ d u le. c.if-not-are_known.ensures.0 refl d u (omega (arith, le, len))) (λ d u le. c.if-not-are_known-2.ensures.0 refl d u (omega (arith, le, len)))
+
+pub returns-clause-service : goal.returns-clause-service
+returns-clause-service c = opened_service c.args.parts.now c.args.meta.now c.args.saved.now c.loop-part.part-index c.loop-part.space c.loop-part.invariant
 
 pub loop-part-preserved : goal.loop-part-preserved
 loop-part-preserved c =

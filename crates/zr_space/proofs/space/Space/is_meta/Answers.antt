@@ -15,7 +15,7 @@ pub returns-then-covers : goal.returns-then-covers
 returns-then-covers c =
     let devs = c.self.inside.devs.items in
     let a = c.args.a in
-    let k : Kept = record { row = c.device.inside.row; uses = c.device.inside.units } in
+    let k : Kept = record { row = c.device.inside.row; uses = c.device.inside.units; moves = c.device.inside.moves } in
     let count : c.devices.result ≡ length (space_of c.self.inside.whole devs).parts.devs = c.devices.ensures ∙ ap (λ (s : Space). length s.parts.devs) (sym c.self.view_is) in
     let there : a.dev < length devs = let e = length-map devs part_in in omega (arith, count, e) in
     let is : k ≡ kept_of devs a.dev = c.device.view_is ∙ kept_read devs a.dev c.index-device.result.now there c.index-device.ensures in
@@ -30,7 +30,7 @@ pub returns : goal.returns
 returns c =
     let devs = c.self.inside.devs.items in
     let a = c.args.a in
-    let k : Kept = record { row = c.device.inside.row; uses = c.device.inside.units } in
+    let k : Kept = record { row = c.device.inside.row; uses = c.device.inside.units; moves = c.device.inside.moves } in
     let count : c.devices.result ≡ length (space_of c.self.inside.whole devs).parts.devs = c.devices.ensures ∙ ap (λ (s : Space). length s.parts.devs) (sym c.self.view_is) in
     let there : a.dev < length devs = let e = length-map devs part_in in omega (arith, count, e) in
     let is : k ≡ kept_of devs a.dev = c.device.view_is ∙ kept_read devs a.dev c.index-device.result.now there c.index-device.ensures in

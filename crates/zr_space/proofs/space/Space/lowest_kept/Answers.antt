@@ -13,7 +13,7 @@ loop-dev-preserved c =
     let devs = c.self.inside.devs.items in
     let dev = c.loop-dev.dev in
     let list = c.loop-dev.list.items in
-    let k : Kept = record { row = c.device.inside.row; uses = c.device.inside.units } in
+    let k : Kept = record { row = c.device.inside.row; uses = c.device.inside.units; moves = c.device.inside.moves } in
     let there : dev < length devs = let e = c.loop-dev.invariant.end in let t = c.loop-dev-test.true in omega (arith, e, t) in
     let is : k ≡ kept_of devs dev = c.device.view_is ∙ kept_read devs dev c.index-device.result.now there c.index-device.ensures in
     let kept : c.extents.result.now ≡ (kept_of devs dev).uses.kept = c.extents.ensures.extents ∙ (c.kept.ensures ∙ ap (λ (z : Kept). z.uses.kept) is) in

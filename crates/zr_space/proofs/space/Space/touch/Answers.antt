@@ -1,9 +1,7 @@
-use Rattle.std.proofs.Common.{◌≡◌, subst}
-use Rattle.zr_rules.specs.Space.{Space}
+use Rattle.std.proofs.Common.{sym, arith}
 use Rattle.zr_rules.specs.Equation.{devices_in}
-use Rattle.zr_rules.specs.Steps.{touch}
-use Rattle.zr_space.proofs.Totalling.{one_touched}
+use Rattle.zr_space.proofs.Freeables.{unknown_piece}
 use Rattle.zr_space.proofs.space.Space.touch.Goals as goal
 
-pub returns : goal.returns
-returns c = subst (λ (s : Space). 1 ≡ touch (devices_in s) c.args.a) c.self.view_is (one_touched c.self.inside.whole c.self.inside.slabs c.self.inside.devs.items c.self.invariant c.args.a)
+pub returns-then-a-devices-clause-pieces : goal.returns-then-a-devices-clause-pieces
+returns-then-a-devices-clause-pieces c = sym (unknown_piece (devices_in c.args.self.now).count c.args.self.now.parts.devs c.args.a.dev c.args.a.start c.args.a.len (omega (arith, c.devices.ensures)))

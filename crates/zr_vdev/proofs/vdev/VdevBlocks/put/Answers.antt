@@ -4,6 +4,7 @@ use Rattle.zr_rules.specs.Equation.{devices_in}
 use Rattle.zr_space.specs.Paths.{AreInService}
 use Rattle.zr_vdev.specs.declared.kind.Mount.{Mount}
 use Rattle.zr_vdev.proofs.Held.{lost_held, failed_held}
+use Rattle.zr_vdev.proofs.Mounting.{have_disks}
 use Rattle.zr_vdev.proofs.Moves.{put_held}
 use Rattle.zr_vdev.proofs.Follows.{continues_on, lost_step, put_step, put_room, may_devices, spends, missing, some_units, taken_within}
 use Rattle.zr_vdev.proofs.vdev.VdevBlocks.put.Goals as goal
@@ -179,3 +180,13 @@ returns-in-Err-clause-err g c = λ s held.
     let settled = lost_held kind slots tells world.now.seen v.space.now mid v.lost v.mount.txg v.cache.now s v.service devices gives held in
     failed_held kind policy want slots v.mounted.apart tells tells_after mid new world after v.cache.now c.put_block.new.cache c.in-Err.failure.taken s service (some_units (length c.args.bytes.now) c.requires.size)
     (taken_within new c.in-Err.failure.taken c.in-Err.ensures.within_taken) (c.in-Err.ensures.err held.told) (e.told held.told) (e.cache held.told settled.read) settled
+
+pub invariant_of-self-in-Ok-1 : goal.invariant_of-self-in-Ok-1
+invariant_of-self-in-Ok-1 g c =
+    let v = c.args.self.now in
+    let devices = may_devices v.mount.kind (g.P.Place.policy v.mount.pick.now) (length c.args.bytes.now / 4096) c.give_back_lost.new.space c.put_block.new.space (Some c.in-Ok.b.at) c.in-Ok.ensures.taken in
+    record {
+      mounted = have_disks (g.S.Shelf.sizes c.put_block.new.shelf) v.mount.slots.now (devices_in c.put_block.new.space) c.put_block.ensures.mounted;
+      service = subst AreInService (sym (devices ∙ c.give_back_lost.ensures.devices)) v.service;
+      group = v.group;
+    }

@@ -1,6 +1,0 @@
-use Rattle.std.proofs.Common.{◌≡◌, ◌≤◌, length}
-use Rattle.zr_cli.specs.Raised.{raised}
-use Rattle.zr_cli.proofs.file_desk.read_at.Given as goal
-
-abbrev pub invariant-loop : goal.invariant-loop
-invariant-loop l = (l.done ≤ length l.out) × (l.read ≡ raised l.before l.done) × (l.faults ≡ l.initial.faults)

@@ -1,0 +1,5 @@
+pub mod Next
+pub mod Put
+pub mod Published
+pub mod Committed
+pub mod Kept

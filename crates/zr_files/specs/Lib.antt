@@ -1,0 +1,4 @@
+pub mod Raised
+pub mod Openings
+pub mod Paths
+pub mod Desk

@@ -1,0 +1,5 @@
+pub mod Condensing
+pub mod Entries
+pub mod Folding
+pub mod Rooted
+pub mod Walking

@@ -1,0 +1,227 @@
+use Rattle.std.proofs.Common.{rules, ◌≡◌, inr, ℕ, ◌+◌, List, [], Ok, Err, sym, ◌∙◌, ap, subst}
+use Rattle.zr_base.specs.declared.refusal.Refusal.{Refusal}
+use Rattle.zr_image.specs.Current.{FindsCurrent}
+use Rattle.zr_label.specs.declared.root.Seen.{Seen}
+use Rattle.zr_shelf.specs.Disks.{Stand}
+use Rattle.zr_shelf.proofs.Runs.{still_trans}
+use Rattle.zr_slots.specs.Kept.{KeepsGroup}
+use Rattle.zr_sync.specs.declared.fault.Fault.TheVariants.{No}
+use Rattle.zr_sync.proofs.Disks.{works_more, works_still}
+use Rattle.zr_open.specs.Found.{HasItsDisks}
+use Rattle.zr_open.specs.Groups.{HoldsGroup, HoldsRoot}
+use Rattle.zr_open.specs.Looked.{IsLookedAt, WasLookedAt}
+use Rattle.zr_open.specs.Opened.{IsFresh}
+use Rattle.zr_open.specs.Rewound.{rewound}
+use Rattle.zr_open.specs.declared.look.Looked.{Looked}
+use Rattle.zr_slots.specs.declared.pool.Found.{Found}
+use Rattle.zr_open.proofs.Looking.{looked_moved}
+use Rattle.zr_open.proofs.Backing.{back_now, back_then, group_refused, held_now, held_then, is_some_looked, none_there, now_refused, now_unserved, place_disks, reset_refused, then_refused, then_unserved}
+use Rattle.zr_open.proofs.Slots.{same_refusal}
+use Rattle.zr_open.proofs.groups.go_back.Goals as goal
+
+pub returns-in_err-seen-clause-disks : goal.returns-in_err-seen-clause-disks
+returns-in_err-seen-clause-disks g c = λ t. works_still _ _ (c.in_err-seen.ensures.still t)
+
+pub returns-in_err-now-clause-disks : goal.returns-in_err-now-clause-disks
+returns-in_err-now-clause-disks g c = λ t.
+    works_still _ _ (still_trans (g.S.Shelf.world c.args.shelf.now) (g.S.Shelf.world c.scan.new.shelf) (g.S.Shelf.world c.look_at.new.shelf) (c.in_ok-seen.ensures.still t) (c.in_err-now.ensures.still (c.in_ok-seen.ensures.told t)))
+
+pub returns-in_err-now-clause-refused : goal.returns-in_err-now-clause-refused
+returns-in_err-now-clause-refused g c = λ r is.
+    let told = c.in_err-now.field-0.0 in
+    let e : c.from_residual-in_err-now.result ≡ Err told = search rules in
+    let both = sym e ∙ is in
+    let same : told ≡ No r = cc in
+    let own = c.in_ok-seen.ensures in
+    inr (now_refused (g.S.Shelf.tells c.args.shelf.now) (g.S.Shelf.world c.args.shelf.now).now.seen (g.S.Shelf.sizes c.args.shelf.now) c.in_ok-seen.field-0 own.scanned
+    (g.S.Shelf.tells c.scan.new.shelf) (g.S.Shelf.world c.scan.new.shelf).now.seen own.told (λ t. ap (λ (s : Stand). s.seen) (own.still t).now) c.args.txg r (c.in_err-now.ensures.refused r (ap Err same)))
+
+pub returns-in_default-clause-disks : goal.returns-in_default-clause-disks
+returns-in_default-clause-disks g c = λ t.
+    works_still _ _ (still_trans (g.S.Shelf.world c.args.shelf.now) (g.S.Shelf.world c.scan.new.shelf) (g.S.Shelf.world c.look_at.new.shelf) (c.in_ok-seen.ensures.still t) (c.in_ok-now.ensures.still (c.in_ok-seen.ensures.told t)))
+
+pub returns-in_default-clause-none : goal.returns-in_default-clause-none
+returns-in_default-clause-none g c =
+    let own = c.in_ok-seen.ensures in
+    now_unserved (g.S.Shelf.tells c.args.shelf.now) (g.S.Shelf.world c.args.shelf.now).now.seen (g.S.Shelf.sizes c.args.shelf.now) c.in_ok-seen.field-0 own.scanned
+    (g.S.Shelf.tells c.scan.new.shelf) (g.S.Shelf.world c.scan.new.shelf).now.seen own.told (λ t. ap (λ (s : Stand). s.seen) (own.still t).now) c.args.txg
+    (none_there _ c.in_ok-now.field-0 c.in_ok-now.ensures.none (λ x same. (let other = c.in_default.not-Some in search (rules, other))))
+
+pub kept_root-requires-clause-current : goal.kept_root-requires-clause-current
+kept_root-requires-clause-current g c = subst (λ (s : List Seen). FindsCurrent s (Ok c.in_ok-seen.field-0.found.root)) (sym c.as_slice.ensures) c.in_ok-seen.ensures.scanned.finds
+
+pub returns-in_err-root-clause-disks : goal.returns-in_err-root-clause-disks
+returns-in_err-root-clause-disks g c = λ t.
+    works_still _ _ (still_trans (g.S.Shelf.world c.args.shelf.now) (g.S.Shelf.world c.scan.new.shelf) (g.S.Shelf.world c.look_at.new.shelf) (c.in_ok-seen.ensures.still t) (c.in_ok-now.ensures.still (c.in_ok-seen.ensures.told t)))
+
+pub returns-in_err-root-clause-refused : goal.returns-in_err-root-clause-refused
+returns-in_err-root-clause-refused g c = λ r is.
+    let told = c.in_err-root.field-0.0 in
+    let e : c.from_residual-in_err-root.result ≡ Err (No told) = search rules in
+    let same = same_refusal c.from_residual-in_err-root.result told r e is in
+    inr (group_refused (g.S.Shelf.tells c.args.shelf.now) (g.S.Shelf.world c.args.shelf.now).now.seen (g.S.Shelf.sizes c.args.shelf.now) c.in_ok-seen.field-0 c.in_ok-seen.ensures.scanned c.args.txg c.as_slice.result.now r c.as_slice.ensures
+    (subst (λ (x : Refusal). KeepsGroup c.as_slice.result.now c.in_ok-seen.field-0.found.root c.args.txg (Err x)) same c.in_err-root.ensures.keeps))
+
+pub returns-then-txg-found-clause-disks : goal.returns-then-txg-found-clause-disks
+returns-then-txg-found-clause-disks g c = λ t.
+    works_still _ _ (still_trans (g.S.Shelf.world c.args.shelf.now) (g.S.Shelf.world c.scan.new.shelf) (g.S.Shelf.world c.look_at.new.shelf) (c.in_ok-seen.ensures.still t) (c.in_ok-now.ensures.still (c.in_ok-seen.ensures.told t)))
+
+-- ---- the group of the current root
+
+pub returns-then-txg-found-clause-back : goal.returns-then-txg-found-clause-back
+returns-then-txg-found-clause-back g c =
+    let sizes = g.S.Shelf.sizes c.args.shelf.now in
+    let tells = g.S.Shelf.tells c.args.shelf.now in
+    let disks = (g.S.Shelf.world c.args.shelf.now).now.seen in
+    let s = c.in_ok-seen.field-0 in
+    let kept = subst (λ (seen : List Seen). KeepsGroup seen s.found.root c.args.txg (Ok c.in_ok-root.root)) c.as_slice.ensures c.in_ok-root.ensures.keeps in
+    let own = is_some_looked _ c.in_ok-now.field-0 c.in-Some.now c.in-Some.is c.in_ok-now.ensures.looked in
+    let found = is_some_looked (λ (l : Looked). l.found ≡ s.found) c.in_ok-now.field-0 c.in-Some.now c.in-Some.is c.in_ok-now.ensures.found in
+    back_now tells disks sizes s c.in_ok-seen.ensures.scanned c.args.txg c.in_ok-root.root kept.0 kept.1 c.if-txg-found.true c.in-Some.now.pool (subst (λ (f : Found). IsFresh f.root c.in-Some.now.pool) found own.fresh)
+
+pub returns-then-txg-found-clause-objects : goal.returns-then-txg-found-clause-objects
+returns-then-txg-found-clause-objects g c = λ t.
+    let w = g.S.Shelf.world c.args.shelf.now in
+    let disks = w.now.seen in
+    let later = g.S.Shelf.tells c.look_at.new.shelf in
+    let after = (g.S.Shelf.world c.look_at.new.shelf).now.seen in
+    let s = c.in_ok-seen.field-0 in
+    let first = c.in_ok-seen.ensures in
+    let second = c.in_ok-now.ensures in
+    let kept = subst (λ (seen : List Seen). KeepsGroup seen s.found.root c.args.txg (Ok c.in_ok-root.root)) c.as_slice.ensures c.in_ok-root.ensures.keeps in
+    let own = subst (λ (ns : List ℕ). IsLookedAt ns (g.S.Shelf.tells c.scan.new.shelf) (g.S.Shelf.world c.scan.new.shelf).now.seen c.in-Some.now) first.sizes (is_some_looked _ c.in_ok-now.field-0 c.in-Some.now c.in-Some.is second.looked) in
+    let found = is_some_looked (λ (l : Looked). l.found ≡ s.found) c.in_ok-now.field-0 c.in-Some.now c.in-Some.is second.found in
+    let there = looked_moved (g.S.Shelf.tells c.scan.new.shelf) later (g.S.Shelf.world c.scan.new.shelf).now.seen disks (λ x. first.told t) (λ x. ap (λ (stand : Stand). stand.seen) (first.still t).now) (g.S.Shelf.sizes c.args.shelf.now) c.in-Some.now own in
+    let seen_same : after ≡ disks = ap (λ (stand : Stand). stand.seen) ((second.still (first.told t)).now ∙ (first.still t).now) in
+    let sound = g.S.Shelf.sound c.args.shelf.now t in
+    subst (λ (ds : List (List ℕ)). HoldsGroup w.now.paths disks c.args.txg later ds c.in-Some.now.pool) (sym seen_same)
+    (held_now (g.S.Shelf.tells c.args.shelf.now) t w.now.paths disks (g.S.Shelf.sizes c.args.shelf.now) sound.sized s first.scanned c.args.txg c.in_ok-root.root kept.0 kept.1 c.if-txg-found.true later (second.told (first.told t)) c.in-Some.now found there)
+
+-- ---- a lower group
+
+pub look_at-requires-2-clause-disks : goal.look_at-requires-2-clause-disks
+look_at-requires-2-clause-disks g c =
+    let s = c.in_ok-seen.field-0 in
+    let kept = subst (λ (seen : List Seen). KeepsGroup seen s.found.root c.args.txg (Ok c.in_ok-root.root)) c.as_slice.ensures c.in_ok-root.ensures.keeps in
+    subst (λ (ns : List ℕ). HasItsDisks ns s.found.slots c.in_ok-root.root) (sym (c.in_ok-now.ensures.sizes ∙ c.in_ok-seen.ensures.sizes))
+    (place_disks (g.S.Shelf.tells c.args.shelf.now) (g.S.Shelf.world c.args.shelf.now).now.seen (g.S.Shelf.sizes c.args.shelf.now) s c.in_ok-seen.ensures.scanned c.args.txg c.in_ok-root.root c.in_ok-root.ensures.root c.in_ok-root.ensures.pool kept.1)
+
+pub returns-in_err-then-clause-disks : goal.returns-in_err-then-clause-disks
+returns-in_err-then-clause-disks g c = λ t.
+    let first = c.in_ok-seen.ensures in
+    let second = c.in_ok-now.ensures in
+    works_still _ _ (still_trans (g.S.Shelf.world c.args.shelf.now) (g.S.Shelf.world c.look_at.new.shelf) (g.S.Shelf.world c.look_at-2.new.shelf)
+    (still_trans (g.S.Shelf.world c.args.shelf.now) (g.S.Shelf.world c.scan.new.shelf) (g.S.Shelf.world c.look_at.new.shelf) (first.still t) (second.still (first.told t))) (c.in_err-then.ensures.still (second.told (first.told t))))
+
+pub returns-in_err-then-clause-refused : goal.returns-in_err-then-clause-refused
+returns-in_err-then-clause-refused g c = λ r is.
+    let told = c.in_err-then.field-0.0 in
+    let e : c.from_residual-in_err-then.result ≡ Err told = search rules in
+    let both = sym e ∙ is in
+    let same : told ≡ No r = cc in
+    let s = c.in_ok-seen.field-0 in
+    let first = c.in_ok-seen.ensures in
+    let second = c.in_ok-now.ensures in
+    let kept = subst (λ (seen : List Seen). KeepsGroup seen s.found.root c.args.txg (Ok c.in_ok-root.root)) c.as_slice.ensures c.in_ok-root.ensures.keeps in
+    inr (then_refused (g.S.Shelf.tells c.args.shelf.now) (g.S.Shelf.world c.args.shelf.now).now.seen (g.S.Shelf.sizes c.args.shelf.now) s first.scanned c.args.txg c.in_ok-root.root c.in_ok-root.ensures.root c.in_ok-root.ensures.pool kept.1
+    (g.S.Shelf.tells c.look_at.new.shelf) (g.S.Shelf.world c.look_at.new.shelf).now.seen (λ t. second.told (first.told t)) (λ t. ap (λ (stand : Stand). stand.seen) ((second.still (first.told t)).now ∙ (first.still t).now)) r (c.in_err-then.ensures.refused r (ap Err same)))
+
+pub returns-in_default-2-clause-disks : goal.returns-in_default-2-clause-disks
+returns-in_default-2-clause-disks g c = λ t.
+    let first = c.in_ok-seen.ensures in
+    let second = c.in_ok-now.ensures in
+    works_still _ _ (still_trans (g.S.Shelf.world c.args.shelf.now) (g.S.Shelf.world c.look_at.new.shelf) (g.S.Shelf.world c.look_at-2.new.shelf)
+    (still_trans (g.S.Shelf.world c.args.shelf.now) (g.S.Shelf.world c.scan.new.shelf) (g.S.Shelf.world c.look_at.new.shelf) (first.still t) (second.still (first.told t))) (c.in_ok-then.ensures.still (second.told (first.told t))))
+
+pub returns-in_default-2-clause-none : goal.returns-in_default-2-clause-none
+returns-in_default-2-clause-none g c =
+    let s = c.in_ok-seen.field-0 in
+    let first = c.in_ok-seen.ensures in
+    let second = c.in_ok-now.ensures in
+    let kept = subst (λ (seen : List Seen). KeepsGroup seen s.found.root c.args.txg (Ok c.in_ok-root.root)) c.as_slice.ensures c.in_ok-root.ensures.keeps in
+    then_unserved (g.S.Shelf.tells c.args.shelf.now) (g.S.Shelf.world c.args.shelf.now).now.seen (g.S.Shelf.sizes c.args.shelf.now) s first.scanned c.args.txg c.in_ok-root.root c.in_ok-root.ensures.root c.in_ok-root.ensures.pool kept.1
+    (g.S.Shelf.tells c.look_at.new.shelf) (g.S.Shelf.world c.look_at.new.shelf).now.seen (λ t. second.told (first.told t)) (λ t. ap (λ (stand : Stand). stand.seen) ((second.still (first.told t)).now ∙ (first.still t).now))
+    (none_there _ c.in_ok-then.field-0 c.in_ok-then.ensures.none (λ x same. (let other = c.in_default-2.not-Some in search (rules, other))))
+
+pub reset-requires-clause-looked : goal.reset-requires-clause-looked
+reset-requires-clause-looked g c =
+    let tells = g.S.Shelf.tells c.look_at.new.shelf in
+    let disks = (g.S.Shelf.world c.look_at.new.shelf).now.seen in
+    let own = is_some_looked _ c.in_ok-then.field-0 c.in-Some-2.then c.in-Some-2.is c.in_ok-then.ensures.looked in
+    subst (λ (ns : List ℕ). WasLookedAt ns c.in-Some-2.then) (sym c.in_ok-then.ensures.sizes) (looked_moved tells ⊥ disks [] (λ x. absurd x) (λ x. absurd x) (g.S.Shelf.sizes c.look_at.new.shelf) c.in-Some-2.then own)
+
+pub returns-in_err-reset-clause-disks : goal.returns-in_err-reset-clause-disks
+returns-in_err-reset-clause-disks g c = λ t.
+    let first = c.in_ok-seen.ensures in
+    let second = c.in_ok-now.ensures in
+    let third = c.in_ok-then.ensures in
+    works_more (g.S.Shelf.world c.args.shelf.now) (g.S.Shelf.world c.look_at-2.new.shelf) (g.S.Shelf.world c.reset.new.shelf)
+    (works_still (g.S.Shelf.world c.args.shelf.now) (g.S.Shelf.world c.look_at-2.new.shelf) (still_trans (g.S.Shelf.world c.args.shelf.now) (g.S.Shelf.world c.look_at.new.shelf) (g.S.Shelf.world c.look_at-2.new.shelf)
+    (still_trans (g.S.Shelf.world c.args.shelf.now) (g.S.Shelf.world c.scan.new.shelf) (g.S.Shelf.world c.look_at.new.shelf) (first.still t) (second.still (first.told t))) (third.still (second.told (first.told t)))))
+    (c.in_err-reset.ensures.disks (third.told (second.told (first.told t))))
+
+pub returns-in_err-reset-clause-refused : goal.returns-in_err-reset-clause-refused
+returns-in_err-reset-clause-refused g c = λ r is.
+    let told = c.in_err-reset.field-0.0 in
+    let e : c.from_residual-in_err-reset.result ≡ Err told = search rules in
+    let both = sym e ∙ is in
+    let same : told ≡ No r = cc in
+    let s = c.in_ok-seen.field-0 in
+    let first = c.in_ok-seen.ensures in
+    let second = c.in_ok-now.ensures in
+    let third = c.in_ok-then.ensures in
+    let kept = subst (λ (seen : List Seen). KeepsGroup seen s.found.root c.args.txg (Ok c.in_ok-root.root)) c.as_slice.ensures c.in_ok-root.ensures.keeps in
+    let own = subst (λ (ns : List ℕ). IsLookedAt ns (g.S.Shelf.tells c.look_at.new.shelf) (g.S.Shelf.world c.look_at.new.shelf).now.seen c.in-Some-2.then) (second.sizes ∙ first.sizes) (is_some_looked _ c.in_ok-then.field-0 c.in-Some-2.then c.in-Some-2.is third.looked) in
+    let place = is_some_looked (λ (l : Looked). l.found ≡ record { root = c.in_ok-root.root; slots = s.found.slots }) c.in_ok-then.field-0 c.in-Some-2.then c.in-Some-2.is third.found in
+    inr (reset_refused (g.S.Shelf.tells c.args.shelf.now) (g.S.Shelf.world c.args.shelf.now).now.seen (g.S.Shelf.sizes c.args.shelf.now) s first.scanned c.args.txg c.in_ok-root.root c.in_ok-root.ensures.root c.in_ok-root.ensures.pool kept.1
+    (g.S.Shelf.tells c.look_at.new.shelf) (g.S.Shelf.world c.look_at.new.shelf).now.seen (λ t. second.told (first.told t)) (λ t. ap (λ (stand : Stand). stand.seen) ((second.still (first.told t)).now ∙ (first.still t).now)) c.in-Some-2.then place own r
+    (c.in_err-reset.ensures.refused r (ap Err same)))
+
+pub returns-clause-told : goal.returns-clause-told
+returns-clause-told g c = λ t. c.in_ok-reset.ensures.told (c.in_ok-then.ensures.told (c.in_ok-now.ensures.told (c.in_ok-seen.ensures.told t)))
+
+pub returns-clause-disks : goal.returns-clause-disks
+returns-clause-disks g c = λ t.
+    let first = c.in_ok-seen.ensures in
+    let second = c.in_ok-now.ensures in
+    let third = c.in_ok-then.ensures in
+    works_more (g.S.Shelf.world c.args.shelf.now) (g.S.Shelf.world c.look_at-2.new.shelf) (g.S.Shelf.world c.reset.new.shelf)
+    (works_still (g.S.Shelf.world c.args.shelf.now) (g.S.Shelf.world c.look_at-2.new.shelf) (still_trans (g.S.Shelf.world c.args.shelf.now) (g.S.Shelf.world c.look_at.new.shelf) (g.S.Shelf.world c.look_at-2.new.shelf)
+    (still_trans (g.S.Shelf.world c.args.shelf.now) (g.S.Shelf.world c.scan.new.shelf) (g.S.Shelf.world c.look_at.new.shelf) (first.still t) (second.still (first.told t))) (third.still (second.told (first.told t)))))
+    (c.in_ok-reset.ensures.disks (third.told (second.told (first.told t))))
+
+pub returns-clause-back : goal.returns-clause-back
+returns-clause-back g c =
+    let sizes = g.S.Shelf.sizes c.args.shelf.now in
+    let tells = g.S.Shelf.tells c.args.shelf.now in
+    let disks = (g.S.Shelf.world c.args.shelf.now).now.seen in
+    let s = c.in_ok-seen.field-0 in
+    let kept = subst (λ (seen : List Seen). KeepsGroup seen s.found.root c.args.txg (Ok c.in_ok-root.root)) c.as_slice.ensures c.in_ok-root.ensures.keeps in
+    let place = is_some_looked (λ (l : Looked). l.found ≡ record { root = c.in_ok-root.root; slots = s.found.slots }) c.in_ok-then.field-0 c.in-Some-2.then c.in-Some-2.is c.in_ok-then.ensures.found in
+    back_then tells disks sizes s c.in_ok-seen.ensures.scanned c.args.txg c.in_ok-root.root kept.0 kept.1 c.if-txg-found.false c.in_ok-reset.field-0
+    (subst (λ (f : Found). IsFresh (rewound f.root (s.found.root.txg + 1)) c.in_ok-reset.field-0) place c.in_ok-reset.ensures.fresh)
+
+pub returns-clause-objects : goal.returns-clause-objects
+returns-clause-objects g c = λ t.
+    let sizes = g.S.Shelf.sizes c.args.shelf.now in
+    let tells = g.S.Shelf.tells c.args.shelf.now in
+    let w = g.S.Shelf.world c.args.shelf.now in
+    let disks = w.now.seen in
+    let tells3 = g.S.Shelf.tells c.look_at.new.shelf in
+    let disks3 = (g.S.Shelf.world c.look_at.new.shelf).now.seen in
+    let disks4 = (g.S.Shelf.world c.look_at-2.new.shelf).now.seen in
+    let s = c.in_ok-seen.field-0 in
+    let l = c.in-Some-2.then in
+    let first = c.in_ok-seen.ensures in
+    let second = c.in_ok-now.ensures in
+    let third = c.in_ok-then.ensures in
+    let told3 = second.told (first.told t) in
+    let same3 : disks3 ≡ disks = ap (λ (stand : Stand). stand.seen) ((second.still (first.told t)).now ∙ (first.still t).now) in
+    let same4 : disks4 ≡ disks = ap (λ (stand : Stand). stand.seen) (third.still told3).now ∙ same3 in
+    let kept = subst (λ (seen : List Seen). KeepsGroup seen s.found.root c.args.txg (Ok c.in_ok-root.root)) c.as_slice.ensures c.in_ok-root.ensures.keeps in
+    let own = subst (λ (ns : List ℕ). IsLookedAt ns tells3 disks3 l) (second.sizes ∙ first.sizes) (is_some_looked _ c.in_ok-then.field-0 l c.in-Some-2.is third.looked) in
+    let there = looked_moved tells3 tells disks3 disks (λ x. told3) (λ x. same3) sizes l own in
+    let before = subst (λ (ns : List ℕ). IsLookedAt ns (Unit {0}) disks4 l) (sym (third.sizes ∙ (second.sizes ∙ first.sizes))) (looked_moved tells3 (Unit {0}) disks3 disks4 (λ x. told3) (λ x. same3 ∙ sym same4) sizes l own) in
+    let held = subst (λ (ds : List (List ℕ)). HoldsRoot ds (g.S.Shelf.tells c.reset.new.shelf) (g.S.Shelf.world c.reset.new.shelf).now.seen l c.in_ok-reset.field-0) same4 (c.in_ok-reset.ensures.objects (third.told told3) before) in
+    let place = is_some_looked (λ (x : Looked). x.found ≡ record { root = c.in_ok-root.root; slots = s.found.slots }) c.in_ok-then.field-0 l c.in-Some-2.is third.found in
+    held_then tells t w.now.paths disks sizes s first.scanned c.args.txg c.in_ok-root.root c.in_ok-root.ensures.root c.in_ok-root.ensures.pool kept.0 kept.1 (g.S.Shelf.tells c.reset.new.shelf) (g.S.Shelf.world c.reset.new.shelf).now.seen l place there c.in_ok-reset.field-0 held

@@ -1,0 +1,283 @@
+use Rattle.std.proofs.Common.{rules, ◌≡◌, ◌∙◌, ◌+◌, ◌≤◌, ℕ, List, [], Option, Some, None, inl, inr, Err, false, nat_lt, refl, sym, ap, subst, arith}
+use Rattle.std.specs.Prelude.{IfSome, if◌then◌else◌}
+use Rattle.zr_view.specs.Views.{slot_of}
+use Rattle.zr_shelf.specs.Disks.{Stand}
+use Rattle.zr_image.specs.Current.{slots_of}
+use Rattle.zr_image.specs.StateOf.{AreObjects, devices_at}
+use Rattle.zr_import.specs.declared.roots.Root.{Root}
+use Rattle.zr_label.specs.Blocks.{IsUber}
+use Rattle.zr_label.specs.declared.root.Uber.{Uber}
+use Rattle.zr_rules.specs.Devices.{devices_of}
+use Rattle.zr_store.specs.Store.{Stored}
+use Rattle.zr_sync.specs.Commits.{IsShownFrom}
+use Rattle.zr_sync.specs.Holds.{HasBlocks}
+use Rattle.zr_sync.specs.Pools.{IsOpen}
+use Rattle.zr_sync.specs.declared.fault.Fault.TheVariants.{No}
+use Rattle.zr_sync.proofs.Disks.{works_more, works_still}
+use Rattle.zr_base.specs.declared.refusal.Refusal.TheVariants.{NoCheckpoint}
+use Rattle.zr_base.specs.declared.space.CkptPart.{CkptPart}
+use Rattle.zr_base.specs.declared.space.SpaceParts.{SpaceParts}
+use Rattle.zr_sync.specs.States.{HasCheckpoint}
+use Rattle.zr_current.specs.Current.{HasSlots}
+use Rattle.zr_open.specs.Found.{HasItsDisks}
+use Rattle.zr_open.specs.Looked.{IsLooked}
+use Rattle.zr_open.specs.Opened.{IsFresh}
+use Rattle.zr_open.specs.Shown.{IsShownBeside}
+use Rattle.zr_open.proofs.Refusing.{looked_refusal, root_refusal}
+use Rattle.zr_open.specs.Rewound.{rewound}
+use Rattle.zr_open.specs.Roots.{FindsBeside, HasParts, IsSavedRoot, Stands, image_of, meta_of, saved_in, told_root}
+use Rattle.zr_open.specs.declared.look.Looked.{Looked}
+use Rattle.zr_open.specs.declared.saved.SavedRoot.{SavedRoot}
+use Rattle.zr_open.specs.declared.saved.Beside.TheVariants.{Saved}
+use Rattle.zr_open.proofs.Beside.{head_at, no_block, saved_disks, saved_moved}
+use Rattle.zr_open.proofs.Rewinding.{IsCut, cut_disks, saved_are, saved_held, saved_objects}
+use Rattle.zr_open.proofs.Showing.{ShowsSaved, saved_with, shows_it, state}
+use Rattle.zr_open.proofs.Views.{store_same}
+use Rattle.zr_open.proofs.rewinds.rewind.Goals as goal
+
+looked_is : (sizes : List ℕ) (tells : Type 0) (disks : List (List ℕ)) (o : Option Looked) (l : Looked) → o ≡ Some l → IfSome o (IsLooked sizes tells disks) → IsLooked sizes tells disks l
+looked_is sizes tells disks o l is h = subst (λ (x : Option Looked). IfSome x (IsLooked sizes tells disks)) is h
+
+pub returns-in_err-looked-clause-disks : goal.returns-in_err-looked-clause-disks
+returns-in_err-looked-clause-disks g c = λ t. works_still (g.S.Shelf.world c.args.shelf.now) (g.S.Shelf.world c.look.new.shelf) (c.in_err-looked.ensures.still t)
+
+pub returns-in_err-looked-clause-refused : goal.returns-in_err-looked-clause-refused
+returns-in_err-looked-clause-refused g c = λ r is.
+    let told = c.in_err-looked.field-0.0 in
+    let e : c.from_residual.result ≡ Err told = search rules in
+    let both = sym e ∙ is in
+    let same : told ≡ No r = cc in
+    elim (c.in_err-looked.ensures.refused r (ap Err same)) [
+      | inl first ↦ inl first
+      | inr rest ↦ elim rest [ inl own ↦ inr (inl own) | inr saved ↦ inr (inr (saved.0, saved.1, inl saved.2)) ]
+    ]
+
+pub returns-in_default-clause-disks : goal.returns-in_default-clause-disks
+returns-in_default-clause-disks g c = λ t. works_still (g.S.Shelf.world c.args.shelf.now) (g.S.Shelf.world c.look.new.shelf) (c.in_ok-looked.ensures.still t)
+
+pub returns-in_default-beside-clause-disks : goal.returns-in_default-beside-clause-disks
+returns-in_default-beside-clause-disks g c = λ t. works_still (g.S.Shelf.world c.args.shelf.now) (g.S.Shelf.world c.look.new.shelf) (c.in_ok-looked.ensures.still t)
+
+pub returns-in_default-beside-clause-refused : goal.returns-in_default-beside-clause-refused
+returns-in_default-beside-clause-refused g c = λ r is.
+    let sizes = g.S.Shelf.sizes c.args.shelf.now in
+    let tells = g.S.Shelf.tells c.args.shelf.now in
+    let disks = (g.S.Shelf.world c.args.shelf.now).now.seen in
+    let l = c.in-Some.looked in
+    let h = looked_is sizes tells disks _ l c.in-Some.is c.in_ok-looked.ensures.looked in
+    let u = l.found.root in
+    inr (inr (
+      u,
+      h.finds,
+      inr (
+        cc,
+        (l.root.head, head_at tells disks (slots_of u h.finds.seen) l.found.slots u l.root h.slots h.at.head h.at.stands, no_block tells disks l.found.slots u l.root l.beside (λ s same. (let other = c.in_default-beside.not-Saved in search (rules, other))) h.at.served h.at.beside),
+      ),
+    ))
+
+pub returns-in_default-beside-clause-unsaved : goal.returns-in_default-beside-clause-unsaved
+returns-in_default-beside-clause-unsaved g c = λ t is.
+    let sizes = g.S.Shelf.sizes c.args.shelf.now in
+    let tells = g.S.Shelf.tells c.args.shelf.now in
+    let w = g.S.Shelf.world c.args.shelf.now in
+    let disks = w.now.seen in
+    let l = c.in-Some.looked in
+    let h = looked_is sizes tells disks _ l c.in-Some.is c.in_ok-looked.ensures.looked in
+    let u = l.found.root in
+    let these = slots_of u h.finds.seen in
+    let sound = g.S.Shelf.sound c.args.shelf.now t in
+    let none = no_block tells disks l.found.slots u l.root l.beside (λ s same. (let other = c.in_default-beside.not-Saved in search (rules, other))) h.at.served h.at.beside in
+    let shown : ShowsSaved w.now.paths disks these (told_root u l.root) = record { root = None; shown = subst (λ (x : Option (List ℕ)). IsShownBeside disks these (told_root u l.root) x None) (sym none) tt; state = None; is = refl } in
+    let stands = subst (λ (ss : List (Option ℕ)). Stands (image_of disks ss u) u l.root) (sym h.at.same) (h.at.stands t) in
+    let same = subst (HasSlots these) (sym h.at.same) h.slots in (
+      state tells t w.now.paths disks sizes sound.sized u l.pool l.root h.finds.seen (h.finds.shown.shows t) h.finds.finds same h.at.uber h.at.head (meta_of (saved_in l.beside)) shown h.at.ready h.at.fresh h.at.parts stands,
+      shows_it tells t w.now.paths disks sizes sound.sized u l.pool l.root h.finds.seen (h.finds.shown.shows t) h.finds.finds same h.at.uber h.at.head (meta_of (saved_in l.beside)) shown h.at.ready h.at.fresh h.at.parts stands,
+      refl,
+    )
+
+pub returns-in_err-looked-clause-unsaved : goal.returns-in_err-looked-clause-unsaved
+returns-in_err-looked-clause-unsaved g c = λ t is.
+    let told = c.in_err-looked.field-0.0 in
+    let e : c.from_residual.result ≡ Err told = search rules in
+    let both = sym e ∙ is in
+    let same : told ≡ No NoCheckpoint = cc in
+    absurd (looked_refusal (g.S.Shelf.sizes c.args.shelf.now) (g.S.Shelf.tells c.args.shelf.now) (g.S.Shelf.world c.args.shelf.now).now.seen NoCheckpoint (c.in_err-looked.ensures.refused NoCheckpoint (ap Err same)))
+
+pub returns-in_err-pool-clause-unsaved : goal.returns-in_err-pool-clause-unsaved
+returns-in_err-pool-clause-unsaved g c = λ t is.
+    let told = c.in_err-pool.field-0.0 in
+    let e : c.from_residual-in_err-pool.result ≡ Err told = search rules in
+    let both = sym e ∙ is in
+    let same : told ≡ No NoCheckpoint = cc in
+    absurd (elim (c.in_err-pool.ensures.refused NoCheckpoint (ap Err same)) [ inl own ↦ root_refusal NoCheckpoint own | inr other ↦ other.1 refl ])
+
+pub returns-in_err-read-clause-disks : goal.returns-in_err-read-clause-disks
+returns-in_err-read-clause-disks g c = λ t. works_still (g.S.Shelf.world c.args.shelf.now) (g.S.Shelf.world c.look.new.shelf) (c.in_ok-looked.ensures.still t)
+
+pub returns-in_err-pool-clause-disks : goal.returns-in_err-pool-clause-disks
+returns-in_err-pool-clause-disks g c = λ t. works_still (g.S.Shelf.world c.args.shelf.now) (g.S.Shelf.world c.look.new.shelf) (c.in_ok-looked.ensures.still t)
+
+pub returns-in_err-pool-clause-refused : goal.returns-in_err-pool-clause-refused
+returns-in_err-pool-clause-refused g c = λ r is.
+    let told = c.in_err-pool.field-0.0 in
+    let e : c.from_residual-in_err-pool.result ≡ Err told = search rules in
+    let both = sym e ∙ is in
+    let same : told ≡ No r = cc in
+    elim (c.in_err-pool.ensures.refused r (ap Err same)) [ inl own ↦ inr (inl own) | inr other ↦ absurd (other.1 refl) ]
+
+-- what was found of the saved root
+record Back (sizes : List ℕ) (tells : Type 0) (disks : List (List ℕ)) (l : Looked) (s : SavedRoot) : Type 0 where
+  block : List ℕ
+  has : l.root.head.saved ≡ Some block
+  saved : IsSavedRoot tells disks l.found.slots l.found.root l.root block s
+  disks_are : HasItsDisks sizes l.found.slots s.uber
+  past : s.uber.txg ≤ l.found.root.txg + 1
+
+back_of : (sizes : List ℕ) (tells : Type 0) (disks : List (List ℕ)) (l : Looked) (s : SavedRoot) → IsLooked sizes tells disks l → FindsBeside tells disks l.found.slots l.found.root l.root (Saved s) → Back sizes tells disks l s
+back_of sizes tells disks l s h (block, has, saved) = record {
+  block = block;
+  has = has;
+  saved = saved;
+  disks_are = saved_disks l.found.root s.uber h.at.uber saved.is_saved.spelled.lawful saved.on saved.is_saved.rows sizes l.found.slots h.at.mounted;
+  past = let p = saved.is_saved.past in omega (arith, p);
+}
+
+back_is : (sizes : List ℕ) (tells : Type 0) (disks : List (List ℕ)) (l : Looked) (s : SavedRoot) → IsLooked sizes tells disks l → l.beside ≡ Saved s → Back sizes tells disks l s
+back_is sizes tells disks l s h is = back_of sizes tells disks l s h (subst (FindsBeside tells disks l.found.slots l.found.root l.root) is h.at.beside)
+
+-- the cut slots have their disks
+place_disks : (sizes : List ℕ) (slots cut : List (Option ℕ)) (saved next : Uber) (txg : ℕ) → next ≡ rewound saved txg → IsCut next.count slots cut → HasItsDisks sizes slots saved → HasItsDisks sizes cut next
+place_disks sizes slots cut saved next txg is each h = subst (HasItsDisks sizes cut) (sym is) (cut_disks sizes slots cut saved txg (subst (λ (x : Uber). IsCut x.count slots cut) is each) h)
+
+-- so are they by the slots that were found
+first_same : (slots these cut : List (Option ℕ)) (count : ℕ) → IsCut count slots cut → HasSlots these slots → (d : ℕ) → slot_of cut d ≡ (if nat_lt d count then slot_of these d else None)
+first_same slots these cut count is same d = is d ∙ ap (λ (o : Option ℕ). if nat_lt d count then o else None) (same d)
+
+pub show-requires-clause-pool : goal.show-requires-clause-pool
+show-requires-clause-pool g c =
+    let sizes = g.S.Shelf.sizes c.args.shelf.now in
+    let tells = g.S.Shelf.tells c.args.shelf.now in
+    let disks = (g.S.Shelf.world c.args.shelf.now).now.seen in
+    let l = c.in-Some.looked in
+    let s = c.in-Saved.saved in
+    let h = looked_is sizes tells disks _ l c.in-Some.is c.in_ok-looked.ensures.looked in
+    let b = back_is sizes tells disks l s h c.in-Saved.is in
+    let place = place_disks sizes l.found.slots c.first_slots.result s.uber c.rewound-root.result (l.found.root.txg + 1) c.rewound-root.ensures.is c.first_slots.ensures.each b.disks_are in
+    subst (λ (ns : List ℕ). IsOpen ns c.in_ok-pool.pool) (sym c.in_ok-looked.ensures.sizes) (c.in_ok-pool.ensures.open sizes place)
+
+pub returns-in_err-show-clause-disks : goal.returns-in_err-show-clause-disks
+returns-in_err-show-clause-disks g c = λ t.
+    works_more (g.S.Shelf.world c.args.shelf.now) (g.S.Shelf.world c.look.new.shelf) (g.S.Shelf.world c.show.new.shelf) (works_still (g.S.Shelf.world c.args.shelf.now) (g.S.Shelf.world c.look.new.shelf) (c.in_ok-looked.ensures.still t))
+    (c.in_err-show.ensures.disks (c.in_ok-looked.ensures.told t))
+
+pub returns-clause-disks : goal.returns-clause-disks
+returns-clause-disks g c = λ t.
+    works_more (g.S.Shelf.world c.args.shelf.now) (g.S.Shelf.world c.look.new.shelf) (g.S.Shelf.world c.show.new.shelf) (works_still (g.S.Shelf.world c.args.shelf.now) (g.S.Shelf.world c.look.new.shelf) (c.in_ok-looked.ensures.still t))
+    (c.in_ok-show.ensures.disks (c.in_ok-looked.ensures.told t))
+
+pub returns-clause-pool : goal.returns-clause-pool
+returns-clause-pool g c =
+    let sizes = g.S.Shelf.sizes c.args.shelf.now in
+    let tells = g.S.Shelf.tells c.args.shelf.now in
+    let disks = (g.S.Shelf.world c.args.shelf.now).now.seen in
+    let l = c.in-Some.looked in
+    let s = c.in-Saved.saved in
+    let h = looked_is sizes tells disks _ l c.in-Some.is c.in_ok-looked.ensures.looked in
+    let b = back_is sizes tells disks l s h c.in-Saved.is in
+    let place = place_disks sizes l.found.slots c.first_slots.result s.uber c.rewound-root.result (l.found.root.txg + 1) c.rewound-root.ensures.is c.first_slots.ensures.each b.disks_are in
+    subst (λ (ns : List ℕ). IsOpen ns c.in_ok-pool.pool) (sym (c.in_ok-show.ensures.sizes ∙ c.in_ok-looked.ensures.sizes)) (c.in_ok-pool.ensures.open sizes place)
+
+pub returns-clause-rewound : goal.returns-clause-rewound
+returns-clause-rewound g c =
+    let sizes = g.S.Shelf.sizes c.args.shelf.now in
+    let tells = g.S.Shelf.tells c.args.shelf.now in
+    let disks = (g.S.Shelf.world c.args.shelf.now).now.seen in
+    let l = c.in-Some.looked in
+    let s = c.in-Saved.saved in
+    let h = looked_is sizes tells disks _ l c.in-Some.is c.in_ok-looked.ensures.looked in
+    let b = back_is sizes tells disks l s h c.in-Saved.is in
+    let u = l.found.root in (
+      u,
+      h.finds,
+      record {
+        block = b.block;
+        has = (l.root.head, head_at tells disks (slots_of u h.finds.seen) l.found.slots u l.root h.slots h.at.head h.at.stands, b.has);
+        saved = s.uber;
+        spelled = b.saved.is_saved.spelled;
+        fresh = subst (λ (x : Uber). IsFresh x c.in_ok-pool.pool) c.rewound-root.ensures.is c.in_ok-pool.ensures.fresh;
+        first = first_same l.found.slots (slots_of u h.finds.seen) c.in_ok-pool.pool.table.slots s.uber.count (subst (IsCut s.uber.count l.found.slots) (sym c.in_ok-pool.ensures.slots) (subst (λ (x : Uber). IsCut x.count l.found.slots c.first_slots.result) c.rewound-root.ensures.is c.first_slots.ensures.each)) h.slots;
+      },
+    )
+
+pub returns-clause-shown : goal.returns-clause-shown
+returns-clause-shown g c = λ t.
+    let sizes = g.S.Shelf.sizes c.args.shelf.now in
+    let tells = g.S.Shelf.tells c.args.shelf.now in
+    let disks = (g.S.Shelf.world c.args.shelf.now).now.seen in
+    let l = c.in-Some.looked in
+    let h = looked_is sizes tells disks _ l c.in-Some.is c.in_ok-looked.ensures.looked in
+    let u = l.found.root in (
+      u,
+      h.finds,
+      record {
+        root = c.rewound-root.result;
+        root_is = c.in_ok-pool.ensures.fresh.last;
+        read = g.S.Shelf.world c.look.new.shelf;
+        still = c.in_ok-looked.ensures.still t;
+        shown = subst (λ (ns : List ℕ). IsShownFrom ns (record c.in_ok-pool.pool { last = Some u }) c.rewound-root.result (g.S.Shelf.world c.look.new.shelf) (g.S.Shelf.world c.show.new.shelf)) c.in_ok-looked.ensures.sizes
+            (c.in_ok-show.ensures.shown (c.in_ok-looked.ensures.told t));
+      },
+    )
+
+pub returns-clause-objects : goal.returns-clause-objects
+returns-clause-objects g c = λ t.
+    let sizes = g.S.Shelf.sizes c.args.shelf.now in
+    let tells = g.S.Shelf.tells c.args.shelf.now in
+    let w = g.S.Shelf.world c.args.shelf.now in
+    let disks = w.now.seen in
+    let l = c.in-Some.looked in
+    let s = c.in-Saved.saved in
+    let h = looked_is sizes tells disks _ l c.in-Some.is c.in_ok-looked.ensures.looked in
+    let b = back_is sizes tells disks l s h c.in-Saved.is in
+    let u = l.found.root in
+    let txg = u.txg + 1 in
+    let pool = c.in_ok-pool.pool in
+    let own = c.in_ok-pool.ensures in
+    let next = c.rewound-root.result in
+    let these = slots_of u h.finds.seen in
+    let slots = l.found.slots in
+    let later = g.S.Shelf.tells c.look.new.shelf in
+    let told = c.in_ok-looked.ensures.told t in
+    let still = c.in_ok-looked.ensures.still t in
+    let sound = g.S.Shelf.sound c.args.shelf.now t in
+    let place = place_disks sizes slots c.first_slots.result s.uber next txg c.rewound-root.ensures.is c.first_slots.ensures.each b.disks_are in
+    let ready = own.open sizes place in
+    let saved = saved_moved tells later disks disks slots slots (λ x. t) (λ x. refl) (λ d. refl) u l.root b.block s b.saved in
+    let cut_first = subst (λ (x : Uber). IsCut x.count slots c.first_slots.result) c.rewound-root.ensures.is c.first_slots.ensures.each in
+    let cut = subst (IsCut s.uber.count slots) (sym own.slots) cut_first in
+    let is = subst IsUber c.rewound-root.ensures.is c.rewound-root.ensures.lawful in
+    let fresh = subst (λ (x : Uber). IsFresh x pool) c.rewound-root.ensures.is own.fresh in
+    let parts = subst (λ (r : Root). HasParts r [] pool) c.in_ok-read.ensures own.parts in
+    let objects = saved_objects later told disks sizes sound.sized slots u l.root b.block s txg pool saved b.past cut is ready fresh parts in
+    let held = saved_held later told disks sizes sound.sized slots u l.root b.block s txg pool saved b.past cut is ready fresh parts in
+    let are_there = saved_are later told disks sizes sound.sized slots u l.root b.block s txg pool saved b.past cut is ready fresh parts in
+    let are_here = subst (λ (x : Stored). AreObjects x s.root.head.dir objects) (store_same disks these slots (devices_of s.root.parts.devs) h.slots) are_there in
+    let saved_here = saved_moved tells tells disks disks these slots (λ x. x) (λ x. refl) h.slots u l.root b.block s b.saved in
+    let part = saved_with tells t w.now.paths disks these u l.root b.block s b.has saved_here objects are_here in
+    let shown : ShowsSaved w.now.paths disks these (told_root u l.root) = record { root = Some (told_root s.uber s.root); shown = part.0; state = Some (record { objects = objects; devs = devices_at w.now.paths these s.uber }); is = part.1 } in
+    let stands = subst (λ (ss : List (Option ℕ)). Stands (image_of disks ss u) u l.root) (sym h.at.same) (h.at.stands t) in
+    let same = subst (HasSlots these) (sym h.at.same) h.slots in
+    record {
+      state = state tells t w.now.paths disks sizes sound.sized u l.pool l.root h.finds.seen (h.finds.shown.shows t) h.finds.finds same h.at.uber h.at.head (meta_of (saved_in l.beside)) shown h.at.ready h.at.fresh h.at.parts stands;
+      shown = shows_it tells t w.now.paths disks sizes sound.sized u l.pool l.root h.finds.seen (h.finds.shown.shows t) h.finds.finds same h.at.uber h.at.head (meta_of (saved_in l.beside)) shown h.at.ready h.at.fresh h.at.parts stands;
+      saved = record { objects = objects; devs = devices_at w.now.paths these s.uber };
+      saved_is = refl;
+      holds = record {
+        objects = record {
+          stored = held.stored;
+          held = c.in_ok-show.ensures.keeps held.stored (subst (λ (st : Stand). HasBlocks later st.seen pool held.stored) (sym still.now) held.held);
+          has = held.has;
+        };
+        checkpoint = subst (λ (k : CkptPart). HasCheckpoint k None false) (sym (ap (λ (ps : SpaceParts). ps.ckpt) parts.space.parts_are ∙ saved.clear)) (refl, refl);
+      };
+    }

@@ -1,0 +1,42 @@
+-- A pool that was looked at, and could be opened.
+use Rattle.std.specs.Prelude.{◌≡◌, ℕ, ◌+◌, ◌^◌, ◌≤◌, List, [], length, Ok}
+use Rattle.zr_image.specs.Current.{slots_of}
+use Rattle.zr_image.specs.Roots.{rows_of}
+use Rattle.zr_label.specs.Blocks.{IsUber}
+use Rattle.zr_meta.specs.Heads.{IsHead}
+use Rattle.zr_sync.specs.Pools.{IsOpen}
+use Rattle.zr_open.specs.declared.look.Looked.{Looked}
+use Rattle.zr_open.specs.declared.saved.Beside.TheVariants.{NotServed}
+use Rattle.zr_current.specs.Current.{HasSlots}
+use Rattle.zr_open.specs.Found.{FindsOn, HasItsDisks}
+use Rattle.zr_open.specs.Opened.{AreOn, CoversOwed, IsFresh, IsServed}
+use Rattle.zr_open.specs.Roots.{FindsBeside, HasParts, IsKept, Stands, image_of, meta_of, saved_in}
+
+-- In the trees of the root stands what it records, and it was found so with what is saved beside it. The pool is open on that.
+pub record IsLookedAt (sizes : List ℕ) (tells : Type 0) (disks : List (List ℕ)) (l : Looked) : Type 0 where
+  pub uber : IsUber l.found.root
+  pub long : length l.found.slots ≡ 32
+  pub mounted : HasItsDisks sizes l.found.slots l.found.root
+  pub on : AreOn l.found.root
+  pub head : IsHead (rows_of l.found.root) l.root.head
+  pub stands : tells → Stands (image_of disks l.found.slots l.found.root) l.found.root l.root
+  pub form : IsServed l.root.head
+  pub beside : FindsBeside tells disks l.found.slots l.found.root l.root l.beside
+  pub served : ¬ l.beside ≡ NotServed
+  pub ready : IsOpen sizes l.pool
+  pub fresh : IsFresh l.found.root l.pool
+  pub parts : HasParts l.root (meta_of (saved_in l.beside)) l.pool
+  pub kept : IsKept (saved_in l.beside) l.pool.saved
+  pub same : l.pool.table.slots ≡ l.found.slots
+  pub room : CoversOwed l.pool.space
+  pub groups : l.pool.group.txg ≤ 2 ^ 63 + 1
+
+-- it was looked at, on some disks
+abbrev pub WasLookedAt : List ℕ → Looked → Type 0
+WasLookedAt sizes l = IsLookedAt sizes ⊥ [] l
+
+-- The slots show its root, by which it was looked at.
+pub record IsLooked (sizes : List ℕ) (tells : Type 0) (disks : List (List ℕ)) (l : Looked) : Type 0 where
+  pub finds : FindsOn sizes tells disks (Ok l.found.root)
+  pub slots : HasSlots (slots_of l.found.root finds.seen) l.found.slots
+  pub at : IsLookedAt sizes tells disks l

@@ -1,0 +1,51 @@
+-- The root of a checkpoint that is gone back to.
+use Rattle.std.specs.Prelude.{◌≡◌, ℕ, ◌+◌, nat_lt, List, Option, Some, None, if◌then◌else◌}
+use Rattle.zr_view.specs.Views.{slot_of}
+use Rattle.zr_label.specs.declared.root.Uber.{Uber}
+use Rattle.zr_label.specs.Blocks.{SpellsUber}
+use Rattle.zr_model.specs.State.{PoolState, Saved}
+use Rattle.zr_shelf.specs.Moments.{World, IsStill}
+use Rattle.zr_sync.specs.Commits.{IsShownFrom}
+use Rattle.zr_moves.specs.Answers as moves
+use Rattle.zr_sync.specs.States.{HoldsState}
+use Rattle.zr_sync.specs.declared.open.OpenPool.{OpenPool}
+use Rattle.zr_meta.specs.declared.Head.{Head}
+use Rattle.zr_open.specs.Opened.{HasBlock, IsFresh, IsHeadOn}
+use Rattle.zr_open.specs.Shown.{Shows}
+
+-- the saved root in a later group, which is a reset
+abbrev pub rewound : Uber → ℕ → Uber
+rewound saved txg = record saved { txg = txg; reset = txg }
+
+-- The pool holds the state that was saved by what the disks showed: its objects, and no checkpoint.
+pub record HoldsSaved (paths before : List (List ℕ)) (tells : Type 0) (disks : List (List ℕ)) (pool : OpenPool) : Type 0 where
+  pub state : PoolState
+  pub shown : Shows paths before state
+  pub saved : Saved
+  pub saved_is : state.saved ≡ Some saved
+  pub holds : HoldsState tells disks pool (moves.rewound state saved)
+
+-- Nothing was done, and then the root of the pool was published, first where the root before it has its devices too.
+pub record IsShownBehind (sizes : List ℕ) (last : Uber) (pool : OpenPool) (before now : World) : Type 0 where
+  pub root : Uber
+  pub root_is : pool.last ≡ Some root
+  pub read : World
+  pub still : IsStill before read
+  pub shown : IsShownFrom sizes (record pool { last = Some last }) root read now
+
+-- The pool is that of the root which the head of the current one has saved, one group above that, as a reset. It has no slot of a device that was added since.
+pub record IsRewound (tells : Type 0) (disks : List (List ℕ)) (slots : List (Option ℕ)) (u : Uber) (pool : OpenPool) : Type 0 where
+  pub block : List ℕ
+  pub has : HasBlock tells disks slots u block
+  pub saved : Uber
+  pub spelled : SpellsUber block saved
+  pub fresh : IsFresh (rewound saved (u.txg + 1)) pool
+  pub first : (d : ℕ) → slot_of pool.table.slots d ≡ (if nat_lt d saved.count then slot_of slots d else None)
+
+-- what the disks show holds no checkpoint
+abbrev pub ShowsNoSaved : List (List ℕ) → List (List ℕ) → Type 0
+ShowsNoSaved paths disks = (state : PoolState) × Shows paths disks state × (state.saved ≡ None)
+
+-- the head that stands there has no saved root
+abbrev pub HasNoSaved : Type 0 → List (List ℕ) → List (Option ℕ) → Uber → Type 0
+HasNoSaved tells disks slots u = (h : Head) × (tells → IsHeadOn disks slots u h) × (h.saved ≡ None)

@@ -1,0 +1,130 @@
+//! Going back to a group that is kept.
+//!
+//! Behind the current root stand those of the groups before it. What such a root has is still there while its group is kept,
+//! so it is looked at as the current one is, and written once more in the group behind that, as a reset. Which groups are kept
+//! is told by the slots alone; the current root is looked at all the same, since without it there is no pool.
+ghost use Rattle.std.specs.Prelude.{◌≡◌, ◌⊎◌, ◌+◌, ◌≤◌, ◌^◌, length, None, Ok, Err, Some, IfOk, IfSome, IfNone, IsErrOf};
+ghost use Rattle.zr_base.specs.Counts.{HasRisen};
+ghost use Rattle.zr_base.specs.declared.refusal.Refusal.{Refusal};
+ghost use Rattle.zr_base.specs.declared.refusal.Refusal.TheVariants.{BadRoot};
+ghost use Rattle.zr_image.specs.Checks.{Demands};
+ghost use Rattle.zr_image.specs.Current.{IsGroup, slots_of};
+ghost use Rattle.zr_label.specs.declared.root.Uber.{Uber};
+ghost use Rattle.zr_shelf.specs.Counts.{NoneFell};
+ghost use Rattle.zr_sync.specs.Commits.{IsShownFrom};
+ghost use Rattle.zr_sync.specs.Pools.{IsOpen};
+ghost use Rattle.zr_sync.specs.Writes.{WorksOnDisks};
+ghost use Rattle.zr_sync.specs.declared.fault.Fault.TheVariants.{No, Stops};
+ghost use Rattle.zr_sync.specs.declared.stop.Stop.TheVariants.{DiskFault};
+ghost use Rattle.zr_open.specs.Found.{FindsOn};
+ghost use Rattle.zr_open.specs.Groups.{HoldsGroup, HoldsRoot, IsBack, IsBackRefusal, IsNotServedBack};
+ghost use Rattle.zr_open.specs.Looked.{IsLookedAt, WasLookedAt};
+ghost use Rattle.zr_open.specs.Opened.{CoversOwed, IsFresh, MayRefuse};
+ghost use Rattle.zr_open.specs.Rewound.{rewound};
+ghost use Rattle.zr_open.specs.Roots.{meta_of, saved_in};
+
+use crate::find::{Scanned, scan};
+use crate::look::{Looked, look_at};
+use crate::pool::open;
+use crate::rewinds::{rewound, show};
+use crate::saved::{checkpoint_of, saved_meta};
+use std::alloc::Global;
+use zr_base::Refusal;
+use zr_import::Root;
+use zr_label::Uber;
+use zr_shelf::Shelf;
+use zr_slots::{Found, kept_root};
+use zr_sync::{Fault, OpenPool};
+
+// Refuses a root that condenses a mapping, since no device of it is gone.
+fn is_quiet(root: &Root) -> Result<(), Refusal>
+    ensures { Demands (root.now.parts.cond ≡ None) (BadRoot 5) result }
+{
+    if root.parts.cond.is_some() {
+        return Err(Refusal::BadRoot { rule: 5 });
+    }
+    Ok(())
+}
+
+// Opens a root that was looked at as the current one: one group above that, and as a reset.
+fn reset<S: Shelf>(
+    alloc: Global,
+    shelf: &mut S,
+    current: &Uber,
+    then: Looked,
+) -> Result<OpenPool, Fault>
+    requires looked { WasLookedAt (S.sizes shelf.old) then }
+    requires below { then.found.root.txg ≤ current.now.txg }
+    requires room { current.now.txg ≤ 2 ^ 63 }
+    requires few { current.now.count ≤ 32 }
+    ensures sizes { S.sizes shelf.new ≡ S.sizes shelf.old }
+    ensures none_fell { NoneFell (S.counts shelf.old) (S.counts shelf.new) }
+    ensures told { S.tells shelf.old → S.tells shelf.new }
+    ensures disks { S.tells shelf.old → WorksOnDisks (S.world shelf.old) (S.world shelf.new) }
+    ensures fault { IsErrOf result (Stops DiskFault) → HasRisen (S.counts shelf.old).disk (S.counts shelf.new).disk }
+    ensures pool { IfOk result (IsOpen (S.sizes shelf.new)) }
+    ensures fresh { IfOk result (IsFresh (rewound then.found.root (current.now.txg + 1))) }
+    ensures shown { S.tells shelf.old → IfOk result (λ pool. IsShownFrom (S.sizes shelf.old) (record pool { last = Some current.now }) (rewound then.found.root (current.now.txg + 1)) (S.world shelf.old) (S.world shelf.new)) }
+    ensures objects { S.tells shelf.old → IsLookedAt (S.sizes shelf.old) (Unit {0}) (S.world shelf.old).now.seen then → IfOk result (HoldsRoot (S.world shelf.old).now.seen (S.tells shelf.new) (S.world shelf.new).now.seen then) }
+    ensures room { IfOk result (λ pool. CoversOwed pool.space) }
+    ensures groups { IfOk result (λ pool. pool.group.txg ≤ 2 ^ 63 + 1) }
+    ensures refused { (r : Refusal) → IsErrOf result (No r) → (r ≡ BadRoot 5) ⊎ MayRefuse (meta_of (saved_in then.beside)) r }
+{
+    let Looked {
+        found,
+        root,
+        beside,
+        ..
+    } = then;
+    is_quiet(&root)?;
+    let Some(saved) = saved_meta(&beside) else {
+        unreachable!()
+    };
+    let place = Found {
+        root: rewound(&found.root, current.txg + 1),
+        slots: found.slots,
+    };
+    let checkpoint = checkpoint_of(alloc, &root.head, &beside)?;
+    let read = root.reset(alloc)?;
+    let pool = open(alloc, &place, &read, saved, checkpoint)?;
+    show(alloc, shelf, current, &pool, &place.root)?;
+    Ok(pool)
+}
+
+/// Opens the pool as a group that is kept left it. The group of the current root is opened as `import` does; the root of
+/// a lower one is written once more, one group above the current one and as a reset. The answer is None where `import`
+/// answers it, of the current root or of that of the group.
+///
+/// It reads what `import` reads, for a lower group twice. What it answers but Ok has written nothing, or stops the run.
+pub fn go_back<S: Shelf>(alloc: Global, shelf: &mut S, txg: u64) -> Result<Option<OpenPool>, Fault>
+    requires slots { length (S.sizes shelf.old) ≤ 32 }
+    ensures sizes { S.sizes shelf.new ≡ S.sizes shelf.old }
+    ensures none_fell { NoneFell (S.counts shelf.old) (S.counts shelf.new) }
+    ensures told { S.tells shelf.old → S.tells shelf.new }
+    ensures disks { S.tells shelf.old → WorksOnDisks (S.world shelf.old) (S.world shelf.new) }
+    ensures fault { IsErrOf result (Stops DiskFault) → HasRisen (S.counts shelf.old).disk (S.counts shelf.new).disk }
+    ensures pool { IfOk result (λ o. IfSome o (IsOpen (S.sizes shelf.new))) }
+    ensures back { IfOk result (λ o. IfSome o (IsBack (S.sizes shelf.old) (S.tells shelf.old) (S.world shelf.old).now.seen txg)) }
+    ensures objects { S.tells shelf.old → IfOk result (λ o. IfSome o (HoldsGroup (S.world shelf.old).now.paths (S.world shelf.old).now.seen txg (S.tells shelf.new) (S.world shelf.new).now.seen)) }
+    ensures room { IfOk result (λ o. IfSome o (λ pool. CoversOwed pool.space)) }
+    ensures groups { IfOk result (λ o. IfSome o (λ pool. pool.group.txg ≤ 2 ^ 63 + 1)) }
+    ensures refused { (r : Refusal) → IsErrOf result (No r) → FindsOn (S.sizes shelf.old) (S.tells shelf.old) (S.world shelf.old).now.seen (Err r) ⊎ ((u : Uber) × (at : FindsOn (S.sizes shelf.old) (S.tells shelf.old) (S.world shelf.old).now.seen (Ok u)) × IsBackRefusal (S.tells shelf.old) (S.world shelf.old).now.seen at.seen u txg r) }
+    ensures none { IfOk result (λ o. IfNone o ((u : Uber) × (at : FindsOn (S.sizes shelf.old) (S.tells shelf.old) (S.world shelf.old).now.seen (Ok u)) × IsNotServedBack (S.tells shelf.old) (S.world shelf.old).now.seen at.seen u txg)) }
+{
+    let Scanned { seen, found } = scan(alloc, shelf)?;
+    let Some(now) = look_at(alloc, shelf, &found)? else {
+        return Ok(None);
+    };
+    let root = kept_root(seen.as_slice(), &found.root, txg)?;
+    if txg == found.root.txg {
+        return Ok(Some(now.pool));
+    }
+    let place = Found {
+        root,
+        slots: found.slots,
+    };
+    let Some(then) = look_at(alloc, shelf, &place)? else {
+        return Ok(None);
+    };
+    Ok(Some(reset(alloc, shelf, &found.root, then)?))
+}

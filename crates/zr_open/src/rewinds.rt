@@ -1,0 +1,126 @@
+//! Going back to a checkpoint.
+//!
+//! The root that a checkpoint saved is written once more, as the current one: in the group behind, and as a reset. So what was
+//! allocated since is free, and what was freed since is not. Nothing else is written. A device that was added since is no
+//! device of the pool any more.
+ghost use Rattle.std.specs.Prelude.{◌≡◌, ◌⊎◌, ◌+◌, ◌≤◌, ◌<◌, ◌^◌, ℕ, List, length, nat_lt, Some, None, Ok, Err, IfOk, IfSome, IfNone, OnOk, IsErrOf, if◌then◌else◌};
+ghost use Rattle.zr_base.specs.Counts.{HasRisen};
+ghost use Rattle.zr_base.specs.declared.refusal.Refusal.{Refusal};
+ghost use Rattle.zr_label.specs.Blocks.{IsUber};
+ghost use Rattle.zr_shelf.specs.Counts.{NoneFell};
+ghost use Rattle.zr_store.specs.Store.{Stored};
+ghost use Rattle.zr_sync.specs.Commits.{IsShownFrom};
+ghost use Rattle.zr_sync.specs.Holds.{HasBlocks};
+ghost use Rattle.zr_sync.specs.Pools.{IsOpen};
+ghost use Rattle.zr_sync.specs.Writes.{WorksOnDisks};
+ghost use Rattle.zr_sync.specs.declared.fault.Fault.TheVariants.{No, Stops};
+ghost use Rattle.zr_sync.specs.declared.stop.Stop.TheVariants.{DiskFault};
+ghost use Rattle.zr_view.specs.Views.{slot_of};
+ghost use Rattle.zr_base.specs.declared.refusal.Refusal.TheVariants.{NoCheckpoint};
+ghost use Rattle.zr_image.specs.Current.{slots_of};
+ghost use Rattle.zr_label.specs.declared.root.Uber.{Uber};
+ghost use Rattle.zr_open.specs.Found.{FindsOn};
+ghost use Rattle.zr_open.specs.Opened.{CoversOwed, IsNotServed, IsRefusedRoot, IsRefusedSaved};
+ghost use Rattle.zr_open.specs.Rewound.{HasNoSaved, HoldsSaved, IsRewound, IsShownBehind, ShowsNoSaved, rewound};
+
+use crate::look::{Looked, look};
+use crate::pool::open;
+use crate::saved::Beside;
+use std::alloc::Global;
+use zr_base::Refusal;
+use zr_label::Uber;
+use zr_shelf::Shelf;
+use zr_slots::{Found, publish, slots_in_both};
+use zr_sync::{Fault, OpenPool, Stop};
+
+// The saved root in a later group, which is a reset.
+pub(crate) fn rewound(saved: &Uber, txg: u64) -> Uber
+    requires lawful { IsUber saved.now }
+    requires later { saved.now.txg ≤ txg }
+    ensures is { result ≡ rewound saved.now txg }
+    ensures lawful { IsUber result }
+{
+    let mut root = *saved;
+    root.txg = txg;
+    root.reset = txg;
+    root
+}
+
+// The slots of the first devices alone.
+fn first_slots(slots: &[Option<u32>; 32], count: u32) -> [Option<u32>; 32]
+    requires few { count ≤ 32 }
+    requires long { length slots.now ≡ 32 }
+    ensures long { length result ≡ 32 }
+    ensures each { (d : ℕ) → slot_of result d ≡ (if nat_lt d count then slot_of slots.now d else None) }
+{
+    let mut first = *slots;
+    for index in count as usize..32 {
+        first[index] = None;
+    }
+    first
+}
+
+// Publishes the root of a pool in the slots of its devices, first where the current root's devices are too.
+pub(crate) fn show<S: Shelf>(
+    alloc: Global,
+    shelf: &mut S,
+    current: &Uber,
+    pool: &OpenPool,
+    root: &Uber,
+) -> Result<(), Stop>
+    requires pool { IsOpen (S.sizes shelf.old) pool.now }
+    requires lawful { IsUber root.now }
+    requires count { root.now.count ≡ pool.now.table.count }
+    requires few { current.now.count ≤ 32 }
+    ensures sizes { S.sizes shelf.new ≡ S.sizes shelf.old }
+    ensures none_fell { NoneFell (S.counts shelf.old) (S.counts shelf.new) }
+    ensures told { S.tells shelf.old → S.tells shelf.new }
+    ensures disks { S.tells shelf.old → WorksOnDisks (S.world shelf.old) (S.world shelf.new) }
+    ensures fault { IsErrOf result DiskFault → HasRisen (S.counts shelf.old).disk (S.counts shelf.new).disk }
+    ensures shown { S.tells shelf.old → OnOk result (IsShownFrom (S.sizes shelf.old) (record pool.now { last = Some current.now }) root.now (S.world shelf.old) (S.world shelf.new)) }
+    ensures keeps { (s : Stored) → HasBlocks (S.tells shelf.old) (S.world shelf.old).now.seen pool.now s → HasBlocks (S.tells shelf.new) (S.world shelf.new).now.seen pool.now s }
+{
+    let both = slots_in_both(alloc, current, root, &pool.table.slots)?;
+    let all = slots_in_both(alloc, root, root, &pool.table.slots)?;
+    publish(shelf, both.as_slice(), all.as_slice(), root)?;
+    Ok(())
+}
+
+/// Goes back to the checkpoint that the pool holds, and opens it. The answer is None where `import` answers it.
+///
+/// It reads what `import` reads, and then writes the saved root once more, with a flush before, between and behind. What it
+/// answers but Ok has written nothing, or stops the run.
+pub fn rewind<S: Shelf>(alloc: Global, shelf: &mut S) -> Result<Option<OpenPool>, Fault>
+    requires slots { length (S.sizes shelf.old) ≤ 32 }
+    ensures sizes { S.sizes shelf.new ≡ S.sizes shelf.old }
+    ensures none_fell { NoneFell (S.counts shelf.old) (S.counts shelf.new) }
+    ensures told { S.tells shelf.old → S.tells shelf.new }
+    ensures disks { S.tells shelf.old → WorksOnDisks (S.world shelf.old) (S.world shelf.new) }
+    ensures fault { IsErrOf result (Stops DiskFault) → HasRisen (S.counts shelf.old).disk (S.counts shelf.new).disk }
+    ensures pool { IfOk result (λ o. IfSome o (IsOpen (S.sizes shelf.new))) }
+    ensures rewound { IfOk result (λ o. IfSome o (λ pool. (u : Uber) × (at : FindsOn (S.sizes shelf.old) (S.tells shelf.old) (S.world shelf.old).now.seen (Ok u)) × IsRewound (S.tells shelf.old) (S.world shelf.old).now.seen (slots_of u at.seen) u pool)) }
+    ensures shown { S.tells shelf.old → IfOk result (λ o. IfSome o (λ pool. (u : Uber) × FindsOn (S.sizes shelf.old) (S.tells shelf.old) (S.world shelf.old).now.seen (Ok u) × IsShownBehind (S.sizes shelf.old) u pool (S.world shelf.old) (S.world shelf.new))) }
+    ensures objects { S.tells shelf.old → IfOk result (λ o. IfSome o (HoldsSaved (S.world shelf.old).now.paths (S.world shelf.old).now.seen (S.tells shelf.new) (S.world shelf.new).now.seen)) }
+    ensures room { IfOk result (λ o. IfSome o (λ pool. CoversOwed pool.space)) }
+    ensures groups { IfOk result (λ o. IfSome o (λ pool. pool.group.txg ≤ 2 ^ 63 + 1)) }
+    ensures refused { (r : Refusal) → IsErrOf result (No r) → FindsOn (S.sizes shelf.old) (S.tells shelf.old) (S.world shelf.old).now.seen (Err r) ⊎ (IsRefusedRoot r ⊎ ((u : Uber) × (at : FindsOn (S.sizes shelf.old) (S.tells shelf.old) (S.world shelf.old).now.seen (Ok u)) × (IsRefusedSaved (S.tells shelf.old) (S.world shelf.old).now.seen (slots_of u at.seen) u r ⊎ ((r ≡ NoCheckpoint) × HasNoSaved (S.tells shelf.old) (S.world shelf.old).now.seen (slots_of u at.seen) u)))) }
+    ensures unsaved { S.tells shelf.old → IsErrOf result (No NoCheckpoint) → ShowsNoSaved (S.world shelf.old).now.paths (S.world shelf.old).now.seen }
+    ensures none { IfOk result (λ o. IfNone o ((u : Uber) × (at : FindsOn (S.sizes shelf.old) (S.tells shelf.old) (S.world shelf.old).now.seen (Ok u)) × IsNotServed (S.tells shelf.old) (S.world shelf.old).now.seen (slots_of u at.seen) u)) }
+{
+    let Some(looked) = look(alloc, shelf)? else {
+        return Ok(None);
+    };
+    let Looked { found, beside, .. } = looked;
+    let Beside::Saved(saved) = beside else {
+        return Err(Fault::No(Refusal::NoCheckpoint));
+    };
+    let root = rewound(&saved.uber, found.root.txg + 1);
+    let place = Found {
+        root,
+        slots: first_slots(&found.slots, root.count),
+    };
+    let read = saved.root.reset(alloc)?;
+    let pool = open(alloc, &place, &read, &[], None)?;
+    show(alloc, shelf, &found.root, &pool, &root)?;
+    Ok(Some(pool))
+}

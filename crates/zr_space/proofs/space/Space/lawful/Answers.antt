@@ -1,0 +1,29 @@
+use Rattle.std.proofs.Common.{◌<◌, ◌≤◌, ◌^◌, ℕ, List, map, length, subst, sym, arith}
+use Rattle.std.proofs.lemmas.List.{length-map}
+use Rattle.zr_base.specs.declared.space.DevPart.{DevPart}
+use Rattle.zr_rules.specs.Places.{units_of_dev}
+use Rattle.zr_rules.specs.Space.{Space, IsLawful}
+use Rattle.zr_metaslab.specs.Devices.{Devices}
+use Rattle.zr_space.specs.Views.{Kept, part_in, IsSpace}
+use Rattle.zr_rules.specs.Mappings.{IsRising}
+use Rattle.zr_rules.specs.Equation.{devices_in}
+use Rattle.zr_space.proofs.Freeables.{all_rising}
+use Rattle.zr_space.specs.declared.whole.Whole.{Whole}
+use Rattle.zr_space.proofs.Keeps.{lawful}
+use Rattle.zr_space.proofs.Views.{part_is}
+use Rattle.zr_space.proofs.space.Space.lawful.Goals as goal
+
+small_units : {whole : Whole} (slabs : Devices) (devs : List Kept) (d : ℕ) → IsSpace whole slabs devs → units_of_dev (map part_in devs) d < 2 ^ 40
+small_units slabs devs d s = subst (λ (p : DevPart). p.row.units < 2 ^ 40) (sym (part_is devs d)) (s.small d)
+
+pub returns-clause-lawful : goal.returns-clause-lawful
+returns-clause-lawful c = subst IsLawful c.self.view_is (lawful c.self.inside.whole c.self.inside.slabs c.self.inside.devs.items c.self.invariant)
+
+pub returns-clause-small : goal.returns-clause-small
+returns-clause-small c = subst (λ (s : Space). (d : ℕ) → units_of_dev s.parts.devs d < 2 ^ 40) c.self.view_is (λ d. small_units c.self.inside.slabs c.self.inside.devs.items d c.self.invariant)
+
+pub returns-clause-rising : goal.returns-clause-rising
+returns-clause-rising c = subst (λ (s : Space). (d : ℕ) → IsRising ((devices_in s).entries d)) c.self.view_is (all_rising c.self.inside.slabs c.self.inside.devs.items c.self.invariant)
+
+pub returns-clause-few : goal.returns-clause-few
+returns-clause-few c = subst (λ (s : Space). length s.parts.devs ≤ 32) c.self.view_is (let f = c.self.invariant.few in let e = length-map c.self.inside.devs.items part_in in omega (arith, f, e))

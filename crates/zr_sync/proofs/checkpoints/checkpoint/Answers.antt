@@ -1,0 +1,76 @@
+use Rattle.std.proofs.Common.{ℕ, List, Option, false, ◌∙◌, ap, subst, arith}
+use Rattle.std.specs.Prelude.{IfSome}
+use Rattle.zr_base.specs.declared.space.CkptPart.TheVariants.{Held}
+use Rattle.zr_label.specs.declared.root.Uber.{Uber}
+use Rattle.zr_shelf.specs.Moments.{World}
+use Rattle.zr_sync.specs.Commits.{IsNextRoot, IsShownFrom}
+use Rattle.zr_sync.specs.declared.open.OpenPool.{OpenPool}
+use Rattle.zr_sync.proofs.Disks.{works_more}
+use Rattle.zr_sync.proofs.SavedRoots.{saves_seen, saves_objects, saves_same}
+use Rattle.zr_sync.proofs.checkpoints.checkpoint.Goals as goal
+
+pub save_root-requires-clause-some : goal.save_root-requires-clause-some
+save_root-requires-clause-some g c = let first = c.requires.pool.first in let txg = c.in_ok-commit.ensures.txg in omega (arith, first, txg)
+
+pub commit_anew-requires : goal.commit_anew-requires
+commit_anew-requires g c = record { pool = c.in_ok-save_root.ensures.pool (g.S.Shelf.sizes c.commit.new.shelf) c.in_ok-commit.ensures.pool }
+
+pub returns-clause-disks : goal.returns-clause-disks
+returns-clause-disks g c = λ t.
+    works_more (g.S.Shelf.world c.args.shelf.now) (g.S.Shelf.world c.commit.new.shelf) (g.S.Shelf.world c.commit_anew.new.shelf) (c.commit.ensures.disks t) (c.commit_anew.ensures.disks (c.commit.ensures.told t))
+
+pub returns-in_err-commit_anew-clause-disks : goal.returns-in_err-commit_anew-clause-disks
+returns-in_err-commit_anew-clause-disks g c = λ t.
+    works_more (g.S.Shelf.world c.args.shelf.now) (g.S.Shelf.world c.commit.new.shelf) (g.S.Shelf.world c.commit_anew.new.shelf) (c.commit.ensures.disks t) (c.commit_anew.ensures.disks (c.commit.ensures.told t))
+
+pub returns-clause-same : goal.returns-clause-same
+returns-clause-same g c = saves_same c.args.pool.now c.commit.new.pool c.save_root.new.pool c.commit_anew.new.pool c.in_ok-commit.ensures.same c.in_ok-save_root.ensures.saves c.in_ok-commit_anew.ensures.same
+
+pub returns-clause-takes : goal.returns-clause-takes
+returns-clause-takes g c =
+    let held = c.save_root.new.pool in
+    let now = g.S.Shelf.world c.commit_anew.new.shelf in
+    record {
+      ended = c.commit.new.pool;
+      mid = g.S.Shelf.world c.commit.new.shelf;
+      root = c.in_ok-commit.ensures.last;
+      ends = c.in_ok-commit.ensures.ends;
+      shown = c.in_ok-commit.ensures.shown;
+      held = held;
+      saves = c.in_ok-save_root.ensures.saves;
+      next = c.in_ok-commit_anew.ensures.last;
+      resets = c.in_ok-commit_anew.ensures.ends;
+      next_shown = λ t.
+          subst (λ (n : List ℕ). IfSome c.commit_anew.new.pool.last (λ (u : Uber). (before : World) × IsShownFrom n held u before now)) c.commit.ensures.sizes
+          (c.in_ok-commit_anew.ensures.shown (c.commit.ensures.told t));
+      saved = c.in_ok-commit_anew.ensures.saved;
+    }
+
+pub returns-clause-seen : goal.returns-clause-seen
+returns-clause-seen g c = λ seen.
+    let mid = c.commit.new.shelf in
+    c.in_ok-commit_anew.ensures.seen (saves_seen c.commit.new.pool c.save_root.new.pool c.in_ok-save_root.ensures.saves (g.S.Shelf.tells mid) (g.S.Shelf.world mid).now.seen (c.in_ok-commit.ensures.seen seen))
+
+pub returns-clause-stands : goal.returns-clause-stands
+returns-clause-stands g c = λ seen.
+    let mid = c.commit.new.shelf in
+    c.in_ok-commit_anew.ensures.stands (saves_seen c.commit.new.pool c.save_root.new.pool c.in_ok-save_root.ensures.saves (g.S.Shelf.tells mid) (g.S.Shelf.world mid).now.seen (c.in_ok-commit.ensures.seen seen))
+
+pub returns-clause-txg : goal.returns-clause-txg
+returns-clause-txg g c =
+    let first = c.in_ok-commit.ensures.txg in
+    let held = ap (λ (p : OpenPool). p.group.txg) c.in_ok-save_root.ensures.saves.rest in
+    let last = c.in_ok-commit_anew.ensures.txg in
+    omega (arith, first, held, last)
+
+pub returns-clause-stays : goal.returns-clause-stays
+returns-clause-stays g c = λ objects h.
+    let mid = c.commit.new.shelf in
+    c.in_ok-commit_anew.ensures.stays objects
+    (saves_objects c.commit.new.pool c.save_root.new.pool c.in_ok-save_root.ensures.saves (g.S.Shelf.sizes mid) (g.S.Shelf.counts mid) (g.S.Shelf.tells mid) (g.S.Shelf.world mid) objects c.in_ok-commit.ensures.pool (c.in_ok-commit.ensures.stays objects h))
+
+pub returns-clause-held : goal.returns-clause-held
+returns-clause-held g c =
+    let saves = c.in_ok-save_root.ensures.saves in
+    let next : IsNextRoot c.args.pool.now false saves.root = subst (λ (o : Option Uber). IfSome o (IsNextRoot c.args.pool.now false)) saves.last c.in_ok-commit.ensures.last in
+    c.in_ok-commit_anew.ensures.same.ckpt ∙ (saves.holds.ckpt_is ∙ ap (λ (n : ℕ). Held n) next.txg)

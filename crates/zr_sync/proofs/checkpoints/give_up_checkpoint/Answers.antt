@@ -1,0 +1,45 @@
+use Rattle.std.proofs.Common.{◌∙◌, ap, arith}
+use Rattle.zr_sync.specs.declared.open.OpenPool.{OpenPool}
+use Rattle.zr_sync.proofs.SavedRoots.{drops_seen, drops_objects, drops_same}
+use Rattle.zr_sync.proofs.checkpoints.give_up_checkpoint.Goals as goal
+
+pub commit-requires : goal.commit-requires
+commit-requires g c = record { pool = c.in_ok-drop_root.ensures.pool (g.S.Shelf.sizes c.args.shelf.now) c.requires.pool }
+
+pub returns-clause-same : goal.returns-clause-same
+returns-clause-same g c = drops_same c.args.pool.now c.drop_root.new.pool c.commit.new.pool c.in_ok-drop_root.ensures.drops c.in_ok-commit.ensures.same
+
+pub returns-clause-gives : goal.returns-clause-gives
+returns-clause-gives g c = record {
+  dropped = c.drop_root.new.pool;
+  drops = c.in_ok-drop_root.ensures.drops;
+  root = c.in_ok-commit.ensures.last;
+  resets = c.in_ok-commit.ensures.ends;
+  shown = c.in_ok-commit.ensures.shown;
+  saved = c.in_ok-commit.ensures.saved ∙ c.in_ok-drop_root.ensures.drops.none;
+}
+
+pub returns-clause-seen : goal.returns-clause-seen
+returns-clause-seen g c = λ seen.
+    let old = c.args.shelf.now in
+    c.in_ok-commit.ensures.seen (drops_seen c.args.pool.now c.drop_root.new.pool c.in_ok-drop_root.ensures.drops (g.S.Shelf.tells old) (g.S.Shelf.world old).now.seen seen)
+
+pub returns-clause-stands : goal.returns-clause-stands
+returns-clause-stands g c = λ seen.
+    let old = c.args.shelf.now in
+    c.in_ok-commit.ensures.stands (drops_seen c.args.pool.now c.drop_root.new.pool c.in_ok-drop_root.ensures.drops (g.S.Shelf.tells old) (g.S.Shelf.world old).now.seen seen)
+
+pub returns-clause-txg : goal.returns-clause-txg
+returns-clause-txg g c =
+    let same = ap (λ (p : OpenPool). p.group.txg) c.in_ok-drop_root.ensures.drops.rest in
+    let last = c.in_ok-commit.ensures.txg in
+    omega (arith, same, last)
+
+pub returns-clause-stays : goal.returns-clause-stays
+returns-clause-stays g c = λ objects h.
+    let old = c.args.shelf.now in
+    c.in_ok-commit.ensures.stays objects
+    (drops_objects c.args.pool.now c.drop_root.new.pool c.in_ok-drop_root.ensures.drops (g.S.Shelf.sizes old) (g.S.Shelf.counts old) (g.S.Shelf.tells old) (g.S.Shelf.world old) objects c.requires.pool h)
+
+pub returns-clause-discarding : goal.returns-clause-discarding
+returns-clause-discarding g c = c.in_ok-commit.ensures.same.ckpt ∙ c.in_ok-drop_root.ensures.drops.gives.others.rows.ckpt

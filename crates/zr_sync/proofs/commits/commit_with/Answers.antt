@@ -1,0 +1,124 @@
+use Rattle.std.proofs.Common.{◌≡◌, List, ℕ, Option, inl, refl, sym, subst}
+use Rattle.zr_bptr.specs.declared.Ptr.{Ptr}
+use Rattle.std.specs.Prelude.{IfSome, take}
+use Rattle.zr_label.specs.declared.root.Uber.{Uber}
+use Rattle.zr_shelf.specs.Moments.{World}
+use Rattle.zr_shelf.proofs.Doings.{writes_nothing}
+use Rattle.zr_shelf.proofs.Runs.{still}
+use Rattle.zr_sync.specs.Commits.{IsShownFrom}
+use Rattle.zr_sync.specs.Heads.{HasHead, head_of}
+use Rattle.zr_sync.specs.Pools.{IsOpen}
+use Rattle.zr_sync.specs.Writes.{WritesIntoFree}
+use Rattle.zr_sync.proofs.Anew.{renewed_last}
+use Rattle.zr_sync.proofs.Disks.{works_more}
+use Rattle.zr_sync.proofs.Groups.{commits_devices, publishes_then, shown_before, stops_early}
+use Rattle.zr_sync.proofs.Holding.{ended_written}
+use Rattle.zr_sync.proofs.Objects.{now_held}
+use Rattle.zr_sync.proofs.Standing.{head_same, ended_head, seen_same, seen_devices}
+use Rattle.zr_sync.proofs.Stays.{trees_stored, objects_written}
+use Rattle.zr_txg.specs.Changes.{block_count}
+use Rattle.zr_vdev.specs.Runs.{view_of}
+use Rattle.zr_vdev.specs.Stores.{IsWriteInto}
+use Rattle.zr_vdev.specs.declared.kind.Kind.TheVariants.{Block}
+use Rattle.zr_sync.proofs.commits.commit_with.Goals as goal
+
+pub returns-in_err-publish_root-clause-disks : goal.returns-in_err-publish_root-clause-disks
+returns-in_err-publish_root-clause-disks g c = λ t.
+    works_more (g.S.Shelf.world c.args.shelf.now) (g.S.Shelf.world c.write_all.new.shelf) (g.S.Shelf.world c.publish_root.new.shelf) (c.write_all.ensures.wrote.disks t) (c.publish_root.ensures.disks (c.write_all.ensures.wrote.told t))
+
+pub returns-clause-disks : goal.returns-clause-disks
+returns-clause-disks g c = λ t.
+    works_more (g.S.Shelf.world c.args.shelf.now) (g.S.Shelf.world c.write_all.new.shelf) (g.S.Shelf.world c.publish_root.new.shelf) (c.write_all.ensures.wrote.disks t) (c.publish_root.ensures.disks (c.write_all.ensures.wrote.told t))
+
+pub returns-clause-pool : goal.returns-clause-pool
+returns-clause-pool g c =
+    c.end_group.ensures.pool (g.S.Shelf.sizes c.publish_root.new.shelf) (subst (λ (n : List ℕ). IsOpen n c.write_all.new.pool) (sym c.publish_root.ensures.sizes) c.in_ok-root.ensures.pool)
+
+pub returns-clause-shown : goal.returns-clause-shown
+returns-clause-shown g c = λ t.
+    let sizes = g.S.Shelf.sizes c.args.shelf.now in
+    let now = g.S.Shelf.world c.publish_root.new.shelf in
+    let before = g.S.Shelf.world c.write_all.new.shelf in
+    subst (λ (o : Option Uber). IfSome o (λ (u : Uber). (w : World) × IsShownFrom sizes c.args.pool.now u w now)) (sym c.end_group.ensures.last)
+    (before, shown_before c.write_all.ensures.wrote c.next_root-next.result before now (c.in_ok-publish_root.ensures.shown (c.write_all.ensures.wrote.told t)))
+
+pub returns-clause-head : goal.returns-clause-head
+returns-clause-head g c =
+    subst (λ (o : Option Uber). IfSome o (λ (u : Uber). c.end_group.new.pool.head.root ≡ u.root)) (sym c.end_group.ensures.last) c.end_group.ensures.head
+
+pub returns-clause-ends : goal.returns-clause-ends
+returns-clause-ends g c = record {
+  trees = c.write_all.ensures.wrote.mid;
+  all = c.write_all.new.pool.space;
+  blocks = c.write_all.ensures.wrote.blocks;
+  metadata = c.write_all.ensures.wrote.metadata;
+  ended = c.end_group.ensures.space;
+}
+
+pub returns-clause-objects : goal.returns-clause-objects
+returns-clause-objects g c = λ s held stored.
+    let first = c.args.shelf.now in
+    let last = c.publish_root.new.shelf in
+    ended_written c.args.reset (g.S.Shelf.tells first) (g.S.Shelf.tells last) (g.S.Shelf.world first).now.seen (g.S.Shelf.world last).now.seen c.args.pool.now c.write_all.new.pool c.end_group.new.pool s
+    c.in_ok-root.ensures.pool.service c.end_group.ensures.table c.end_group.ensures.cache c.end_group.ensures.dir c.end_group.ensures.live c.end_group.ensures.space held stored
+    (now_held (λ m h. c.publish_root.ensures.blocks m h) (c.in_ok-root.ensures.objects s held stored))
+
+pub returns-clause-stays : goal.returns-clause-stays
+returns-clause-stays g c = λ objects h.
+    let x = c.args.pool.now in
+    let first = c.args.shelf.now in
+    let last = c.publish_root.new.shelf in
+    let stored = trees_stored x objects (block_count x.group.objects) c.is_in_order.ensures c.requires.pool.group h in
+    objects_written x c.end_group.new.pool objects (block_count x.group.objects) c.is_in_order.ensures c.requires.pool.group c.end_group.ensures.empty h
+    (ended_written c.args.reset (g.S.Shelf.tells first) (g.S.Shelf.tells last) (g.S.Shelf.world first).now.seen (g.S.Shelf.world last).now.seen x c.write_all.new.pool c.end_group.new.pool h.stored
+    c.in_ok-root.ensures.pool.service c.end_group.ensures.table c.end_group.ensures.cache c.end_group.ensures.dir c.end_group.ensures.live c.end_group.ensures.space h.held stored
+    (now_held (λ m held. c.publish_root.ensures.blocks m held) (c.in_ok-root.ensures.objects h.stored h.held stored)))
+
+pub returns-clause-stands : goal.returns-clause-stands
+returns-clause-stands g c = λ seen.
+    let pool = c.write_all.new.pool in
+    let before = (g.S.Shelf.world c.write_all.new.shelf).now.seen in
+    let now = (g.S.Shelf.world c.publish_root.new.shelf).now.seen in
+    let root = c.next_root-next.result.root in
+    let len = c.next_root-next.result.len in
+    let wrote : HasHead before pool root len =
+    subst (λ (r : Ptr). HasHead before pool r len) (sym c.next_root-next.ensures.root_is) (subst (λ (n : ℕ). HasHead before pool c.in_ok-root.root n) (sym c.next_root-next.ensures.len_is) (c.in_ok-root.ensures.stands seen)) in
+    let published = head_same (take pool.table.count pool.table.rows) (view_of before pool.table.slots pool.space) (view_of now pool.table.slots pool.space) (head_of pool) root len (c.publish_root.ensures.bytes (c.write_all.ensures.wrote.told seen.told)) wrote in
+    subst (λ (o : Option Uber). IfSome o (λ (u : Uber). HasHead now c.end_group.new.pool u.root u.len)) (sym c.end_group.ensures.last)
+    (ended_head c.args.reset now pool c.end_group.new.pool root len c.end_group.ensures.table c.end_group.ensures.dir c.end_group.ensures.streams c.end_group.ensures.saved c.end_group.ensures.space published)
+
+pub returns-clause-seen : goal.returns-clause-seen
+returns-clause-seen g c = λ seen.
+    let mid = c.write_all.new.shelf in
+    let last = c.publish_root.new.shelf in
+    let pool = c.write_all.new.pool in
+    let wrote = c.in_ok-root.ensures.seen seen in
+    let shown = seen_same (g.S.Shelf.tells mid) (g.S.Shelf.tells last) (g.S.Shelf.world mid).now.seen (g.S.Shelf.world last).now.seen pool (c.publish_root.ensures.told wrote.told) (c.publish_root.ensures.bytes wrote.told) wrote in
+    seen_devices (g.S.Shelf.tells last) (g.S.Shelf.world last).now.seen pool c.end_group.new.pool (commits_devices c.args.reset pool.space c.end_group.new.pool.space c.end_group.ensures.space) c.end_group.ensures.table c.end_group.ensures.cache shown
+
+pub returns-then-txg-clause-order : goal.returns-then-txg-clause-order
+returns-then-txg-clause-order g c = λ t.
+    let w = g.S.Shelf.world c.args.shelf.now in
+    (w, writes_nothing (IsWriteInto Block c.args.pool.now.table.slots c.args.pool.now.space) w, inl (still w w refl))
+
+pub returns-in_err-root-clause-order : goal.returns-in_err-root-clause-order
+returns-in_err-root-clause-order g c = λ t. stops_early c.write_all.ensures.wrote t c.args.reset
+
+pub returns-in_err-publish_root-clause-order : goal.returns-in_err-publish_root-clause-order
+returns-in_err-publish_root-clause-order g c = λ t.
+    publishes_then c.write_all.ensures.wrote t c.args.reset c.next_root-next.result c.next_root-next.ensures.next (g.S.Shelf.world c.publish_root.new.shelf) (c.publish_root.ensures.order (c.write_all.ensures.wrote.told t))
+
+pub returns-clause-order : goal.returns-clause-order
+returns-clause-order g c = λ t.
+    publishes_then c.write_all.ensures.wrote t c.args.reset c.next_root-next.result c.next_root-next.ensures.next (g.S.Shelf.world c.publish_root.new.shelf) (c.publish_root.ensures.order (c.write_all.ensures.wrote.told t))
+
+pub returns-clause-written : goal.returns-clause-written
+returns-clause-written g c = λ t.
+    let sizes = g.S.Shelf.sizes c.args.shelf.now in
+    let now = g.S.Shelf.world c.publish_root.new.shelf in
+    let before = g.S.Shelf.world c.write_all.new.shelf in
+    subst (λ (o : Option Uber). IfSome o (λ (u : Uber). (w : World) × WritesIntoFree c.args.pool.now (g.S.Shelf.world c.args.shelf.now) w × IsShownFrom sizes c.args.pool.now u w now)) (sym c.end_group.ensures.last)
+    (before, c.write_all.ensures.wrote.written t, shown_before c.write_all.ensures.wrote c.next_root-next.result before now (c.in_ok-publish_root.ensures.shown (c.write_all.ensures.wrote.told t)))
+
+pub returns-clause-anew : goal.returns-clause-anew
+returns-clause-anew g c = λ reset is. renewed_last c.args.pool.now c.write_all.new.pool c.end_group.new.pool c.end_group.ensures.streams (c.in_ok-root.ensures.anew reset is)

@@ -1,0 +1,20 @@
+use Rattle.std.proofs.Common.{◌≡◌, ◌∙◌, [], None, sym, subst, arith}
+use Rattle.std.proofs.lemmas.List.{get_or_default}
+use Rattle.zr_commit.specs.Logs.{streams_reach}
+use Rattle.zr_store.specs.Store.{AreStored, Now, Swaps}
+use Rattle.zr_vdev.specs.Stores.{HoldsBlocks}
+use Rattle.zr_vdev.specs.declared.kind.Kind.TheVariants.{Meta}
+use Rattle.zr_sync.specs.Checkpoints.{no_streams}
+use Rattle.zr_sync.specs.Streams.{late_streams, streams_at}
+use Rattle.zr_sync.specs.declared.open.DeviceStreams.{DeviceStreams}
+use Rattle.zr_sync.proofs.late.give_late.Goals as goal
+
+pub returns-clause-gives : goal.returns-clause-gives
+returns-clause-gives g c = λ s held stored.
+    let pool = c.args.pool.now in
+    let last = c.give_streams.new in
+    let count = c.requires.pool.count in
+    let t = c.index-old.result.now in
+    let is : t ≡ streams_at pool c.args.dev = c.index-old.ensures ∙ get_or_default pool.streams.items c.args.dev t no_streams (omega (arith, count, c.requires.dev)) in
+    subst (λ (x : DeviceStreams). Now (HoldsBlocks Meta pool.table.slots (g.S.Shelf.tells last.shelf) (g.S.Shelf.world last.shelf).now.seen last.space None last.cache) (λ n. Swaps s n (streams_reach s (late_streams x)) [])) is
+    (c.in_ok-give_streams.ensures.gives s held (subst (λ (x : DeviceStreams). AreStored (streams_reach s (late_streams x)) s) (sym is) stored))

@@ -1,0 +1,18 @@
+use Rattle.std.proofs.Common.{◌∙◌, refl, rules}
+use Rattle.zr_tree.specs.Trees.{tree_reach}
+use Rattle.zr_vdev.proofs.Follows.{continues_itself}
+use Rattle.zr_vdev.proofs.Moves.{begins_held}
+use Rattle.zr_sync.proofs.Objects.{now_held}
+use Rattle.zr_sync.proofs.Streams.{now_given}
+use Rattle.zr_sync.proofs.stores.give_tree.Goals as goal
+
+pub returns-clause-gives : goal.returns-clause-gives
+returns-clause-gives g c = λ s h stored.
+    let v = c.new-store.ensures in
+    let f = c.give_blocks.ensures.follows c.new-store.result (refl, refl, refl, refl, continues_itself _ _ _ _ _ _ _ _) in
+    let mount = f.3 ∙ v.mount in
+    let store = c.give_blocks.new.store in
+    now_held (λ m held. search (rules, held, f, mount))
+    (now_given _ _ s (tree_reach s c.args.t.now)
+    (λ m held. begins_held store.mount.kind store.mount.slots.now (g.S.Shelf.tells store.shelf.now) (g.S.Shelf.world store.shelf.now).now.seen store.space.now store.lost store.cache.now m held)
+    (c.in_ok-give_blocks.ensures.gives s (rw (v.space, v.shelf, v.cache, v.lost, v.mount) h) stored))

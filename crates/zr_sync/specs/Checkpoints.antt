@@ -1,0 +1,74 @@
+-- A checkpoint that is taken, and one that is given up.
+use Rattle.std.specs.Prelude.{◌≡◌, ℕ, ◌⊎◌, true, false, List, [], Some, None, IfSome, All, length}
+use Rattle.zr_base.specs.declared.space.CkptPart.TheVariants.{Discarding}
+use Rattle.zr_bptr.specs.declared.Ptr.TheVariants.{Hole}
+use Rattle.zr_label.specs.Blocks.{SpellsUber}
+use Rattle.zr_label.specs.declared.root.Uber.{Uber}
+use Rattle.zr_meta.specs.declared.Stream.{Stream}
+use Rattle.zr_rules.specs.Roles.Role.{DeferredMeta, SavedMeta}
+use Rattle.zr_rules.specs.Space.{Space, role_at}
+use Rattle.zr_rules.specs.Steps.{HoldsCheckpoint, with_ckpt}
+use Rattle.zr_shelf.specs.Moments.{World}
+use Rattle.zr_vdev.specs.Stores.{KeepsOthers}
+use Rattle.zr_vdev.specs.declared.kind.Kind.TheVariants.{Meta}
+use Rattle.zr_sync.specs.Commits.{EndsGroup, IsNextRoot, IsShownFrom}
+use Rattle.zr_sync.specs.declared.open.DeviceStreams.{DeviceStreams}
+use Rattle.zr_sync.specs.declared.open.OpenPool.{OpenPool}
+
+abbrev pub no_stream : Stream
+no_stream = record { words = 0; tree = record { root = Hole; height = 0 } }
+
+-- streams of no words
+abbrev pub no_streams : DeviceStreams
+no_streams = record { held = no_stream; kept = no_stream; late1 = no_stream; late2 = no_stream }
+
+-- metadata of the saved root is given back, and nothing else is changed: where there is none, nothing at all
+pub record GivesSavedMeta (old new : Space) : Type 0 where
+  pub roles : (d u : ℕ) → (role_at new d u ≡ role_at old d u) ⊎ ((role_at old d u ≡ SavedMeta) × (role_at new d u ≡ DeferredMeta))
+  pub others : KeepsOthers Meta old new
+  pub nothing : old.saved_meta ≡ [] → new ≡ old
+
+-- The last root is saved: its block is kept, with where its metadata stands, and all of that is the saved root's from here on. So the pool has no streams and no head until it is committed.
+pub record SavesRoot (old new : OpenPool) : Type 0 where
+  pub root : Uber
+  pub last : old.last ≡ Some root
+  pub block : List ℕ
+  pub spelled : SpellsUber block root
+  pub saved : new.saved ≡ Some (record { block = block; head = old.head; streams = old.streams })
+  pub given : Space
+  pub gives : GivesSavedMeta old.space given
+  pub holds : HoldsCheckpoint given new.space root.txg
+  pub streams : All (λ (s : DeviceStreams). s ≡ no_streams) new.streams.items
+  pub count : length new.streams.items ≡ length old.streams.items
+  pub head : new.head ≡ no_stream.tree
+  pub rest : new ≡ record old { space = new.space; saved = new.saved; head = new.head; streams = new.streams }
+
+-- No root is saved any more: its metadata is given back, and what is kept waits to be.
+pub record DropsRoot (old new : OpenPool) : Type 0 where
+  pub none : new.saved ≡ None
+  pub gives : GivesSavedMeta (with_ckpt old.space Discarding) new.space
+  pub nothing : new.space.saved_meta ≡ []
+  pub rest : new ≡ record old { space = new.space; saved = None }
+
+-- A checkpoint is taken: the open group ends, the root that it leaves is saved, and a root behind that tells so.
+pub record TakesCheckpoint (sizes : List ℕ) (told : Type 0) (now : World) (old new : OpenPool) : Type 0 where
+  pub ended : OpenPool
+  pub mid : World
+  pub root : IfSome ended.last (IsNextRoot old false)
+  pub ends : EndsGroup false old.space ended.space
+  pub shown : told → IfSome ended.last (λ u. (before : World) × IsShownFrom sizes old u before mid)
+  pub held : OpenPool
+  pub saves : SavesRoot ended held
+  pub next : IfSome new.last (IsNextRoot held true)
+  pub resets : EndsGroup true held.space new.space
+  pub next_shown : told → IfSome new.last (λ u. (before : World) × IsShownFrom sizes held u before now)
+  pub saved : new.saved ≡ held.saved
+
+-- A checkpoint is given up: no root is saved any more, and the open group ends with a reset that tells so.
+pub record GivesUpCheckpoint (sizes : List ℕ) (told : Type 0) (now : World) (old new : OpenPool) : Type 0 where
+  pub dropped : OpenPool
+  pub drops : DropsRoot old dropped
+  pub root : IfSome new.last (IsNextRoot dropped true)
+  pub resets : EndsGroup true dropped.space new.space
+  pub shown : told → IfSome new.last (λ u. (before : World) × IsShownFrom sizes dropped u before now)
+  pub saved : new.saved ≡ None

@@ -1,0 +1,16 @@
+use Rattle.std.proofs.Common.{◌≡◌, ◌++◌, take}
+use Rattle.std.specs.List.{flat_map}
+use Rattle.zr_store.specs.Causes.{Costs}
+use Rattle.zr_store.specs.Store.{Stored}
+use Rattle.zr_tree.specs.Trees.{tree_reach}
+use Rattle.zr_vdev.specs.Stores.{addresses_of}
+use Rattle.zr_tables.specs.Walks.{streams_reach}
+use Rattle.zr_tables.proofs.metadata.put_root.Given as goal
+
+abbrev pub invariant-loop-device : goal.invariant-loop-device
+invariant-loop-device g l = record {
+  follows : (start : g.row.B.Denot) → g.B.Blocks.follows start l.fn.store → g.B.Blocks.follows start l.store;
+  costs : Costs 0 0 (g.B.Blocks.account l.fn.store) (g.B.Blocks.account l.store);
+  same : (s : Stored) → g.B.Blocks.holds l.fn.store s → g.B.Blocks.holds l.store s;
+  so_far : (s : Stored) → g.B.Blocks.holds l.fn.store s → l.out.items ≡ l.fn.out.items ++ addresses_of (tree_reach s l.head ++ flat_map (streams_reach s) (take l.device-index l.streams));
+}

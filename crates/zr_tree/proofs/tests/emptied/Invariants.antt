@@ -1,5 +1,0 @@
-use Rattle.zr_bptr.specs.Spelling.{IsTree}
-use Rattle.zr_tree.proofs.tests.emptied.Given as goal
-
-abbrev pub invariant-loop-index : goal.invariant-loop-index
-invariant-loop-index l = (goal.iterator-loop-index.can_next l.index-iterator) × (goal.iterator-loop-index.is_finite l.index-iterator) × IsTree l.u
