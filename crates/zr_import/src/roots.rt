@@ -1,5 +1,5 @@
 //! A whole root.
-ghost use Rattle.std.specs.Prelude.{◌≡◌, ◌↔◌, ◌≤◌, ◌+◌, ℕ, length, map, None, IfOk, IsTrue, true, All};
+ghost use Rattle.std.specs.Prelude.{◌≡◌, ◌↔◌, ◌≤◌, ◌+◌, ℕ, length, map, None, IfOk, OnOk, IsTrue, true, All};
 ghost use Rattle.std.specs.List.{list_all};
 ghost use Rattle.zr_label.specs.Blocks.{IsUber};
 ghost use Rattle.zr_meta.specs.Heads.{IsHead};
@@ -36,18 +36,14 @@ pub struct Root {
 }
 
 impl Root {
-    /// The root as it is once its group is a reset, which has freed all: its late sets count as empty. It goes over its sets.
-    pub fn reset(self, alloc: Global) -> Result<Root, NoMemory>
-        requires { self.parts.cond ≡ None }
-        ensures { IfOk result (λ root. root ≡ record self { parts = without_late self.parts }) }
+    /// Makes it the root that it is once its group is a reset, which has freed all: its late sets count as empty. It goes over
+    /// its sets.
+    pub fn reset(&mut self, alloc: Global) -> Result<(), NoMemory>
+        requires { self.old.parts.cond ≡ None }
+        ensures { OnOk result (self.new ≡ record self.old { parts = without_late self.old.parts }) }
     {
-        let parts = without_late(alloc, &self.parts)?;
-        Ok(Root {
-            head: self.head,
-            parts,
-            meta: self.meta,
-            older: self.older,
-        })
+        self.parts = without_late(alloc, &self.parts)?;
+        Ok(())
     }
 }
 

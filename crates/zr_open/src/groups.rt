@@ -51,10 +51,10 @@ fn reset<S: Shelf>(
     alloc: Global,
     shelf: &mut S,
     current: &Uber,
-    then: Looked,
+    then: &mut Looked,
 ) -> Result<OpenPool, Fault>
-    requires looked { WasLookedAt (S.sizes shelf.old) then }
-    requires below { then.found.root.txg ≤ current.now.txg }
+    requires looked { WasLookedAt (S.sizes shelf.old) then.old }
+    requires below { then.old.found.root.txg ≤ current.now.txg }
     requires room { current.now.txg ≤ 2 ^ 63 }
     requires few { current.now.count ≤ 32 }
     ensures sizes { S.sizes shelf.new ≡ S.sizes shelf.old }
@@ -63,30 +63,24 @@ fn reset<S: Shelf>(
     ensures disks { S.tells shelf.old → WorksOnDisks (S.world shelf.old) (S.world shelf.new) }
     ensures fault { IsErrOf result (Stops DiskFault) → HasRisen (S.counts shelf.old).disk (S.counts shelf.new).disk }
     ensures pool { IfOk result (IsOpen (S.sizes shelf.new)) }
-    ensures fresh { IfOk result (IsFresh (rewound then.found.root (current.now.txg + 1))) }
-    ensures shown { S.tells shelf.old → IfOk result (λ pool. IsShownFrom (S.sizes shelf.old) (record pool { last = Some current.now }) (rewound then.found.root (current.now.txg + 1)) (S.world shelf.old) (S.world shelf.new)) }
-    ensures objects { S.tells shelf.old → IsLookedAt (S.sizes shelf.old) (Unit {0}) (S.world shelf.old).now.seen then → IfOk result (HoldsRoot (S.world shelf.old).now.seen (S.tells shelf.new) (S.world shelf.new).now.seen then) }
+    ensures fresh { IfOk result (IsFresh (rewound then.old.found.root (current.now.txg + 1))) }
+    ensures shown { S.tells shelf.old → IfOk result (λ pool. IsShownFrom (S.sizes shelf.old) (record pool { last = Some current.now }) (rewound then.old.found.root (current.now.txg + 1)) (S.world shelf.old) (S.world shelf.new)) }
+    ensures objects { S.tells shelf.old → IsLookedAt (S.sizes shelf.old) (Unit {0}) (S.world shelf.old).now.seen then.old → IfOk result (HoldsRoot (S.world shelf.old).now.seen (S.tells shelf.new) (S.world shelf.new).now.seen then.old) }
     ensures room { IfOk result (λ pool. CoversOwed pool.space) }
     ensures groups { IfOk result (λ pool. pool.group.txg ≤ 2 ^ 63 + 1) }
-    ensures refused { (r : Refusal) → IsErrOf result (No r) → (r ≡ BadRoot 5) ⊎ MayRefuse (meta_of (saved_in then.beside)) r }
+    ensures refused { (r : Refusal) → IsErrOf result (No r) → (r ≡ BadRoot 5) ⊎ MayRefuse (meta_of (saved_in then.old.beside)) r }
 {
-    let Looked {
-        found,
-        root,
-        beside,
-        ..
-    } = then;
-    is_quiet(&root)?;
-    let Some(saved) = saved_meta(&beside) else {
+    is_quiet(&then.root)?;
+    let Some(saved) = saved_meta(&then.beside) else {
         unreachable!()
     };
     let place = Found {
-        root: rewound(&found.root, current.txg + 1),
-        slots: found.slots,
+        root: rewound(&then.found.root, current.txg + 1),
+        slots: then.found.slots,
     };
-    let checkpoint = checkpoint_of(alloc, &root.head, &beside)?;
-    let read = root.reset(alloc)?;
-    let pool = open(alloc, &place, &read, saved, checkpoint)?;
+    let checkpoint = checkpoint_of(alloc, &then.root.head, &then.beside)?;
+    then.root.reset(alloc)?;
+    let pool = open(alloc, &place, &then.root, saved, checkpoint)?;
     show(alloc, shelf, current, &pool, &place.root)?;
     Ok(pool)
 }
@@ -119,12 +113,13 @@ pub fn go_back<S: Shelf>(alloc: Global, shelf: &mut S, txg: u64) -> Result<Optio
     if txg == found.root.txg {
         return Ok(Some(now.pool));
     }
+    drop(now);
     let place = Found {
         root,
         slots: found.slots,
     };
-    let Some(then) = look_at(alloc, shelf, &place)? else {
+    let Some(mut then) = look_at(alloc, shelf, &place)? else {
         return Ok(None);
     };
-    Ok(Some(reset(alloc, shelf, &found.root, then)?))
+    Ok(Some(reset(alloc, shelf, &found.root, &mut then)?))
 }

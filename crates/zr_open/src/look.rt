@@ -32,6 +32,15 @@ pub(crate) struct Looked {
     pub pool: OpenPool,
 }
 
+impl Looked {
+    /// What there is beside the root, and the rest is let go.
+    pub(crate) fn into_beside(self) -> Beside
+        ensures { result ≡ self.beside }
+    {
+        self.beside
+    }
+}
+
 /// Looks at the pool by a root. The answer is None where the devices of the root, or of the one that it saved, are not all in
 /// service, and where one of the two has no late sets that count.
 pub(crate) fn look_at<S: Shelf>(

@@ -23,7 +23,7 @@ ghost use Rattle.zr_open.specs.Found.{FindsOn};
 ghost use Rattle.zr_open.specs.Opened.{CoversOwed, IsNotServed, IsRefusedRoot, IsRefusedSaved};
 ghost use Rattle.zr_open.specs.Rewound.{HasNoSaved, HoldsSaved, IsRewound, IsShownBehind, ShowsNoSaved, rewound};
 
-use crate::look::{Looked, look};
+use crate::look::look;
 use crate::pool::open;
 use crate::saved::Beside;
 use std::alloc::Global;
@@ -110,8 +110,8 @@ pub fn rewind<S: Shelf>(alloc: Global, shelf: &mut S) -> Result<Option<OpenPool>
     let Some(looked) = look(alloc, shelf)? else {
         return Ok(None);
     };
-    let Looked { found, beside, .. } = looked;
-    let Beside::Saved(saved) = beside else {
+    let found = looked.found;
+    let Beside::Saved(mut saved) = looked.into_beside() else {
         return Err(Fault::No(Refusal::NoCheckpoint));
     };
     let root = rewound(&saved.uber, found.root.txg + 1);
@@ -119,8 +119,8 @@ pub fn rewind<S: Shelf>(alloc: Global, shelf: &mut S) -> Result<Option<OpenPool>
         root,
         slots: first_slots(&found.slots, root.count),
     };
-    let read = saved.root.reset(alloc)?;
-    let pool = open(alloc, &place, &read, &[], None)?;
+    saved.root.reset(alloc)?;
+    let pool = open(alloc, &place, &saved.root, &[], None)?;
     show(alloc, shelf, &found.root, &pool, &root)?;
     Ok(Some(pool))
 }

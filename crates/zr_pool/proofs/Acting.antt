@@ -16,7 +16,7 @@ use Rattle.zr_model.specs.State.{InService, PoolState, with_objects}
 use Rattle.zr_moves.specs.Answers.{needs_lost, of_object, with_devs, with_saved}
 use Rattle.zr_change.specs.declared.ranges.Edit.{Edit}
 use Rattle.zr_held.specs.Steps.{IsObjectOf}
-use Rattle.zr_objects.specs.Reads.{IsReadOf}
+use Rattle.zr_lines.specs.Reads.{IsReadOf}
 use Rattle.zr_pool.specs.Plain.{IsMissing, IsBeyond, IsThere, IsObjectCause, IsPlainOn, IsPlainOf}
 
 pub plain_refusal : (objects : Objects) (command : Command) (r : Refusal) → (r ≡ refusal.NoSuchObject → IsMissing objects command) → (r ≡ refusal.OutOfRange → IsBeyond objects command) → (r ≡ refusal.ObjectExists → IsThere objects command)

@@ -3,8 +3,8 @@ use Rattle.std.proofs.Common.{◌≡◌, ◌⊎◌, inl, inr, ℕ, List, Option,
 use Rattle.std.specs.Prelude.{IfOk, IfSome}
 use Rattle.zr_base.specs.declared.refusal.Refusal.{Refusal}
 use Rattle.zr_change.specs.declared.ranges.Edit.{Edit}
-use Rattle.zr_edit.specs.Causes.{IsLookRefusal, IsUndone, IsShort, IsLongRun}
-use Rattle.zr_edit.specs.declared.range.Reach.{Reach}
+use Rattle.zr_lines.specs.Causes.{IsLookRefusal, IsUndone, IsShort, IsLongRun}
+use Rattle.zr_lines.specs.declared.range.Reach.{Reach}
 use Rattle.zr_rules.specs.Columns.{free_units}
 use Rattle.zr_sync.specs.declared.fault.Fault.{Fault}
 use Rattle.zr_sync.specs.declared.fault.Fault.TheVariants.{No}
@@ -13,9 +13,9 @@ use Rattle.zr_create.specs.Refusals.{ChecksNext}
 use Rattle.zr_base.specs.declared.refusal.Refusal.TheVariants as refusal
 use Rattle.zr_base.specs.declared.space.CkptPart.{CkptPart}
 use Rattle.zr_base.specs.declared.space.CkptPart.TheVariants.{Clear, Held, Discarding}
-use Rattle.zr_checkpoint.specs.Refusals.{IsTakeRefusal, IsGiveRefusal, IsStepRefusal}
+use Rattle.zr_lines.specs.Refusals.{IsTakeRefusal, IsGiveRefusal, IsStepRefusal}
 use Rattle.zr_model.specs.State.{PoolState}
-use Rattle.zr_objects.specs.Answers.{IsAnswered}
+use Rattle.zr_lines.specs.Answers.{IsAnswered}
 use Rattle.zr_sync.specs.States.{HasCheckpoint}
 use Rattle.zr_model.specs.Runs.{Shelf}
 use Rattle.zr_open.specs.Groups.{ShowsNotKept}

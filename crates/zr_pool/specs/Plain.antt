@@ -16,12 +16,12 @@ use Rattle.zr_open.specs.Rewound.{ShowsNoSaved}
 use Rattle.zr_open.specs.Groups.{ShowsNotKept}
 use Rattle.zr_moves.specs.Answers.{Acts, needs_lost, rewound}
 use Rattle.zr_held.specs.Steps.{IsObjectOf}
-use Rattle.zr_objects.specs.Groups.{can_make}
-use Rattle.zr_objects.specs.Reads.{can_read}
+use Rattle.zr_lines.specs.Groups.{can_make}
+use Rattle.zr_lines.specs.Reads.{can_read}
 use Rattle.zr_change.specs.declared.ranges.Edit.{Edit}
-use Rattle.zr_edit.specs.Reaches.{is_in_reach}
-use Rattle.zr_edit.specs.declared.range.Reach.{Reach}
-use Rattle.zr_edit.specs.declared.range.Reach.TheVariants as reach
+use Rattle.zr_lines.specs.Reaches.{is_in_reach}
+use Rattle.zr_lines.specs.declared.range.Reach.{Reach}
+use Rattle.zr_lines.specs.declared.range.Reach.TheVariants as reach
 
 -- ---- refusals
 

@@ -6,9 +6,9 @@ use Rattle.zr_script.specs.declared.command.Command.{Command}
 use Rattle.zr_script.specs.declared.command.Command.TheVariants as cmd
 use Rattle.zr_script.specs.declared.reply.Reply.{Reply}
 use Rattle.zr_script.specs.declared.reply.Reply.TheVariants as reply
-use Rattle.zr_line.specs.Answers.{IsDamaged}
+use Rattle.zr_lines.specs.Sought.{IsDamaged}
 use Rattle.zr_open.specs.Opened.{IsImportRefusal}
-use Rattle.zr_objects.specs.Answers.{IsNoRoom, IsSumRefusal, IsReadRefusal, IsMakeRefusal, IsDropRefusal}
+use Rattle.zr_lines.specs.Answers.{IsNoRoom, IsSumRefusal, IsReadRefusal, IsMakeRefusal, IsDropRefusal}
 use Rattle.zr_model.specs.State.{ShelfPart, Is}
 use Rattle.zr_model.specs.declared.pool.Actor.{Actor}
 use Rattle.zr_model.specs.declared.pool.Actor.TheVariants.{Discard}

@@ -17,16 +17,13 @@ ghost use Rattle.zr_pool.specs.Turns.{step_reply, IsOfVersion, IsOpenAnswer, IsO
 use std::alloc::Global;
 use zr_base::{Blob, Refusal};
 use zr_change::{Bytes, Edit};
-use zr_checkpoint::{give_up, step, take};
 use zr_choose::Chooser;
 use zr_create::{add, slot_of};
-use zr_edit::{Reach, change};
-use zr_objects::{drop, make, read, sum};
+use zr_lines::{Reach, change, drop, give_up, make, read, step, sum, take, upgrade};
 use zr_script::{Command, Reply};
 use zr_shelf::Shelf;
 use zr_sync::{Fault, OpenPool, commit};
 use zr_tables::{audit, list, status};
-use zr_upgrade::upgrade;
 
 /// Whether a line is on an object.
 pub fn is_on_objects(command: &Command) -> bool

@@ -25,24 +25,24 @@ returns-in_err-pool-clause-refused g c = λ r is.
 pub show-requires-clause-pool : goal.show-requires-clause-pool
 show-requires-clause-pool g c =
     let sizes = g.S.Shelf.sizes c.args.shelf.now in
-    let u = c.args.then.found.root in
+    let u = c.args.then.now.found.root in
     c.in_ok-pool.ensures.open sizes
-    (same_disks_of sizes c.args.then.found.slots c.rewound.result u (ap (λ (x : Uber). x.rows) c.rewound.ensures.is) (ap (λ (x : Uber). x.count) c.rewound.ensures.is) c.requires.looked.mounted)
+    (same_disks_of sizes c.args.then.now.found.slots c.rewound.result u (ap (λ (x : Uber). x.rows) c.rewound.ensures.is) (ap (λ (x : Uber). x.count) c.rewound.ensures.is) c.requires.looked.mounted)
 
 pub returns-clause-pool : goal.returns-clause-pool
 returns-clause-pool g c =
     let sizes = g.S.Shelf.sizes c.args.shelf.now in
-    let u = c.args.then.found.root in
+    let u = c.args.then.now.found.root in
     subst (λ (ns : List ℕ). IsOpen ns c.in_ok-pool.pool) (sym c.in_ok-show.ensures.sizes)
     (c.in_ok-pool.ensures.open sizes
-    (same_disks_of sizes c.args.then.found.slots c.rewound.result u (ap (λ (x : Uber). x.rows) c.rewound.ensures.is) (ap (λ (x : Uber). x.count) c.rewound.ensures.is) c.requires.looked.mounted))
+    (same_disks_of sizes c.args.then.now.found.slots c.rewound.result u (ap (λ (x : Uber). x.rows) c.rewound.ensures.is) (ap (λ (x : Uber). x.count) c.rewound.ensures.is) c.requires.looked.mounted))
 
 pub returns-clause-objects : goal.returns-clause-objects
 returns-clause-objects g c = λ t h.
     let sizes = g.S.Shelf.sizes c.args.shelf.now in
     let tells = g.S.Shelf.tells c.args.shelf.now in
     let disks = (g.S.Shelf.world c.args.shelf.now).now.seen in
-    let l = c.args.then in
+    let l = c.args.then.now in
     let u = l.found.root in
     let own = c.in_ok-pool.ensures in
     let pool = c.in_ok-pool.pool in
@@ -50,7 +50,7 @@ returns-clause-objects g c = λ t h.
     let sound = g.S.Shelf.sound c.args.shelf.now t in
     let ready = own.open sizes (same_disks_of sizes l.found.slots c.rewound.result u (ap (λ (x : Uber). x.rows) next) (ap (λ (x : Uber). x.count) next) h.mounted) in
     let fresh = subst (λ (x : Uber). IsFresh x pool) next own.fresh in
-    let parts = subst (λ (r : Root). HasParts r (meta_of (saved_in l.beside)) pool) c.in_ok-read.ensures (subst (λ (meta : List Dva). HasParts c.in_ok-read.read meta pool) c.in-Some.ensures.meta own.parts) in
+    let parts = subst (λ (r : Root). HasParts r (meta_of (saved_in l.beside)) pool) c.in_ok-reset.ensures (subst (λ (meta : List Dva). HasParts c.reset.new.self meta pool) c.in-Some.ensures.meta own.parts) in
     let le = c.requires.below in
     let held = as_reset tells t disks sizes sound.sized l (looked_moved (Unit {0}) tells disks disks (λ x. tt) (λ x. refl) sizes l h) (c.args.current.now.txg + 1) (omega (arith, le)) pool (subst IsUber next c.rewound.ensures.lawful) ready fresh parts own.slots in
     record {
@@ -61,12 +61,12 @@ returns-clause-objects g c = λ t h.
     }
 
 pub checkpoint_of-requires-clause-there : goal.checkpoint_of-requires-clause-there
-checkpoint_of-requires-clause-there g c = let l = c.args.then in let h = c.requires.looked in has_saved ⊥ [] l.found.slots l.found.root l.root l.beside h.served h.beside
+checkpoint_of-requires-clause-there g c = let l = c.args.then.now in let h = c.requires.looked in has_saved ⊥ [] l.found.slots l.found.root l.root l.beside h.served h.beside
 
 pub checkpoint_of-requires-clause-lawful : goal.checkpoint_of-requires-clause-lawful
-checkpoint_of-requires-clause-lawful g c = let l = c.args.then in let h = c.requires.looked in lawful_saved ⊥ [] l.found.slots l.found.root l.root l.beside h.beside
+checkpoint_of-requires-clause-lawful g c = let l = c.args.then.now in let h = c.requires.looked in lawful_saved ⊥ [] l.found.slots l.found.root l.root l.beside h.beside
 
 pub open-requires-clause-saved : goal.open-requires-clause-saved
 open-requires-clause-saved g c = λ told.
-    subst (λ (r : Root). IsSaved r.head.ckpt (saved_block c.in_ok-checkpoint.checkpoint)) (sym c.in_ok-read.ensures)
-    (subst (IsSaved c.args.then.root.head.ckpt) (sym c.in_ok-checkpoint.ensures.block) c.requires.looked.head.saved)
+    subst (λ (r : Root). IsSaved r.head.ckpt (saved_block c.in_ok-checkpoint.checkpoint)) (sym c.in_ok-reset.ensures)
+    (subst (IsSaved c.args.then.now.root.head.ckpt) (sym c.in_ok-checkpoint.ensures.block) c.requires.looked.head.saved)

@@ -71,7 +71,7 @@ returns-in_default-beside-clause-refused g c = λ r is.
       h.finds,
       inr (
         cc,
-        (l.root.head, head_at tells disks (slots_of u h.finds.seen) l.found.slots u l.root h.slots h.at.head h.at.stands, no_block tells disks l.found.slots u l.root l.beside (λ s same. (let other = c.in_default-beside.not-Saved in search (rules, other))) h.at.served h.at.beside),
+        (l.root.head, head_at tells disks (slots_of u h.finds.seen) l.found.slots u l.root h.slots h.at.head h.at.stands, no_block tells disks l.found.slots u l.root l.beside (λ s same. (let other = c.in_default-beside.not-Saved in let own = c.into_beside.ensures ∙ same in search (rules, other, own))) h.at.served h.at.beside),
       ),
     ))
 
@@ -86,7 +86,7 @@ returns-in_default-beside-clause-unsaved g c = λ t is.
     let u = l.found.root in
     let these = slots_of u h.finds.seen in
     let sound = g.S.Shelf.sound c.args.shelf.now t in
-    let none = no_block tells disks l.found.slots u l.root l.beside (λ s same. (let other = c.in_default-beside.not-Saved in search (rules, other))) h.at.served h.at.beside in
+    let none = no_block tells disks l.found.slots u l.root l.beside (λ s same. (let other = c.in_default-beside.not-Saved in let own = c.into_beside.ensures ∙ same in search (rules, other, own))) h.at.served h.at.beside in
     let shown : ShowsSaved w.now.paths disks these (told_root u l.root) = record { root = None; shown = subst (λ (x : Option (List ℕ)). IsShownBeside disks these (told_root u l.root) x None) (sym none) tt; state = None; is = refl } in
     let stands = subst (λ (ss : List (Option ℕ)). Stands (image_of disks ss u) u l.root) (sym h.at.same) (h.at.stands t) in
     let same = subst (HasSlots these) (sym h.at.same) h.slots in (
@@ -111,8 +111,8 @@ returns-in_err-pool-clause-unsaved g c = λ t is.
     let same : told ≡ No NoCheckpoint = cc in
     absurd (elim (c.in_err-pool.ensures.refused NoCheckpoint (ap Err same)) [ inl own ↦ root_refusal NoCheckpoint own | inr other ↦ other.1 refl ])
 
-pub returns-in_err-read-clause-disks : goal.returns-in_err-read-clause-disks
-returns-in_err-read-clause-disks g c = λ t. works_still (g.S.Shelf.world c.args.shelf.now) (g.S.Shelf.world c.look.new.shelf) (c.in_ok-looked.ensures.still t)
+pub returns-in_err-reset-clause-disks : goal.returns-in_err-reset-clause-disks
+returns-in_err-reset-clause-disks g c = λ t. works_still (g.S.Shelf.world c.args.shelf.now) (g.S.Shelf.world c.look.new.shelf) (c.in_ok-looked.ensures.still t)
 
 pub returns-in_err-pool-clause-disks : goal.returns-in_err-pool-clause-disks
 returns-in_err-pool-clause-disks g c = λ t. works_still (g.S.Shelf.world c.args.shelf.now) (g.S.Shelf.world c.look.new.shelf) (c.in_ok-looked.ensures.still t)
@@ -161,7 +161,7 @@ show-requires-clause-pool g c =
     let l = c.in-Some.looked in
     let s = c.in-Saved.saved in
     let h = looked_is sizes tells disks _ l c.in-Some.is c.in_ok-looked.ensures.looked in
-    let b = back_is sizes tells disks l s h c.in-Saved.is in
+    let b = back_is sizes tells disks l s h (sym c.into_beside.ensures ∙ c.in-Saved.is) in
     let place = place_disks sizes l.found.slots c.first_slots.result s.uber c.rewound-root.result (l.found.root.txg + 1) c.rewound-root.ensures.is c.first_slots.ensures.each b.disks_are in
     subst (λ (ns : List ℕ). IsOpen ns c.in_ok-pool.pool) (sym c.in_ok-looked.ensures.sizes) (c.in_ok-pool.ensures.open sizes place)
 
@@ -183,7 +183,7 @@ returns-clause-pool g c =
     let l = c.in-Some.looked in
     let s = c.in-Saved.saved in
     let h = looked_is sizes tells disks _ l c.in-Some.is c.in_ok-looked.ensures.looked in
-    let b = back_is sizes tells disks l s h c.in-Saved.is in
+    let b = back_is sizes tells disks l s h (sym c.into_beside.ensures ∙ c.in-Saved.is) in
     let place = place_disks sizes l.found.slots c.first_slots.result s.uber c.rewound-root.result (l.found.root.txg + 1) c.rewound-root.ensures.is c.first_slots.ensures.each b.disks_are in
     subst (λ (ns : List ℕ). IsOpen ns c.in_ok-pool.pool) (sym (c.in_ok-show.ensures.sizes ∙ c.in_ok-looked.ensures.sizes)) (c.in_ok-pool.ensures.open sizes place)
 
@@ -195,7 +195,7 @@ returns-clause-rewound g c =
     let l = c.in-Some.looked in
     let s = c.in-Saved.saved in
     let h = looked_is sizes tells disks _ l c.in-Some.is c.in_ok-looked.ensures.looked in
-    let b = back_is sizes tells disks l s h c.in-Saved.is in
+    let b = back_is sizes tells disks l s h (sym c.into_beside.ensures ∙ c.in-Saved.is) in
     let u = l.found.root in (
       u,
       h.finds,
@@ -238,7 +238,7 @@ returns-clause-objects g c = λ t.
     let l = c.in-Some.looked in
     let s = c.in-Saved.saved in
     let h = looked_is sizes tells disks _ l c.in-Some.is c.in_ok-looked.ensures.looked in
-    let b = back_is sizes tells disks l s h c.in-Saved.is in
+    let b = back_is sizes tells disks l s h (sym c.into_beside.ensures ∙ c.in-Saved.is) in
     let u = l.found.root in
     let txg = u.txg + 1 in
     let pool = c.in_ok-pool.pool in
@@ -257,7 +257,7 @@ returns-clause-objects g c = λ t.
     let cut = subst (IsCut s.uber.count slots) (sym own.slots) cut_first in
     let is = subst IsUber c.rewound-root.ensures.is c.rewound-root.ensures.lawful in
     let fresh = subst (λ (x : Uber). IsFresh x pool) c.rewound-root.ensures.is own.fresh in
-    let parts = subst (λ (r : Root). HasParts r [] pool) c.in_ok-read.ensures own.parts in
+    let parts = subst (λ (r : Root). HasParts r [] pool) c.in_ok-reset.ensures own.parts in
     let objects = saved_objects later told disks sizes sound.sized slots u l.root b.block s txg pool saved b.past cut is ready fresh parts in
     let held = saved_held later told disks sizes sound.sized slots u l.root b.block s txg pool saved b.past cut is ready fresh parts in
     let are_there = saved_are later told disks sizes sound.sized slots u l.root b.block s txg pool saved b.past cut is ready fresh parts in

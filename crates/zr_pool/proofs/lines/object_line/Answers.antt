@@ -7,8 +7,8 @@ use Rattle.zr_model.specs.State.{with_objects}
 use Rattle.std.specs.Prelude.{slice_index}
 use Rattle.std.proofs.lemmas.List.{get_or-replicate, length-replicate}
 use Rattle.zr_change.specs.Edits.{byte_put}
-use Rattle.zr_edit.specs.Reaches.{is_in_reach}
-use Rattle.zr_edit.specs.declared.range.Reach.TheVariants.{Write, Fill, Punch}
+use Rattle.zr_lines.specs.Reaches.{is_in_reach}
+use Rattle.zr_lines.specs.declared.range.Reach.TheVariants.{Write, Fill, Punch}
 use Rattle.std.proofs.lemmas.Result.{err_from_is_err_and}
 use Rattle.zr_script.specs.declared.command.Command.{Command}
 use Rattle.zr_sync.specs.declared.fault.Fault.TheVariants.{No}

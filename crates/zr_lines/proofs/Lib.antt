@@ -1,0 +1,16 @@
+pub mod Finding
+pub mod Versions
+pub mod Steps
+pub mod Giving
+pub mod Reading
+pub mod Gone
+pub mod Coming
+pub mod Marks
+pub mod Summing
+pub mod Places
+pub mod Pools
+pub mod Done
+pub mod Needs
+pub mod Locating
+pub mod Holding
+pub mod Edited

@@ -1,0 +1,31 @@
+use Rattle.zr_sync.proofs.Disks.{works_more}
+use Rattle.zr_lines.proofs.Giving.{found_back, on_ok_map, wrote_back}
+use Rattle.zr_lines.proofs.drops.drop.Goals as goal
+
+pub returns-clause-disks : goal.returns-clause-disks
+returns-clause-disks g c = λ told.
+    works_more (g.S.Shelf.world c.args.shelf.now) (g.S.Shelf.world c.make_way_for.new.shelf) (g.S.Shelf.world c.drop_ready.new.shelf)
+    (c.make_way_for.ensures.disks told) (c.drop_ready.ensures.disks (c.make_way_for.ensures.told told))
+
+pub returns-clause-lacks : goal.returns-clause-lacks
+returns-clause-lacks g c = λ needed free is.
+    let got = c.drop_ready.ensures.lacks needed free is in (
+      got.0,
+      found_back g.S.Shelf.tells (λ h. (g.S.Shelf.world h).now.seen) c.args.shelf.now c.make_way_for.new.shelf c.args.pool.now c.make_way_for.new.pool c.args.id got.0 (λ can. let st = c.make_way_for.ensures.stays can in (st.1, st.2)) got.1,
+      got.2,
+    )
+
+pub returns-clause-given : goal.returns-clause-given
+returns-clause-given g c =
+    on_ok_map c.drop_ready.result c.drop_ready.ensures.given (λ got. (
+      got.0,
+      got.1,
+      got.2,
+      found_back g.S.Shelf.tells (λ h. (g.S.Shelf.world h).now.seen) c.args.shelf.now c.make_way_for.new.shelf c.args.pool.now c.make_way_for.new.pool c.args.id got.0 (λ can. let st = c.make_way_for.ensures.stays can in (st.1, st.2)) got.3,
+      wrote_back g.S.Shelf.sizes g.S.Shelf.counts g.S.Shelf.tells g.S.Shelf.world c.args.shelf.now c.make_way_for.new.shelf got.1 c.args.pool.now c.make_way_for.new.pool got.2 c.args.id (λ can. let st = c.make_way_for.ensures.stays can in (st.1, st.2)) got.4,
+      got.5,
+      got.6,
+    ))
+
+pub returns-clause-objects : goal.returns-clause-objects
+returns-clause-objects g c = λ objects h r is. c.drop_ready.ensures.objects objects (c.in_ok-make_way_for.ensures.objects objects h tt) r is

@@ -1,0 +1,15 @@
+use Rattle.zr_sync.proofs.Disks.{works_more, works_writes}
+use Rattle.zr_lines.proofs.drops.make_way_for.Goals as goal
+
+pub returns-in_err-need-clause-disks : goal.returns-in_err-need-clause-disks
+returns-in_err-need-clause-disks g c = λ told. works_writes _ _ _ (c.need.ensures.wrote.goes.written told)
+
+pub returns-in_err-make_way-clause-disks : goal.returns-in_err-make_way-clause-disks
+returns-in_err-make_way-clause-disks g c = λ told.
+    works_more (g.S.Shelf.world c.args.shelf.now) (g.S.Shelf.world c.need.new.shelf) (g.S.Shelf.world c.make_way.new.shelf)
+    (works_writes _ _ _ (c.need.ensures.wrote.goes.written told)) (c.make_way.ensures.disks (c.need.ensures.wrote.goes.told told))
+
+pub returns-clause-disks : goal.returns-clause-disks
+returns-clause-disks g c = λ told.
+    works_more (g.S.Shelf.world c.args.shelf.now) (g.S.Shelf.world c.need.new.shelf) (g.S.Shelf.world c.make_way.new.shelf)
+    (works_writes _ _ _ (c.need.ensures.wrote.goes.written told)) (c.make_way.ensures.disks (c.need.ensures.wrote.goes.told told))

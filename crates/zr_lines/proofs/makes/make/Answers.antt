@@ -1,0 +1,54 @@
+use Rattle.zr_base.specs.declared.refusal.Refusal.TheVariants.{ObjectExists}
+use Rattle.zr_lines.proofs.Coming.{some_there, none_there, no_room_only}
+use Rattle.zr_lines.proofs.Giving.{on_ok_map}
+use Rattle.std.proofs.Common.{rules}
+use Rattle.std.proofs.Common.{◌≡◌, ◌∙◌, Bool, true, false, Option, Some, None, inr, refl, sym, subst}
+use Rattle.std.specs.Prelude.{is_some}
+use Rattle.zr_bptr.specs.declared.ObjRec.{ObjRec}
+use Rattle.zr_txg.specs.Changes.{Changes}
+use Rattle.zr_sync.proofs.Disks.{works_more, works_writes}
+use Rattle.zr_lines.specs.Groups.{IsReadyGroup}
+use Rattle.zr_lines.proofs.makes.make.Goals as goal
+
+no_yes : false ≡ true → ⊥
+no_yes e = cc
+
+some_of : (o : Option ObjRec) (b : Bool) → b ≡ is_some o → b ≡ true → (x : ObjRec) × (o ≡ Some x)
+some_of None b is so = absurd (no_yes (sym is ∙ so))
+some_of (Some x) b is so = (x, refl)
+
+pub returns-in_err-find-clause-disks : goal.returns-in_err-find-clause-disks
+returns-in_err-find-clause-disks g c = λ told. works_writes _ _ _ (c.find.ensures.wrote.goes.written told)
+
+pub returns-then-is_some-clause-disks : goal.returns-then-is_some-clause-disks
+returns-then-is_some-clause-disks g c = λ told. works_writes _ _ _ (c.find.ensures.wrote.goes.written told)
+
+pub returns-then-is_some-clause-there : goal.returns-then-is_some-clause-there
+returns-then-is_some-clause-there g c = λ s has is.
+    let got = some_of c.in_ok-find.field-0 c.is_some.result c.is_some.ensures c.if-is_some.true in
+    (got.0, sym (c.in_ok-find.ensures.record s has) ∙ got.1)
+
+pub returns-clause-disks : goal.returns-clause-disks
+returns-clause-disks g c = λ told.
+    works_more (g.S.Shelf.world c.args.shelf.now) (g.S.Shelf.world c.find.new.shelf) (g.S.Shelf.world c.make_absent.new.shelf)
+    (works_writes _ _ _ (c.find.ensures.wrote.goes.written told)) (c.make_absent.ensures.disks (c.find.ensures.wrote.goes.told told))
+
+pub returns-clause-refused : goal.returns-clause-refused
+returns-clause-refused g c = λ r is. inr (inr (inr (c.make_absent.ensures.refused r is)))
+
+pub returns-clause-group : goal.returns-clause-group
+returns-clause-group g c = λ r is. subst (λ (h : Changes). IsReadyGroup c.args.id h c.make_absent.new.pool.group) c.find.ensures.group (c.make_absent.ensures.group r is)
+
+pub returns-then-is_some-clause-exists : goal.returns-then-is_some-clause-exists
+returns-then-is_some-clause-exists g c = λ objects h is. some_there objects c.args.id c.in_ok-find.field-0 (search rules) (c.in_ok-find.ensures.object objects h)
+
+pub returns-clause-objects : goal.returns-clause-objects
+returns-clause-objects g c = λ objects h r is. c.make_absent.ensures.objects objects (c.find.ensures.stays objects h) r is
+
+pub returns-clause-exists : goal.returns-clause-exists
+returns-clause-exists g c = λ objects h is. absurd (no_room_only (c.make_absent.ensures.refused ObjectExists is))
+
+pub returns-clause-comes : goal.returns-clause-comes
+returns-clause-comes g c = λ objects h.
+    let none = none_there objects c.args.id c.in_ok-find.field-0 (search rules) (c.in_ok-find.ensures.object objects h) in
+    on_ok_map c.make_absent.result (c.make_absent.ensures.comes objects (c.find.ensures.stays objects h) none) (λ held. (none, held))

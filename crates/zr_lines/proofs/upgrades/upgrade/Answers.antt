@@ -1,0 +1,22 @@
+use Rattle.std.proofs.Common.{sym, subst}
+use Rattle.zr_sync.specs.Objects.{HoldsObjects}
+use Rattle.zr_sync.specs.declared.open.OpenPool.{OpenPool}
+use Rattle.zr_lines.proofs.Versions.{renewed_objects, upgrades_from}
+use Rattle.zr_lines.proofs.upgrades.upgrade.Goals as goal
+
+pub commit_anew-requires : goal.commit_anew-requires
+commit_anew-requires g c = record { pool = c.renew.ensures.pool (g.S.Shelf.sizes c.args.shelf.now) c.requires.pool }
+
+pub returns-clause-upgrades : goal.returns-clause-upgrades
+returns-clause-upgrades g c =
+    let done = c.in_ok-commit_anew.ensures in
+    upgrades_from (g.S.Shelf.sizes c.args.shelf.now) (g.S.Shelf.tells c.args.shelf.now) (g.S.Shelf.world c.commit_anew.new.shelf) c.args.pool.now c.renew.new.pool c.commit_anew.new.pool c.renew.ensures.value
+    done.last done.ends done.shown done.anew done.saved
+
+pub returns-clause-objects : goal.returns-clause-objects
+returns-clause-objects g c = λ objects h.
+    let old = c.args.shelf.now in
+    let tells = g.S.Shelf.tells old in
+    let disks = (g.S.Shelf.world old).now.seen in
+    c.in_ok-commit_anew.ensures.stays objects
+    (subst (λ (x : OpenPool). HoldsObjects tells disks x objects) (sym c.renew.ensures.value) (renewed_objects (g.S.Shelf.sizes old) tells disks c.args.pool.now objects c.requires.pool h))

@@ -1,0 +1,14 @@
+pub mod Sought
+pub mod Refusals
+pub mod Upgrades
+pub mod Answers
+pub mod Counts
+pub mod Reads
+pub mod Groups
+pub mod Room
+pub mod Drops
+pub mod Reaches
+pub mod Rooms
+pub mod Intents
+pub mod Causes
+pub mod Changes
