@@ -1,6 +1,6 @@
 pub mod Finding
 pub mod Versions
-pub mod Steps
+pub mod Ways
 pub mod Giving
 pub mod Reading
 pub mod Gone

@@ -1,7 +1,7 @@
 use Rattle.zr_lines.proofs.Coming.{comes_of}
 use Rattle.std.proofs.Common.{Some, arith}
 use Rattle.zr_lines.specs.Groups.{blank}
-use Rattle.zr_lines.proofs.Steps.{group_open, ready_group, ready_takes, set_limits}
+use Rattle.zr_lines.proofs.Ways.{group_open, ready_group, ready_takes, set_limits}
 use Rattle.zr_lines.proofs.makes.make_absent.Goals as goal
 
 pub returns-in_err-demand_to_make-clause-group : goal.returns-in_err-demand_to_make-clause-group
