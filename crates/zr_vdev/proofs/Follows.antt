@@ -1,5 +1,5 @@
 -- What calls of a store in a row leave alone.
-use Rattle.std.proofs.Common.{◌≡◌, ℕ, ◌≤◌, ◌+◌, ◌/◌, Bool, true, false, List, [], ◌∷◌, length, Option, Some, None, inl, inr, ◌<◌, refl, sym, ◌∙◌, ap, subst, arith}
+use Rattle.std.proofs.Common.{◌≡◌, ℕ, ◌≤◌, ◌+◌, ◌/◌, ◌||◌, Bool, true, false, List, [], ◌∷◌, length, Option, Some, None, inl, inr, ◌<◌, refl, sym, ◌∙◌, ap, subst, arith}
 use Rattle.std.specs.Prelude.{if◌then◌else◌, IfSome}
 use Rattle.std.proofs.lemmas.Bool.Decides.{nat_tests}
 use Rattle.std.specs.Map.{remove_entry}
@@ -24,12 +24,12 @@ use Rattle.zr_shelf.specs.Doings.{Adds, IsAdded, WritesOnly, latest}
 use Rattle.zr_shelf.specs.Doings.Adds.{added_none, added}
 use Rattle.zr_shelf.proofs.Doings.{writes_nothing, writes_more, writes_still}
 use Rattle.zr_shelf.proofs.Runs.{still_trans}
-use Rattle.zr_rules.specs.Places.{in_address, part_of, units_of_dev}
+use Rattle.zr_rules.specs.Places.{is_fresh, in_address, part_of, units_of_dev}
 use Rattle.zr_rules.specs.Devices.{Devices}
 use Rattle.zr_rules.specs.Roles.{Role, is_free_role, freed, kept_of, dropped}
 use Rattle.zr_rules.specs.Roles.Role.{Free}
 use Rattle.zr_rules.specs.Space.{Space, role_at}
-use Rattle.zr_rules.specs.Frees.{IsSamePart, IsSameFrame}
+use Rattle.zr_rules.specs.Frees.{IsSamePart, IsSameFrame, marks}
 use Rattle.zr_rules.specs.Resolve.{is_resolved}
 use Rattle.zr_rules.specs.Columns.{free_units, free_of}
 use Rattle.zr_rules.specs.Equation.{devices_in}
@@ -38,7 +38,7 @@ use Rattle.zr_cache.specs.declared.table.Cache.{Cache}
 use Rattle.zr_vdev.specs.declared.kind.Kind.{Kind}
 use Rattle.zr_vdev.specs.declared.kind.Kind.TheVariants as kinds
 use Rattle.zr_vdev.specs.Puts.{Takes, GivesBack, MayTake, MayPut, IsWriteOf}
-use Rattle.zr_vdev.specs.Stores.{GivesBackLost, may_write, may_change, is_open_role, IsWriteInto, KeepsRows, KeepsOthers, Continues, GoesOnReading}
+use Rattle.zr_vdev.specs.Stores.{GivesBackLost, may_write, may_change, is_open_role, IsWriteInto, KeepsRows, KeepsMarks, KeepsOthers, Continues, GoesOnReading}
 use Rattle.zr_vdev.proofs.Taking.{takes_frame, takes_place}
 use Rattle.zr_vdev.proofs.Rooms.{room_taken, room_kept, is_short, no_room}
 use Rattle.zr_vdev.proofs.Held.{read_same}
@@ -84,12 +84,32 @@ rows_more a b c p q = record {
 
 -- ---- roles
 
+marks_itself : (kind : Kind) (s : Space) → KeepsMarks kind s s
+marks_itself kinds.Block s = λ d u is. is
+marks_itself kinds.Meta s = λ d u. refl
+
+marks_more : (kind : Kind) (a b c : Space) → KeepsMarks kind a b → KeepsMarks kind b c → KeepsMarks kind a c
+marks_more kinds.Block a b c p q = λ d u is. q d u (p d u is)
+marks_more kinds.Meta a b c p q = λ d u. q d u ∙ p d u
+
+takes_marks : (kind : Kind) (policy : Policy) (want : ℕ) (old new : Space) (at : Dva) → Takes kind policy want old new at → KeepsMarks kind old new
+takes_marks kinds.Block policy want old new at takes = λ d u is. takes.fresh d u ∙ is
+takes_marks kinds.Meta policy want old new at takes = λ d u. takes.fresh d u
+
+or_true : (a b : Bool) → a ≡ true → (a || b) ≡ true
+or_true a b is = grind (arith, nat_tests, is)
+
+gives_marks : (kind : Kind) (old new : Space) (a : Dva) (birth : ℕ) → GivesBack kind old new a birth → KeepsMarks kind old new
+gives_marks kinds.Block old new a birth gives = λ d u is. gives.fresh d u ∙ or_true (is_fresh old.parts.devs d u) (marks old a d u) is
+gives_marks kinds.Meta old new a birth gives = λ d u. gives.0.fresh d u
+
 pub others_itself : (kind : Kind) (s : Space) → KeepsOthers kind s s
-others_itself kind s = record { rows = rows_itself s; stays = λ d u may. refl; writable = λ d u may. may }
+others_itself kind s = record { rows = rows_itself s; marks = marks_itself kind s; stays = λ d u may. refl; writable = λ d u may. may }
 
 pub others_more : (kind : Kind) (a b c : Space) → KeepsOthers kind a b → KeepsOthers kind b c → KeepsOthers kind a c
 others_more kind a b c p q = record {
   rows = rows_more a b c p.rows q.rows;
+  marks = marks_more kind a b c p.marks q.marks;
   stays = λ d u may. let first = p.stays d u may in q.stays d u (ap (may_change kind) first ∙ may) ∙ first;
   writable = λ d u may. p.writable d u (q.writable d u may);
 }
@@ -154,6 +174,7 @@ if_true false x y h = cc
 pub takes_others : (kind : Kind) (policy : Policy) (want : ℕ) (old new : Space) (at : Dva) → Takes kind policy want old new at → KeepsOthers kind old new
 takes_others kind policy want old new at takes = record {
   rows = frame_rows old new (takes_frame kind policy want old new at takes);
+  marks = takes_marks kind policy want old new at takes;
   stays = λ d u may. (elim (in_address at d u) as (λ (b : Bool). in_address at d u ≡ b → role_at new d u ≡ role_at old d u) [
     | true ↦ λ is. absurd (true_false (sym (ap (may_change kind) (taken_was_free kind policy want old new at takes d u is) ∙ free_changed kind) ∙ may))
     | false ↦ λ is. take_keeps kind policy want old new at takes d u is
@@ -171,6 +192,7 @@ give_rows kinds.Meta old new a birth gives = parts_rows old new gives.1
 pub gives_others : (kind : Kind) (old new : Space) (a : Dva) (birth : ℕ) → GivesBack kind old new a birth → KeepsOthers kind old new
 gives_others kind old new a birth gives = record {
   rows = give_rows kind old new a birth gives;
+  marks = gives_marks kind old new a birth gives;
   stays = λ d u may. unchanged kind (role_at old d u) (role_at new d u) (given_roles kind old new a birth gives d u) may;
   writable = λ d u may. written_before kind (role_at old d u) (role_at new d u) (given_roles kind old new a birth gives d u) may;
 }

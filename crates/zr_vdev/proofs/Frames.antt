@@ -24,11 +24,11 @@ use Rattle.zr_cache.specs.declared.table.Cache.{Cache}
 use Rattle.zr_vdev.specs.declared.kind.Kind.{Kind}
 use Rattle.zr_vdev.specs.declared.kind.Kind.TheVariants as kinds
 use Rattle.zr_vdev.specs.Mounts.{AreMounted}
-use Rattle.zr_vdev.specs.Stores.{IsInUse, HoldsBlocks, MayGoBack, Continues, IsWriteInto, addresses_of, may_write, may_change}
+use Rattle.zr_vdev.specs.Stores.{IsInUse, HoldsBlocks, MayGoBack, Continues, IsWriteInto, KeepsOthers, addresses_of, may_write, may_change}
 use Rattle.zr_vdev.proofs.Overwriting.{untouched}
 use Rattle.zr_vdev.proofs.Apart.{parts_apart}
 use Rattle.zr_vdev.proofs.Uses.{is_of, use_roles, use_along}
-use Rattle.zr_vdev.proofs.GoingBack.{service_back}
+use Rattle.zr_vdev.proofs.Back.{spends_same}
 use Rattle.zr_vdev.proofs.Held.{one_unit, address_same, true_is_false}
 use Rattle.zr_vdev.proofs.Moves.{held_again}
 use Rattle.zr_vdev.proofs.Follows.{rows_devices}
@@ -90,13 +90,18 @@ other_barred : (kind : Kind) (r : Role) → is_of kind r ≡ true → may_write 
 other_barred kinds.Block r is = grind (arith, nat_tests, is)
 other_barred kinds.Meta r is = grind (arith, nat_tests, is)
 
--- what is held of one kind is held still once a store of the other kind has done its calls, where all of it may still go back
+-- what may go back still may: metadata marks nothing, and passes nothing
+beside_back : (kind : Kind) (s t : Space) → devices_in t ≡ devices_in s → KeepsOthers (other kind) s t → (list : List Dva) → MayGoBack kind s list → MayGoBack kind t list
+beside_back kinds.Block s t devices others list back = spends_same s t list devices (λ d. (others.rows.each d).counts) others.marks back
+beside_back kinds.Meta s t devices others list back = tt
+
+-- what is held of one kind is held still once a store of the other kind has done its calls
 pub held_beside : (kind : Kind) (slots : List (Option ℕ)) (n1 n2 : List ℕ) (c1 c2 : Counts) (t1 t2 : Type 0) (w1 w2 : World) (s t : Space) (lost : Option Dva) (k1 k2 : Cache) (st : Stored)
     → ((d e slot : ℕ) → slot_of slots d ≡ Some slot → slot_of slots e ≡ Some slot → d ≡ e) → Continues (other kind) slots n1 n2 c1 c2 t1 t2 w1 w2 s t k1 k2
-    → ((list : List Dva) → MayGoBack kind s list → MayGoBack kind t list)
     → HoldsBlocks kind slots t1 w1.now.seen s lost k1 st → Now (HoldsBlocks kind slots t2 w2.now.seen t None k2) (λ n. Swaps st n [] [])
-held_beside kind slots n1 n2 c1 c2 t1 t2 w1 w2 s t lost k1 k2 st apart went back held =
+held_beside kind slots n1 n2 c1 c2 t1 t2 w1 w2 s t lost k1 k2 st apart went held =
     let devices = rows_devices s t went.space.rows in
+    let back = beside_back kind s t devices went.space in
     held_again kind slots t1 t2 w1.now.seen w2.now.seen s t lost k1 k2 st (went.told held.told) (went.read held.told held.read)
     (λ x h. record { used = use_along kind s t x devices (back (x ∷ [])) (λ d u led. went.space.stays d u (other_stays kind (role_at s d u) (use_roles kind s x h.used d u led))) h.used; whole = tt })
     (λ x h.
@@ -112,9 +117,9 @@ held_beside kind slots n1 n2 c1 c2 t1 t2 w1 w2 s t lost k1 k2 st apart went back
         let unit : v ≡ u = grind (arith, nat_tests, is) in
         ap (λ (y : ℕ). may_write (other kind) (role_at s y v)) dev ∙ (ap (λ (w : ℕ). may_write (other kind) (role_at s d w)) unit ∙ other_barred kind (role_at s d u) (use_roles kind s x used d u led))
 
--- so it is where all devices are in service
+-- so it is where all devices are in service, of which nothing is asked
 pub held_over : (kind : Kind) (slots : List (Option ℕ)) (n1 n2 : List ℕ) (c1 c2 : Counts) (t1 t2 : Type 0) (w1 w2 : World) (s t : Space) (lost : Option Dva) (k1 k2 : Cache) (st : Stored)
     → AreInService (devices_in s) → ((d e slot : ℕ) → slot_of slots d ≡ Some slot → slot_of slots e ≡ Some slot → d ≡ e) → Continues (other kind) slots n1 n2 c1 c2 t1 t2 w1 w2 s t k1 k2
     → HoldsBlocks kind slots t1 w1.now.seen s lost k1 st → Now (HoldsBlocks kind slots t2 w2.now.seen t None k2) (λ n. Swaps st n [] [])
 held_over kind slots n1 n2 c1 c2 t1 t2 w1 w2 s t lost k1 k2 st on apart went held =
-    held_beside kind slots n1 n2 c1 c2 t1 t2 w1 w2 s t lost k1 k2 st apart went (λ list was. service_back kind t list (continues_service s t went on)) held
+    held_beside kind slots n1 n2 c1 c2 t1 t2 w1 w2 s t lost k1 k2 st apart went held

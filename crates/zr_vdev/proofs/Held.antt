@@ -9,8 +9,8 @@ use Rattle.zr_shelf.specs.Moments.{World}
 use Rattle.zr_shelf.specs.Doings.{WritesOnly}
 use Rattle.zr_chain.specs.Visits.{as_part}
 use Rattle.zr_chain.proofs.Ways.{cases_bool}
-use Rattle.zr_rules.specs.Places.{Place, in_address, is_place, units_of_dev}
-use Rattle.zr_rules.specs.Devices.{Devices}
+use Rattle.zr_rules.specs.Places.{Place, is_gone, in_address, is_place, units_of_dev}
+use Rattle.zr_rules.specs.Devices.{Devices, state_at}
 use Rattle.zr_rules.specs.Resolve.{is_at, is_resolved, leads_to, resolved_units}
 use Rattle.zr_rules.specs.Roles.Role.{Free}
 use Rattle.zr_rules.specs.Space.{Space, role_at}
@@ -28,8 +28,9 @@ use Rattle.zr_vdev.specs.Stores.{IsInUse, IsTaken, IsApart, IsStoredAt, HoldsBlo
 use Rattle.zr_vdev.proofs.Taking.{takes_place, takes_frame}
 use Rattle.zr_vdev.proofs.Overwriting.{same_devices, run_kept}
 use Rattle.zr_vdev.proofs.Apart.{unit_apart}
-use Rattle.zr_vdev.proofs.Leading.{false_true}
-use Rattle.zr_vdev.proofs.Uses.{is_of, use_roles, use_along, taken_was_free, take_keeps, taken_in_use, taken_serves, taken_own, own_taken, give_keeps, give_ends}
+use Rattle.zr_vdev.proofs.Leading.{false_true, own_unit, each_leads}
+use Rattle.zr_vdev.proofs.Reading.{first-target}
+use Rattle.zr_vdev.proofs.Uses.{is_of, use_some, use_resolves, use_roles, use_along, taken_was_free, take_keeps, taken_in_use, taken_serves, taken_own, own_taken, give_keeps, give_ends}
 use Rattle.zr_vdev.proofs.GoingBack.{alone_back, take_back, take_back_was, lost_back, lost_back_was}
 
 -- ---- the bytes of an address in use
@@ -64,6 +65,18 @@ module _ (slots : List (Option ℕ)) (ds : Devices) (before now : List (List ℕ
   pub address_same : (a : Dva) → ((d u : ℕ) → leads_to ds a d u ≡ true → run_bytes now slots (as_part (one_unit d u)) ≡ run_bytes before slots (as_part (one_unit d u)))
       → address_bytes (record { disks = now; slots = slots; devices = ds }) a ≡ address_bytes (record { disks = before; slots = slots; devices = ds }) a
   address_same a same = places_same (resolved_units ds a) same
+
+-- an address in use on a device that is not gone is one run
+pub use_run : (kind : Kind) (s : Space) (a : Dva) → is_gone (state_at (devices_in s) a.dev) ≡ false → IsInUse kind s a → AreRunsOf (devices_in s) a (as_part a ∷ [])
+use_run kind s a stays h =
+    let resolves = use_resolves kind s a h in
+    record {
+      resolves = resolves;
+      follow = (refl, use_some kind s a h, omega arith);
+      targets = λ k lt.
+          first-target (as_part a) [] k k (omega arith) lt
+          ∙ sym (own_unit (devices_in s) a.dev stays (a.start + k) (each_leads (devices_in s) a resolves (a.start + k) (omega arith) (omega (arith, lt))));
+    }
 
 -- a write in other units leaves them
 pub bytes_apart : (slots : List (Option ℕ)) (at : Dva) → ((d e slot : ℕ) → slot_of slots d ≡ Some slot → slot_of slots e ≡ Some slot → d ≡ e)

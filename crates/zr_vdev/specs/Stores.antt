@@ -8,14 +8,14 @@ use Rattle.zr_shelf.specs.Moments.{World, IsStill}
 use Rattle.zr_shelf.specs.Doings.{WritesOnly}
 use Rattle.zr_chain.specs.declared.visit.Visited.{Visited}
 use Rattle.zr_chain.specs.declared.visit.Visited.TheVariants.{Piece}
-use Rattle.zr_rules.specs.Places.{is_on, in_address, part_of, state_of_dev}
+use Rattle.zr_rules.specs.Places.{is_on, is_fresh, in_address, part_of, state_of_dev}
 use Rattle.zr_rules.specs.Devices.{Devices}
 use Rattle.zr_rules.specs.Roles.{Role, is_live_role, is_copy_role, is_meta_role, is_free_role}
 use Rattle.zr_rules.specs.Roles.Role.{Free, FreshLive, FreshCopy}
 use Rattle.zr_rules.specs.Space.{Space, role_at, IsLawful}
 use Rattle.zr_rules.specs.Equation.{devices_in, live_hits, Spends}
 use Rattle.zr_rules.specs.Resolve.{is_resolved, leads_to}
-use Rattle.zr_rules.specs.Frees.{IsSamePart}
+use Rattle.zr_rules.specs.Frees.{IsSamePart, MarksNothing}
 use Rattle.zr_space.specs.Live.{IsFreeable}
 use Rattle.zr_space.specs.Freeing.{is_shared}
 use Rattle.zr_space.specs.Drops.{IsMeta}
@@ -137,9 +137,15 @@ pub record GoesOnReading (slots : List (Option ℕ)) (space : Space) (sizes_old 
   pub read : told_old → AreRead before.now.seen slots space cache_old → AreRead now.now.seen slots space cache_new
   pub room : capacity cache_new ≡ capacity cache_old
 
+-- what is obsolete stays so, and for metadata nothing else becomes so
+abbrev pub KeepsMarks : Kind → Space → Space → Type 0
+KeepsMarks Block old new = (d u : ℕ) → is_fresh old.parts.devs d u ≡ true → is_fresh new.parts.devs d u ≡ true
+KeepsMarks Meta old new = MarksNothing old new
+
 -- Roles that are none of the store's stay. What it may write now it might write before, so what was written lies there.
 pub record KeepsOthers (kind : Kind) (old new : Space) : Type 0 where
   pub rows : KeepsRows old new
+  pub marks : KeepsMarks kind old new
   pub stays : (d u : ℕ) → may_change kind (role_at old d u) ≡ false → role_at new d u ≡ role_at old d u
   pub writable : (d u : ℕ) → may_write kind (role_at new d u) ≡ true → may_write kind (role_at old d u) ≡ true
 
