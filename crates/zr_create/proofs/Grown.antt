@@ -17,6 +17,7 @@ use Rattle.zr_rules.specs.Space.{Space, role_at}
 use Rattle.zr_rules.specs.Steps as steps
 use Rattle.zr_space.specs.Live.{IsLive}
 use Rattle.zr_space.specs.Paths.{AreInService}
+use Rattle.zr_space.proofs.Freeables.{freeable_live, live_freeable}
 use Rattle.zr_space.proofs.Paths.{nowhere}
 use Rattle.zr_store.specs.Store.{Stored, Swaps, Now}
 use Rattle.zr_store.proofs.Meeting.{at_each}
@@ -24,8 +25,8 @@ use Rattle.zr_vdev.specs.Caches.{AreRead}
 use Rattle.zr_vdev.specs.Runs.{view_of}
 use Rattle.zr_vdev.specs.Stores.{HoldsBlocks, IsStoredAt}
 use Rattle.zr_vdev.specs.declared.kind.Kind.TheVariants.{Block}
-use Rattle.zr_vdev.proofs.Moves.{bytes_now, holds_these}
-use Rattle.zr_vdev.proofs.Uses.{itself, leads_inside, same_place, use_resolves}
+use Rattle.zr_vdev.proofs.Moves.{bytes_now, holds_these, units_once}
+use Rattle.zr_vdev.proofs.Uses.{itself, leads_inside, same_place}
 use Rattle.zr_view.specs.Views.{slot_of, unit_bytes, place_bytes, address_bytes}
 use Rattle.zr_create.proofs.Taken.{new_part}
 
@@ -109,14 +110,14 @@ module _ (s t : Space) (units txg : ℕ) (adds : steps.AddsDevice s t units txg)
         some = live.some;
         within = omega (arith, within, same);
         used = λ d u leads.
-            let was : leads_to (devices_in s) a d u ≡ true = ap (λ (os : List (Option Place)). list_any (λ (o : Option Place). is_at o d u) os) (sym (units_still a (use_resolves Block s a on live))) ∙ leads in
+            let was : leads_to (devices_in s) a d u ≡ true = ap (λ (os : List (Option Place)). list_any (λ (o : Option Place). is_at o d u) os) (sym (units_still a (live_freeable s a on live).resolves)) ∙ leads in
             let dev = same_place a d u (leads_inside (devices_in s) on a d u was) in
             let old : ((d == length s.parts.devs) && nat_lt u units) ≡ false = grind (arith, nat_tests, known, dev) in
             ap (λ (r : Role). is_live_role r) (adds.roles d u ∙ if_false ((d == length s.parts.devs) && nat_lt u units) Free (role_at s d u) old) ∙ live.used d u was;
       }
 
   stored_still : (a : Dva) → IsStoredAt Block s None a → IsStoredAt Block t None a
-  stored_still a h = record { used = live_still a h.used; whole = tt }
+  stored_still a h = record { used = live_freeable t a now_on (live_still a (freeable_live s a on h.used)); whole = tt }
 
   -- ---- bytes
 
@@ -160,7 +161,7 @@ module _ (s t : Space) (units txg : ℕ) (adds : steps.AddsDevice s t units txg)
     pub held_still : (told is_told : Type 0) (c : Cache) (st : Stored) → is_told → HoldsBlocks Block slots told before s None c st → Now (HoldsBlocks Block now_slots is_told now t None c) (λ n. Swaps st n [] [])
     held_still told is_told c st tells held =
         let all : All (λ (b : Bptr). IsStoredAt Block t None b.at) st.pointers = λ i e lt. stored_still _ (held.stored i e lt) in
-        let next = holds_these Block now_slots is_told now t None c now_on st.pointers tells (read_still c held.read) (λ at is. absurd (none_some at is)) all held.once in
+        let next = holds_these Block now_slots is_told now t None c now_on st.pointers tells (read_still c held.read) (λ at is. absurd (none_some at is)) all (units_once Block s None st.pointers held.stored held.once) in
         record {
           stored = record { pointers = st.pointers; bytes = bytes_now Block now_slots now t None };
           held = next;

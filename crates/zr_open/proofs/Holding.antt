@@ -34,6 +34,7 @@ use Rattle.zr_rules.specs.Space.{Space}
 use Rattle.zr_shelf.specs.Disks.{disk, part}
 use Rattle.zr_space.specs.Opens.{IsOpened}
 use Rattle.zr_space.specs.Paths.{AreInService}
+use Rattle.zr_space.proofs.Freeables.{live_freeable}
 use Rattle.zr_store.proofs.Meeting.{at_each}
 use Rattle.zr_store.specs.Store.{Stored, hits}
 use Rattle.zr_sync.specs.Objects.{HoldsObjects, account_of}
@@ -105,7 +106,7 @@ long_run disks sizes slots p sized on =
 pub long_address : (disks : List (List ℕ)) (sizes : List ℕ) (slots : List (Option ℕ)) (s : Space) (a : Dva) → map length disks ≡ sizes → AreInService (devices_in s) → AreMounted sizes slots (devices_in s) → IsInUse Block s a
     → length (address_bytes (view_of disks slots s) a) ≡ 4096 * a.len
 long_address disks sizes slots s a sized on mounted used =
-    let runs = use_run Block s a on used in
+    let runs = use_run Block s a (on.there a.dev) used in
     let bytes = have_the_bytes slots (devices_in s) a (as_part a ∷ []) runs disks in
     let lies = (lie_on_disks sizes slots (devices_in s) mounted a (as_part a ∷ []) runs).0 in
     ap (λ (bs : List ℕ). length bs) (sym bytes ∙ append-nil (run_bytes disks slots (as_part a))) ∙ long_run disks sizes slots (as_part a) sized lies
@@ -160,10 +161,10 @@ module _ (tells : Type 0) (told : tells) (disks : List (List ℕ)) (sizes : List
 
     stored_one : (b : Bptr) → IsMarked held.held held.left b → IsStoredAt Block pool.space None b.at
     stored_one b one = record {
-      used = live_address pool.space ready.lawful ready.service b.at one.some (λ u inside. (
+      used = live_freeable pool.space b.at ready.service (live_address pool.space ready.lawful ready.service b.at one.some (λ u inside. (
         sym (held_is b.at.dev u) ∙ one.there u inside,
         not_true (is_kept devs b.at.dev u) (λ kept. not_both (has_unit (units_at held.left b.at.dev) u) (one.gone u inside) (kept_is b.at.dev u kept)),
-      ));
+      )));
       whole = tt;
     }
 

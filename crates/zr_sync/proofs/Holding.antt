@@ -18,6 +18,7 @@ use Rattle.zr_shelf.specs.Moments.{World}
 use Rattle.zr_slots.specs.Phases.{Publishes}
 use Rattle.zr_space.specs.Live.{IsLive}
 use Rattle.zr_space.specs.Paths.{AreInService}
+use Rattle.zr_space.proofs.Freeables.{freeable_live, live_freeable}
 use Rattle.zr_store.specs.Store.{Stored, Swaps, Now}
 use Rattle.zr_vdev.specs.Runs.{view_of}
 use Rattle.zr_vdev.specs.Stores.{HoldsBlocks}
@@ -72,6 +73,7 @@ same_holds slots t1 t2 before now x c s told same held = record {
   read = λ e among. let was = held.read e among in record { runs_of = was.runs_of; same = was.same ∙ sym (same e.0.pointer.at) };
   stored = held.stored;
   once = held.once;
+  back = held.back;
   alone = held.alone;
   resolves = held.resolves;
   there = λ b h. held.there b h ∙ sym (same b.at);
@@ -100,7 +102,7 @@ live_holds t disks x y s on devices table cache live held =
     subst (λ (w : Table). Now (HoldsBlocks Block w.slots t disks y.space None y.cache) (λ n. Swaps s n [] [])) (sym table)
     (subst (λ (k : Cache). Now (HoldsBlocks Block x.table.slots t disks y.space None k) (λ n. Swaps s n [] [])) (sym cache)
     (held_anew Block x.table.slots t t disks disks x.space y.space None x.cache x.cache s (subst AreInService (sym devices) on) held.told (read_same disks x.table.slots x.space y.space x.cache devices held.read)
-    (λ a h. record { used = live a h.used; whole = tt })
+    (λ a h. record { used = live_freeable y.space a (subst AreInService (sym devices) on) (live a (freeable_live x.space a on h.used)); whole = tt })
     (λ a h. ap (λ (ds : Devices). address_bytes (record { disks = disks; slots = x.table.slots; devices = ds }) a) devices)
     held))
 

@@ -75,10 +75,10 @@ run_roles old new g d u = (elim (in_address g.at d u) as (λ (b : Bool). in_addr
 none_left : (old new : Space) → saved_left new < saved_left old → old.saved_meta ≡ [] → ⊥
 none_left old new less none = let left : saved_left old ≡ 0 = ap (λ (list : List Dva). sum_by (λ (a : Dva). a.len) list) none in omega (arith, less, left)
 
-gives_run : (old new : Space) → AreInService (devices_in old) → GivesSaved old new → GivesSavedMeta old new
-gives_run old new on g = record {
+gives_run : (old new : Space) → GivesSaved old new → GivesSavedMeta old new
+gives_run old new g = record {
   roles = run_roles old new g;
-  others = gives_others Meta old new g.at 0 on g.saved.is (g.drops, g.parts);
+  others = gives_others Meta old new g.at 0 (g.drops, g.parts);
   nothing = λ none. absurd (none_left old new g.less none);
 }
 
@@ -98,9 +98,9 @@ gives_then a b c p q = record {
   nothing = λ none. let same = p.nothing none in q.nothing (subst (λ (s : Space). s.saved_meta ≡ []) (sym same) none) ∙ same;
 }
 
-pub gives_step : (first mid new : Space) (b : Bool) → AreInService (devices_in first) → GivesSavedMeta first mid → (b ≡ true → GivesSaved mid new) → (b ≡ false → (new ≡ mid) × (mid.saved_meta ≡ [])) → GivesSavedMeta first new
-gives_step first mid new true on g did left = gives_then first mid new g (gives_run mid new (subst AreInService (sym (rows_devices first mid g.others.rows)) on) (did refl))
-gives_step first mid new false on g did left = let n = left refl in subst (GivesSavedMeta first) (sym n.0) g
+pub gives_step : (first mid new : Space) (b : Bool) → GivesSavedMeta first mid → (b ≡ true → GivesSaved mid new) → (b ≡ false → (new ≡ mid) × (mid.saved_meta ≡ [])) → GivesSavedMeta first new
+gives_step first mid new true g did left = gives_then first mid new g (gives_run mid new (did refl))
+gives_step first mid new false g did left = let n = left refl in subst (GivesSavedMeta first) (sym n.0) g
 
 pub none_step : (mid new : Space) (b : Bool) → (b ≡ false → (new ≡ mid) × (mid.saved_meta ≡ [])) → b ≡ false → new.saved_meta ≡ []
 none_step mid new b left is = let n = left is in ap (λ (s : Space). s.saved_meta) n.0 ∙ n.1

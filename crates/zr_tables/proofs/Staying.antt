@@ -24,6 +24,7 @@ blocks_stay slots space n1 n2 c1 c2 t1 t2 w1 w2 a b s goes h =
       read = goes.read h.told h.read;
       stored = h.stored;
       once = h.once;
+      back = h.back;
       alone = h.alone;
       resolves = h.resolves;
       there = λ p at. h.there p at ∙ ap (λ (disks : List (List ℕ)). address_bytes (view_of disks slots space) p.at) (sym seen);

@@ -1,5 +1,5 @@
 -- What calls of a store in a row leave alone.
-use Rattle.std.proofs.Common.{◌≡◌, ℕ, ◌≤◌, ◌+◌, ◌/◌, Bool, true, false, List, [], ◌∷◌, length, Option, Some, None, inl, inr, ◌<◌, refl, sym, ◌∙◌, ap, subst, arith}
+use Rattle.std.proofs.Common.{◌≡◌, ℕ, ◌≤◌, ◌+◌, ◌/◌, ◌||◌, Bool, true, false, List, [], ◌∷◌, length, Option, Some, None, inl, inr, ◌<◌, refl, sym, ◌∙◌, ap, subst, arith}
 use Rattle.std.specs.Prelude.{if◌then◌else◌, IfSome}
 use Rattle.std.proofs.lemmas.Bool.Decides.{nat_tests}
 use Rattle.std.specs.Map.{remove_entry}
@@ -24,26 +24,25 @@ use Rattle.zr_shelf.specs.Doings.{Adds, IsAdded, WritesOnly, latest}
 use Rattle.zr_shelf.specs.Doings.Adds.{added_none, added}
 use Rattle.zr_shelf.proofs.Doings.{writes_nothing, writes_more, writes_still}
 use Rattle.zr_shelf.proofs.Runs.{still_trans}
-use Rattle.zr_rules.specs.Places.{in_address, part_of, units_of_dev}
+use Rattle.zr_rules.specs.Places.{is_fresh, in_address, part_of, units_of_dev}
 use Rattle.zr_rules.specs.Devices.{Devices}
-use Rattle.zr_rules.specs.Roles.{Role, is_live_role, is_meta_role, is_free_role, freed, kept_of, dropped}
+use Rattle.zr_rules.specs.Roles.{Role, is_free_role, freed, kept_of, dropped}
 use Rattle.zr_rules.specs.Roles.Role.{Free}
 use Rattle.zr_rules.specs.Space.{Space, role_at}
-use Rattle.zr_rules.specs.Frees.{keeps, IsSamePart, IsSameFrame, in_any}
-use Rattle.zr_rules.specs.Resolve.{leads_to, is_resolved}
+use Rattle.zr_rules.specs.Frees.{IsSamePart, IsSameFrame, marks}
+use Rattle.zr_rules.specs.Resolve.{is_resolved}
 use Rattle.zr_rules.specs.Columns.{free_units, free_of}
 use Rattle.zr_rules.specs.Equation.{devices_in}
 use Rattle.zr_space.specs.Drops.{KeepsParts}
-use Rattle.zr_space.specs.Paths.{AreInService}
 use Rattle.zr_cache.specs.declared.table.Cache.{Cache}
 use Rattle.zr_vdev.specs.declared.kind.Kind.{Kind}
 use Rattle.zr_vdev.specs.declared.kind.Kind.TheVariants as kinds
 use Rattle.zr_vdev.specs.Puts.{Takes, GivesBack, MayTake, MayPut, IsWriteOf}
-use Rattle.zr_vdev.specs.Stores.{IsInUse, GivesBackLost, may_write, may_change, is_open_role, IsWriteInto, KeepsRows, KeepsOthers, Continues, GoesOnReading}
+use Rattle.zr_vdev.specs.Stores.{GivesBackLost, may_write, may_change, is_open_role, IsWriteInto, KeepsRows, KeepsMarks, KeepsOthers, Continues, GoesOnReading}
 use Rattle.zr_vdev.proofs.Taking.{takes_frame, takes_place}
 use Rattle.zr_vdev.proofs.Rooms.{room_taken, room_kept, is_short, no_room}
 use Rattle.zr_vdev.proofs.Held.{read_same}
-use Rattle.zr_vdev.proofs.Uses.{is_of, taken_was_free, take_keeps, give_keeps, use_roles, leads_there}
+use Rattle.zr_vdev.proofs.Uses.{IsGiven, taken_was_free, take_keeps, given_roles}
 
 -- ---- writes
 
@@ -85,12 +84,32 @@ rows_more a b c p q = record {
 
 -- ---- roles
 
+marks_itself : (kind : Kind) (s : Space) → KeepsMarks kind s s
+marks_itself kinds.Block s = λ d u is. is
+marks_itself kinds.Meta s = λ d u. refl
+
+marks_more : (kind : Kind) (a b c : Space) → KeepsMarks kind a b → KeepsMarks kind b c → KeepsMarks kind a c
+marks_more kinds.Block a b c p q = λ d u is. q d u (p d u is)
+marks_more kinds.Meta a b c p q = λ d u. q d u ∙ p d u
+
+takes_marks : (kind : Kind) (policy : Policy) (want : ℕ) (old new : Space) (at : Dva) → Takes kind policy want old new at → KeepsMarks kind old new
+takes_marks kinds.Block policy want old new at takes = λ d u is. takes.fresh d u ∙ is
+takes_marks kinds.Meta policy want old new at takes = λ d u. takes.fresh d u
+
+or_true : (a b : Bool) → a ≡ true → (a || b) ≡ true
+or_true a b is = grind (arith, nat_tests, is)
+
+gives_marks : (kind : Kind) (old new : Space) (a : Dva) (birth : ℕ) → GivesBack kind old new a birth → KeepsMarks kind old new
+gives_marks kinds.Block old new a birth gives = λ d u is. gives.fresh d u ∙ or_true (is_fresh old.parts.devs d u) (marks old a d u) is
+gives_marks kinds.Meta old new a birth gives = λ d u. gives.0.fresh d u
+
 pub others_itself : (kind : Kind) (s : Space) → KeepsOthers kind s s
-others_itself kind s = record { rows = rows_itself s; stays = λ d u may. refl; writable = λ d u may. may }
+others_itself kind s = record { rows = rows_itself s; marks = marks_itself kind s; stays = λ d u may. refl; writable = λ d u may. may }
 
 pub others_more : (kind : Kind) (a b c : Space) → KeepsOthers kind a b → KeepsOthers kind b c → KeepsOthers kind a c
 others_more kind a b c p q = record {
   rows = rows_more a b c p.rows q.rows;
+  marks = marks_more kind a b c p.marks q.marks;
   stays = λ d u may. let first = p.stays d u may in q.stays d u (ap (may_change kind) first ∙ may) ∙ first;
   writable = λ d u may. p.writable d u (q.writable d u may);
 }
@@ -106,20 +125,47 @@ free_changed kinds.Meta = refl
 true_false : true ≡ false → ⊥
 true_false e = cc
 
-own_changed : (kind : Kind) (r : Role) → is_of kind r ≡ true → may_change kind r ≡ true
-own_changed kinds.Block r is = grind (arith, nat_tests, is)
-own_changed kinds.Meta r is = grind (arith, nat_tests, is)
+-- a role that the store does not change is not given back
+unchanged : (kind : Kind) (old new : Role) → IsGiven kind old new → may_change kind old ≡ false → new ≡ old
+unchanged kinds.Block old new (inl same) may = same
+unchanged kinds.Block old new (inr (inl is)) may = is ∙ grind (arith, nat_tests, may)
+unchanged kinds.Block old new (inr (inr is)) may = is ∙ grind (arith, nat_tests, may)
+unchanged kinds.Meta old new (inl same) may = same
+unchanged kinds.Meta old new (inr is) may = is ∙ grind (arith, nat_tests, may)
 
-own_not_free : (kind : Kind) (r : Role) → is_of kind r ≡ true → is_free_role r ≡ true → ⊥
-own_not_free kinds.Block r is free = grind (arith, nat_tests, is, free)
-own_not_free kinds.Meta r is free = grind (arith, nat_tests, is, free)
+freed_written : (r : Role) → is_open_role (freed r) ≡ true → is_open_role r ≡ true
+freed_written r may = grind (arith, nat_tests, may)
 
-freed_written : (b : Bool) (r : Role) → is_live_role r ≡ true → is_open_role (if b then kept_of r else freed r) ≡ true → is_open_role r ≡ true
-freed_written true r is may = grind (arith, nat_tests, is, may)
-freed_written false r is may = grind (arith, nat_tests, is, may)
+kept_written : (r : Role) → is_open_role (kept_of r) ≡ true → is_open_role r ≡ true
+kept_written r may = grind (arith, nat_tests, may)
 
-dropped_written : (r : Role) → is_meta_role r ≡ true → is_free_role (dropped r) ≡ true → is_free_role r ≡ true
-dropped_written r is free = grind (arith, nat_tests, is, free)
+dropped_written : (r : Role) → is_free_role (dropped r) ≡ true → is_free_role r ≡ true
+dropped_written r free = grind (arith, nat_tests, free)
+
+-- what may be written then might be written before
+written_before : (kind : Kind) (old new : Role) → IsGiven kind old new → may_write kind new ≡ true → may_write kind old ≡ true
+written_before kinds.Block old new (inl same) may = sym (ap is_open_role same) ∙ may
+written_before kinds.Block old new (inr (inl is)) may = freed_written old (sym (ap is_open_role is) ∙ may)
+written_before kinds.Block old new (inr (inr is)) may = kept_written old (sym (ap is_open_role is) ∙ may)
+written_before kinds.Meta old new (inl same) may = sym (ap is_free_role same) ∙ may
+written_before kinds.Meta old new (inr is) may = dropped_written old (sym (ap is_free_role is) ∙ may)
+
+freed_free : (r : Role) → is_free_role r ≡ true → is_free_role (freed r) ≡ true
+freed_free r free = grind (arith, nat_tests, free)
+
+kept_free : (r : Role) → is_free_role r ≡ true → is_free_role (kept_of r) ≡ true
+kept_free r free = grind (arith, nat_tests, free)
+
+dropped_free : (r : Role) → is_free_role r ≡ true → is_free_role (dropped r) ≡ true
+dropped_free r free = grind (arith, nat_tests, free)
+
+-- what is free stays free
+still_free : (kind : Kind) (old new : Role) → IsGiven kind old new → is_free_role old ≡ true → is_free_role new ≡ true
+still_free kinds.Block old new (inl same) free = ap is_free_role same ∙ free
+still_free kinds.Block old new (inr (inl is)) free = ap is_free_role is ∙ freed_free old free
+still_free kinds.Block old new (inr (inr is)) free = ap is_free_role is ∙ kept_free old free
+still_free kinds.Meta old new (inl same) free = ap is_free_role same ∙ free
+still_free kinds.Meta old new (inr is) free = ap is_free_role is ∙ dropped_free old free
 
 if_true : {A : Type 0} (b : Bool) (x y : A) → b ≡ true → (if b then x else y) ≡ x
 if_true true x y h = refl
@@ -128,6 +174,7 @@ if_true false x y h = cc
 pub takes_others : (kind : Kind) (policy : Policy) (want : ℕ) (old new : Space) (at : Dva) → Takes kind policy want old new at → KeepsOthers kind old new
 takes_others kind policy want old new at takes = record {
   rows = frame_rows old new (takes_frame kind policy want old new at takes);
+  marks = takes_marks kind policy want old new at takes;
   stays = λ d u may. (elim (in_address at d u) as (λ (b : Bool). in_address at d u ≡ b → role_at new d u ≡ role_at old d u) [
     | true ↦ λ is. absurd (true_false (sym (ap (may_change kind) (taken_was_free kind policy want old new at takes d u is) ∙ free_changed kind) ∙ may))
     | false ↦ λ is. take_keeps kind policy want old new at takes d u is
@@ -142,27 +189,12 @@ give_rows : (kind : Kind) (old new : Space) (a : Dva) (birth : ℕ) → GivesBac
 give_rows kinds.Block old new a birth gives = frame_rows old new gives.frame
 give_rows kinds.Meta old new a birth gives = parts_rows old new gives.1
 
-give_written : (kind : Kind) (old new : Space) (a : Dva) (birth : ℕ) → AreInService (devices_in old) → IsInUse kind old a → GivesBack kind old new a birth → (d u : ℕ) → in_address a d u ≡ true → may_write kind (role_at new d u) ≡ true → may_write kind (role_at old d u) ≡ true
-give_written kinds.Block old new a birth on h gives d u is may =
-    let leads = leads_there (devices_in old) on a d u h.known h.within is in
-    let now = gives.roles d u ∙ if_true (leads_to (devices_in old) a d u) _ _ leads in
-    freed_written (keeps old.parts.ckpt birth) (role_at old d u) (h.used d u leads) (sym (ap is_open_role now) ∙ may)
-give_written kinds.Meta old new a birth on h gives d u is may =
-    let any : in_any (a ∷ []) d u ≡ true = grind (arith, nat_tests, is) in
-    let now = gives.0.roles d u ∙ if_true (in_any (a ∷ []) d u) _ _ any in
-    dropped_written (role_at old d u) (use_roles kinds.Meta old a on h d u is) (sym (ap is_free_role now) ∙ may)
-
-pub gives_others : (kind : Kind) (old new : Space) (a : Dva) (birth : ℕ) → AreInService (devices_in old) → IsInUse kind old a → GivesBack kind old new a birth → KeepsOthers kind old new
-gives_others kind old new a birth on h gives = record {
+pub gives_others : (kind : Kind) (old new : Space) (a : Dva) (birth : ℕ) → GivesBack kind old new a birth → KeepsOthers kind old new
+gives_others kind old new a birth gives = record {
   rows = give_rows kind old new a birth gives;
-  stays = λ d u may. (elim (in_address a d u) as (λ (b : Bool). in_address a d u ≡ b → role_at new d u ≡ role_at old d u) [
-    | true ↦ λ is. absurd (true_false (sym (own_changed kind (role_at old d u) (use_roles kind old a on h d u is)) ∙ may))
-    | false ↦ λ is. give_keeps kind old new a birth on gives d u is
-  ]) refl;
-  writable = λ d u may. (elim (in_address a d u) as (λ (b : Bool). in_address a d u ≡ b → may_write kind (role_at old d u) ≡ true) [
-    | true ↦ λ is. give_written kind old new a birth on h gives d u is may
-    | false ↦ λ is. sym (ap (may_write kind) (give_keeps kind old new a birth on gives d u is)) ∙ may
-  ]) refl;
+  marks = gives_marks kind old new a birth gives;
+  stays = λ d u may. unchanged kind (role_at old d u) (role_at new d u) (given_roles kind old new a birth gives d u) may;
+  writable = λ d u may. written_before kind (role_at old d u) (role_at new d u) (given_roles kind old new a birth gives d u) may;
 }
 
 -- ---- room
@@ -173,13 +205,10 @@ takes_room kind policy want old new at takes len =
     let r = room_taken old new frame.devices (λ d. (frame.each d).row) at (λ d u free out. ap is_free_role (take_keeps kind policy want old new at takes d u out) ∙ free) in
     omega (arith, r, len)
 
-pub gives_room : (kind : Kind) (old new : Space) (a : Dva) (birth : ℕ) → AreInService (devices_in old) → IsInUse kind old a → GivesBack kind old new a birth → free_units old ≤ free_units new
-gives_room kind old new a birth on h gives =
+pub gives_room : (kind : Kind) (old new : Space) (a : Dva) (birth : ℕ) → GivesBack kind old new a birth → free_units old ≤ free_units new
+gives_room kind old new a birth gives =
     let rows = give_rows kind old new a birth gives in
-    room_kept old new rows.devices (λ d. (rows.each d).row) (λ d u free. (elim (in_address a d u) as (λ (b : Bool). in_address a d u ≡ b → is_free_role (role_at new d u) ≡ true) [
-      | true ↦ λ is. absurd (own_not_free kind (role_at old d u) (use_roles kind old a on h d u is) free)
-      | false ↦ λ is. ap is_free_role (give_keeps kind old new a birth on gives d u is) ∙ free
-    ]) refl)
+    room_kept old new rows.devices (λ d. (rows.each d).row) (λ d u free. still_free kind (role_at old d u) (role_at new d u) (given_roles kind old new a birth gives d u) free)
 
 -- ---- the writes of a call
 
@@ -267,15 +296,15 @@ module _ (kind : Kind) (slots : List (Option ℕ)) (sizes : List ℕ) (counts : 
     room = room;
   }
 
-  pub lost_step : (s t : Space) (c : Cache) (lost : Option Dva) (txg : ℕ) → AreInService (devices_in s) → GivesBackLost kind s t lost txg → Continues kind slots sizes sizes counts counts told told world world s t c c
-  lost_step s t c None txg on same = space_step s t c c (subst (KeepsOthers kind s) (sym same) (others_itself kind s)) (λ disks r. subst (λ (x : Space). AreRead disks slots x c) (sym same) r) refl
-  lost_step s t c (Some a) txg on (inl (used, gives)) = space_step s t c c (gives_others kind s t a txg on used gives) (λ disks r. read_same disks slots s t c (give_devices kind s t a txg gives) r) refl
-  lost_step s t c (Some a) txg on (inr (not_used, same)) = space_step s t c c (subst (KeepsOthers kind s) (sym same) (others_itself kind s)) (λ disks r. subst (λ (x : Space). AreRead disks slots x c) (sym same) r) refl
+  pub lost_step : (s t : Space) (c : Cache) (lost : Option Dva) (txg : ℕ) → GivesBackLost kind s t lost txg → Continues kind slots sizes sizes counts counts told told world world s t c c
+  lost_step s t c None txg same = space_step s t c c (subst (KeepsOthers kind s) (sym same) (others_itself kind s)) (λ disks r. subst (λ (x : Space). AreRead disks slots x c) (sym same) r) refl
+  lost_step s t c (Some a) txg (inl (used, gives)) = space_step s t c c (gives_others kind s t a txg gives) (λ disks r. read_same disks slots s t c (give_devices kind s t a txg gives) r) refl
+  lost_step s t c (Some a) txg (inr (not_used, same)) = space_step s t c c (subst (KeepsOthers kind s) (sym same) (others_itself kind s)) (λ disks r. subst (λ (x : Space). AreRead disks slots x c) (sym same) r) refl
 
-pub lost_room : (kind : Kind) (s t : Space) (lost : Option Dva) (txg : ℕ) → AreInService (devices_in s) → GivesBackLost kind s t lost txg → free_units s ≤ free_units t
-lost_room kind s t None txg on same = let e = ap (λ (x : Space). free_units x) same in omega (arith, e)
-lost_room kind s t (Some a) txg on (inl (used, gives)) = gives_room kind s t a txg on used gives
-lost_room kind s t (Some a) txg on (inr (not_used, same)) = let e = ap (λ (x : Space). free_units x) same in omega (arith, e)
+pub lost_room : (kind : Kind) (s t : Space) (lost : Option Dva) (txg : ℕ) → GivesBackLost kind s t lost txg → free_units s ≤ free_units t
+lost_room kind s t None txg same = let e = ap (λ (x : Space). free_units x) same in omega (arith, e)
+lost_room kind s t (Some a) txg (inl (used, gives)) = gives_room kind s t a txg gives
+lost_room kind s t (Some a) txg (inr (not_used, same)) = let e = ap (λ (x : Space). free_units x) same in omega (arith, e)
 
 pub read_forgotten : (disks : List (List ℕ)) (slots : List (Option ℕ)) (s : Space) (c d : Cache) (b : Bptr) → entries d ≡ remove_entry (is_key b) (entries c) → AreRead disks slots s c → AreRead disks slots s d
 read_forgotten disks slots s c d b is read = holds-forgotten (IsRead disks slots s) (entries c) (entries d) read b is
@@ -295,9 +324,9 @@ take_more : (kind : Kind) (policy : Policy) (want : ℕ) (old new : Space) (take
 take_more kind policy want old new None same = let e = ap (λ (x : Space). free_units x) same in omega (arith, e)
 take_more kind policy want old new (Some at) takes = takes_room kind policy want old new at takes (takes_place kind policy want old new at takes).len
 
-pub put_room : (kind : Kind) (policy : Policy) (want : ℕ) (old mid new : Space) (lost taken : Option Dva) (txg : ℕ) → AreInService (devices_in old) → GivesBackLost kind old mid lost txg → MayTake kind policy want mid new taken → free_units old ≤ free_units new + want
-put_room kind policy want old mid new lost taken txg on gives takes =
-    let a = lost_room kind old mid lost txg on gives in
+pub put_room : (kind : Kind) (policy : Policy) (want : ℕ) (old mid new : Space) (lost taken : Option Dva) (txg : ℕ) → GivesBackLost kind old mid lost txg → MayTake kind policy want mid new taken → free_units old ≤ free_units new + want
+put_room kind policy want old mid new lost taken txg gives takes =
+    let a = lost_room kind old mid lost txg gives in
     let b = take_more kind policy want mid new taken takes in
     omega (arith, a, b)
 
@@ -314,12 +343,12 @@ may_writes kind policy want slots old new before now None some (same, still) = s
 may_writes kind policy want slots old new before now (Some at) some (takes, writes) = write_into kind policy want slots old new at some takes before now writes
 
 -- a run that is missing after what was lost is given back
-pub missing : (kind : Kind) (old mid : Space) (lost : Option Dva) (txg : ℕ) → AreInService (devices_in old) → GivesBackLost kind old mid lost txg → (faults want needed longest : ℕ) → 0 < want → needed ≡ want → HasNoPlacement (free_of mid) want longest → IsNoRun want (account_of faults old) needed longest
-missing kind old mid lost txg on gives faults want needed longest some is none = record {
+pub missing : (kind : Kind) (old mid : Space) (lost : Option Dva) (txg : ℕ) → GivesBackLost kind old mid lost txg → (faults want needed longest : ℕ) → 0 < want → needed ≡ want → HasNoPlacement (free_of mid) want longest → IsNoRun want (account_of faults old) needed longest
+missing kind old mid lost txg gives faults want needed longest some is none = record {
   wanted = is;
   short = let s = is_short (free_of mid) want longest some none in omega (arith, s, is);
   full = λ one.
-      let room = lost_room kind old mid lost txg on gives in
+      let room = lost_room kind old mid lost txg gives in
       let zero = no_room mid longest (subst (λ (n : ℕ). HasNoPlacement (free_of mid) n longest) one none) in
       omega (arith, room, zero);
 }

@@ -1,5 +1,5 @@
 -- What a store leaves of what a store of the other kind holds, and of the devices.
-use Rattle.std.proofs.Common.{◌≡◌, ℕ, ◌*◌, ◌<◌, Bool, true, false, List, [], ◌∷◌, ◌++◌, Option, Some, None, refl, sym, ◌∙◌, ap, subst, arith}
+use Rattle.std.proofs.Common.{◌≡◌, ℕ, ◌*◌, ◌<◌, ◌≤◌, Bool, true, false, List, [], ◌∷◌, Option, Some, None, refl, sym, ◌∙◌, ap, subst, arith}
 use Rattle.std.proofs.lemmas.Bool.Decides.{nat_tests}
 use Rattle.zr_base.specs.declared.space.Dva.{Dva}
 use Rattle.zr_shelf.specs.Counts.{Counts}
@@ -12,9 +12,10 @@ use Rattle.zr_label.specs.Geometry.{unit_at}
 use Rattle.zr_chain.specs.Visits.{as_part}
 use Rattle.zr_rules.specs.Places.{in_address}
 use Rattle.zr_rules.specs.Devices.{Devices}
+use Rattle.zr_rules.specs.Resolve.{leads_to}
 use Rattle.zr_rules.specs.Roles.{Role}
 use Rattle.zr_rules.specs.Space.{Space, role_at}
-use Rattle.zr_rules.specs.Equation.{devices_in}
+use Rattle.zr_rules.specs.Equation.{devices_in, live_hits}
 use Rattle.zr_space.specs.Paths.{AreInService}
 use Rattle.zr_store.specs.Store.{Stored, Swaps, Now}
 use Rattle.zr_view.specs.Views.{slot_of, address_bytes}
@@ -23,13 +24,13 @@ use Rattle.zr_cache.specs.declared.table.Cache.{Cache}
 use Rattle.zr_vdev.specs.declared.kind.Kind.{Kind}
 use Rattle.zr_vdev.specs.declared.kind.Kind.TheVariants as kinds
 use Rattle.zr_vdev.specs.Mounts.{AreMounted}
-use Rattle.zr_vdev.specs.Stores.{HoldsBlocks, Continues, IsWriteInto, may_write, may_change}
-use Rattle.zr_vdev.proofs.Reading.{have_the_bytes}
+use Rattle.zr_vdev.specs.Stores.{IsInUse, HoldsBlocks, MayGoBack, Continues, IsWriteInto, KeepsOthers, addresses_of, may_write, may_change}
 use Rattle.zr_vdev.proofs.Overwriting.{untouched}
 use Rattle.zr_vdev.proofs.Apart.{parts_apart}
-use Rattle.zr_vdev.proofs.Uses.{is_of, use_some, use_roles, use_along}
-use Rattle.zr_vdev.proofs.Held.{use_run, true_is_false}
-use Rattle.zr_vdev.proofs.Moves.{held_anew}
+use Rattle.zr_vdev.proofs.Uses.{is_of, use_roles, use_along}
+use Rattle.zr_vdev.proofs.Back.{spends_same}
+use Rattle.zr_vdev.proofs.Held.{one_unit, address_same, true_is_false}
+use Rattle.zr_vdev.proofs.Moves.{held_again}
 use Rattle.zr_vdev.proofs.Follows.{rows_devices}
 
 -- ---- devices
@@ -89,18 +90,36 @@ other_barred : (kind : Kind) (r : Role) → is_of kind r ≡ true → may_write 
 other_barred kinds.Block r is = grind (arith, nat_tests, is)
 other_barred kinds.Meta r is = grind (arith, nat_tests, is)
 
+-- what may go back still may: metadata marks nothing, and passes nothing
+beside_back : (kind : Kind) (s t : Space) → devices_in t ≡ devices_in s → KeepsOthers (other kind) s t → (list : List Dva) → MayGoBack kind s list → MayGoBack kind t list
+beside_back kinds.Block s t devices others list back = spends_same s t list devices (λ d. (others.rows.each d).counts) others.marks back
+beside_back kinds.Meta s t devices others list back = tt
+
 -- what is held of one kind is held still once a store of the other kind has done its calls
+pub held_beside : (kind : Kind) (slots : List (Option ℕ)) (n1 n2 : List ℕ) (c1 c2 : Counts) (t1 t2 : Type 0) (w1 w2 : World) (s t : Space) (lost : Option Dva) (k1 k2 : Cache) (st : Stored)
+    → ((d e slot : ℕ) → slot_of slots d ≡ Some slot → slot_of slots e ≡ Some slot → d ≡ e) → Continues (other kind) slots n1 n2 c1 c2 t1 t2 w1 w2 s t k1 k2
+    → HoldsBlocks kind slots t1 w1.now.seen s lost k1 st → Now (HoldsBlocks kind slots t2 w2.now.seen t None k2) (λ n. Swaps st n [] [])
+held_beside kind slots n1 n2 c1 c2 t1 t2 w1 w2 s t lost k1 k2 st apart went held =
+    let devices = rows_devices s t went.space.rows in
+    let back = beside_back kind s t devices went.space in
+    held_again kind slots t1 t2 w1.now.seen w2.now.seen s t lost k1 k2 st (went.told held.told) (went.read held.told held.read)
+    (λ x h. record { used = use_along kind s t x devices (back (x ∷ [])) (λ d u led. went.space.stays d u (other_stays kind (role_at s d u) (use_roles kind s x h.used d u led))) h.used; whole = tt })
+    (λ x h.
+    ap (λ (ds : Devices). address_bytes (record { disks = w2.now.seen; slots = slots; devices = ds }) x) devices
+    ∙ address_same slots (devices_in s) w1.now.seen w2.now.seen x (λ d u led. run_stays (other kind) slots s (one_unit d u) (omega arith) (unit_barred kind s x h.used d u led) apart w1 w2 (went.written held.told)))
+    (λ d u. subst (λ (ds : Devices). live_hits ds (addresses_of st.pointers) d u ≤ 1) (sym devices) (held.once d u))
+    (back (addresses_of st.pointers) held.back)
+    held
+  where
+    unit_barred : (kind : Kind) (s : Space) (x : Dva) → IsInUse kind s x → (d u : ℕ) → leads_to (devices_in s) x d u ≡ true → (e v : ℕ) → in_address (one_unit d u) e v ≡ true → may_write (other kind) (role_at s e v) ≡ false
+    unit_barred kind s x used d u led e v is =
+        let dev : e ≡ d = grind (arith, nat_tests, is) in
+        let unit : v ≡ u = grind (arith, nat_tests, is) in
+        ap (λ (y : ℕ). may_write (other kind) (role_at s y v)) dev ∙ (ap (λ (w : ℕ). may_write (other kind) (role_at s d w)) unit ∙ other_barred kind (role_at s d u) (use_roles kind s x used d u led))
+
+-- so it is where all devices are in service, of which nothing is asked
 pub held_over : (kind : Kind) (slots : List (Option ℕ)) (n1 n2 : List ℕ) (c1 c2 : Counts) (t1 t2 : Type 0) (w1 w2 : World) (s t : Space) (lost : Option Dva) (k1 k2 : Cache) (st : Stored)
     → AreInService (devices_in s) → ((d e slot : ℕ) → slot_of slots d ≡ Some slot → slot_of slots e ≡ Some slot → d ≡ e) → Continues (other kind) slots n1 n2 c1 c2 t1 t2 w1 w2 s t k1 k2
     → HoldsBlocks kind slots t1 w1.now.seen s lost k1 st → Now (HoldsBlocks kind slots t2 w2.now.seen t None k2) (λ n. Swaps st n [] [])
 held_over kind slots n1 n2 c1 c2 t1 t2 w1 w2 s t lost k1 k2 st on apart went held =
-    let devices = rows_devices s t went.space.rows in
-    held_anew kind slots t1 t2 w1.now.seen w2.now.seen s t lost k1 k2 st (subst AreInService (sym devices) on) (went.told held.told) (went.read held.told held.read)
-    (λ x h. record { used = use_along kind s t x devices on (λ d u is. went.space.stays d u (other_stays kind (role_at s d u) (use_roles kind s x on h.used d u is))) h.used; whole = tt })
-    (λ x h.
-    let run = use_run kind s x on h.used in
-    ap (λ (ds : Devices). address_bytes (record { disks = w2.now.seen; slots = slots; devices = ds }) x) devices
-    ∙ sym (have_the_bytes slots (devices_in s) x (as_part x ∷ []) run w2.now.seen)
-    ∙ ap (λ (l : List ℕ). l ++ []) (run_stays (other kind) slots s x (use_some kind s x h.used) (λ d u is. other_barred kind (role_at s d u) (use_roles kind s x on h.used d u is)) apart w1 w2 (went.written held.told))
-    ∙ have_the_bytes slots (devices_in s) x (as_part x ∷ []) run w1.now.seen)
-    held
+    held_beside kind slots n1 n2 c1 c2 t1 t2 w1 w2 s t lost k1 k2 st apart went held

@@ -2,9 +2,13 @@ pub mod Reading
 pub mod Taking
 pub mod Caching
 pub mod Overwriting
+pub mod Leading
 pub mod Apart
+pub mod Back
 pub mod Rooms
 pub mod Uses
+pub mod GoingBack
+pub mod Deciding
 pub mod Follows
 pub mod Held
 pub mod Moves

@@ -1,5 +1,5 @@
 -- What a store of blocks on a shelf holds once a block is put or given back.
-use Rattle.std.proofs.Common.{◌≡◌, ◌⊎◌, inl, inr, ℕ, zero, suc, ◌+◌, ◌-◌, ◌<◌, ◌≤◌, Bool, true, false, nat_eq, List, [], ◌∷◌, Option, Some, None, refl, sym, ◌∙◌, ap, subst, arith}
+use Rattle.std.proofs.Common.{◌≡◌, inl, inr, ℕ, ◌+◌, ◌-◌, ◌<◌, ◌≤◌, Bool, true, false, nat_eq, List, [], ◌∷◌, Option, Some, None, refl, sym, ◌∙◌, ap, subst, arith}
 use Rattle.std.specs.Prelude.{All, if◌then◌else◌}
 use Rattle.std.specs.List.{sum_by}
 use Rattle.std.proofs.lemmas.List.Sums.{sum_by-cons}
@@ -10,11 +10,12 @@ use Rattle.zr_base.specs.declared.space.Policy.{Policy}
 use Rattle.zr_bptr.specs.declared.Bptr.{Bptr}
 use Rattle.zr_shelf.specs.Moments.{World}
 use Rattle.zr_shelf.specs.Doings.{WritesOnly}
-use Rattle.zr_rules.specs.Places.{one_if, in_address, address_hits, units_of_dev}
-use Rattle.zr_rules.specs.Devices.{Devices}
-use Rattle.zr_rules.specs.Resolve.{is_resolved}
+use Rattle.zr_chain.proofs.Ways.{cases_bool}
+use Rattle.zr_rules.specs.Places.{one_if, is_on, state_of_dev, in_address, address_hits, units_of_dev}
+use Rattle.zr_rules.specs.Devices.{Devices, state_at}
+use Rattle.zr_rules.specs.Resolve.{is_resolved, leads_to, resolve_hits}
 use Rattle.zr_rules.specs.Space.{Space, role_at}
-use Rattle.zr_rules.specs.Equation.{devices_in}
+use Rattle.zr_rules.specs.Equation.{devices_in, live_hits}
 use Rattle.zr_space.specs.Paths.{AreInService}
 use Rattle.zr_store.specs.Store.{Stored, Swaps, Puts, Now, AreStored, IsOnce, hits, one_at}
 use Rattle.zr_store.proofs.Keeping.{one_itself, one_cases}
@@ -25,20 +26,23 @@ use Rattle.zr_vdev.specs.declared.kind.Kind.{Kind}
 use Rattle.zr_vdev.specs.Runs.{view_of}
 use Rattle.zr_vdev.specs.Caches.{AreRead}
 use Rattle.zr_vdev.specs.Puts.{Takes, GivesBack, IsWriteOf}
-use Rattle.zr_vdev.specs.Stores.{IsInUse, IsApart, IsStoredAt, HoldsBlocks, HoldsRead, addresses_of}
-use Rattle.zr_vdev.proofs.Taking.{takes_place, takes_frame}
-use Rattle.zr_vdev.proofs.Overwriting.{same_devices}
-use Rattle.zr_vdev.proofs.Uses.{is_of, use_some, use_roles, use_along, use_resolves, taken_was_free, take_keeps, taken_in_use, give_keeps}
-use Rattle.zr_vdev.proofs.Held.{stored_or, pick, pick_yes, pick_no, bytes_apart, clear_of_taken, true_is_false, own_not_free}
+use Rattle.zr_vdev.specs.Stores.{IsInUse, IsTaken, IsApart, IsStoredAt, HoldsBlocks, HoldsRead, MayGoBack, addresses_of}
+use Rattle.zr_vdev.proofs.Leading.{Resolves, false_true, zero_or, apart_units, leads_some, some_leads, own_leads, own_hits}
+use Rattle.zr_vdev.proofs.Back.{Parts}
+use Rattle.zr_vdev.proofs.Uses.{is_of, use_some, use_roles, use_along, use_resolves, taken_was_free, taken_own, serves_stays, give_keeps}
+use Rattle.zr_vdev.proofs.GoingBack.{service_back, with_back, alone_back, head_back, tail_back, take_back, rest_back}
+use Rattle.zr_vdev.proofs.Deciding.{stored_or}
+use Rattle.zr_vdev.proofs.Held.{pick, pick_yes, pick_no, apart_same, bytes_apart, clear_of_taken, takes_devices, takes_some, used_still, is_taken, true_is_false, own_not_free}
 
 abbrev hits_in : List Bptr → ℕ → ℕ → ℕ
 hits_in ps d u = sum_by (λ (b : Bptr). one_if (in_address b.at d u)) ps
 
-hits_are : (ps : List Bptr) (d u : ℕ) → address_hits (addresses_of ps) d u ≡ hits_in ps d u
-hits_are [] d u = refl
-hits_are (p ∷ ps) d u =
-    let r = hits_are ps d u in
-    omega (arith, r, sum_by-cons (λ (a : Dva). one_if (in_address a d u)) p.at (addresses_of ps), sum_by-cons (λ (b : Bptr). one_if (in_address b.at d u)) p ps)
+-- a weight of addresses is one of pointers
+weight_of : (f : Dva → ℕ) (ps : List Bptr) → sum_by f (addresses_of ps) ≡ sum_by (λ (b : Bptr). f b.at) ps
+weight_of f [] = refl
+weight_of f (p ∷ ps) =
+    let r = weight_of f ps in
+    omega (arith, r, sum_by-cons f p.at (addresses_of ps), sum_by-cons (λ (b : Bptr). f b.at) p ps)
 
 -- ---- laws
 
@@ -56,23 +60,31 @@ module _ (kind : Kind) (s : Space) (lost : Option Dva) where
       let rest = fewer_hits ps at (All-tail Each p ps all) in
       omega (arith, first, rest, sum_by-cons (one_at at) p ps, sum_by-cons (λ (b : Bptr). one_if (in_address b.at at.dev at.start)) p ps)
 
-  pub alone_of : (st : Stored) → All Each st.pointers → ((d u : ℕ) → address_hits (addresses_of st.pointers) d u ≤ 1) → IsOnce st
+  -- each address of blocks that are stored leads to units
+  pub each_resolves : (ps : List Bptr) → All Each ps → All (Resolves (devices_in s)) (addresses_of ps)
+  each_resolves [] all = All-nil (Resolves (devices_in s))
+  each_resolves (p ∷ ps) all =
+      All-cons (Resolves (devices_in s)) p.at (addresses_of ps) (use_resolves kind s p.at (All-head Each p ps all).used) (each_resolves ps (All-tail Each p ps all))
+
+  -- no unit is in two of them
+  pub units_once : (ps : List Bptr) → All Each ps → ((d u : ℕ) → live_hits (devices_in s) (addresses_of ps) d u ≤ 1) → (d u : ℕ) → address_hits (addresses_of ps) d u ≤ 1
+  units_once ps all once d u = apart_units (devices_in s) (addresses_of ps) (each_resolves ps all) once d u
+
+  pub alone_of : (st : Stored) → All Each st.pointers → ((d u : ℕ) → live_hits (devices_in s) (addresses_of st.pointers) d u ≤ 1) → IsOnce st
   alone_of st all once at =
-      let few = fewer_hits st.pointers at all in let o = once at.dev at.start in
-      omega (arith, few, o, hits_are st.pointers at.dev at.start)
+      let few = fewer_hits st.pointers at all in let o = units_once st.pointers all once at.dev at.start in
+      omega (arith, few, o, weight_of (λ (a : Dva). one_if (in_address a at.dev at.start)) st.pointers)
 
-  pub resolves_of : (ps : List Bptr) → AreInService (devices_in s) → All Each ps → (at : Dva) → 0 < hits ps at → is_resolved (devices_in s) at ≡ true
-  resolves_of ps on all at met = use_resolves kind s at on (at_each (IsStoredAt kind s lost) ps at all met).used
+  pub resolves_of : (ps : List Bptr) → All Each ps → (at : Dva) → 0 < hits ps at → is_resolved (devices_in s) at ≡ true
+  resolves_of ps all at met = use_resolves kind s at (at_each (IsStoredAt kind s lost) ps at all met).used
 
-  -- a unit of a pointer has a role of the kind
-  hit_role : (ps : List Bptr) → AreInService (devices_in s) → All Each ps → (d u : ℕ) → 0 < hits_in ps d u → is_of kind (role_at s d u) ≡ true
-  hit_role [] on all d u h = absurd (omega (arith, h))
-  hit_role (p ∷ ps) on all d u h = (elim (in_address p.at d u) as (λ (b : Bool). in_address p.at d u ≡ b → is_of kind (role_at s d u) ≡ true) [
-    | true ↦ λ is. use_roles kind s p.at on (All-head Each p ps all).used d u is
-    | false ↦ λ is.
-        let none = ap one_if is in
-        hit_role ps on (All-tail Each p ps all) d u (omega (arith, h, none, sum_by-cons (λ (b : Bptr). one_if (in_address b.at d u)) p ps))
-  ]) refl
+  -- a unit to which a pointer leads has a role of the kind
+  hit_role : (ps : List Bptr) → All Each ps → (d u : ℕ) → 0 < live_hits (devices_in s) (addresses_of ps) d u → is_of kind (role_at s d u) ≡ true
+  hit_role [] all d u h = absurd (omega (arith, h))
+  hit_role (p ∷ ps) all d u h = elim (zero_or (resolve_hits (devices_in s) p.at d u)) [
+    | inr more ↦ use_roles kind s p.at (All-head Each p ps all).used d u (some_leads (devices_in s) p.at d u more)
+    | inl none ↦ hit_role ps (All-tail Each p ps all) d u (omega (arith, h, none, sum_by-cons (λ (a : Dva). resolve_hits (devices_in s) a d u) p.at (addresses_of ps)))
+  ]
 
 -- the bytes of a pointer, none where no block is stored
 pub bytes_now : (kind : Kind) (slots : List (Option ℕ)) (disks : List (List ℕ)) (s : Space) (lost : Option Dva) → Bptr → List ℕ
@@ -86,25 +98,37 @@ bytes_none : (kind : Kind) (slots : List (Option ℕ)) (disks : List (List ℕ))
 unfolding bytes_now
 bytes_none kind slots disks s lost b h = pick_no (stored_or kind s lost b.at) (address_bytes (view_of disks slots s) b.at) h
 
-zero_or : (n : ℕ) → (n ≡ 0) ⊎ (0 < n)
-zero_or zero = inl refl
-zero_or (suc n) = inr (omega arith)
-
 -- what is stored at these addresses, told by its pointers
-pub holds_these : (kind : Kind) (slots : List (Option ℕ)) (told : Type 0) (disks : List (List ℕ)) (s : Space) (lost : Option Dva) (c : Cache) (on : AreInService (devices_in s)) (ps : List Bptr)
-    → told → AreRead disks slots s c → ((at : Dva) → lost ≡ Some at → IsInUse kind s at) → All (λ (b : Bptr). IsStoredAt kind s lost b.at) ps → ((d u : ℕ) → address_hits (addresses_of ps) d u ≤ 1)
+pub holds_all : (kind : Kind) (slots : List (Option ℕ)) (told : Type 0) (disks : List (List ℕ)) (s : Space) (lost : Option Dva) (c : Cache) (ps : List Bptr)
+    → told → AreRead disks slots s c → ((at : Dva) → lost ≡ Some at → IsTaken kind s at) → All (λ (b : Bptr). IsStoredAt kind s lost b.at) ps → ((d u : ℕ) → live_hits (devices_in s) (addresses_of ps) d u ≤ 1) → MayGoBack kind s (addresses_of ps)
     → HoldsBlocks kind slots told disks s lost c (record { pointers = ps; bytes = bytes_now kind slots disks s lost })
-holds_these kind slots told disks s lost c on ps is_told read taken all once = record {
+holds_all kind slots told disks s lost c ps is_told read taken all once back = record {
   told = is_told;
   read = read;
   taken = taken;
   stored = all;
   once = once;
+  back = back;
   alone = alone_of kind s lost (record { pointers = ps; bytes = bytes_now kind slots disks s lost }) all once;
-  resolves = resolves_of kind s lost ps on all;
+  resolves = resolves_of kind s lost ps all;
   there = bytes_there kind slots disks s lost;
   nothing = bytes_none kind slots disks s lost;
 }
+
+-- where all devices are in service no unit is led to twice where none is in two addresses
+pub led_once : (ds : Devices) (list : List Dva) → AreInService ds → (d u : ℕ) → live_hits ds list d u ≤ address_hits list d u
+led_once ds [] on d u = omega arith
+led_once ds (a ∷ more) on d u =
+    let first = own_hits ds a (on.there a.dev) d u in
+    let rest = led_once ds more on d u in
+    omega (arith, first, rest, sum_by-cons (λ (x : Dva). resolve_hits ds x d u) a more, sum_by-cons (λ (x : Dva). one_if (in_address x d u)) a more)
+
+-- the same where all devices are in service
+pub holds_these : (kind : Kind) (slots : List (Option ℕ)) (told : Type 0) (disks : List (List ℕ)) (s : Space) (lost : Option Dva) (c : Cache) (on : AreInService (devices_in s)) (ps : List Bptr)
+    → told → AreRead disks slots s c → ((at : Dva) → lost ≡ Some at → IsTaken kind s at) → All (λ (b : Bptr). IsStoredAt kind s lost b.at) ps → ((d u : ℕ) → address_hits (addresses_of ps) d u ≤ 1)
+    → HoldsBlocks kind slots told disks s lost c (record { pointers = ps; bytes = bytes_now kind slots disks s lost })
+holds_these kind slots told disks s lost c on ps is_told read taken all once =
+    holds_all kind slots told disks s lost c ps is_told read taken all (λ d u. let few = led_once (devices_in s) (addresses_of ps) on d u in let one = once d u in omega (arith, few, one)) (service_back kind s (addresses_of ps) on)
 
 -- ---- a block is put
 
@@ -113,36 +137,42 @@ none_some at e = cc
 
 pub put_held : (kind : Kind) (policy : Policy) (want : ℕ) (slots : List (Option ℕ)) → ((d e slot : ℕ) → slot_of slots d ≡ Some slot → slot_of slots e ≡ Some slot → d ≡ e)
     → (told_old told_new : Type 0) (old new : Space) (before now : World) (c d : Cache) (b : Bptr) (bytes : List ℕ) (st : Stored)
-    → AreInService (devices_in old) → 0 < want → b.at.start + b.at.len ≤ units_of_dev new.parts.devs b.at.dev
+    → 0 < want → b.at.start + b.at.len ≤ units_of_dev new.parts.devs b.at.dev
     → Takes kind policy want old new b.at → WritesOnly (IsWriteOf slots b.at) before now → address_bytes (view_of now.now.seen slots new) b.at ≡ bytes → told_new → AreRead now.now.seen slots new d
     → HoldsBlocks kind slots told_old before.now.seen old None c st → Now (HoldsBlocks kind slots told_new now.now.seen new None d) (Puts st b bytes)
-put_held kind policy want slots apart told_old told_new old new before now c d b bytes st on some within takes writes given told read held =
-    let devices = same_devices old new (takes_frame kind policy want old new b.at takes) in
-    let now_on : AreInService (devices_in new) = subst AreInService (sym devices) on in
-    let len = (takes_place kind policy want old new b.at takes).len in
-    let has : 0 < b.at.len = omega (arith, len, some) in
-    let own : IsStoredAt kind new None b.at = record { used = taken_in_use kind policy want old new b.at takes devices on some within; whole = tt } in
-    let there : (x : Dva) → IsStoredAt kind old None x → IsStoredAt kind new None x = λ x h.
-    record { used = use_along kind old new x devices on (λ e u is. take_keeps kind policy want old new b.at takes e u (clear_of_taken kind policy want old new b.at takes on x h.used e u is)) h.used; whole = tt } in
+put_held kind policy want slots apart told_old told_new old new before now c d b bytes st some within takes writes given told read held =
+    let devices = takes_devices kind policy want old new b.at takes some in
+    let has : 0 < b.at.len = takes_some kind policy want old new b.at takes some in
+    let list = addresses_of st.pointers in
+    let taken = is_taken kind policy want old new b.at takes some list held.back within in
+    let stays = (serves_stays new b.at.dev taken.serves).0 in
+    let own : IsStoredAt kind new None b.at = record { used = taken.used; whole = tt } in
+    let there : (x : Dva) → IsStoredAt kind old None x → IsStoredAt kind new None x = λ x h. record { used = used_still kind policy want old new b.at takes some x h.used; whole = tt } in
     let all : All (λ (p : Bptr). IsStoredAt kind new None p.at) (b ∷ st.pointers) = All-cons (λ (p : Bptr). IsStoredAt kind new None p.at) b st.pointers own (λ i e lt. there _ (held.stored i e lt)) in
-    let none_taken : (e u : ℕ) → in_address b.at e u ≡ true → address_hits (addresses_of st.pointers) e u ≡ 0 = λ e u is. elim (zero_or (hits_in st.pointers e u)) [
-      | inl z ↦ hits_are st.pointers e u ∙ z
-      | inr more ↦ absurd (true_is_false (is_of kind (role_at old e u)) (hit_role kind old None st.pointers on held.stored e u more) (ap (is_of kind) (taken_was_free kind policy want old new b.at takes e u is) ∙ own_not_free kind))
+    let none_taken : (e u : ℕ) → in_address b.at e u ≡ true → live_hits (devices_in old) list e u ≡ 0 = λ e u is. elim (zero_or (live_hits (devices_in old) list e u)) [
+      | inl z ↦ z
+      | inr more ↦ absurd (true_is_false (is_of kind (role_at old e u)) (hit_role kind old None st.pointers held.stored e u more) (ap (is_of kind) (taken_was_free kind policy want old new b.at takes e u is) ∙ own_not_free kind))
     ] in
-    let once : (e u : ℕ) → address_hits (addresses_of (b ∷ st.pointers)) e u ≤ 1 = λ e u. (elim (in_address b.at e u) as (λ (v : Bool). in_address b.at e u ≡ v → address_hits (addresses_of (b ∷ st.pointers)) e u ≤ 1) [
-      | true ↦ λ is. let z = none_taken e u is in let o = ap one_if is in omega (arith, z, o, sum_by-cons (λ (a : Dva). one_if (in_address a e u)) b.at (addresses_of st.pointers))
-      | false ↦ λ is. let h = held.once e u in let o = ap one_if is in omega (arith, h, o, sum_by-cons (λ (a : Dva). one_if (in_address a e u)) b.at (addresses_of st.pointers))
-    ]) refl in
+    let once : (e u : ℕ) → live_hits (devices_in new) (addresses_of (b ∷ st.pointers)) e u ≤ 1 = λ e u.
+    let few = own_hits (devices_in new) b.at stays e u in
+    let sum = sum_by-cons (λ (a : Dva). resolve_hits (devices_in new) a e u) b.at list in
+    let same = ap (λ (ds : Devices). live_hits ds list e u) devices in
+    elim (cases_bool (in_address b.at e u)) [
+      | inl is ↦ let z = none_taken e u is in let o = ap one_if is in omega (arith, z, o, few, sum, same)
+      | inr is ↦ let h = held.once e u in let o = ap one_if is in omega (arith, h, o, few, sum, same)
+    ] in
     record {
       stored = record { pointers = b ∷ st.pointers; bytes = bytes_now kind slots now.now.seen new None };
-      held = holds_these kind slots told_new now.now.seen new None d now_on (b ∷ st.pointers) told read (λ at is. absurd (none_some at is)) all once;
+      held = holds_all kind slots told_new now.now.seen new None d (b ∷ st.pointers) told read (λ at is. absurd (none_some at is)) all once (with_back kind new b.at list taken.serves (take_back kind policy want old new b.at takes devices list held.back));
       is = record {
         fresh = elim (zero_or (hits st.pointers b.at)) [
           | inl z ↦ z
           | inr more ↦
               let was = at_each (IsStoredAt kind old None) st.pointers b.at held.stored more in
               let first : in_address b.at b.at.dev b.at.start ≡ true = grind (arith, nat_tests, has) in
-              absurd (true_is_false (in_address b.at b.at.dev b.at.start) first (clear_of_taken kind policy want old new b.at takes on b.at was.used b.at.dev b.at.start first))
+              let stayed = (serves_stays old b.at.dev (sym (ap (λ (ds : Devices). is_on (state_at ds b.at.dev)) devices) ∙ taken.serves)).0 in
+              let led = own_leads (devices_in old) b.at stayed (use_resolves kind old b.at was.used) b.at.dev b.at.start first in
+              absurd (true_is_false (in_address b.at b.at.dev b.at.start) first (clear_of_taken kind policy want old new b.at takes b.at was.used b.at.dev b.at.start led))
         ];
         given = bytes_there kind slots now.now.seen new None b own ∙ given;
         swaps = record {
@@ -150,7 +180,7 @@ put_held kind policy want slots apart told_old told_new old new before now c d b
           kept = λ q none met.
               let was = at_each (IsStoredAt kind old None) st.pointers q.at held.stored met in
               bytes_there kind slots now.now.seen new None q (there q.at was)
-              ∙ bytes_apart kind slots b.at apart before now writes old new devices on q.at was.used has (clear_of_taken kind policy want old new b.at takes on q.at was.used)
+              ∙ bytes_apart slots b.at apart before now writes old new devices q.at has (clear_of_taken kind policy want old new b.at takes q.at was.used)
               ∙ sym (held.there q was);
         };
       };
@@ -238,25 +268,42 @@ stored_there kind s lost b st all are =
 pub is_there : (kind : Kind) (slots : List (Option ℕ)) (told : Type 0) (disks : List (List ℕ)) (s : Space) (lost : Option Dva) (c : Cache) (b : Bptr) (st : Stored) → HoldsBlocks kind slots told disks s lost c st → AreStored (b ∷ []) st → IsStoredAt kind s lost b.at
 is_there kind slots told disks s lost c b st held are = stored_there kind s lost b st held.stored are
 
-module _ (kind : Kind) (old new : Space) (a : Dva) (birth : ℕ) (on : AreInService (devices_in old)) (devices : devices_in new ≡ devices_in old) (used : IsInUse kind old a) (gives : GivesBack kind old new a birth) where
-  now_on : AreInService (devices_in new)
-  now_on = subst AreInService (sym devices) on
+module _ (kind : Kind) (old new : Space) (a : Dva) (birth : ℕ) (devices : devices_in new ≡ devices_in old) (used : IsInUse kind old a) (gives : GivesBack kind old new a birth) where
+  -- what leads elsewhere and may go back is still in use
+  pub other_used : (x : Dva) → IsInUse kind old x → MayGoBack kind new (x ∷ []) → ((d u : ℕ) → leads_to (devices_in old) x d u ≡ true → leads_to (devices_in old) a d u ≡ false) → IsInUse kind new x
+  other_used x h back clear = use_along kind old new x devices (λ was. back) (λ d u led. give_keeps kind old new a birth used gives d u (clear d u led) (use_roles kind old x h d u led)) h
 
-  still_there : (lost : Option Dva) (x : Dva) → IsStoredAt kind old lost x → ((d u : ℕ) → in_address x d u ≡ true → in_address a d u ≡ false) → IsStoredAt kind new lost x
-  still_there lost x h clear = record { used = use_along kind old new x devices on (λ e u is. give_keeps kind old new a birth on gives e u (clear e u is)) h.used; whole = h.whole }
+  rest_there : (lost : Option Dva) (qs : List Bptr) → All (λ (p : Bptr). IsStoredAt kind old lost p.at) qs → MayGoBack kind new (addresses_of qs) → ((d u : ℕ) → leads_to (devices_in old) a d u ≡ true → live_hits (devices_in old) (addresses_of qs) d u ≡ 0)
+      → All (λ (p : Bptr). IsStoredAt kind new lost p.at) qs
+  rest_there lost [] all back clear = All-nil (λ (p : Bptr). IsStoredAt kind new lost p.at)
+  rest_there lost (q ∷ qs) all back clear =
+      let was = All-head (λ (p : Bptr). IsStoredAt kind old lost p.at) q qs all in
+      let first : IsStoredAt kind new lost q.at =
+      record {
+        used = other_used q.at was.used (head_back kind new q.at (addresses_of qs) back) (λ d u led. elim (cases_bool (leads_to (devices_in old) a d u)) [
+          | inr out ↦ out
+          | inl both ↦
+              let z = clear d u both in
+              let some = leads_some (devices_in old) q.at d u led in
+              absurd (omega (arith, z, some, sum_by-cons (λ (x : Dva). resolve_hits (devices_in old) x d u) q.at (addresses_of qs)))
+        ]);
+        whole = apart_same lost q.at (devices_in old) (devices_in new) devices was.whole;
+      } in
+      All-cons (λ (p : Bptr). IsStoredAt kind new lost p.at) q qs first
+      (rest_there lost qs (All-tail (λ (p : Bptr). IsStoredAt kind old lost p.at) q qs all) (tail_back kind new q.at (addresses_of qs) back)
+      (λ d u both. let z = clear d u both in omega (arith, z, sum_by-cons (λ (x : Dva). resolve_hits (devices_in old) x d u) q.at (addresses_of qs))))
 
-  rest_there : (lost : Option Dva) (ps : List Bptr) → All (λ (p : Bptr). IsStoredAt kind old lost p.at) (without a ps) → ((d u : ℕ) → in_address a d u ≡ true → hits_in (without a ps) d u ≡ 0) → All (λ (p : Bptr). IsStoredAt kind new lost p.at) (without a ps)
-  rest_there lost ps all clear = each (without a ps) all clear
-    where
-      each : (qs : List Bptr) → All (λ (p : Bptr). IsStoredAt kind old lost p.at) qs → ((d u : ℕ) → in_address a d u ≡ true → hits_in qs d u ≡ 0) → All (λ (p : Bptr). IsStoredAt kind new lost p.at) qs
-      each [] al cl = All-nil (λ (p : Bptr). IsStoredAt kind new lost p.at)
-      each (q ∷ qs) al cl =
-          let first = still_there lost q.at (All-head (λ (p : Bptr). IsStoredAt kind old lost p.at) q qs al)
-          (λ d u is. (elim (in_address a d u) as (λ (v : Bool). in_address a d u ≡ v → in_address a d u ≡ false) [
-            | true ↦ λ both. let z = cl d u both in let o = ap one_if is in absurd (omega (arith, z, o, sum_by-cons (λ (b : Bptr). one_if (in_address b.at d u)) q qs))
-            | false ↦ λ out. out
-          ]) refl) in
-          All-cons (λ (p : Bptr). IsStoredAt kind new lost p.at) q qs first (each qs (All-tail (λ (p : Bptr). IsStoredAt kind old lost p.at) q qs al) (λ d u both. let z = cl d u both in omega (arith, z, sum_by-cons (λ (b : Bptr). one_if (in_address b.at d u)) q qs)))
+  -- what a put took and could not write is so still
+  lost_still : (lost : Dva) (list : List Dva) → IsTaken kind old lost → IsApart (devices_in old) (Some lost) a → MayGoBack kind new list → IsTaken kind new lost
+  lost_still lost list taken apart back =
+      let serves : is_on (state_of_dev new.parts.devs lost.dev) ≡ true = ap (λ (ds : Devices). is_on (state_at ds lost.dev)) devices ∙ taken.serves in
+      record {
+        used = other_used lost taken.used (alone_back kind new lost list serves back) (λ d u led. elim (cases_bool (leads_to (devices_in old) a d u)) [
+          | inr out ↦ out
+          | inl both ↦ absurd (false_true (sym (apart d u both) ∙ taken_own kind old lost taken d u led))
+        ]);
+        serves = serves;
+      }
 
 All_without : (P : Bptr → Type 0) (at : Dva) (ps : List Bptr) → All P ps → All P (without at ps)
 All_without P at [] all = all
@@ -266,24 +313,34 @@ All_without P at (p ∷ ps) all = (elim (nat_eq (one_at at p) 0) as (λ (v : Boo
 ])
 
 pub free_held : (kind : Kind) (slots : List (Option ℕ)) (told : Type 0) (disks : List (List ℕ)) (old new : Space) (lost : Option Dva) (c d : Cache) (b : Bptr) (birth : ℕ) (st : Stored)
-    → AreInService (devices_in old) → devices_in new ≡ devices_in old → GivesBack kind old new b.at birth → AreRead disks slots new d
+    → devices_in new ≡ devices_in old → GivesBack kind old new b.at birth → AreRead disks slots new d
     → HoldsBlocks kind slots told disks old lost c st → AreStored (b ∷ []) st → Now (HoldsBlocks kind slots told disks new lost d) (λ n. Swaps st n (b ∷ []) [])
-free_held kind slots told disks old new lost c d b birth st on devices gives read held are =
+free_held kind slots told disks old new lost c d b birth st devices gives read held are =
     let own = stored_there kind old lost b st held.stored are in
-    let now_on : AreInService (devices_in new) = subst AreInService (sym devices) on in
     let left = without b.at st.pointers in
     let weighs = stored_weight b st are held.alone in
     let fewer : (weight : Bptr → ℕ) → sum_by weight left + weight b ≡ sum_by weight st.pointers = λ weight. let w = weighs weight in let s = sum_without b.at weight st.pointers in omega (arith, w, s) in
-    let clear : (e u : ℕ) → in_address b.at e u ≡ true → hits_in left e u ≡ 0 = λ e u is.
-    let f = fewer (λ (p : Bptr). one_if (in_address p.at e u)) in let o = ap one_if is in let once = held.once e u in
-    omega (arith, f, o, once, hits_are st.pointers e u) in
-    let all = rest_there kind old new b.at birth on devices own.used gives lost st.pointers (All_without (λ (p : Bptr). IsStoredAt kind old lost p.at) b.at st.pointers held.stored) clear in
+    let parts : Parts (addresses_of st.pointers) (addresses_of left) b.at = λ f. let w = fewer (λ (p : Bptr). f p.at) in omega (arith, w, weight_of f left, weight_of f st.pointers) in
+    let left_all = All_without (λ (p : Bptr). IsStoredAt kind old lost p.at) b.at st.pointers held.stored in
+    let back : MayGoBack kind new (addresses_of left) =
+    rest_back kind old new b.at birth gives devices (addresses_of st.pointers) (addresses_of left) parts (each_resolves kind old lost left left_all) (use_resolves kind old b.at own.used) held.once held.back in
+    let clear : (e u : ℕ) → leads_to (devices_in old) b.at e u ≡ true → live_hits (devices_in old) (addresses_of left) e u ≡ 0 = λ e u is.
+    let some = leads_some (devices_in old) b.at e u is in
+    let sum = parts (λ (a : Dva). resolve_hits (devices_in old) a e u) in
+    let few = held.once e u in
+    omega (arith, some, sum, few) in
+    let all = rest_there kind old new b.at birth devices own.used gives lost left left_all back clear in
     record {
       stored = record { pointers = left; bytes = bytes_now kind slots disks new lost };
-      held = holds_these kind slots told disks new lost d now_on left held.told read
-          (λ at is. use_along kind old new at devices on (λ e u in_it. give_keeps kind old new b.at birth on gives e u (lost_clear at e u (subst (λ (o : Option Dva). IsApart o b.at) is own.whole) in_it)) (held.taken at is))
+      held = holds_all kind slots told disks new lost d left held.told read
+          (λ at is. lost_still kind old new b.at birth devices own.used gives at (addresses_of left) (held.taken at is) (subst (λ (o : Option Dva). IsApart (devices_in old) o b.at) is own.whole) back)
           all
-          (λ e u. let f = fewer (λ (p : Bptr). one_if (in_address p.at e u)) in let once = held.once e u in omega (arith, f, once, hits_are st.pointers e u, hits_are left e u));
+          (λ e u.
+          let sum = parts (λ (a : Dva). resolve_hits (devices_in old) a e u) in
+          let few = held.once e u in
+          let same = ap (λ (ds : Devices). live_hits ds (addresses_of left) e u) devices in
+          omega (arith, sum, few, same))
+          back;
       is = record {
         stored = λ weight. let f = fewer weight in omega (arith, f, sum_by-cons weight b []);
         kept = λ q free met.
@@ -295,26 +352,21 @@ free_held kind slots told disks old new lost c d b birth st on devices gives rea
             ∙ sym (held.there q was);
       };
     }
-  where
-    lost_clear : (at : Dva) (e u : ℕ) → IsApart (Some at) b.at → in_address at e u ≡ true → in_address b.at e u ≡ false
-    lost_clear at e u apart is = (elim (in_address b.at e u) as (λ (v : Bool). in_address b.at e u ≡ v → in_address b.at e u ≡ false) [
-      | true ↦ λ both. absurd (true_is_false (in_address at e u) is (apart e u both))
-      | false ↦ λ out. out
-    ]) refl
 
 -- ---- the same blocks for a store that begins
 
--- where each block that is stored stays, and keeps its bytes, a store that begins there holds the same blocks
-pub held_anew : (kind : Kind) (slots : List (Option ℕ)) (told_old told_new : Type 0) (disks_old disks_new : List (List ℕ)) (s t : Space) (lost : Option Dva) (c d : Cache) (st : Stored)
-    → AreInService (devices_in t) → told_new → AreRead disks_new slots t d
+-- where each block that is stored stays, and keeps its bytes, and all may still go back, a store that begins there holds the same blocks
+pub held_again : (kind : Kind) (slots : List (Option ℕ)) (told_old told_new : Type 0) (disks_old disks_new : List (List ℕ)) (s t : Space) (lost : Option Dva) (c d : Cache) (st : Stored)
+    → told_new → AreRead disks_new slots t d
     → ((x : Dva) → IsStoredAt kind s lost x → IsStoredAt kind t None x)
     → ((x : Dva) → IsStoredAt kind s lost x → address_bytes (view_of disks_new slots t) x ≡ address_bytes (view_of disks_old slots s) x)
+    → ((d u : ℕ) → live_hits (devices_in t) (addresses_of st.pointers) d u ≤ 1) → MayGoBack kind t (addresses_of st.pointers)
     → HoldsBlocks kind slots told_old disks_old s lost c st → Now (HoldsBlocks kind slots told_new disks_new t None d) (λ n. Swaps st n [] [])
-held_anew kind slots told_old told_new disks_old disks_new s t lost c d st on told read there bytes held =
+held_again kind slots told_old told_new disks_old disks_new s t lost c d st told read there bytes once back held =
     let all : All (λ (p : Bptr). IsStoredAt kind t None p.at) st.pointers = λ i e lt. there _ (held.stored i e lt) in
     record {
       stored = record { pointers = st.pointers; bytes = bytes_now kind slots disks_new t None };
-      held = holds_these kind slots told_new disks_new t None d on st.pointers told read (λ at is. absurd (none_some at is)) all held.once;
+      held = holds_all kind slots told_new disks_new t None d st.pointers told read (λ at is. absurd (none_some at is)) all once back;
       is = record {
         stored = λ weight. refl;
         kept = λ q free met.
@@ -323,29 +375,22 @@ held_anew kind slots told_old told_new disks_old disks_new s t lost c d st on to
       };
     }
 
+-- the same where all devices are in service
+pub held_anew : (kind : Kind) (slots : List (Option ℕ)) (told_old told_new : Type 0) (disks_old disks_new : List (List ℕ)) (s t : Space) (lost : Option Dva) (c d : Cache) (st : Stored)
+    → AreInService (devices_in t) → told_new → AreRead disks_new slots t d
+    → ((x : Dva) → IsStoredAt kind s lost x → IsStoredAt kind t None x)
+    → ((x : Dva) → IsStoredAt kind s lost x → address_bytes (view_of disks_new slots t) x ≡ address_bytes (view_of disks_old slots s) x)
+    → HoldsBlocks kind slots told_old disks_old s lost c st → Now (HoldsBlocks kind slots told_new disks_new t None d) (λ n. Swaps st n [] [])
+held_anew kind slots told_old told_new disks_old disks_new s t lost c d st on told read there bytes held =
+    held_again kind slots told_old told_new disks_old disks_new s t lost c d st told read there bytes
+    (λ e u. let few = led_once (devices_in t) (addresses_of st.pointers) on e u in let one = units_once kind s lost st.pointers held.stored held.once e u in omega (arith, few, one))
+    (service_back kind t (addresses_of st.pointers) on) held
+
 -- a store that begins holds what the one before it held
 pub begins_held : (kind : Kind) (slots : List (Option ℕ)) (told : Type 0) (disks : List (List ℕ)) (s : Space) (lost : Option Dva) (c : Cache) (st : Stored)
     → HoldsBlocks kind slots told disks s lost c st → Now (HoldsBlocks kind slots told disks s None c) (λ n. Swaps st n [] [])
-begins_held kind slots told disks s lost c st held = record {
-  stored = record { pointers = st.pointers; bytes = bytes_now kind slots disks s None };
-  held = record {
-    told = held.told;
-    taken = λ at is. absurd (none_some at is);
-    read = held.read;
-    stored = λ i e lt. record { used = (held.stored i e lt).used; whole = tt };
-    once = held.once;
-    alone = held.alone;
-    resolves = held.resolves;
-    there = bytes_there kind slots disks s None;
-    nothing = bytes_none kind slots disks s None;
-  };
-  is = record {
-    stored = λ weight. refl;
-    kept = λ q free met.
-        let was = at_each (IsStoredAt kind s lost) st.pointers q.at held.stored met in
-        bytes_there kind slots disks s None q (record { used = was.used; whole = tt }) ∙ sym (held.there q was);
-  };
-}
+begins_held kind slots told disks s lost c st held =
+    held_again kind slots told told disks disks s s lost c c st held.told held.read (λ x h. record { used = h.used; whole = tt }) (λ x h. refl) held.once held.back held
 
 -- what the devices hold is so whatever is told of them
 pub retold : (kind : Kind) (slots : List (Option ℕ)) (told other : Type 0) (disks : List (List ℕ)) (s : Space) (lost : Option Dva) (c : Cache) (st : Stored)
@@ -356,6 +401,7 @@ retold kind slots told other disks s lost c st is_told held = record {
   read = held.read;
   stored = held.stored;
   once = held.once;
+  back = held.back;
   alone = held.alone;
   resolves = held.resolves;
   there = held.there;

@@ -72,7 +72,7 @@ module _ (slots : List (Option ℕ)) (at : Dva) (apart : (d e slot : ℕ) → sl
 
   module _ (old new : World) (writes : WritesOnly (IsWriteOf slots at) old new) where
     -- a run that has no unit of the address has its bytes
-    run_kept : (r : Piece) → meets (as_part at) r ≡ false → run_bytes new.now.seen slots r ≡ run_bytes old.now.seen slots r
+    pub run_kept : (r : Piece) → meets (as_part at) r ≡ false → run_bytes new.now.seen slots r ≡ run_bytes old.now.seen slots r
     run_kept r none = (elim (slot_of slots r.dev) as (λ s. slot_of slots r.dev ≡ s → bytes_from new.now.seen s r.at.start (4096 * r.at.len) ≡ bytes_from old.now.seen s r.at.start (4096 * r.at.len)) [
       | None ↦ λ is. refl
       | Some slot ↦ λ is.

@@ -1,19 +1,23 @@
 -- What a store of blocks on a shelf holds, and what its calls leave alone.
-use Rattle.std.specs.Prelude.{◌≡◌, ℕ, ◌≤◌, ◌<◌, ◌+◌, ◌==◌, ◌&&◌, nat_lt, nat_le, if◌then◌else◌, Bool, true, false, ◌||◌, ◌⊎◌, List, [], Option, Some, None, All, length, map}
+use Rattle.std.specs.Prelude.{◌≡◌, ℕ, ◌≤◌, ◌<◌, Bool, true, false, ◌||◌, ◌⊎◌, List, [], Option, Some, None, All, length, map}
 use Rattle.zr_base.specs.declared.space.Dva.{Dva}
 use Rattle.zr_bptr.specs.declared.Bptr.{Bptr}
 use Rattle.zr_shelf.specs.Counts.{Counts, NoneFell}
 use Rattle.zr_shelf.specs.Disks.{PendingWrite}
 use Rattle.zr_shelf.specs.Moments.{World, IsStill}
 use Rattle.zr_shelf.specs.Doings.{WritesOnly}
-use Rattle.zr_rules.specs.Places.{in_address, address_hits, part_of}
+use Rattle.zr_chain.specs.declared.visit.Visited.{Visited}
+use Rattle.zr_chain.specs.declared.visit.Visited.TheVariants.{Piece}
+use Rattle.zr_rules.specs.Places.{is_on, is_fresh, in_address, part_of, state_of_dev}
+use Rattle.zr_rules.specs.Devices.{Devices}
 use Rattle.zr_rules.specs.Roles.{Role, is_live_role, is_copy_role, is_meta_role, is_free_role}
 use Rattle.zr_rules.specs.Roles.Role.{Free, FreshLive, FreshCopy}
 use Rattle.zr_rules.specs.Space.{Space, role_at, IsLawful}
-use Rattle.zr_rules.specs.Equation.{devices_in}
-use Rattle.zr_rules.specs.Resolve.{is_resolved}
-use Rattle.zr_rules.specs.Frees.{IsSamePart}
-use Rattle.zr_space.specs.Live.{IsLive}
+use Rattle.zr_rules.specs.Equation.{devices_in, live_hits, Spends}
+use Rattle.zr_rules.specs.Resolve.{is_resolved, leads_to}
+use Rattle.zr_rules.specs.Frees.{IsSamePart, MarksNothing}
+use Rattle.zr_space.specs.Live.{IsFreeable}
+use Rattle.zr_space.specs.Freeing.{is_shared}
 use Rattle.zr_space.specs.Drops.{IsMeta}
 use Rattle.zr_store.specs.Store.{Stored, IsOnce, hits}
 use Rattle.zr_view.specs.Views.{address_bytes}
@@ -27,24 +31,35 @@ use Rattle.zr_vdev.specs.Caches.{AreRead}
 
 -- ---- what is held
 
--- the units of the address are in use by a block, or by metadata
+-- The address may be given back: its units lead to as many units in use by blocks, over removed devices or not, or it has metadata.
 abbrev pub IsInUse : Kind → Space → Dva → Type 0
-IsInUse Block s a = IsLive s a
+IsInUse Block s a = IsFreeable s a
 IsInUse Meta s a = IsMeta s a
 
--- no unit of the address is one of the other's, if there is one
-abbrev pub IsApart : Option Dva → Dva → Type 0
-IsApart None a = Unit {0}
-IsApart (Some lost) a = (d u : ℕ) → in_address a d u ≡ true → in_address lost d u ≡ false
+-- The addresses may be given back one after another: no block passes an obsolete unit, and no entry on the way has more obsolete and passed units than units. Metadata
+-- passes nothing.
+abbrev pub MayGoBack : Kind → Space → List Dva → Type 0
+MayGoBack Block s list = Spends s list
+MayGoBack Meta s list = Unit {0}
 
--- the address is in use, and what stands in its units was put there: no unit is one that a put took and could not write
+-- the address leads to none of the other's units, if there is one
+abbrev pub IsApart : Devices → Option Dva → Dva → Type 0
+IsApart ds None a = Unit {0}
+IsApart ds (Some lost) a = (d u : ℕ) → leads_to ds a d u ≡ true → in_address lost d u ≡ false
+
+-- the address is in use, and what stands where it leads was put there: no unit is one that a put took and could not write
 pub record IsStoredAt (kind : Kind) (s : Space) (lost : Option Dva) (a : Dva) : Type 0 where
   pub used : IsInUse kind s a
-  pub whole : IsApart lost a
+  pub whole : IsApart (devices_in s) lost a
 
--- two addresses have a unit in common
-abbrev pub shares : Dva → Dva → Bool
-shares a b = a.dev == b.dev && (nat_lt 0 a.len && (nat_lt 0 b.len && (if nat_le a.start b.start then nat_lt b.start (a.start + a.len) else nat_lt a.start (b.start + b.len))))
+-- what a put took is in use, on a device in service
+pub record IsTaken (kind : Kind) (s : Space) (a : Dva) : Type 0 where
+  pub used : IsInUse kind s a
+  pub serves : is_on (state_of_dev s.parts.devs a.dev) ≡ true
+
+-- the part is there, and has a unit of the address
+abbrev pub shares : Dva → Visited → Bool
+shares a v = is_shared (Piece 0 a.dev (record { start = a.start; len = a.len })) v
 
 -- units that a put took for nothing are given back, where they are still in use
 abbrev pub GivesBackLost : Kind → Space → Space → Option Dva → ℕ → Type 0
@@ -54,14 +69,15 @@ GivesBackLost kind old new (Some at) txg = (IsInUse kind old at × GivesBack kin
 abbrev pub addresses_of : List Bptr → List Dva
 addresses_of pointers = map (λ (b : Bptr). b.at) pointers
 
--- The pointers are those of blocks that are stored, no two of which have a unit in common, so no address comes twice, and each leads to units. A pointer has the bytes of its address, and none where no block is
--- stored: what stands in free units is nothing.
+-- The pointers are those of blocks that are stored, no two of which lead to one unit, so no address comes twice. Each leads to units, and all may be given back one after another. A pointer has the
+-- bytes of its address, and none where no block is stored: what stands in free units is nothing.
 pub record HoldsBlocks (kind : Kind) (slots : List (Option ℕ)) (tells : Type 0) (disks : List (List ℕ)) (space : Space) (lost : Option Dva) (cache : Cache) (s : Stored) : Type 0 where
   pub told : tells
-  pub taken : (at : Dva) → lost ≡ Some at → IsInUse kind space at
+  pub taken : (at : Dva) → lost ≡ Some at → IsTaken kind space at
   pub read : AreRead disks slots space cache
   pub stored : All (λ (b : Bptr). IsStoredAt kind space lost b.at) s.pointers
-  pub once : (d u : ℕ) → address_hits (addresses_of s.pointers) d u ≤ 1
+  pub once : (d u : ℕ) → live_hits (devices_in space) (addresses_of s.pointers) d u ≤ 1
+  pub back : MayGoBack kind space (addresses_of s.pointers)
   pub alone : IsOnce s
   pub resolves : (at : Dva) → 0 < hits s.pointers at → is_resolved (devices_in space) at ≡ true
   pub there : (b : Bptr) → IsStoredAt kind space lost b.at → s.bytes b ≡ address_bytes (view_of disks slots space) b.at
@@ -121,9 +137,15 @@ pub record GoesOnReading (slots : List (Option ℕ)) (space : Space) (sizes_old 
   pub read : told_old → AreRead before.now.seen slots space cache_old → AreRead now.now.seen slots space cache_new
   pub room : capacity cache_new ≡ capacity cache_old
 
+-- what is obsolete stays so, and for metadata nothing else becomes so
+abbrev pub KeepsMarks : Kind → Space → Space → Type 0
+KeepsMarks Block old new = (d u : ℕ) → is_fresh old.parts.devs d u ≡ true → is_fresh new.parts.devs d u ≡ true
+KeepsMarks Meta old new = MarksNothing old new
+
 -- Roles that are none of the store's stay. What it may write now it might write before, so what was written lies there.
 pub record KeepsOthers (kind : Kind) (old new : Space) : Type 0 where
   pub rows : KeepsRows old new
+  pub marks : KeepsMarks kind old new
   pub stays : (d u : ℕ) → may_change kind (role_at old d u) ≡ false → role_at new d u ≡ role_at old d u
   pub writable : (d u : ℕ) → may_write kind (role_at new d u) ≡ true → may_write kind (role_at old d u) ≡ true
 

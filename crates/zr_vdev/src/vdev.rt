@@ -3,9 +3,10 @@
 //! A block is stored where its units are in use. What stands in free units is nothing: a pointer to them reads no bytes,
 //! so a put that fails half way changes nothing that can be read. The units that such a put took are noted as lost, and
 //! nothing is read there either. The next put gives them back.
-ghost use Rattle.std.specs.Prelude.{◌≡◌, ◌≤◌, ◌<◌, ◌+◌, ◌↔◌, IsTrue, OnOk, OnErr};
+ghost use Rattle.std.specs.Prelude.{◌≡◌, ◌≤◌, ◌↔◌, true, IsTrue, OnOk, OnErr, IfOk};
+ghost use Rattle.std.specs.List.{list_any};
 ghost use Rattle.zr_rules.specs.Equation.{devices_in};
-ghost use Rattle.zr_space.specs.Paths.{AreInService};
+ghost use Rattle.zr_rules.specs.Resolve.{is_resolved};
 ghost use Rattle.zr_vdev.specs.Mounts.{AreMounted, HaveDisks};
 ghost use Rattle.zr_vdev.specs.Puts.{GivesBack};
 ghost use Rattle.zr_vdev.specs.Runs.{account_of};
@@ -18,12 +19,14 @@ use std::alloc::Global;
 use zr_base::{Dva, NoMemory};
 use zr_bptr::Bptr;
 use zr_cache::Cache;
+use zr_chain::{ChainErr, Collected, Visited};
 use zr_shelf::Shelf;
 use zr_space::Space;
 use zr_store::{Blocks, StoreErr};
 
-/// A store of the blocks of one kind on a shelf, whose devices are all in service. `lost` is the address whose units the
-/// last put took and could not write. They stay taken until the next put gives them back.
+/// A store of the blocks of one kind on a shelf. A block is where its address leads, over devices that are gone or not, and
+/// a free goes that way too. `lost` is the address whose units the last put took and could not write. They stay taken until
+/// the next put gives them back.
 #[derive(Drop)]
 pub struct Vdev<'a, S: Shelf, P: Place> {
     pub space: &'a mut Space,
@@ -32,57 +35,65 @@ pub struct Vdev<'a, S: Shelf, P: Place> {
     pub lost: Option<Dva>,
     pub mount: Mount<'a, P>,
     ghost mounted: { HaveDisks (S.sizes shelf.now) mount.slots.now (devices_in space.now) },
-    ghost service: { AreInService (devices_in space.now) },
     ghost group: { 1 ≤ mount.txg },
 }
 
-// Whether two addresses have a unit in common.
-fn shares(a: &Dva, b: &Dva) -> bool
-    ensures { result ≡ shares a.now b.now }
+// Whether a part is there and has a unit of the address.
+fn shares(a: &Dva, v: Visited) -> bool
+    ensures { result ≡ shares a.now v }
 {
-    if a.dev != b.dev || a.len == 0 || b.len == 0 {
+    let Visited::Piece { dev, at, .. } = v else {
         return false;
-    }
-    if a.start <= b.start {
-        return b.start - a.start < u64::from(a.len);
-    }
-    a.start - b.start < u64::from(b.len)
+    };
+    let first = a.start.max(at.start);
+    a.dev == dev && first - a.start < u64::from(a.len) && first - at.start < at.len
 }
 
-// Whether the address has no unit of the other one.
-fn is_apart(lost: Option<Dva>, at: &Dva) -> bool
-    ensures { IsTrue result ↔ IsApart lost at.now }
+// Whether a part that is there has a unit of the address. It looks at each part.
+fn meets_any(visits: &[Visited], a: &Dva) -> bool
+    ensures { result ≡ list_any (shares a.now) visits.now }
 {
-    match lost {
-        Some(a) => !shares(&a, at),
-        None => true,
+    visits.iter().any(|v| shares(a, *v))
+}
+
+// Whether the address leads to no unit of the other one. Where there is one it visits the parts of the address.
+fn is_apart(alloc: Global, space: &Space, lost: Option<Dva>, at: &Dva) -> Result<bool, NoMemory>
+    requires { is_resolved (devices_in space.now) at.now ≡ true }
+    ensures { IfOk result (λ answer. IsTrue answer ↔ IsApart (devices_in space.now) lost at.now) }
+{
+    let Some(taken) = lost else {
+        return Ok(true);
+    };
+    let mut told = Collected::new(alloc);
+    match space.remap(*at, &mut told) {
+        Ok(()) => {
+            let met = meets_any(told.list.as_slice(), &taken);
+            Ok(!met)
+        }
+        Err(ChainErr::NoEntry { .. }) => unreachable!(),
+        Err(ChainErr::NoMemory) => Err(NoMemory),
     }
 }
 
-// Whether the units of the address are in use by what is of the kind.
-fn is_in_use(space: &Space, kind: Kind, at: &Dva) -> bool
-    requires { AreInService (devices_in space.now) }
-    ensures { IsTrue result ↔ IsInUse kind space.now at.now }
+// Whether the address may be given back by what is of the kind.
+fn is_in_use(space: &Space, kind: Kind, at: &Dva) -> Result<bool, NoMemory>
+    ensures { IfOk result (λ answer. IsTrue answer ↔ IsInUse kind space.now at.now) }
 {
     match kind {
-        Kind::Block => space.live(*at),
-        Kind::Meta => space.is_meta(*at),
+        Kind::Block => space.is_freeable(*at),
+        Kind::Meta => Ok(space.is_meta(*at)),
     }
 }
 
 // Gives back what is in use.
 fn give_back(space: &mut Space, kind: Kind, at: Dva, birth: u64) -> Result<(), NoMemory>
-    requires service { AreInService (devices_in space.old) }
-    requires used { IsInUse kind space.old at }
+    requires { IsInUse kind space.old at }
     ensures ok { OnOk result (GivesBack kind space.old space.new at birth) }
     ensures devices { devices_in space.new ≡ devices_in space.old }
     ensures err { OnErr result (space.new ≡ space.old) }
 {
     match kind {
-        Kind::Block => {
-            space.freeable_in_service();
-            space.free(at, birth)
-        }
+        Kind::Block => space.free(at, birth),
         Kind::Meta => space.drop_meta(at),
     }
 }
@@ -94,20 +105,18 @@ fn give_back_lost(
     lost: Option<Dva>,
     txg: u64,
 ) -> Result<(), NoMemory>
-    requires { AreInService (devices_in space.old) }
     ensures ok { OnOk result (GivesBackLost kind space.old space.new lost txg) }
     ensures devices { devices_in space.new ≡ devices_in space.old }
     ensures err { OnErr result (space.new ≡ space.old) }
 {
-    match lost {
-        Some(at) => {
-            if is_in_use(space, kind, &at) {
-                return give_back(space, kind, at, txg);
-            }
-            Ok(())
-        }
-        None => Ok(()),
+    let Some(at) = lost else {
+        return Ok(());
+    };
+    let used = is_in_use(space, kind, &at)?;
+    if used {
+        return give_back(space, kind, at, txg);
     }
+    Ok(())
 }
 
 impl<'a, S: Shelf, P: Place> Vdev<'a, S, P> {
@@ -119,7 +128,6 @@ impl<'a, S: Shelf, P: Place> Vdev<'a, S, P> {
         mount: Mount<'a, P>,
     ) -> Vdev<'a, S, P>
         requires mounted { AreMounted (S.sizes shelf.old) mount.slots.now (devices_in space.old) }
-        requires service { AreInService (devices_in space.old) }
         requires group { 1 ≤ mount.txg }
         ensures space { result.space.now ≡ space.old }
         ensures shelf { result.shelf.now ≡ shelf.old }
@@ -139,11 +147,16 @@ impl<'a, S: Shelf, P: Place> Vdev<'a, S, P> {
         }
     }
 
-    /// Whether a block is stored at the address. Logarithmic in the extents of the device.
-    pub fn has(&self, at: &Dva) -> bool
-        ensures { IsTrue result ↔ IsStoredAt self.now.mount.kind self.now.space.now self.now.lost at.now }
+    /// Whether a block is stored at the address. For blocks it costs what `Space::is_freeable` does, and for metadata it is
+    /// logarithmic in the extents of the device. After a put that failed it visits the parts of the address once more.
+    pub fn has(&self, alloc: Global, at: &Dva) -> Result<bool, NoMemory>
+        ensures { IfOk result (λ answer. IsTrue answer ↔ IsStoredAt self.now.mount.kind self.now.space.now self.now.lost at.now) }
     {
-        is_in_use(self.space, self.mount.kind, at) && is_apart(self.lost, at)
+        let used = is_in_use(self.space, self.mount.kind, at)?;
+        if !used {
+            return Ok(false);
+        }
+        is_apart(alloc, self.space, self.lost, at)
     }
 }
 
@@ -183,7 +196,8 @@ impl<S: Shelf, P: Place> Blocks for Vdev<'_, S, P> {
 
     /// The bytes of a block. One that is cached makes no call on a disk.
     fn get(&mut self, alloc: Global, b: &Bptr) -> Result<Vec<u8>, StoreErr> {
-        if self.has(&b.at) {
+        let stored = self.has(alloc, &b.at)?;
+        if stored {
             return get_block(
                 alloc,
                 self.space,
@@ -196,8 +210,9 @@ impl<S: Shelf, P: Place> Blocks for Vdev<'_, S, P> {
         read_nothing(alloc, self.space, b)
     }
 
-    fn free(&mut self, _alloc: Global, b: &Bptr) -> Result<(), StoreErr> {
-        if self.has(&b.at) {
+    fn free(&mut self, alloc: Global, b: &Bptr) -> Result<(), StoreErr> {
+        let stored = self.has(alloc, &b.at)?;
+        if stored {
             give_back(self.space, self.mount.kind, b.at, b.birth)?;
             self.cache.forget(b);
         }

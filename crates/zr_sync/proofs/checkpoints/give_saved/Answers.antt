@@ -11,6 +11,6 @@ loop-more-preserved c =
     let new = c.drop_saved.new.self in
     let b = c.in_ok-more.more in
     record {
-      gives = gives_step first mid new b c.requires.service c.loop-more.invariant.gives c.in_ok-more.ensures.yes c.in_ok-more.ensures.no;
+      gives = gives_step first mid new b c.loop-more.invariant.gives c.in_ok-more.ensures.yes c.in_ok-more.ensures.no;
       none = none_step mid new b c.in_ok-more.ensures.no;
     }

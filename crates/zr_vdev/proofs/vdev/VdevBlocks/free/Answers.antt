@@ -1,4 +1,4 @@
-use Rattle.std.proofs.Common.{◌≡◌, true, false, refl, arith}
+use Rattle.std.proofs.Common.{◌≡◌, ◌∙◌, true, false, sym, arith}
 use Rattle.zr_vdev.specs.declared.kind.Mount.{Mount}
 use Rattle.zr_vdev.proofs.Held.{read_same}
 use Rattle.zr_vdev.proofs.Moves.{is_there, free_held}
@@ -8,8 +8,7 @@ use Rattle.zr_vdev.proofs.vdev.VdevBlocks.free.Goals as goal
 pub returns-in_ok-give_back-clause-follows : goal.returns-in_ok-give_back-clause-follows
 returns-in_ok-give_back-clause-follows g c = λ start h.
     let v = c.args.self.now in
-    let used = (c.if-has.ensures.0 refl).used in
-    let others = gives_others v.mount.kind v.space.now c.give_back.new.space c.args.b.now.at c.args.b.now.birth v.service used c.in_ok-give_back.ensures.ok in
+    let others = gives_others v.mount.kind v.space.now c.give_back.new.space c.args.b.now.at c.args.b.now.birth c.in_ok-give_back.ensures.ok in
     let devices = give_devices v.mount.kind v.space.now c.give_back.new.space c.args.b.now.at c.args.b.now.birth c.in_ok-give_back.ensures.ok in
     let step = space_step v.mount.kind v.mount.slots.now (g.S.Shelf.sizes v.shelf.now) (g.S.Shelf.counts v.shelf.now) (g.S.Shelf.tells v.shelf.now) (g.S.Shelf.world v.shelf.now) v.space.now c.give_back.new.space v.cache.now c.forget.new.self others
     (λ disks read. read_forgotten disks v.mount.slots.now c.give_back.new.space v.cache.now c.forget.new.self c.args.b.now c.forget.ensures.entries (read_same disks v.mount.slots.now v.space.now c.give_back.new.space v.cache.now devices read)) c.forget.ensures.room in
@@ -18,8 +17,7 @@ returns-in_ok-give_back-clause-follows g c = λ start h.
 pub returns-in_ok-give_back-clause-costs : goal.returns-in_ok-give_back-clause-costs
 returns-in_ok-give_back-clause-costs g c =
     let v = c.args.self.now in
-    let used = (c.if-has.ensures.0 refl).used in
-    let room = gives_room v.mount.kind v.space.now c.give_back.new.space c.args.b.now.at c.args.b.now.birth v.service used c.in_ok-give_back.ensures.ok in
+    let room = gives_room v.mount.kind v.space.now c.give_back.new.space c.args.b.now.at c.args.b.now.birth c.in_ok-give_back.ensures.ok in
     let counts = g.S.Shelf.counts v.shelf.now in
     spends 0 0 1 counts counts v.space.now c.give_back.new.space (no_fall counts) (omega (arith, room)) (give_devices v.mount.kind v.space.now c.give_back.new.space c.args.b.now.at c.args.b.now.birth c.in_ok-give_back.ensures.ok)
 
@@ -29,13 +27,13 @@ returns-in_ok-give_back-clause-ok g c = λ s held are.
     let disks = (g.S.Shelf.world v.shelf.now).now.seen in
     let devices = give_devices v.mount.kind v.space.now c.give_back.new.space c.args.b.now.at c.args.b.now.birth c.in_ok-give_back.ensures.ok in
     let read = read_forgotten disks v.mount.slots.now c.give_back.new.space v.cache.now c.forget.new.self c.args.b.now c.forget.ensures.entries (read_same disks v.mount.slots.now v.space.now c.give_back.new.space v.cache.now devices held.read) in
-    free_held v.mount.kind v.mount.slots.now (g.S.Shelf.tells v.shelf.now) disks v.space.now c.give_back.new.space v.lost v.cache.now c.forget.new.self c.args.b.now c.args.b.now.birth s v.service devices c.in_ok-give_back.ensures.ok read held are
+    free_held v.mount.kind v.mount.slots.now (g.S.Shelf.tells v.shelf.now) disks v.space.now c.give_back.new.space v.lost v.cache.now c.forget.new.self c.args.b.now c.args.b.now.birth s devices c.in_ok-give_back.ensures.ok read held are
 
 false_true : false ≡ true → ⊥
 false_true e = cc
 
-pub returns-else-has-clause-ok : goal.returns-else-has-clause-ok
-returns-else-has-clause-ok g c = λ s held are.
+pub returns-else-stored-clause-ok : goal.returns-else-stored-clause-ok
+returns-else-stored-clause-ok g c = λ s held are.
     let v = c.args.self.now in
     let disks = (g.S.Shelf.world v.shelf.now).now.seen in
-    absurd (false_true (c.if-has.ensures.1 (is_there v.mount.kind v.mount.slots.now (g.S.Shelf.tells v.shelf.now) disks v.space.now v.lost v.cache.now c.args.b.now s held are)))
+    absurd (false_true (sym c.if-stored.false ∙ c.in_ok-stored.ensures.1 (is_there v.mount.kind v.mount.slots.now (g.S.Shelf.tells v.shelf.now) disks v.space.now v.lost v.cache.now c.args.b.now s held are)))

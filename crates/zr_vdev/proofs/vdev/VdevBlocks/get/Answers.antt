@@ -7,8 +7,8 @@ use Rattle.zr_vdev.proofs.Held.{transport}
 use Rattle.zr_vdev.proofs.Follows.{continues_on, read_step}
 use Rattle.zr_vdev.proofs.vdev.VdevBlocks.get.Goals as goal
 
-pub returns-then-has-clause-follows : goal.returns-then-has-clause-follows
-returns-then-has-clause-follows g c = λ start h.
+pub returns-then-stored-clause-follows : goal.returns-then-stored-clause-follows
+returns-then-stored-clause-follows g c = λ start h.
     let v = c.args.self.now in
     let e = c.get_block.ensures in
     let step = read_step v.mount.kind v.mount.slots.now (g.S.Shelf.sizes v.shelf.now) (g.S.Shelf.sizes c.get_block.new.shelf) (g.S.Shelf.counts v.shelf.now) (g.S.Shelf.counts c.get_block.new.shelf)
@@ -16,12 +16,12 @@ returns-then-has-clause-follows g c = λ start h.
     e.sizes e.none_fell e.told e.still e.cache e.room in
     (h.0, h.1, h.2, h.3, continues_on (λ (m : Mount g.row.P.Denot). m.kind) (λ (m : Mount g.row.P.Denot). m.slots.now) start.mount v.mount h.3 h.4 step)
 
-pub returns-then-has-clause-same : goal.returns-then-has-clause-same
-returns-then-has-clause-same g c = λ s held.
+pub returns-then-stored-clause-same : goal.returns-then-stored-clause-same
+returns-then-stored-clause-same g c = λ s held.
     let v = c.args.self.now in
     let e = c.get_block.ensures in
     let old = g.S.Shelf.world v.shelf.now in
     let new = g.S.Shelf.world c.get_block.new.shelf in
     transport v.mount.kind v.mount.slots.now (g.S.Shelf.tells v.shelf.now) (g.S.Shelf.tells c.get_block.new.shelf) old.now.seen new.now.seen v.space.now v.space.now v.lost v.lost v.cache.now c.get_block.new.cache s
-    held refl (e.told held.told) (e.cache held.told held.read) held.taken (λ x h. h) (λ x h. h)
+    held refl (e.told held.told) (e.cache held.told held.read) held.taken (λ back. back) (λ x h. h) (λ x h. h)
     (λ x h. ap (λ (stand : Stand). address_bytes (view_of stand.seen v.mount.slots.now v.space.now) x) (e.still held.told).now)

@@ -1,7 +1,6 @@
-use Rattle.std.proofs.Common.{◌≡◌, ◌/◌, length, Some, sym, ◌∙◌, subst, rules}
+use Rattle.std.proofs.Common.{◌≡◌, ◌/◌, length, Some, ◌∙◌, rules}
 use Rattle.zr_store.specs.declared.StoreErr.TheVariants.{NoRun}
 use Rattle.zr_rules.specs.Equation.{devices_in}
-use Rattle.zr_space.specs.Paths.{AreInService}
 use Rattle.zr_vdev.specs.declared.kind.Mount.{Mount}
 use Rattle.zr_vdev.proofs.Held.{lost_held, failed_held}
 use Rattle.zr_vdev.proofs.Mounting.{have_disks}
@@ -27,9 +26,8 @@ returns-in-Ok-clause-follows g c = λ start h.
     let counts_after = g.S.Shelf.counts c.put_block.new.shelf in
     let gives = c.in_ok-give_back_lost.ensures.ok in
     let devices = c.give_back_lost.ensures.devices in
-    let service : AreInService (devices_in mid) = subst AreInService (sym devices) v.service in
     let e = c.put_block.ensures in
-    let lost = lost_step kind slots sizes counts tells world v.space.now mid v.cache.now v.lost v.mount.txg v.service gives in
+    let lost = lost_step kind slots sizes counts tells world v.space.now mid v.cache.now v.lost v.mount.txg gives in
     let step = put_step kind policy want slots sizes (g.S.Shelf.sizes c.put_block.new.shelf) counts counts_after tells tells_after world after mid new v.cache.now c.put_block.new.cache (Some c.in-Ok.b.at) (some_units (length c.args.bytes.now) c.requires.size)
     e.sizes e.none_fell e.told c.in-Ok.ensures.taken (λ told. (c.in-Ok.ensures.taken, c.in-Ok.ensures.written told)) e.cache e.room in
     let kind_of = λ (m : Mount g.row.P.Denot). m.kind in
@@ -54,9 +52,8 @@ returns-in-Ok-clause-costs g c =
     let counts_after = g.S.Shelf.counts c.put_block.new.shelf in
     let gives = c.in_ok-give_back_lost.ensures.ok in
     let devices = c.give_back_lost.ensures.devices in
-    let service : AreInService (devices_in mid) = subst AreInService (sym devices) v.service in
     let e = c.put_block.ensures in
-    spends want 1 0 counts counts_after v.space.now new e.none_fell (put_room kind policy want v.space.now mid new v.lost (Some c.in-Ok.b.at) v.mount.txg v.service gives c.in-Ok.ensures.taken)
+    spends want 1 0 counts counts_after v.space.now new e.none_fell (put_room kind policy want v.space.now mid new v.lost (Some c.in-Ok.b.at) v.mount.txg gives c.in-Ok.ensures.taken)
     (may_devices kind policy want mid new (Some c.in-Ok.b.at) c.in-Ok.ensures.taken ∙ devices)
 
 pub returns-in-Ok-clause-ok : goal.returns-in-Ok-clause-ok
@@ -77,10 +74,9 @@ returns-in-Ok-clause-ok g c = λ s held.
     let counts_after = g.S.Shelf.counts c.put_block.new.shelf in
     let gives = c.in_ok-give_back_lost.ensures.ok in
     let devices = c.give_back_lost.ensures.devices in
-    let service : AreInService (devices_in mid) = subst AreInService (sym devices) v.service in
     let e = c.put_block.ensures in
-    let settled = lost_held kind slots tells world.now.seen v.space.now mid v.lost v.mount.txg v.cache.now s v.service devices gives held in
-    put_held kind policy want slots v.mounted.apart tells tells_after mid new world after v.cache.now c.put_block.new.cache c.in-Ok.b c.args.bytes.now s service (some_units (length c.args.bytes.now) c.requires.size) c.in-Ok.ensures.within
+    let settled = lost_held kind slots tells world.now.seen v.space.now mid v.lost v.mount.txg v.cache.now s devices gives held in
+    put_held kind policy want slots v.mounted.apart tells tells_after mid new world after v.cache.now c.put_block.new.cache c.in-Ok.b c.args.bytes.now s (some_units (length c.args.bytes.now) c.requires.size) c.in-Ok.ensures.within
     c.in-Ok.ensures.taken (c.in-Ok.ensures.written held.told) (c.in-Ok.ensures.there held.told) (e.told held.told) (e.cache held.told settled.read) settled
 
 pub returns-in-Err-clause-follows : goal.returns-in-Err-clause-follows
@@ -101,9 +97,8 @@ returns-in-Err-clause-follows g c = λ start h.
     let counts_after = g.S.Shelf.counts c.put_block.new.shelf in
     let gives = c.in_ok-give_back_lost.ensures.ok in
     let devices = c.give_back_lost.ensures.devices in
-    let service : AreInService (devices_in mid) = subst AreInService (sym devices) v.service in
     let e = c.put_block.ensures in
-    let lost = lost_step kind slots sizes counts tells world v.space.now mid v.cache.now v.lost v.mount.txg v.service gives in
+    let lost = lost_step kind slots sizes counts tells world v.space.now mid v.cache.now v.lost v.mount.txg gives in
     let step = put_step kind policy want slots sizes (g.S.Shelf.sizes c.put_block.new.shelf) counts counts_after tells tells_after world after mid new v.cache.now c.put_block.new.cache c.in-Err.failure.taken (some_units (length c.args.bytes.now) c.requires.size)
     e.sizes e.none_fell e.told c.in-Err.ensures.kept c.in-Err.ensures.err e.cache e.room in
     let kind_of = λ (m : Mount g.row.P.Denot). m.kind in
@@ -128,9 +123,8 @@ returns-in-Err-clause-costs g c =
     let counts_after = g.S.Shelf.counts c.put_block.new.shelf in
     let gives = c.in_ok-give_back_lost.ensures.ok in
     let devices = c.give_back_lost.ensures.devices in
-    let service : AreInService (devices_in mid) = subst AreInService (sym devices) v.service in
     let e = c.put_block.ensures in
-    spends want 1 0 counts counts_after v.space.now new e.none_fell (put_room kind policy want v.space.now mid new v.lost c.in-Err.failure.taken v.mount.txg v.service gives c.in-Err.ensures.kept)
+    spends want 1 0 counts counts_after v.space.now new e.none_fell (put_room kind policy want v.space.now mid new v.lost c.in-Err.failure.taken v.mount.txg gives c.in-Err.ensures.kept)
     (may_devices kind policy want mid new c.in-Err.failure.taken c.in-Err.ensures.kept ∙ devices)
 
 pub returns-in-Err-clause-no_run : goal.returns-in-Err-clause-no_run
@@ -151,11 +145,10 @@ returns-in-Err-clause-no_run g c = λ needed longest is.
     let counts_after = g.S.Shelf.counts c.put_block.new.shelf in
     let gives = c.in_ok-give_back_lost.ensures.ok in
     let devices = c.give_back_lost.ensures.devices in
-    let service : AreInService (devices_in mid) = subst AreInService (sym devices) v.service in
     let e = c.put_block.ensures in
     let error : c.in-Err.failure.error ≡ NoRun needed longest = search (rules, is) in
     let none = c.in-Err.ensures.no_run needed longest error in
-    missing kind v.space.now mid v.lost v.mount.txg v.service gives counts.disk want needed longest (some_units (length c.args.bytes.now) c.requires.size) none.0 none.1
+    missing kind v.space.now mid v.lost v.mount.txg gives counts.disk want needed longest (some_units (length c.args.bytes.now) c.requires.size) none.0 none.1
 
 pub returns-in-Err-clause-err : goal.returns-in-Err-clause-err
 returns-in-Err-clause-err g c = λ s held.
@@ -175,18 +168,15 @@ returns-in-Err-clause-err g c = λ s held.
     let counts_after = g.S.Shelf.counts c.put_block.new.shelf in
     let gives = c.in_ok-give_back_lost.ensures.ok in
     let devices = c.give_back_lost.ensures.devices in
-    let service : AreInService (devices_in mid) = subst AreInService (sym devices) v.service in
     let e = c.put_block.ensures in
-    let settled = lost_held kind slots tells world.now.seen v.space.now mid v.lost v.mount.txg v.cache.now s v.service devices gives held in
-    failed_held kind policy want slots v.mounted.apart tells tells_after mid new world after v.cache.now c.put_block.new.cache c.in-Err.failure.taken s service (some_units (length c.args.bytes.now) c.requires.size)
+    let settled = lost_held kind slots tells world.now.seen v.space.now mid v.lost v.mount.txg v.cache.now s devices gives held in
+    failed_held kind policy want slots v.mounted.apart tells tells_after mid new world after v.cache.now c.put_block.new.cache c.in-Err.failure.taken s (some_units (length c.args.bytes.now) c.requires.size)
     (taken_within new c.in-Err.failure.taken c.in-Err.ensures.within_taken) (c.in-Err.ensures.err held.told) (e.told held.told) (e.cache held.told settled.read) settled
 
 pub invariant_of-self-in-Ok-1 : goal.invariant_of-self-in-Ok-1
 invariant_of-self-in-Ok-1 g c =
     let v = c.args.self.now in
-    let devices = may_devices v.mount.kind (g.P.Place.policy v.mount.pick.now) (length c.args.bytes.now / 4096) c.give_back_lost.new.space c.put_block.new.space (Some c.in-Ok.b.at) c.in-Ok.ensures.taken in
     record {
       mounted = have_disks (g.S.Shelf.sizes c.put_block.new.shelf) v.mount.slots.now (devices_in c.put_block.new.space) c.put_block.ensures.mounted;
-      service = subst AreInService (sym (devices ∙ c.give_back_lost.ensures.devices)) v.service;
       group = v.group;
     }
