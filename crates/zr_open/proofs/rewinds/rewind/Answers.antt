@@ -55,11 +55,11 @@ returns-in_err-looked-clause-refused g c = λ r is.
 pub returns-in_default-clause-disks : goal.returns-in_default-clause-disks
 returns-in_default-clause-disks g c = λ t. works_still (g.S.Shelf.world c.args.shelf.now) (g.S.Shelf.world c.look.new.shelf) (c.in_ok-looked.ensures.still t)
 
-pub returns-in_default-beside-clause-disks : goal.returns-in_default-beside-clause-disks
-returns-in_default-beside-clause-disks g c = λ t. works_still (g.S.Shelf.world c.args.shelf.now) (g.S.Shelf.world c.look.new.shelf) (c.in_ok-looked.ensures.still t)
+pub returns-in_default-into_beside-clause-disks : goal.returns-in_default-into_beside-clause-disks
+returns-in_default-into_beside-clause-disks g c = λ t. works_still (g.S.Shelf.world c.args.shelf.now) (g.S.Shelf.world c.look.new.shelf) (c.in_ok-looked.ensures.still t)
 
-pub returns-in_default-beside-clause-refused : goal.returns-in_default-beside-clause-refused
-returns-in_default-beside-clause-refused g c = λ r is.
+pub returns-in_default-into_beside-clause-refused : goal.returns-in_default-into_beside-clause-refused
+returns-in_default-into_beside-clause-refused g c = λ r is.
     let sizes = g.S.Shelf.sizes c.args.shelf.now in
     let tells = g.S.Shelf.tells c.args.shelf.now in
     let disks = (g.S.Shelf.world c.args.shelf.now).now.seen in
@@ -71,12 +71,12 @@ returns-in_default-beside-clause-refused g c = λ r is.
       h.finds,
       inr (
         cc,
-        (l.root.head, head_at tells disks (slots_of u h.finds.seen) l.found.slots u l.root h.slots h.at.head h.at.stands, no_block tells disks l.found.slots u l.root l.beside (λ s same. (let other = c.in_default-beside.not-Saved in let own = c.into_beside.ensures ∙ same in search (rules, other, own))) h.at.served h.at.beside),
+        (l.root.head, head_at tells disks (slots_of u h.finds.seen) l.found.slots u l.root h.slots h.at.head h.at.stands, no_block tells disks l.found.slots u l.root l.beside (λ s same. (let other = c.in_default-into_beside.not-Saved in let own = c.into_beside.ensures ∙ same in search (rules, other, own))) h.at.served h.at.beside),
       ),
     ))
 
-pub returns-in_default-beside-clause-unsaved : goal.returns-in_default-beside-clause-unsaved
-returns-in_default-beside-clause-unsaved g c = λ t is.
+pub returns-in_default-into_beside-clause-unsaved : goal.returns-in_default-into_beside-clause-unsaved
+returns-in_default-into_beside-clause-unsaved g c = λ t is.
     let sizes = g.S.Shelf.sizes c.args.shelf.now in
     let tells = g.S.Shelf.tells c.args.shelf.now in
     let w = g.S.Shelf.world c.args.shelf.now in
@@ -86,7 +86,7 @@ returns-in_default-beside-clause-unsaved g c = λ t is.
     let u = l.found.root in
     let these = slots_of u h.finds.seen in
     let sound = g.S.Shelf.sound c.args.shelf.now t in
-    let none = no_block tells disks l.found.slots u l.root l.beside (λ s same. (let other = c.in_default-beside.not-Saved in let own = c.into_beside.ensures ∙ same in search (rules, other, own))) h.at.served h.at.beside in
+    let none = no_block tells disks l.found.slots u l.root l.beside (λ s same. (let other = c.in_default-into_beside.not-Saved in let own = c.into_beside.ensures ∙ same in search (rules, other, own))) h.at.served h.at.beside in
     let shown : ShowsSaved w.now.paths disks these (told_root u l.root) = record { root = None; shown = subst (λ (x : Option (List ℕ)). IsShownBeside disks these (told_root u l.root) x None) (sym none) tt; state = None; is = refl } in
     let stands = subst (λ (ss : List (Option ℕ)). Stands (image_of disks ss u) u l.root) (sym h.at.same) (h.at.stands t) in
     let same = subst (HasSlots these) (sym h.at.same) h.slots in (
