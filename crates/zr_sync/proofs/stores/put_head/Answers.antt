@@ -12,3 +12,11 @@ returns-clause-stands g c = λ s h.
     let put = c.in_ok-write_head.ensures.stores s (rw (v.space, v.shelf, v.cache, v.lost, v.mount) h) in
     let stands = head_stands store.mount.kind store.mount.slots.now (g.S.Shelf.tells store.shelf.now) (g.S.Shelf.world store.shelf.now).now.seen store.space.now store.lost store.cache.now c.args.rows.now s put.stored c.args.head.now _ _ put.held put.is in
     search (rules, stands, f, mount)
+
+pub returns-clause-continues : goal.returns-clause-continues
+returns-clause-continues g c =
+    let v = c.new-store.ensures in
+    let f = c.write_head.ensures.follows c.new-store.result (refl, refl, refl, refl, continues_itself _ _ _ _ _ _ _ _) in
+    let mount = f.3 ∙ v.mount in
+    let goes = f.4 in
+    search (rules, goes, v, mount)
