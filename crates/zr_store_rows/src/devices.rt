@@ -4,7 +4,6 @@ ghost use Rattle.zr_base.specs.declared.space.Policy.{Policy};
 ghost use Rattle.zr_shelf.specs.Counts.{NoneFell};
 ghost use Rattle.zr_rules.specs.Choices.{AreRuns, IsPick};
 ghost use Rattle.zr_rules.specs.Equation.{devices_in};
-ghost use Rattle.zr_space.specs.Paths.{AreInService};
 ghost use Rattle.zr_vdev.specs.Mounts.{AreMounted};
 ghost use Rattle.zr_vdev.specs.Stores.{Continues};
 
@@ -44,7 +43,6 @@ fn put_tree<S: Shelf, P: Place>(
     bytes: &[u8; 4096],
 ) -> Result<Tree, StoreErr>
     requires mounted { AreMounted (S.sizes shelf.old) mount.slots.now (devices_in space.old) }
-    requires service { AreInService (devices_in space.old) }
     requires group { 1 ≤ mount.txg }
     ensures { Continues mount.entry.kind mount.entry.slots.now (S.sizes shelf.old) (S.sizes shelf.new) (S.counts shelf.old) (S.counts shelf.new) (S.tells shelf.old) (S.tells shelf.new) (S.world shelf.old) (S.world shelf.new) space.old space.new cache.old cache.new }
 {
@@ -62,7 +60,6 @@ fn put_words<S: Shelf, P: Place>(
     words: &[u64; 3],
 ) -> Result<(), StoreErr>
     requires mounted { AreMounted (S.sizes shelf.old) mount.slots.now (devices_in space.old) }
-    requires service { AreInService (devices_in space.old) }
     requires group { 1 ≤ mount.txg }
     ensures { Continues mount.entry.kind mount.entry.slots.now (S.sizes shelf.old) (S.sizes shelf.new) (S.counts shelf.old) (S.counts shelf.new) (S.tells shelf.old) (S.tells shelf.new) (S.world shelf.old) (S.world shelf.new) space.old space.new cache.old cache.new }
 {
@@ -81,12 +78,10 @@ fn put_both<S: Shelf, P: Place>(
     pick: &P,
 ) -> Result<Tree, StoreErr>
     requires mounted { AreMounted (S.sizes shelf.old) slots.now (devices_in space.old) }
-    requires service { AreInService (devices_in space.old) }
     ensures sizes { S.sizes shelf.new ≡ S.sizes shelf.old }
     ensures none_fell { NoneFell (S.counts shelf.old) (S.counts shelf.new) }
     ensures told { S.tells shelf.old → S.tells shelf.new }
     ensures mounted { AreMounted (S.sizes shelf.new) slots.now (devices_in space.new) }
-    ensures service { AreInService (devices_in space.new) }
 {
     let blocks = Mount {
         slots,
@@ -109,7 +104,6 @@ fn put_both<S: Shelf, P: Place>(
 fn one_device<D: Desk>(alloc: Global, desk: &mut D) -> Result<Space, Fail>
     requires { D.Shelf.sizes desk.old ≡ [] }
     ensures mounted { IfOk result (λ space. AreMounted (D.Shelf.sizes desk.new) (Some 0 ∷ []) (devices_in space)) }
-    ensures service { IfOk result (λ space. AreInService (devices_in space)) }
 {
     let slot = desk.attach("a", Some(8388608))?;
     if slot >= desk.slots() || desk.size(slot) < 8388608 {

@@ -1,6 +1,6 @@
 //! Examples of what stands over stores of blocks: trees, directories, streams and heads, changes, commits and imports.
 //!
-//! Each tries calls of one crate, with what the crates below it give, on a store in memory; the last on a device in memory.
+//! Each tries calls of one crate, with what the crates below it give, on a store in memory; two on devices in memory.
 //! They stand in a crate of their own, so that none of these is proved a second time for its tests.
 #![tactic(auto)]
 
@@ -24,6 +24,8 @@ mod lookups;
 mod objects;
 #[cfg(test)]
 mod pointers;
+#[cfg(test)]
+mod removals;
 #[cfg(test)]
 mod roots;
 #[cfg(test)]

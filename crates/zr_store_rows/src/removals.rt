@@ -1,6 +1,6 @@
 //! A device that leaves: its units are copied to another one, a step at a time, and a block on it reads as before. A step
 //! that a disk fails leaves the space as it was, and the next one goes on.
-ghost use Rattle.std.specs.Prelude.{◌≡◌, ◌≤◌, ◌<◌, ◌∷◌, [], length, IfOk, Some};
+ghost use Rattle.std.specs.Prelude.{◌≡◌, ◌≤◌, ◌<◌, ◌∷◌, ◌++◌, [], ℕ, List, length, OnOk, IfOk, Some};
 ghost use Rattle.zr_base.specs.declared.space.Policy.{Policy};
 ghost use Rattle.zr_rules.specs.Choices.{AreRuns, IsPick};
 ghost use Rattle.zr_rules.specs.Equation.{devices_in};
@@ -8,7 +8,7 @@ ghost use Rattle.zr_vdev.specs.Mounts.{AreMounted};
 
 use std::alloc::{AllocError, Global};
 use std::test::Fail;
-use zr_base::{CkptPart, DevState, Extent, NoMemory, Policy};
+use zr_base::{CkptPart, DevState, Dva, Extent, NoMemory, Policy};
 use zr_bptr::Bptr;
 use zr_cache::Cache;
 use zr_choose::{Chooser, pick_first};
@@ -16,8 +16,6 @@ use zr_shelf::{Desk, MemDesk, Shelf};
 use zr_space::Space;
 use zr_store::StoreErr;
 use zr_vdev::{Copied, Kind, Mount, copy_step, get_block, mounted_over_removals, put_block};
-
-const SLOTS: [Option<u32>; 2] = [Some(0), Some(1)];
 
 fn first_fit(alloc: Global) -> Result<Chooser, AllocError> {
     Ok(Chooser::new(
@@ -99,6 +97,7 @@ fn put<S: Shelf>(
     shelf: &mut S,
     slots: &[Option<u32>],
     pick: &Chooser,
+    bytes: &[u8; 8192],
 ) -> Result<Option<Bptr>, NoMemory>
     requires { AreMounted (S.sizes shelf.old) slots.now (devices_in space.old) }
     ensures sizes { S.sizes shelf.new ≡ S.sizes shelf.old }
@@ -111,8 +110,10 @@ fn put<S: Shelf>(
         txg: 2,
         kind: Kind::Block,
     };
-    let put = put_block(alloc, space, shelf, &mut cache, &mount, &[5; 8192], 0);
-    Ok(put.ok())
+    match put_block(alloc, space, shelf, &mut cache, &mount, bytes, 0) {
+        Ok(b) => Ok(Some(b)),
+        Err(_) => Ok(None),
+    }
 }
 
 // Whether the block reads as it was put, from the disks.
@@ -131,23 +132,98 @@ fn reads<S: Shelf>(
     Ok(bytes.as_slice() == [5; 8192].as_slice())
 }
 
+// Puts a block on device 0, which then begins to leave. None where that is not so.
+fn put_and_leave<S: Shelf>(
+    alloc: Global,
+    space: &mut Space,
+    shelf: &mut S,
+    slots: &[Option<u32>],
+    pick: &Chooser,
+) -> Result<Option<Bptr>, NoMemory>
+    requires { AreMounted (S.sizes shelf.old) slots.now (devices_in space.old) }
+    ensures { AreMounted (S.sizes shelf.new) slots.now (devices_in space.new) }
+{
+    let Some(b) = put(alloc, space, shelf, slots, pick, &[5; 8192])? else {
+        return Ok(None);
+    };
+    if b.at.dev != 0 {
+        return Ok(None);
+    }
+    let left = leave(space, slots)?;
+    Ok(if left { Some(b) } else { None })
+}
+
+// Whether a step copies the two units and the next one finds nothing to copy, and the block then reads as it was put, also
+// where it was copied to.
+fn copies_all<S: Shelf>(
+    alloc: Global,
+    space: &mut Space,
+    shelf: &mut S,
+    slots: &[Option<u32>],
+    pick: &Chooser,
+    b: &Bptr,
+) -> Result<bool, StoreErr>
+    requires { AreMounted (S.sizes shelf.old) slots.now (devices_in space.old) }
+{
+    let mut cache = Cache::new(alloc, 1)?;
+    let copied = step(alloc, space, shelf, &mut cache, slots, pick)?;
+    let more = step(alloc, space, shelf, &mut cache, slots, pick)?;
+    if copied != Some(Copied::Units(2)) || more != Some(Copied::Nothing) {
+        return Ok(false);
+    }
+    let there = Bptr {
+        at: Dva {
+            dev: 1,
+            start: 0,
+            len: 2,
+        },
+        ..*b
+    };
+    Ok(reads(alloc, space, shelf, slots, b)? && reads(alloc, space, shelf, slots, &there)?)
+}
+
+// Whether a step is told of a fault, and nothing of the space is changed by it.
+fn fails_once<S: Shelf>(
+    alloc: Global,
+    space: &mut Space,
+    shelf: &mut S,
+    slots: &[Option<u32>],
+    pick: &Chooser,
+) -> Result<bool, NoMemory>
+    requires { AreMounted (S.sizes shelf.old) slots.now (devices_in space.old) }
+    ensures { AreMounted (S.sizes shelf.new) slots.now (devices_in space.new) }
+{
+    let mut cache = Cache::new(alloc, 1)?;
+    let before = (space.sizes(), space.next_copy());
+    let failed = step(alloc, space, shelf, &mut cache, slots, pick)?;
+    Ok(failed == Some(Copied::Fault) && (space.sizes(), space.next_copy()) == before)
+}
+
 #[test]
-fn a_block_reads_as_before_behind_its_copy(rt: HostRuntime) -> Result<(), Fail> {
+fn a_block_reads_as_before_where_it_is_copied(rt: HostRuntime) -> Result<(), Fail> {
     let alloc = rt.alloc();
     let pick = first_fit(alloc)?;
+    let slots = [Some(0), Some(1)];
     let mut desk = MemDesk::new(alloc, Vec::new(alloc), Vec::new(alloc));
     let mut space = two_devices(alloc, &mut desk)?;
-    let mut cache = Cache::new(alloc, 1)?;
-    let Some(b) = put(alloc, &mut space, &mut desk, &SLOTS, &pick)? else {
-        return Err(Fail::new("no block"));
+    let Some(b) = put_and_leave(alloc, &mut space, &mut desk, &slots, &pick)? else {
+        return Err(Fail::new("no block on a device that leaves"));
     };
-    assert_eq!(rt; (b.at.dev, b.at.len), (0, 2));
-    assert!(rt; leave(&mut space, &SLOTS)?, "nothing forbids that the device leaves");
-    assert!(rt; reads(alloc, &space, &mut desk, &SLOTS, &b)?);
-    let copied = step(alloc, &mut space, &mut desk, &mut cache, &SLOTS, &pick)?;
-    assert_eq!(rt; copied, Some(Copied::Units(2)));
-    let more = step(alloc, &mut space, &mut desk, &mut cache, &SLOTS, &pick)?;
-    assert_eq!(rt; more, Some(Copied::Nothing));
-    assert!(rt; reads(alloc, &space, &mut desk, &SLOTS, &b)?);
+    assert!(rt; copies_all(alloc, &mut space, &mut desk, &slots, &pick, &b)?);
+    Ok(())
+}
+
+#[test]
+fn a_step_that_fails_leaves_the_space(rt: HostRuntime) -> Result<(), Fail> {
+    let alloc = rt.alloc();
+    let pick = first_fit(alloc)?;
+    let slots = [Some(0), Some(1)];
+    let mut desk = MemDesk::new(alloc, Vec::new(alloc), Vec::from_slice(alloc, &[5])?);
+    let mut space = two_devices(alloc, &mut desk)?;
+    let Some(b) = put_and_leave(alloc, &mut space, &mut desk, &slots, &pick)? else {
+        return Err(Fail::new("no block on a device that leaves"));
+    };
+    assert!(rt; fails_once(alloc, &mut space, &mut desk, &slots, &pick)?);
+    assert!(rt; copies_all(alloc, &mut space, &mut desk, &slots, &pick, &b)?);
     Ok(())
 }
