@@ -1,6 +1,7 @@
 -- What a drop gives back, and how it is told from the start of the line.
-use Rattle.std.proofs.Common.{◌≡◌, ℕ, ◌≤◌, List, [], Option, None, Result, Ok, Err, sym, ◌∙◌, ap, subst, arith}
-use Rattle.std.specs.Prelude.{IfErr, IsOk, OnOk}
+use Rattle.std.proofs.Common.{◌≡◌, ◌⊎◌, inl, inr, ℕ, ◌≤◌, ◌+◌, List, [], Option, None, Result, Ok, Err, sym, ◌∙◌, ap, subst, arith}
+use Rattle.std.proofs.lemmas.Bool.Decides.{leb_tells}
+use Rattle.std.specs.Prelude.{IfErr, IsOk, OnOk, length}
 use Rattle.zr_base.specs.declared.refusal.Refusal.{Refusal}
 use Rattle.zr_base.specs.declared.refusal.Refusal.TheVariants.{NoRoom}
 use Rattle.zr_base.specs.declared.space.Dva.{Dva}
@@ -17,7 +18,7 @@ use Rattle.zr_sync.specs.Writes.{WritesBlocks}
 use Rattle.zr_sync.specs.declared.fault.Fault.{Fault}
 use Rattle.zr_sync.specs.declared.fault.Fault.TheVariants.{No}
 use Rattle.zr_sync.specs.declared.open.OpenPool.{OpenPool}
-use Rattle.zr_txg.specs.Changes.{Changes}
+use Rattle.zr_txg.specs.Changes.{Changes, block_count}
 use Rattle.zr_vdev.specs.Stores.{HoldsBlocks}
 use Rattle.zr_vdev.specs.declared.kind.Kind.{Kind}
 use Rattle.zr_vdev.specs.declared.kind.Kind.TheVariants.{Block}
@@ -100,3 +101,13 @@ lacks_of s wanted needed free r told is enough gives says =
     let f = same_free needed wanted free (free_units s) e in
     let short : wanted ≤ free_units s → ⊥ = λ le. no_ok r (enough le) in
     record { needed_is = n; free_is = f; less = omega (arith, n, f, short) }
+
+-- the group can take an object more, or it cannot
+pub can_take : (n : ℕ) (g : Changes) → CanTake 0 n g ⊎ (CanTake 0 n g → ⊥)
+can_take n g = elim (leb_tells (block_count g.objects + 0) 64) [
+  | inl first ↦ elim (leb_tells (length g.objects + n) 64) [
+    | inl second ↦ inl (first.1, second.1)
+    | inr more ↦ inr (λ both. let over = more.1 in let under = both.1 in omega (arith, over, under))
+  ]
+  | inr more ↦ inr (λ both. let over = more.1 in let under = both.0 in omega (arith, over, under))
+]

@@ -26,6 +26,7 @@ told_by f disks x s h = record {
   read = h.read;
   stored = h.stored;
   once = h.once;
+  back = h.back;
   alone = h.alone;
   resolves = h.resolves;
   there = h.there;

@@ -1,5 +1,10 @@
+use Rattle.std.proofs.Common.{◌≡◌, None, inl, inr, sym, subst}
+use Rattle.zr_lookup.specs.Objects.{record_now}
+use Rattle.zr_sync.specs.Holds.{HasBlocks}
+use Rattle.zr_sync.specs.declared.open.OpenPool.{OpenPool}
 use Rattle.zr_sync.proofs.Disks.{works_more}
-use Rattle.zr_lines.proofs.Giving.{found_back, on_ok_map, wrote_back}
+use Rattle.zr_lines.specs.Counts.{new_object}
+use Rattle.zr_lines.proofs.Giving.{can_take, found_back, on_ok_map, wrote_back}
 use Rattle.zr_lines.proofs.drops.drop.Goals as goal
 
 pub returns-clause-disks : goal.returns-clause-disks
@@ -29,3 +34,16 @@ returns-clause-given g c =
 
 pub returns-clause-objects : goal.returns-clause-objects
 returns-clause-objects g c = λ objects h r is. c.drop_ready.ensures.objects objects (c.in_ok-make_way_for.ensures.objects objects h tt) r is
+
+pub returns-clause-none : goal.returns-clause-none
+returns-clause-none g c = λ s h is.
+    let pool = c.args.pool.now in
+    let next = c.make_way_for.new.shelf in
+    elim (can_take (new_object pool.group c.args.id) pool.group) [
+      | inl can ↦
+          let st = c.make_way_for.ensures.stays can in
+          let here = subst (λ x. HasBlocks (g.S.Shelf.tells x) (g.S.Shelf.world x).now.seen pool s) (sym st.2) h in
+          let then = subst (λ (p : OpenPool). HasBlocks (g.S.Shelf.tells next) (g.S.Shelf.world next).now.seen p s) (sym st.1) here in
+          inl (subst (λ (p : OpenPool). record_now s p.dir p.group c.args.id ≡ None) st.1 (c.drop_ready.ensures.none s then is))
+      | inr full ↦ inr full
+    ]

@@ -13,3 +13,6 @@ pub returns-clause-disks : goal.returns-clause-disks
 returns-clause-disks g c = λ told.
     works_more (g.S.Shelf.world c.args.shelf.now) (g.S.Shelf.world c.need.new.shelf) (g.S.Shelf.world c.make_way.new.shelf)
     (works_writes _ _ _ (c.need.ensures.wrote.goes.written told)) (c.make_way.ensures.disks (c.need.ensures.wrote.goes.told told))
+
+pub returns-clause-objects : goal.returns-clause-objects
+returns-clause-objects g c = λ objects h answered. c.in_ok-make_way.ensures.objects objects (c.need.ensures.stays objects h)

@@ -32,3 +32,11 @@ returns-clause-held_no g c = λ s h r is.
     let store = c.fulfil.new.store in
     now_held (λ n held. search (rules, held, f, mount))
     (now_behind s k (λ m held. begins_held store.mount.kind store.mount.slots.now (g.S.Shelf.tells store.shelf.now) (g.S.Shelf.world store.shelf.now).now.seen store.space.now store.lost store.cache.now m held))
+
+pub returns-clause-continues : goal.returns-clause-continues
+returns-clause-continues g c =
+    let v = c.new-store.ensures in
+    let f = c.fulfil.ensures.follows c.new-store.result (refl, refl, refl, refl, continues_itself _ _ _ _ _ _ _ _) in
+    let mount = f.3 ∙ v.mount in
+    let goes = f.4 in
+    search (rules, goes, v, mount)
