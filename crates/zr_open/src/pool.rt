@@ -72,6 +72,9 @@ fn space_of(alloc: Global, u: &Uber, root: &Root, saved: &[Dva]) -> Result<Space
         let rule = if saved.is_empty() { 7 } else { 8 };
         return Err(Fault::No(Refusal::BadRoot { rule }));
     };
+    if !space.is_in_service() {
+        return Err(Fault::No(Refusal::BadRoot { rule: 1 }));
+    }
     space.lawful();
     Ok(space)
 }

@@ -26,6 +26,9 @@ pub mod Reading
 pub mod Listing
 pub mod ReadDevices
 pub mod Opening
+pub mod Mapped
+pub mod Resuming
+pub mod Opened
 pub mod Openable
 pub mod Refusing
 pub mod InUse

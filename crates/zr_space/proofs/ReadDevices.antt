@@ -5,12 +5,11 @@ use Rattle.std.proofs.lemmas.List.Sums.{get_or-le-sum_by}
 use Rattle.zr_base.specs.declared.space.Extent.{Extent}
 use Rattle.zr_base.specs.declared.space.Dva.{Dva}
 use Rattle.zr_base.specs.declared.space.DevRow.{DevRow}
-use Rattle.zr_base.specs.declared.space.DevState.TheVariants.{On}
 use Rattle.zr_base.specs.Extents.{has_unit, unit_count, EndsBy}
 use Rattle.zr_rules.specs.Places.{one_if, in_address, address_hits}
 use Rattle.zr_units.specs.Apart.{IsWithin}
 use Rattle.zr_units.specs.Uses.{Freed, unused}
-use Rattle.zr_space.specs.Views.{serving}
+use Rattle.zr_space.specs.Views.{units_there}
 use Rattle.zr_space.specs.Reads.{CanRead, CanKeep, Marks, CanReadLate, MarksLate, CanReadMeta, IsRead}
 
 pub ends_in : (units : ℕ) (es : List Extent) → EndsBy units es → IsWithin es units
@@ -21,12 +20,11 @@ ends_in units [] ends u is = absurd (false_true is)
 ends_in units (e ∷ es) ends u is = let r = ends_in units es ends.1 u in let le = ends.0 in grind (arith, nat_tests, r, le, is)
 
 -- what was read of the device's sets
-pub device_read : (row : DevRow) (held kept : List Extent) (l1 l2 : Freed) (spare : ℕ) (u0 u1 u2 u3 : List Extent) → row.state ≡ On → row.units < 2 ^ 40 → u0 ≡ []
-    → CanRead held u0 row.units → Marks held u0 u1 → CanKeep kept held row.units → CanReadLate l1 u1 row.units → MarksLate l1 u1 u2 → CanReadLate l2 u2 row.units → MarksLate l2 u2 u3
-    → IsRead (serving row (record (unused row.units) { held = held; kept = kept; late1 = l1; late2 = l2; spare = spare })) u3
-device_read row held kept l1 l2 spare u0 u1 u2 u3 on small none ch mh ck c1 m1 c2 m2 = record {
-  row_units = refl;
-  on = on;
+pub device_read : (row : DevRow) (units : ℕ) (held kept : List Extent) (l1 l2 : Freed) (spare : ℕ) (u0 u1 u2 u3 : List Extent) → row.units < 2 ^ 40 → units ≡ units_there row → u0 ≡ []
+    → CanRead held u0 units → Marks held u0 u1 → CanKeep kept held units → CanReadLate l1 u1 units → MarksLate l1 u1 u2 → CanReadLate l2 u2 units → MarksLate l2 u2 u3
+    → IsRead row (record (unused units) { held = held; kept = kept; late1 = l1; late2 = l2; spare = spare }) u3
+device_read row units held kept l1 l2 spare u0 u1 u2 u3 small there none ch mh ck c1 m1 c2 m2 = record {
+  row_units = there;
   small = small;
   born = refl;
   kept = ck.maximal;
@@ -35,16 +33,15 @@ device_read row held kept l1 l2 spare u0 u1 u2 u3 on small none ch mh ck c1 m1 c
   went = refl;
   copies = refl;
   freed = refl;
-  moves = refl;
   once = λ u. first u (in_two u (in_one u));
   within = λ u is.
       let a = mh.members u in let b = m1.members u in let d = m2.members u in
       let n = none_has u in
-      let w = ends_in row.units held ch.within u in
-      let wb1 = ends_in row.units l1.blocks c1.blocks.within u in
-      let wm1 = ends_in row.units l1.meta c1.meta.within u in
-      let wb2 = ends_in row.units l2.blocks c2.blocks.within u in
-      let wm2 = ends_in row.units l2.meta c2.meta.within u in
+      let w = ends_in units held ch.within u in
+      let wb1 = ends_in units l1.blocks c1.blocks.within u in
+      let wm1 = ends_in units l1.meta c1.meta.within u in
+      let wb2 = ends_in units l2.blocks c2.blocks.within u in
+      let wm2 = ends_in units l2.meta c2.meta.within u in
       grind (arith, nat_tests, a, b, d, n, w, wb1, wm1, wb2, wm2, is);
   count = let a = mh.count in let b = m1.count in let d = m2.count in let n = ap unit_count none in omega (arith, a, b, d, n);
   lists = record { held = ch.maximal; born = tt; kept = ck.maximal; came = tt; went = tt; copies = tt; freed = record { blocks = tt; meta = tt }; late1 = record { blocks = c1.blocks.maximal; meta = c1.meta.maximal }; late2 = record { blocks = c2.blocks.maximal; meta = c2.meta.maximal }; meta = tt; saved = tt };

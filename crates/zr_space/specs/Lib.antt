@@ -10,6 +10,7 @@ pub mod Totals
 pub mod Records
 pub mod Reads
 pub mod Opens
+pub mod Resuming
 pub mod Plans
 pub mod Copying
 pub mod Leavings

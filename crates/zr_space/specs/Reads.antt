@@ -1,18 +1,21 @@
 -- What is read of a root's sets.
-use Rattle.std.specs.Prelude.{◌≡◌, ℕ, ◌+◌, ◌≤◌, ◌<◌, ◌^◌, ◌||◌, true, nat_lt, List, []}
+use Rattle.std.specs.Prelude.{◌≡◌, ℕ, ◌+◌, ◌≤◌, ◌<◌, ◌^◌, ◌||◌, ◌&&◌, true, false, nat_le, nat_lt, List, [], length, replicate, All}
 use Rattle.zr_base.specs.declared.space.Extent.{Extent}
 use Rattle.zr_base.specs.declared.space.Dva.{Dva}
 use Rattle.zr_base.specs.declared.space.LateRun.{LateRun}
 use Rattle.zr_base.specs.declared.space.DevPart.{DevPart}
-use Rattle.zr_base.specs.declared.space.DevState.TheVariants.{On}
+use Rattle.zr_base.specs.declared.space.DevRow.{DevRow}
+use Rattle.zr_base.specs.declared.space.Entry.{Entry}
+use Rattle.zr_base.specs.declared.space.DevState.TheVariants.{On, Leaving}
 use Rattle.zr_base.specs.Extents.{has_unit, unit_count, IsMaximal, EndsBy}
 use Rattle.zr_rules.specs.Places.{one_if, address_hits, hits_late}
+use Rattle.zr_rules.specs.Mappings.{IsRising, end_of_last, has_source}
 use Rattle.zr_rules.specs.Space.{IsSet}
 use Rattle.zr_units.specs.Apart.{AreSetsApart, IsWithin}
 use Rattle.zr_units.specs.Uses.{Uses, Freed, AreMaximal, HasLists, none_freed, use_hits, use_count, freed_count}
 use Rattle.zr_units.specs.Changes.{has_freed}
-use Rattle.zr_indirect.specs.Mapped.{in_service}
-use Rattle.zr_space.specs.Views.{Kept, late_runs}
+use Rattle.zr_indirect.specs.Mapped.{Mapped, HasCounts}
+use Rattle.zr_space.specs.Views.{EndsWithin, IsMoved, late_runs, units_there}
 
 -- the extents are those of a set of so many units, none of which is used already
 pub record CanRead (extents used : List Extent) (units : ℕ) : Type 0 where
@@ -56,13 +59,35 @@ pub record ReadsMeta (list : List Dva) (dev : ℕ) (old new : Uses) (used_old us
 abbrev pub HasMeta : List Dva → ℕ → List Extent → Type 0
 HasMeta list dev es = (u : ℕ) → address_hits list dev u ≡ one_if (has_unit es u)
 
--- the device is in service, with nothing mapped or obsolete
-pub record IsPlain (p : DevPart) : Type 0 where
-  pub on : p.row.state ≡ On
-  pub small : p.row.units < 2 ^ 40
-  pub entries : p.entries ≡ []
-  pub counts : p.counts ≡ []
-  pub fresh : p.fresh ≡ []
+-- the entries rise, and their sources lie within so many units
+pub record AreEntries (units : ℕ) (entries : List Entry) : Type 0 where
+  pub rising : IsRising entries
+  pub within : All (EndsWithin units) entries
+
+-- The mapping of a device goes together: its entries rise within the device, each has its count, and what is obsolete lies in them. A device in service has no
+-- entries, and of one that is leaving none is counted.
+pub record IsMapped (p : DevPart) : Type 0 where
+  pub entries : AreEntries p.row.units p.entries
+  pub counts : HasCounts p.entries p.counts p.fresh
+  pub service : p.row.state ≡ On → p.entries ≡ []
+  pub leaving : p.row.state ≡ Leaving → p.counts ≡ replicate (length p.entries) 0
+
+-- What is read of the mapping is what a root records, with nothing opened. A device that is leaving goes on at the end of its last entry: what it holds from there on is
+-- left to copy.
+pub record IsReadMapping (p : DevPart) (m : Mapped) : Type 0 where
+  pub moved : IsMoved p.row m
+  pub entries : m.entries ≡ p.entries
+  pub counts : m.counts ≡ p.counts
+  pub fresh : m.fresh ≡ p.fresh
+  pub came : m.came ≡ []
+  pub went : m.went ≡ []
+  pub opened : p.row.state ≡ Leaving → m.opened ≡ end_of_last p.entries
+  pub synced : p.row.state ≡ Leaving → m.synced ≡ end_of_last p.entries
+  pub left : p.row.state ≡ Leaving → (u : ℕ) → has_unit m.left u ≡ (has_unit p.held u && nat_le (end_of_last p.entries) u)
+
+-- each unit that is held below the frontier has an entry, and no mark
+abbrev pub AreCopied : List Entry → List Extent → List Extent → ℕ → Type 0
+AreCopied entries marks held frontier = (u : ℕ) → has_unit held u ≡ true → u < frontier → (has_source entries u ≡ true) × (has_unit marks u ≡ false)
 
 -- each unit of the one set is in the other
 abbrev pub IsAmong : List Extent → List Extent → Type 0
@@ -80,29 +105,37 @@ pub record IsLateSet (runs : List LateRun) : Type 0 where
   pub listed : IsListed runs freed
   pub maximal : AreMaximal freed
 
--- The device can be read with the metadata of both roots, if that lies at this index: its sets are as a root records them, and no unit has two uses.
+-- The device can be read with the metadata of both roots, if that lies at this index: its mapping goes together, its sets are as a root records them, and no unit has two
+-- uses. A device that is gone has no units.
 pub record CanReadPart (p : DevPart) (meta saved : List Dva) (dev : ℕ) : Type 0 where
-  pub plain : IsPlain p
-  pub held : IsSet p.row.units p.held
-  pub kept : CanKeep p.kept p.held p.row.units
+  pub small : p.row.units < 2 ^ 40
+  pub mapped : IsMapped p
+  pub fresh : IsSet p.row.units p.fresh
+  pub held : IsSet (units_there p.row) p.held
+  pub kept : CanKeep p.kept p.held (units_there p.row)
   pub late1 : IsLateSet p.late1
   pub late2 : IsLateSet p.late2
-  pub once : (u : ℕ) → one_if (has_unit p.held u) + hits_late p.late1 u + hits_late p.late2 u + address_hits meta dev u + address_hits saved dev u ≤ one_if (nat_lt u p.row.units)
+  pub once : (u : ℕ) → one_if (has_unit p.held u) + hits_late p.late1 u + hits_late p.late2 u + address_hits meta dev u + address_hits saved dev u ≤ one_if (nat_lt u (units_there p.row))
 
--- what is read of a device: no unit has two uses, and those that have one are gathered
-pub record IsRead (k : Kept) (used : List Extent) : Type 0 where
-  pub row_units : k.row.units ≡ k.uses.units
-  pub on : k.row.state ≡ On
-  pub small : k.uses.units < 2 ^ 40
-  pub born : k.uses.born ≡ []
-  pub kept : IsMaximal k.uses.kept
-  pub among : IsAmong k.uses.kept k.uses.held
-  pub came : k.uses.came ≡ []
-  pub went : k.uses.went ≡ []
-  pub copies : k.uses.copies ≡ []
-  pub freed : k.uses.freed ≡ none_freed
-  pub moves : k.moves ≡ in_service
-  pub once : (u : ℕ) → use_hits k.uses u ≡ one_if (has_unit used u)
-  pub within : IsWithin used k.uses.units
-  pub count : use_count k.uses ≡ unit_count used
-  pub lists : HasLists k.uses
+-- the sets are those that a root records of the device
+pub record AreSetsOf (p : DevPart) (x : Uses) : Type 0 where
+  pub held : x.held ≡ p.held
+  pub kept : x.kept ≡ p.kept
+  pub late1 : late_runs x.late1 ≡ p.late1
+  pub late2 : late_runs x.late2 ≡ p.late2
+
+-- what is read of a device's units: no unit has two uses, and those that have one are gathered
+pub record IsRead (r : DevRow) (x : Uses) (used : List Extent) : Type 0 where
+  pub row_units : x.units ≡ units_there r
+  pub small : r.units < 2 ^ 40
+  pub born : x.born ≡ []
+  pub kept : IsMaximal x.kept
+  pub among : IsAmong x.kept x.held
+  pub came : x.came ≡ []
+  pub went : x.went ≡ []
+  pub copies : x.copies ≡ []
+  pub freed : x.freed ≡ none_freed
+  pub once : (u : ℕ) → use_hits x u ≡ one_if (has_unit used u)
+  pub within : IsWithin used x.units
+  pub count : use_count x ≡ unit_count used
+  pub lists : HasLists x

@@ -28,6 +28,13 @@ impl Model for Device {
 }
 
 impl Device {
+    /// A device of these.
+    pub fn new(row: DevRow, units: Units, moves: Mapping) -> Device
+        ensures { result ≡ record { row = row; uses = units; moves = moves } }
+    {
+        Device { row, units, moves }
+    }
+
     /// Whether it is in service.
     pub fn is_on(&self) -> bool
         ensures { result ≡ is_on self.now.row.state }

@@ -7,11 +7,11 @@ ghost use Rattle.std.specs.Prelude.{◌≡◌, ◌↔◌, ◌+◌, ◌<◌, ◌�
 ghost use Rattle.zr_base.specs.Extents.{HasNone};
 ghost use Rattle.zr_base.specs.declared.space.Dva.{Dva};
 ghost use Rattle.zr_units.specs.Uses.{Freed};
-ghost use Rattle.zr_space.specs.Reads.{CanRead, Marks, CanReadLate, MarksLate, IsListed, CanReadMeta, ReadsMeta, IsPlain, IsRead, CanReadPart, IsAmong, CanKeep, HasMeta};
-ghost use Rattle.zr_space.specs.Views.{part_in, serving};
+ghost use Rattle.zr_space.specs.Reads.{AreSetsOf, CanRead, Marks, CanReadLate, MarksLate, IsListed, CanReadMeta, ReadsMeta, IsRead, CanReadPart, IsAmong, CanKeep, HasMeta};
+ghost use Rattle.zr_space.specs.Views.{units_there};
 
 use std::alloc::Global;
-use zr_base::{DevPart, DevState, Dva, Extent, LateRun, NoMemory};
+use zr_base::{DevPart, DevRow, DevState, Dva, Extent, LateRun, NoMemory};
 use zr_ranges::RangeSet;
 use zr_units::{FreedSets, Units};
 
@@ -140,15 +140,15 @@ pub fn read_meta(
     Ok(true)
 }
 
-// Whether a device is in service, with nothing mapped or obsolete.
-fn is_plain(part: &DevPart) -> bool
-    ensures { IsTrue result ↔ IsPlain part.now }
+// How many units there are of a device: those of its row, and none once it is gone.
+fn units_there(row: DevRow) -> u64
+    ensures units { result ≡ units_there row }
+    ensures few { result ≤ row.units }
 {
-    part.row.state == DevState::On
-        && part.row.units < 1 << 40
-        && part.entries.is_empty()
-        && part.counts.is_empty()
-        && part.fresh.is_empty()
+    match row.state {
+        DevState::On | DevState::Leaving => row.units,
+        DevState::Gone => 0,
+    }
 }
 
 // Whether each unit of a set is in another one. A search for each extent of the first.
@@ -186,8 +186,8 @@ fn read_kept(
     Ok(Some(kept))
 }
 
-// The units of a device in service as a root records them, without metadata. They are added to those that are used, of
-// which there are none. None where the device is not in service, a set is not kept as its maximal extents, or a unit has two
+// The units of a device as a root records them, without metadata. They are added to those that are used, of which there are
+// none. None where the device is too large, a set is not kept as its maximal extents or leaves the device, or a unit has two
 // uses.
 fn read_device(
     alloc: Global,
@@ -195,16 +195,16 @@ fn read_device(
     used: &mut RangeSet,
 ) -> Result<Option<Units>, NoMemory>
     requires { used.old.extents ≡ [] }
-    ensures part { IfOk result (λ o. IfSome o (λ x. part_in (serving part.now.row x) ≡ part.now)) }
+    ensures sets { IfOk result (λ o. IfSome o (λ x. AreSetsOf part.now x)) }
     ensures meta { IfOk result (λ o. IfSome o (λ x. x.meta ≡ [])) }
-    ensures some { IfOk result (λ o. IfSome o (λ x. IsRead (serving part.now.row x) used.new.extents)) }
+    ensures some { IfOk result (λ o. IfSome o (λ x. IsRead part.now.row x used.new.extents)) }
     ensures saved { IfOk result (λ o. IfSome o (λ x. x.saved ≡ [])) }
     ensures none { IfOk result (λ o. IfNone o ((meta saved : List Dva) (dev : ℕ) → ¬ CanReadPart part.now meta saved dev)) }
 {
-    if !is_plain(part) {
+    if part.row.units >= 1 << 40 {
         return Ok(None);
     }
-    let units = part.row.units;
+    let units = units_there(part.row);
     let Some(held) = read_set(alloc, used, part.held.as_slice(), units)? else {
         return Ok(None);
     };
@@ -236,8 +236,8 @@ impl Gathered {
     }
 }
 
-/// Reads a device with this index, and the metadata of the current and of the saved root that lies on it. None exactly
-/// where a set is not as a root records it, or a unit has two uses.
+/// Reads the units of a device with this index, and the metadata of the current and of the saved root that lies on it. None
+/// only where the device cannot be read with it: a set is not as a root records it, or a unit has two uses.
 pub fn read_part(
     alloc: Global,
     part: &DevPart,
@@ -245,8 +245,8 @@ pub fn read_part(
     meta: &[Dva],
     saved: &[Dva],
 ) -> Result<Option<Gathered>, NoMemory>
-    ensures part { IfOk result (λ o. IfSome o (λ g. part_in (serving part.now.row g.units) ≡ part.now)) }
-    ensures read { IfOk result (λ o. IfSome o (λ g. IsRead (serving part.now.row g.units) g.used.extents)) }
+    ensures sets { IfOk result (λ o. IfSome o (λ g. AreSetsOf part.now g.units)) }
+    ensures read { IfOk result (λ o. IfSome o (λ g. IsRead part.now.row g.units g.used.extents)) }
     ensures meta { IfOk result (λ o. IfSome o (λ g. HasMeta meta.now dev g.units.meta)) }
     ensures saved { IfOk result (λ o. IfSome o (λ g. HasMeta saved.now dev g.units.saved)) }
     ensures none { IfOk result (λ o. IfNone o (¬ CanReadPart part.now meta.now saved.now dev)) }
