@@ -185,3 +185,27 @@ fn a_device_that_leaves_gives_out_no_units(rt: HostRuntime) -> Result<(), Fail> 
     assert_eq!(rt; (other.dev, other.start), (1, 0));
     Ok(())
 }
+
+// The space of what a root would record of this one.
+fn read_back(alloc: Global, space: &Space) -> Result<Option<Space>, NoMemory> {
+    let parts = space.parts()?;
+    Space::from_parts(alloc, &parts, &[], &[])
+}
+
+#[test]
+fn a_removal_goes_on_where_a_root_has_it(rt: HostRuntime) -> Result<(), Fail> {
+    let alloc = rt.alloc();
+    let first = first_fit(alloc)?;
+    let mut space = Space::new(alloc, 2);
+    space.add_dev(1000, 1)?;
+    space.add_dev(500, 1)?;
+    space.alloc(20, &first)?;
+    assert!(rt; leave(&mut space)?);
+    let Some(read) = read_back(alloc, &space)? else {
+        return Err(Fail::new("what a space records is no space"));
+    };
+    assert_eq!(rt; read.leaving(), Some(0));
+    assert_eq!(rt; read.sizes().uncopied, 20);
+    assert_eq!(rt; read.free_units(), 500);
+    Ok(())
+}

@@ -5,8 +5,10 @@ use Rattle.zr_label.specs.declared.root.Seen.{Seen}
 use Rattle.zr_shelf.specs.Disks.{Stand}
 use Rattle.zr_shelf.proofs.Runs.{still_trans}
 use Rattle.zr_slots.specs.Kept.{KeepsGroup}
-use Rattle.zr_sync.specs.declared.fault.Fault.TheVariants.{No}
+use Rattle.zr_sync.specs.declared.fault.Fault.TheVariants.{No, Stops}
+use Rattle.zr_sync.specs.declared.stop.Stop.TheVariants.{DiskFault}
 use Rattle.zr_sync.proofs.Disks.{works_more, works_still}
+use Rattle.zr_sync.proofs.Pools.{risen_later}
 use Rattle.zr_open.specs.Found.{HasItsDisks}
 use Rattle.zr_open.specs.Groups.{HoldsGroup, HoldsRoot}
 use Rattle.zr_open.specs.Looked.{IsLookedAt, WasLookedAt}
@@ -225,3 +227,18 @@ returns-clause-objects g c = λ t.
     let held = subst (λ (ds : List (List ℕ)). HoldsRoot ds (g.S.Shelf.tells c.reset.new.shelf) (g.S.Shelf.world c.reset.new.shelf).now.seen l c.in_ok-reset.field-0) same4 (c.in_ok-reset.ensures.objects (third.told told3) before) in
     let place = is_some_looked (λ (x : Looked). x.found ≡ record { root = c.in_ok-root.root; slots = s.found.slots }) c.in_ok-then.field-0 l c.in-Some-2.is third.found in
     held_then tells t w.now.paths disks sizes s first.scanned c.args.txg c.in_ok-root.root c.in_ok-root.ensures.root c.in_ok-root.ensures.pool kept.0 kept.1 (g.S.Shelf.tells c.reset.new.shelf) (g.S.Shelf.world c.reset.new.shelf).now.seen l place there c.in_ok-reset.field-0 held
+
+pub returns-in_err-reset-clause-told : goal.returns-in_err-reset-clause-told
+returns-in_err-reset-clause-told g c = λ t. c.in_err-reset.ensures.told (c.in_ok-then.ensures.told (c.in_ok-now.ensures.told (c.in_ok-seen.ensures.told t)))
+
+pub returns-in_err-reset-clause-fault : goal.returns-in_err-reset-clause-fault
+returns-in_err-reset-clause-fault g c = λ is.
+    let told = c.in_err-reset.field-0.0 in
+    let e : c.from_residual-in_err-reset.result ≡ Err told = search rules in
+    let both = sym e ∙ is in
+    let same : told ≡ Stops DiskFault = cc in
+    let counts = g.S.Shelf.counts in
+    let last = (counts c.reset.new.shelf).disk in
+    risen_later (counts c.args.shelf.now).disk (counts c.scan.new.shelf).disk last c.in_ok-seen.ensures.none_fell.disk
+    (risen_later (counts c.scan.new.shelf).disk (counts c.look_at.new.shelf).disk last c.in_ok-now.ensures.none_fell.disk
+    (risen_later (counts c.look_at.new.shelf).disk (counts c.look_at-2.new.shelf).disk last c.in_ok-then.ensures.none_fell.disk (c.in_err-reset.ensures.fault (ap Err same))))

@@ -12,8 +12,10 @@ use Rattle.zr_store.specs.Store.{Stored}
 use Rattle.zr_sync.specs.Commits.{IsShownFrom}
 use Rattle.zr_sync.specs.Holds.{HasBlocks}
 use Rattle.zr_sync.specs.Pools.{IsOpen}
-use Rattle.zr_sync.specs.declared.fault.Fault.TheVariants.{No}
+use Rattle.zr_sync.specs.declared.fault.Fault.TheVariants.{No, Stops}
+use Rattle.zr_sync.specs.declared.stop.Stop.TheVariants.{DiskFault}
 use Rattle.zr_sync.proofs.Disks.{works_more, works_still}
+use Rattle.zr_sync.proofs.Pools.{risen_later}
 use Rattle.zr_base.specs.declared.refusal.Refusal.TheVariants.{NoCheckpoint}
 use Rattle.zr_base.specs.declared.space.CkptPart.{CkptPart}
 use Rattle.zr_base.specs.declared.space.SpaceParts.{SpaceParts}
@@ -281,3 +283,18 @@ returns-clause-objects g c = λ t.
         checkpoint = subst (λ (k : CkptPart). HasCheckpoint k None false) (sym (ap (λ (ps : SpaceParts). ps.ckpt) parts.space.parts_are ∙ saved.clear)) (refl, refl);
       };
     }
+
+pub returns-clause-told : goal.returns-clause-told
+returns-clause-told g c = λ t. c.in_ok-show.ensures.told (c.in_ok-looked.ensures.told t)
+
+pub returns-in_err-show-clause-told : goal.returns-in_err-show-clause-told
+returns-in_err-show-clause-told g c = λ t. c.in_err-show.ensures.told (c.in_ok-looked.ensures.told t)
+
+pub returns-in_err-show-clause-fault : goal.returns-in_err-show-clause-fault
+returns-in_err-show-clause-fault g c = λ is.
+    let told = c.in_err-show.field-0.0 in
+    let e : c.from_residual-in_err-show.result ≡ Err (Stops told) = search rules in
+    let both = sym e ∙ is in
+    let same : told ≡ DiskFault = cc in
+    let counts = g.S.Shelf.counts in
+    risen_later (counts c.args.shelf.now).disk (counts c.look.new.shelf).disk (counts c.show.new.shelf).disk c.in_ok-looked.ensures.none_fell.disk (c.in_err-show.ensures.fault (ap Err same))
