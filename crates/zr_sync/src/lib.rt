@@ -7,11 +7,13 @@
 
 mod checkpoints;
 mod commits;
+mod device_streams;
 mod ends;
 mod fault;
 mod heads;
 mod late;
 mod logs;
+mod mappings;
 mod open;
 mod roots;
 mod stop;
@@ -20,9 +22,10 @@ mod trees;
 mod words;
 
 pub use checkpoints::{checkpoint, discard_some, give_up_checkpoint};
-pub use commits::{commit, commit_anew};
+pub use commits::{commit, commit_anew, commit_moving};
 pub use fault::Fault;
 pub use logs::Logs;
+pub use mappings::{MappingStream, cond_grows, mapping_grows};
 pub use open::{
     Checkpoint, CondStreams, DeviceStreams, EMPTY, NO_COND, NONE_TURNED, OpenPool, Table, Turned,
 };

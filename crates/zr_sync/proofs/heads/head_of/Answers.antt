@@ -1,13 +1,12 @@
-use Rattle.std.proofs.Common.{◌≡◌, ◌∙◌, ◌+◌, ◌++◌, ℕ, List, Option, length, take, refl, sym, ap, subst, arith}
+use Rattle.std.proofs.Common.{◌≡◌, ◌∙◌, ◌++◌, ℕ, List, Option, length, take, sym, ap, subst, arith}
 use Rattle.std.specs.Prelude.{slice_index_or}
 use Rattle.std.proofs.lemmas.List.{length-take, take_all}
 use Rattle.zr_label.specs.Blocks.{no_row}
 use Rattle.zr_base.specs.declared.space.CkptPart.{CkptPart}
-use Rattle.zr_base.specs.declared.space.CondPart.{CondPart}
 use Rattle.zr_base.specs.declared.space.DevRow.{DevRow}
 use Rattle.zr_meta.specs.declared.CondAt.{CondAt}
 use Rattle.zr_meta.specs.declared.Stream.{Stream}
-use Rattle.zr_meta.specs.Heads.{IsCond, IsSaved, stream_total}
+use Rattle.zr_meta.specs.Heads.{IsSaved}
 use Rattle.zr_sync.specs.Heads.{cond_at, cond_streams, streams_in, streams_of}
 use Rattle.zr_sync.specs.declared.open.DeviceStreams.{DeviceStreams}
 use Rattle.zr_sync.proofs.Rows.{all_streams, streams_more}
