@@ -2,9 +2,9 @@
 //!
 //! An address is followed as a whole. Where a unit of it leads nowhere, none of its parts are taken over, and each of its
 //! units is followed by itself.
-ghost use Rattle.std.specs.Prelude.{◌≡◌, ◌+◌, ◌≤◌, ◌^◌, ℕ, true, false, IfOk, OnOk};
+ghost use Rattle.std.specs.Prelude.{◌≡◌, ◌+◌, ◌≤◌, ◌^◌, ℕ, true, false, None, IfOk, OnOk};
 ghost use Rattle.zr_rules.specs.Equation.{devices_in};
-ghost use Rattle.zr_rules.specs.Resolve.{leads_to};
+ghost use Rattle.zr_rules.specs.Resolve.{resolved};
 ghost use Rattle.zr_audit.specs.Found.{AreEnds, HasLoose, LeadsOn, front_of};
 
 use std::alloc::Global;
@@ -15,19 +15,19 @@ use zr_space::Space;
 // No unit lies at this one or above.
 const END: u64 = 1 << 62;
 
-// The units of an address that its device may have: the others lead nowhere.
-fn within(space: &Space, a: Dva) -> Dva
-    ensures leads { (d u : ℕ) → leads_to (devices_in space.now) result d u ≡ leads_to (devices_in space.now) a d u }
-    ensures in_range { result.start + result.len ≤ 2 ^ 62 }
+// A unit of a device from which on none leads anywhere.
+fn end_of(space: &Space, dev: u32) -> u64
+    ensures past { (u : ℕ) → result ≤ u → resolved (devices_in space.now) dev u ≡ None }
+    ensures in_range { result ≤ 2 ^ 62 }
 {
-    let mut end = 0;
-    if a.dev < space.devices() {
-        end = match space.state(a.dev) {
-            DevState::On | DevState::Leaving => space.units_of(a.dev),
-            DevState::Gone => END,
-        };
+    space.lawful();
+    if dev >= space.devices() {
+        return 0;
     }
-    front_of(a, end)
+    match space.state(dev) {
+        DevState::On | DevState::Leaving => space.units_of(dev),
+        DevState::Gone => END,
+    }
 }
 
 // The units of an address below one.
@@ -92,11 +92,11 @@ fn follow_units(
     Ok(())
 }
 
-// Follows an address, wherever its units lead.
+// Follows an address, wherever its units lead: those past the end of its device lead nowhere.
 fn follow(alloc: Global, space: &Space, a: Dva, met: &mut Vec<Visited>) -> Result<(), NoMemory>
     ensures { OnOk result (LeadsOn (devices_in space.now) a met.old.items met.new.items) }
 {
-    let a = within(space, a);
+    let a = front_of(a, end_of(space, a.dev));
     if follow_whole(alloc, space, a, met)? {
         return Ok(());
     }

@@ -23,16 +23,16 @@ pub fn audit(alloc: Global, space: &Space, live: &[Dva], meta: &[Dva]) -> Result
     ensures equal { IfOk result (λ a. (saved : Option SavedRoot) → Adds space.now live.now saved → AreMeta space.now meta.now → a.walked ≡ a.allocated) }
 {
     space.lawful();
-    let live = ends_of(alloc, space, live)?;
-    let meta = ends_of(alloc, space, meta)?;
+    let live_ends = ends_of(alloc, space, live)?;
+    let meta_ends = ends_of(alloc, space, meta)?;
     let mut walked = Items::new(alloc);
     let mut allocated = Items::new(alloc);
     for dev in 0..space.devices() {
         let units = count_found(
             alloc,
-            live.as_slice(),
+            live_ends.as_slice(),
             space.copies(dev),
-            meta.as_slice(),
+            meta_ends.as_slice(),
             dev,
             space.units_of(dev),
         )?;
