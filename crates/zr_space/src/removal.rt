@@ -29,6 +29,13 @@ impl Space {
         &self.devs[dev as usize].moves
     }
 
+    /// At most one device is leaving. It does nothing: a caller learns this by it.
+    pub fn one_leaves(&self)
+        ensures { (d e : ℕ) → is_leaving (state_of_dev self.now.parts.devs d) ≡ true → is_leaving (state_of_dev self.now.parts.devs e) ≡ true → d ≡ e }
+    {
+        let _devs = &self.devs;
+    }
+
     /// The condensing that goes on, if there is one. It costs nothing.
     pub fn condensing(&self) -> Option<&Condense>
         ensures { MatchOption result (self.now.parts.cond ≡ None) (λ cond. self.now.parts.cond ≡ Some cond.now) }
