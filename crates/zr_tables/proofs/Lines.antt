@@ -2,12 +2,13 @@
 use Rattle.std.proofs.Common.{◌≡◌, ℕ, zero, suc, ◌+◌, ◌<◌, ◌≤◌, Bool, true, false, not, List, [], ◌∷◌, ◌++◌, map, length, refl, ◌∙◌, sym, ap, arith}
 use Rattle.std.specs.Prelude.{if◌then◌else◌, slice_index}
 use Rattle.std.specs.List.{filter, range_with_len}
-use Rattle.std.proofs.lemmas.List.{append-nil, map-append, map-id}
+use Rattle.std.proofs.lemmas.List.{append-nil, append_assoc, map-append, map-id}
 use Rattle.std.proofs.lemmas.List.FromFn.{filter_of_map_range_with_len_more, get_or-map-range_with_len, length-map-range_with_len, map-range_with_len_more}
 use Rattle.zr_audit.specs.Found.{for_each_device}
 use Rattle.zr_rules.specs.Places.{is_gone, state_of_dev}
 use Rattle.zr_rules.specs.Space.{Space}
 use Rattle.zr_script.specs.declared.reply.AuditLine.{AuditLine}
+use Rattle.zr_script.specs.declared.reply.MapLine.{MapLine}
 use Rattle.zr_tables.specs.Audits.{audit_line, concrete, lines_from}
 
 -- one line more
@@ -30,14 +31,14 @@ filter_more p n =
 
 -- a device more, which has a line
 pub line_there : {X : Type 0} (p : ℕ → Bool) (f : ℕ → X) (d : ℕ) (x : X) (old new : List X) → p d ≡ true → x ≡ f d → old ≡ map f (filter p (range_with_len 0 d)) → new ≡ old ++ x ∷ [] → new ≡ map f (filter p (range_with_len 0 (d + 1)))
-line_there p f d x old new yes is before after =
-    let one : filter p (range_with_len 0 (d + 1)) ≡ filter p (range_with_len 0 d) ++ d ∷ [] = filter_more p d ∙ ap (λ (b : Bool). filter p (range_with_len 0 d) ++ (if b then d ∷ [] else [])) yes in
+line_there p f d x old new has is before after =
+    let one : filter p (range_with_len 0 (d + 1)) ≡ filter p (range_with_len 0 d) ++ d ∷ [] = filter_more p d ∙ ap (λ (b : Bool). filter p (range_with_len 0 d) ++ (if b then d ∷ [] else [])) has in
     after ∙ (rw before rw is (sym (ap (map f) one ∙ map-append f (filter p (range_with_len 0 d)) (d ∷ []))))
 
 -- or none
 pub line_none : {X : Type 0} (p : ℕ → Bool) (f : ℕ → X) (d : ℕ) (old : List X) → p d ≡ false → old ≡ map f (filter p (range_with_len 0 d)) → old ≡ map f (filter p (range_with_len 0 (d + 1)))
-line_none p f d old no before =
-    let none : filter p (range_with_len 0 (d + 1)) ≡ filter p (range_with_len 0 d) = filter_more p d ∙ (ap (λ (b : Bool). filter p (range_with_len 0 d) ++ (if b then d ∷ [] else [])) no ∙ append-nil (filter p (range_with_len 0 d))) in
+line_none p f d old lacks before =
+    let none : filter p (range_with_len 0 (d + 1)) ≡ filter p (range_with_len 0 d) = filter_more p d ∙ (ap (λ (b : Bool). filter p (range_with_len 0 d) ++ (if b then d ∷ [] else [])) lacks ∙ append-nil (filter p (range_with_len 0 d))) in
     before ∙ sym (ap (map f) none)
 
 pub lines_done : {X : Type 0} (p : ℕ → Bool) (f : ℕ → X) (d n many : ℕ) (lines : List X) → n ≡ many → n ≤ d → d ≤ n → lines ≡ map f (filter p (range_with_len 0 d)) → lines ≡ map f (filter p (range_with_len 0 many))
@@ -72,3 +73,9 @@ allocated_are s walked allocated = twice (λ (l : AuditLine). l.allocated) (audi
 -- a number for each device, where the space is the same
 pub as_many : (s t : Space) (f : ℕ → ℕ) (numbers : List ℕ) → s ≡ t → numbers ≡ for_each_device s f → length numbers ≡ length t.parts.devs
 as_many s t f numbers is are = ap length are ∙ (length-map-range_with_len f 0 (length s.parts.devs) ∙ ap (λ (x : Space). length x.parts.devs) is)
+
+-- one entry more
+pub entry_more : (f : ℕ → MapLine) (i : ℕ) (x : MapLine) (first old new : List MapLine) → x ≡ f i → old ≡ first ++ map f (range_with_len 0 i) → new ≡ old ++ x ∷ [] → new ≡ first ++ map f (range_with_len 0 (i + 1))
+entry_more f i x first old new is before after =
+    after ∙ (ap (λ (l : List MapLine). l ++ x ∷ []) before ∙ (append_assoc first (map f (range_with_len 0 i)) (x ∷ [])
+    ∙ ap (λ (l : List MapLine). first ++ l) (ap (λ (y : MapLine). map f (range_with_len 0 i) ++ y ∷ []) is ∙ sym (map-range_with_len_more f 0 i i (omega arith)))))

@@ -1,5 +1,5 @@
 //! The units that a walk over an open pool finds, beside those that are counted.
-ghost use Rattle.std.specs.Prelude.{◌≡◌, ◌≤◌, ◌++◌, ℕ, List, All, IfOk, IfSome, IsErrOf, length, map};
+ghost use Rattle.std.specs.Prelude.{◌≡◌, ◌<◌, ◌≤◌, ◌++◌, ℕ, List, All, IfOk, IfSome, IsErrOf, length, map};
 ghost use Rattle.zr_audit.specs.Found.{allocated_units};
 ghost use Rattle.zr_base.specs.Counts.{HasRisen};
 ghost use Rattle.zr_base.specs.declared.refusal.Refusal.{Refusal};
@@ -7,6 +7,7 @@ ghost use Rattle.zr_base.specs.declared.refusal.Refusal.TheVariants.{Damaged};
 ghost use Rattle.zr_base.specs.declared.space.Dva.{Dva};
 ghost use Rattle.zr_bptr.specs.Spelling.{IsTree};
 ghost use Rattle.zr_lookup.specs.Groups.{IsLawfulGroup};
+ghost use Rattle.zr_rules.specs.Places.{is_gone, state_of_dev};
 ghost use Rattle.zr_shelf.specs.Counts.{NoneFell};
 ghost use Rattle.zr_shelf.specs.Moments.{IsStill};
 ghost use Rattle.zr_store.specs.Causes.{Costs, HasCause};
@@ -95,6 +96,17 @@ fn meet_all<S: Shelf>(alloc: Global, pool: &mut OpenPool, shelf: &mut S) -> Resu
     )?)
 }
 
+// Whether a device is gone.
+fn is_gone(space: &Space, dev: u32) -> bool
+    requires { dev < length space.now.parts.devs }
+    ensures { result ≡ is_gone (state_of_dev space.now.parts.devs dev) }
+{
+    match space.state(dev) {
+        DevState::Gone => true,
+        DevState::On | DevState::Leaving => false,
+    }
+}
+
 // The lines of an audit: none for a device that is gone.
 fn lines_of(alloc: Global, space: &Space, counted: &Audit) -> Result<Items<AuditLine>, NoMemory>
     requires walked { length counted.now.walked ≡ length space.now.parts.devs }
@@ -105,7 +117,7 @@ fn lines_of(alloc: Global, space: &Space, counted: &Audit) -> Result<Items<Audit
     let allocated = counted.allocated.as_slice();
     let mut lines = Items::new(alloc);
     for index in 0..space.devices() {
-        if space.state(index) == DevState::Gone {
+        if is_gone(space, index) {
             continue;
         }
         lines.push(AuditLine {
