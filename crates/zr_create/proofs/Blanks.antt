@@ -39,7 +39,7 @@ pub no_tree : IsTree (record { root = Hole; height = 0 })
 no_tree = record { lawful = tt; level = tt; low = omega arith }
 
 pub no_cond : AreCondStreams (record { entries = record { words = 0; tree = record { root = Hole; height = 0 } }; counts = record { words = 0; tree = record { root = Hole; height = 0 } } })
-no_cond = record { entries = search rules; counts = search rules }
+no_cond = record { entries = (refl, refl); counts = (refl, refl) }
 
 pub no_directory : IsDirectory (record { root = Hole; height = 0 })
 no_directory = record { tree = no_tree; low = omega arith; unit = tt }

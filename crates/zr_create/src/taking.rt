@@ -23,7 +23,7 @@ use zr_base::{DevRow, DevState, NoMemory};
 use zr_label::{Label, Name, units_of_size};
 use zr_shelf::Shelf;
 use zr_slots::prepare_device;
-use zr_sync::{DeviceStreams, NO_STREAMS, OpenPool, Stop, Table};
+use zr_sync::{DeviceStreams, EMPTY, OpenPool, Stop, Table};
 
 // Puts a device behind the last one.
 fn enter(table: &mut Table, slot: u32, row: DevRow)
@@ -42,7 +42,15 @@ fn push_streams(streams: &mut Vec<DeviceStreams>) -> Result<(), NoMemory>
     ensures lawful { OnOk result (All AreStreams streams.new.items) }
     ensures count { OnOk result (length streams.new.items ≡ length streams.old.items + 1) }
 {
-    streams.push(NO_STREAMS)?;
+    streams.push(DeviceStreams {
+        held: EMPTY,
+        kept: EMPTY,
+        entries: EMPTY,
+        counts: EMPTY,
+        fresh: EMPTY,
+        late1: EMPTY,
+        late2: EMPTY,
+    })?;
     Ok(())
 }
 
