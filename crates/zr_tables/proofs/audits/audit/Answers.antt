@@ -25,22 +25,22 @@ pub returns-clause-disks : goal.returns-clause-disks
 returns-clause-disks g c = λ told. works_still _ _ (c.meet_all.ensures.reads.still told)
 
 pub lines_of-requires-clause-walked : goal.lines_of-requires-clause-walked
-lines_of-requires-clause-walked g c = as_many _ _ _ c.in_ok-counted.counted.walked refl c.in_ok-counted.ensures.found
+lines_of-requires-clause-walked g c = as_many c.meet_all.new.pool.space c.meet_all.new.pool.space (found c.meet_all.new.pool.space c.as_slice.result.now c.as_slice-2.result.now) c.in_ok-counted.counted.walked refl c.in_ok-counted.ensures.found
 
 pub lines_of-requires-clause-allocated : goal.lines_of-requires-clause-allocated
-lines_of-requires-clause-allocated g c = as_many _ _ _ c.in_ok-counted.counted.allocated refl c.in_ok-counted.ensures.allocated
+lines_of-requires-clause-allocated g c = as_many c.meet_all.new.pool.space c.meet_all.new.pool.space (allocated_units c.meet_all.new.pool.space) c.in_ok-counted.counted.allocated refl c.in_ok-counted.ensures.allocated
 
 pub returns-clause-indices : goal.returns-clause-indices
 returns-clause-indices g c =
     let same : c.meet_all.new.pool.space ≡ c.args.pool.now.space = ap (λ (p : OpenPool). p.space) c.meet_all.ensures.same in
-    ap (map (λ (l : AuditLine). l.index)) c.in_ok-lines_of.ensures.lines ∙ (indices_are _ _ _ ∙ ap concrete same)
+    ap (map (λ (l : AuditLine). l.index)) c.in_ok-lines_of.ensures.lines ∙ (indices_are c.meet_all.new.pool.space c.in_ok-counted.counted.walked c.in_ok-counted.counted.allocated ∙ ap concrete same)
 
 pub returns-clause-allocated : goal.returns-clause-allocated
 returns-clause-allocated g c =
     let same : c.meet_all.new.pool.space ≡ c.args.pool.now.space = ap (λ (p : OpenPool). p.space) c.meet_all.ensures.same in
     ap (map (λ (l : AuditLine). l.allocated)) c.in_ok-lines_of.ensures.lines
-    ∙ (allocated_are _ _ _
-    ∙ (read_each _ _ _ c.in_ok-counted.ensures.allocated ∙ ap (λ (s : Space). map (allocated_units s) (concrete s)) same))
+    ∙ (allocated_are c.meet_all.new.pool.space c.in_ok-counted.counted.walked c.in_ok-counted.counted.allocated
+    ∙ (read_each c.meet_all.new.pool.space (allocated_units c.meet_all.new.pool.space) c.in_ok-counted.counted.allocated c.in_ok-counted.ensures.allocated ∙ ap (λ (s : Space). map (allocated_units s) (concrete s)) same))
 
 pub returns-clause-walked : goal.returns-clause-walked
 returns-clause-walked g c = λ s holds.
@@ -51,8 +51,8 @@ returns-clause-walked g c = λ s holds.
       live = c.in_ok-met.met.live.items;
       are_live = c.in_ok-met.ensures.live s holds;
       units = ap (map (λ (l : AuditLine). l.walked)) c.in_ok-lines_of.ensures.lines
-          ∙ (walked_are _ _ _
-          ∙ (read_each _ _ _ c.in_ok-counted.ensures.found
+          ∙ (walked_are c.meet_all.new.pool.space c.in_ok-counted.counted.walked c.in_ok-counted.counted.allocated
+          ∙ (read_each c.meet_all.new.pool.space (found c.meet_all.new.pool.space c.as_slice.result.now c.as_slice-2.result.now) c.in_ok-counted.counted.walked c.in_ok-counted.ensures.found
           ∙ (ap₂ (λ (xs ys : List Dva). map (found c.meet_all.new.pool.space xs ys) (concrete c.meet_all.new.pool.space)) live metadata
           ∙ ap (λ (x : Space). map (found x c.in_ok-met.met.live.items (metadata_of s c.args.pool.now)) (concrete x)) same)));
     }
@@ -68,9 +68,9 @@ returns-clause-equal g c = λ s holds sound.
     (subst (AreMeta c.args.pool.now.space) (sym metadata) sound.metadata) in
     let equal = c.in_ok-counted.ensures.equal sound.saved adds is_meta in
     ap (map (λ (l : AuditLine). l.walked)) c.in_ok-lines_of.ensures.lines
-    ∙ (walked_are _ _ _
+    ∙ (walked_are c.meet_all.new.pool.space c.in_ok-counted.counted.walked c.in_ok-counted.counted.allocated
     ∙ (ap (λ (xs : List ℕ). map (slice_index xs) (concrete c.meet_all.new.pool.space)) equal
-    ∙ (sym (allocated_are _ _ _) ∙ sym (ap (map (λ (l : AuditLine). l.allocated)) c.in_ok-lines_of.ensures.lines))))
+    ∙ (sym (allocated_are c.meet_all.new.pool.space c.in_ok-counted.counted.walked c.in_ok-counted.counted.allocated) ∙ sym (ap (map (λ (l : AuditLine). l.allocated)) c.in_ok-lines_of.ensures.lines))))
 
 pub returns-in_err-met-clause-stays : goal.returns-in_err-met-clause-stays
 returns-in_err-met-clause-stays g c = λ objects h. reading_stays _ _ _ _ _ _ _ _ c.args.pool.now c.meet_all.new.pool objects c.meet_all.ensures.same c.meet_all.ensures.reads h

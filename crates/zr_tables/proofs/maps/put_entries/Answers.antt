@@ -1,9 +1,7 @@
-use Rattle.std.proofs.Common.{◌≡◌, ℕ, List, refl, sym, ap, ap₂, ◌∙◌}
+use Rattle.std.proofs.Common.{◌≡◌, ℕ, List, sym, ap₂}
 use Rattle.std.specs.Prelude.{slice_index}
-use Rattle.zr_base.specs.declared.space.DevPart.{DevPart}
 use Rattle.zr_base.specs.declared.space.Entry.{Entry}
 use Rattle.zr_rules.specs.Mappings.{entry_at}
-use Rattle.zr_script.specs.declared.reply.MapLine.{MapLine}
 use Rattle.zr_script.specs.declared.reply.MapLine.TheVariants as mapped
 use Rattle.zr_tables.specs.Tables.{entry_line}
 use Rattle.zr_tables.proofs.Lines.{entry_more}
