@@ -4,11 +4,12 @@ use Rattle.std.specs.List.{range_with_len, list_any, sum_by}
 use Rattle.std.proofs.lemmas.Bool.Decides.{nat_tests}
 use Rattle.std.proofs.lemmas.List.Sums.{sum_by-cons}
 use Rattle.zr_base.specs.declared.space.Extent.{Extent}
-use Rattle.zr_base.specs.declared.space.Dva.{Dva}
+use Rattle.zr_chain.specs.declared.visit.Visited.{Visited}
 use Rattle.zr_base.specs.Extents.{has_unit}
-use Rattle.zr_rules.specs.Places.{one_if, count_below, address_hits}
+use Rattle.zr_rules.specs.Places.{one_if, count_below}
 use Rattle.zr_units.specs.Apart.{IsWithin}
-use Rattle.zr_audit.proofs.Puts.{Has}
+use Rattle.zr_audit.specs.Found.{ends_at}
+use Rattle.zr_audit.proofs.Puts.{Has, HasUnits}
 
 pub count_same : (n : ℕ) (f g : ℕ → Bool) → ((u : ℕ) → u < n → f u ≡ g u) → count_below n f ≡ count_below n g
 count_same zero f g same = refl
@@ -35,12 +36,12 @@ pub one_some : (b : Bool) → b ≡ nat_lt 0 (one_if b)
 one_some true = refl
 one_some false = refl
 
--- a set that was empty has the units of either list
-pub either : (first mid new : List Extent) (live meta : List Dva) (dev units : ℕ) → first ≡ [] → Has first mid live dev units → Has mid new meta dev units
-    → (u : ℕ) → has_unit new u ≡ ((nat_lt 0 (address_hits live dev u) || nat_lt 0 (address_hits meta dev u)) && nat_lt u units)
-either first mid new live meta dev units empty one two u =
+-- a set that was empty has the units of all three
+pub all_three : (first ends both new copies : List Extent) (live meta : List Visited) (dev units : ℕ) → first ≡ [] → Has first ends live dev units → HasUnits ends both copies units → Has both new meta dev units
+    → (u : ℕ) → has_unit new u ≡ (((ends_at live dev u || has_unit copies u) || ends_at meta dev u) && nat_lt u units)
+all_three first ends both new copies live meta dev units empty one two three u =
     let none : has_unit first u ≡ false = ap (λ (es : List Extent). has_unit es u) empty in
-    grind (arith, nat_tests, none, one u, two u)
+    grind (arith, nat_tests, none, one u, two u, three u)
 
 pub below : (new : List Extent) (test : ℕ → Bool) (units : ℕ) → ((u : ℕ) → has_unit new u ≡ (test u && nat_lt u units)) → IsWithin new units
 below new test units is u has = let e = is u in grind (arith, nat_tests, e, has)

@@ -1,34 +1,35 @@
 -- What is counted is what a walk finds.
-use Rattle.std.proofs.Common.{◌≡◌, ℕ, ◌+◌, ◌<◌, ◌≤◌, Bool, true, false, ◌||◌, ◌&&◌, nat_lt, List, [], ◌∷◌, ◌++◌, map, length, Option, ◌∙◌, sym, ap, arith, if◌then◌else◌}
+use Rattle.std.proofs.Common.{◌≡◌, ℕ, ◌+◌, ◌<◌, ◌≤◌, Bool, true, ◌||◌, nat_lt, List, [], ◌∷◌, ◌++◌, map, length, Option, ◌∙◌, sym, ap, arith, if◌then◌else◌}
 use Rattle.std.specs.List.{range_with_len}
 use Rattle.std.proofs.lemmas.Bool.Decides.{nat_tests}
 use Rattle.std.proofs.lemmas.List.FromFn.{map-range_with_len_more}
 use Rattle.zr_base.specs.declared.space.Dva.{Dva}
-use Rattle.zr_rules.specs.Places.{Place, one_if, count_below, units_of_dev, address_hits}
+use Rattle.zr_base.specs.declared.space.Extent.{Extent}
+use Rattle.zr_base.specs.Extents.{has_unit}
+use Rattle.zr_chain.specs.declared.visit.Visited.{Visited}
+use Rattle.zr_rules.specs.Places.{Place, one_if, count_below, units_of_dev}
 use Rattle.zr_rules.specs.Devices.{Devices}
-use Rattle.zr_rules.specs.Resolve.{is_there, is_at, leads_to, resolve_hits, resolved_units}
+use Rattle.zr_rules.specs.Resolve.{is_at, leads_to, resolve_hits, resolved_units}
 use Rattle.zr_rules.specs.Roles.{is_copy_role, is_meta_role, is_live_role}
 use Rattle.zr_rules.specs.Space.{Space, role_at}
 use Rattle.zr_rules.specs.Equation.{SavedRoot, Adds, devices_in, is_live, live_hits, walked}
-use Rattle.zr_space.specs.Paths.{AreInService}
-use Rattle.zr_audit.specs.Found.{found, allocated_units, AreMeta, for_each_device}
+use Rattle.zr_audit.specs.Found.{found, allocated_units, AreEnds, AreMeta, ends_at, for_each_device}
 use Rattle.zr_audit.proofs.Counts.{count_same, map_same, any_some, one_some}
-use Rattle.zr_audit.proofs.Leads.{live_is, no_copy}
 
 pub one_more : (f : ℕ → ℕ) (d n : ℕ) (old new : List ℕ) → n ≡ f d → old ≡ map f (range_with_len 0 d) → new ≡ old ++ n ∷ [] → new ≡ map f (range_with_len 0 (d + 1))
 one_more f d n old new is before after = after ∙ (rw before rw is (sym (map-range_with_len_more f 0 d d (omega arith))))
 
-either_is : (live copy meta hits there : Bool) → live ≡ (hits && there) → copy ≡ false → there ≡ true → (hits || meta) ≡ (if live then true else (if copy then true else meta))
-either_is live copy meta hits there a b c = grind (arith, nat_tests, a, b, c)
+one_of_three : (live copy meta : Bool) → ((live || copy) || meta) ≡ (if live then true else (if copy then true else meta))
+one_of_three live copy meta = grind (arith, nat_tests)
 
-there : (s : Space) (d u : ℕ) → d < length s.parts.devs → u < units_of_dev s.parts.devs d → is_there (devices_in s) d u ≡ true
-there s d u known lt = grind (arith, nat_tests, known, lt)
-
-pub found_is : (s : Space) (live meta : List Dva) (d : ℕ) → AreInService (devices_in s) → d < length s.parts.devs
-    → count_below (units_of_dev s.parts.devs d) (λ u. nat_lt 0 (address_hits live d u) || nat_lt 0 (address_hits meta d u)) ≡ found s live meta d
-found_is s live meta d on known = count_same (units_of_dev s.parts.devs d) _ _ (λ u lt.
-    either_is (is_live (devices_in s) live d u) (is_copy_role (role_at s d u)) (nat_lt 0 (address_hits meta d u)) (nat_lt 0 (address_hits live d u)) (is_there (devices_in s) d u)
-    (live_is (devices_in s) live d u on) (no_copy s d u on) (there s d u known lt))
+-- the parts that live pointers lead to and the copies, with the parts of metadata, are what is found
+pub found_is : (s : Space) (live meta : List Dva) (ends others : List Visited) (copies : List Extent) (d : ℕ) → AreEnds (devices_in s) live ends → AreEnds (devices_in s) meta others
+    → ((u : ℕ) → has_unit copies u ≡ is_copy_role (role_at s d u)) → count_below (units_of_dev s.parts.devs d) (λ u. (ends_at ends d u || has_unit copies u) || ends_at others d u) ≡ found s live meta d
+found_is s live meta ends others copies d of_live of_meta are = count_same (units_of_dev s.parts.devs d) _ _ (λ u lt.
+    let a = of_live d u in
+    let b = are u in
+    let c = of_meta d u in
+    rw a rw b rw c (one_of_three (is_live (devices_in s) live d u) (is_copy_role (role_at s d u)) (is_live (devices_in s) meta d u)))
 
 walked_is : (s : Space) (live meta : List Dva) (d : ℕ) → AreMeta s meta → d < length s.parts.devs → found s live meta d ≡ walked s live d
 walked_is s live meta d is known = count_same (units_of_dev s.parts.devs d) _ _ (λ u lt.
@@ -54,10 +55,11 @@ all_equal s live meta numbers counts saved is allocated adds metadata =
     all_walked s live meta numbers is metadata ∙ (map_same (walked s live) (allocated_units s) 0 (length s.parts.devs) (λ d lt. adds_up s live saved d adds) ∙ sym allocated)
 
 -- one number more, of the next device
-pub next_found : (s : Space) (live meta : List Dva) (d units n : ℕ) (old new : List ℕ) → AreInService (devices_in s) → d < length s.parts.devs → units ≡ units_of_dev s.parts.devs d
-    → n ≡ count_below units (λ u. nat_lt 0 (address_hits live d u) || nat_lt 0 (address_hits meta d u)) → old ≡ map (found s live meta) (range_with_len 0 d) → new ≡ old ++ n ∷ [] → new ≡ map (found s live meta) (range_with_len 0 (d + 1))
-next_found s live meta d units n old new on known has is before after =
-    one_more (found s live meta) d n old new (is ∙ (ap (λ (k : ℕ). count_below k (λ u. nat_lt 0 (address_hits live d u) || nat_lt 0 (address_hits meta d u))) has ∙ found_is s live meta d on known)) before after
+pub next_found : (s : Space) (live meta : List Dva) (ends others : List Visited) (copies : List Extent) (d units n : ℕ) (old new : List ℕ) → AreEnds (devices_in s) live ends → AreEnds (devices_in s) meta others
+    → ((u : ℕ) → has_unit copies u ≡ is_copy_role (role_at s d u)) → units ≡ units_of_dev s.parts.devs d
+    → n ≡ count_below units (λ u. (ends_at ends d u || has_unit copies u) || ends_at others d u) → old ≡ map (found s live meta) (range_with_len 0 d) → new ≡ old ++ n ∷ [] → new ≡ map (found s live meta) (range_with_len 0 (d + 1))
+next_found s live meta ends others copies d units n old new of_live of_meta are has is before after =
+    one_more (found s live meta) d n old new (is ∙ (ap (λ (k : ℕ). count_below k (λ u. (ends_at ends d u || has_unit copies u) || ends_at others d u)) has ∙ found_is s live meta ends others copies d of_live of_meta are)) before after
 
 pub each_done : (s : Space) (f : ℕ → ℕ) (numbers : List ℕ) (d end : ℕ) → end ≡ length s.parts.devs → end ≤ d → d ≤ end → numbers ≡ map f (range_with_len 0 d) → numbers ≡ for_each_device s f
 each_done s f numbers d end is low high so_far = let all : d ≡ length s.parts.devs = omega (arith, is, low, high) in so_far ∙ ap (λ (n : ℕ). map f (range_with_len 0 n)) all

@@ -1,4 +1,4 @@
 pub mod Puts
 pub mod Counts
-pub mod Leads
+pub mod Leading
 pub mod Finds

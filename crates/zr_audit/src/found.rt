@@ -1,15 +1,16 @@
-//! The units of one device that addresses have, each once.
+//! The units of one device that are found, each once.
 //!
-//! The set has some of an address's units already where it was met before. So an address is put in by its gaps: from its
-//! first unit on, either the set has the next units, or it lacks those up to the next one that it has.
+//! The set has some units of a part already where they were met before. So a part is put in by its gaps: from its first
+//! unit on, either the set has the next units, or it lacks those up to the next one that it has.
 ghost use Rattle.std.specs.Prelude.{◌≡◌, ◌≤◌, ◌<◌, ◌+◌, ◌^◌, ◌&&◌, ◌||◌, nat_lt, ℕ, IfOk, OnOk};
 ghost use Rattle.zr_base.specs.Extents.{has_unit, in_extent};
-ghost use Rattle.zr_rules.specs.Places.{in_address, address_hits, count_below};
+ghost use Rattle.zr_rules.specs.Places.{count_below};
 ghost use Rattle.zr_units.specs.Apart.{IsWithin};
-ghost use Rattle.zr_audit.specs.Found.{IsUnion, IsUnionTo};
+ghost use Rattle.zr_audit.specs.Found.{IsUnion, IsUnionTo, ends_at, is_end_at};
 
 use std::alloc::Global;
-use zr_base::{Dva, Extent, NoMemory};
+use zr_base::{Extent, NoMemory};
+use zr_chain::Visited;
 use zr_ranges::RangeSet;
 
 // Puts the first units from `at` on into the set, up to a unit that is answered. It has them already, or gets all up to
@@ -52,27 +53,49 @@ fn put(set: &mut RangeSet, e: Extent) -> Result<(), NoMemory>
     Ok(())
 }
 
-// The units of an address that a device of so many units has.
-fn part_on(a: Dva, dev: u32, units: u64) -> Extent
-    ensures units { (u : ℕ) → in_extent result u ≡ (in_address a dev u && nat_lt u units) }
+// The units of an extent below a bound.
+fn below(e: Extent, units: u64) -> Extent
+    ensures units { (u : ℕ) → in_extent result u ≡ (in_extent e u && nat_lt u units) }
     ensures within { result.start + result.len ≤ units }
 {
-    if a.dev != dev || a.start >= units {
+    if e.start >= units {
         return Extent { start: 0, len: 0 };
     }
     Extent {
-        start: a.start,
-        len: u64::from(a.len).min(units - a.start),
+        start: e.start,
+        len: e.len.min(units - e.start),
     }
 }
 
-// Puts the units of the addresses that a device has into a set.
-fn put_all(set: &mut RangeSet, list: &[Dva], dev: u32, units: u64) -> Result<(), NoMemory>
-    requires { units < 2 ^ 40 }
-    ensures { OnOk result ((u : ℕ) → has_unit set.new.extents u ≡ (has_unit set.old.extents u || (nat_lt 0 (address_hits list.now dev u) && nat_lt u units))) }
+// The units that a visit has of a device, where it is a part that is there.
+fn end_on(v: Visited, dev: u32, units: u64) -> Extent
+    ensures units { (u : ℕ) → in_extent result u ≡ (is_end_at dev u v && nat_lt u units) }
+    ensures within { result.start + result.len ≤ units }
 {
-    for a in list {
-        put(set, part_on(*a, dev, units))?;
+    match v {
+        Visited::Piece { dev: d, at, .. } if d == dev => below(at, units),
+        Visited::Hop { .. } | Visited::Piece { .. } => Extent { start: 0, len: 0 },
+    }
+}
+
+// Puts the units of the parts that a device has into a set.
+fn put_ends(set: &mut RangeSet, visits: &[Visited], dev: u32, units: u64) -> Result<(), NoMemory>
+    requires { units < 2 ^ 40 }
+    ensures { OnOk result ((u : ℕ) → has_unit set.new.extents u ≡ (has_unit set.old.extents u || (ends_at visits.now dev u && nat_lt u units))) }
+{
+    for v in visits {
+        put(set, end_on(*v, dev, units))?;
+    }
+    Ok(())
+}
+
+// Puts the units below a bound of a set into another.
+fn put_units(set: &mut RangeSet, other: &[Extent], units: u64) -> Result<(), NoMemory>
+    requires { units < 2 ^ 40 }
+    ensures { OnOk result ((u : ℕ) → has_unit set.new.extents u ≡ (has_unit set.old.extents u || (has_unit other.now u && nat_lt u units))) }
+{
+    for e in other {
+        put(set, below(*e, units))?;
     }
     Ok(())
 }
@@ -87,20 +110,22 @@ fn count(set: &RangeSet, units: u64) -> u64
     set.units()
 }
 
-/// How many different units of a device the addresses have. It goes over them, and for each piece is logarithmic in the
-/// extents that were found before.
+/// How many different units of a device the parts and the copies have. It goes over them, and for each part is logarithmic
+/// in the extents that were found before.
 pub fn count_found(
     alloc: Global,
-    live: &[Dva],
-    meta: &[Dva],
+    live: &[Visited],
+    copies: &RangeSet,
+    meta: &[Visited],
     dev: u32,
     units: u64,
 ) -> Result<u64, NoMemory>
     requires { units < 2 ^ 40 }
-    ensures { IfOk result (λ n. n ≡ count_below units (λ u. nat_lt 0 (address_hits live.now dev u) || nat_lt 0 (address_hits meta.now dev u))) }
+    ensures { IfOk result (λ n. n ≡ count_below units (λ u. (ends_at live.now dev u || has_unit copies.now.extents u) || ends_at meta.now dev u)) }
 {
     let mut set = RangeSet::new(alloc);
-    put_all(&mut set, live, dev, units)?;
-    put_all(&mut set, meta, dev, units)?;
+    put_ends(&mut set, live, dev, units)?;
+    put_units(&mut set, copies.extents(), units)?;
+    put_ends(&mut set, meta, dev, units)?;
     Ok(count(&set, units))
 }

@@ -13,7 +13,6 @@ use Rattle.zr_meta.specs.Heads.{IsSaved}
 use Rattle.zr_rules.specs.Devices.{devices_of}
 use Rattle.zr_rules.specs.Equation.{devices_in}
 use Rattle.zr_rules.specs.Space.{Space, IsLawful, IsSet}
-use Rattle.zr_space.specs.Paths.{AreInService}
 use Rattle.zr_space.specs.Views.{space_of}
 use Rattle.zr_txg.specs.Changes.{block_count}
 use Rattle.zr_view.specs.Views.{slot_of}
@@ -21,7 +20,7 @@ use Rattle.zr_vdev.specs.Mounts.{AreMounted}
 use Rattle.zr_sync.specs.declared.open.Checkpoint.{Checkpoint}
 use Rattle.zr_sync.specs.declared.open.DeviceStreams.{DeviceStreams}
 use Rattle.zr_sync.specs.declared.open.OpenPool.{OpenPool}
-use Rattle.zr_sync.specs.Pools.{AreStreams, IsAfter, IsCheckpoint, IsDirectory, AreRows, IsPool, saved_block}
+use Rattle.zr_sync.specs.Pools.{AreCondStreams, AreStreams, IsAfter, IsCheckpoint, IsDirectory, AreRows, IsPool, saved_block}
 use Rattle.zr_create.specs.Blank.{IsBlank}
 
 empty_set : (units : ℕ) → IsSet units []
@@ -39,11 +38,14 @@ lawful_without version = record {
 pub no_tree : IsTree (record { root = Hole; height = 0 })
 no_tree = record { lawful = tt; level = tt; low = omega arith }
 
+pub no_cond : AreCondStreams (record { entries = record { words = 0; tree = record { root = Hole; height = 0 } }; counts = record { words = 0; tree = record { root = Hole; height = 0 } } })
+no_cond = record { entries = (refl, refl); counts = (refl, refl) }
+
 pub no_directory : IsDirectory (record { root = Hole; height = 0 })
 no_directory = record { tree = no_tree; low = omega arith; unit = tt }
 
 pub no_rows : (version txg : ℕ) → AreRows version txg 0 (replicate 32 no_row)
-no_rows version txg = record { size = refl; devices = refl; on = refl; rest = refl }
+no_rows version txg = record { size = refl; devices = refl; on = λ some. absurd (omega (arith, some)); rest = refl }
 
 module _ (sizes : List ℕ) (x : OpenPool) (blank : IsBlank x) where
   mounted : (slots : List (Option ℕ)) → ((d : ℕ) → slot_of slots d ≡ None) → AreMounted sizes slots (devices_of [])
@@ -54,11 +56,8 @@ module _ (sizes : List ℕ) (x : OpenPool) (blank : IsBlank x) where
     apart = λ d e slot at also. let both : None ≡ Some slot = sym (none d) ∙ at in absurd cc;
   }
 
-  service : AreInService (devices_of [])
-  service = record { there = λ d. refl; stays = λ d. refl }
-
-  pub blank_pool : (x.version ≡ 1) ⊎ (x.version ≡ 2) → 0 < x.guid → IsName x.name → x.table.rows ≡ replicate 32 no_row → length x.table.slots ≡ 32 → IsDirectory x.dir → IsTree x.head → x.streams.items ≡ [] → IsPool 0 sizes x
-  blank_pool version guid name rows slots dir head streams =
+  pub blank_pool : (x.version ≡ 1) ⊎ (x.version ≡ 2) → 0 < x.guid → IsName x.name → x.table.rows ≡ replicate 32 no_row → length x.table.slots ≡ 32 → IsDirectory x.dir → IsTree x.head → x.streams.items ≡ [] → AreCondStreams x.cond → length x.turned ≡ 32 → IsPool 0 sizes x
+  blank_pool version guid name rows slots dir head streams cond turned =
       let count = blank.count in
       let txg = blank.txg in
       record {
@@ -77,6 +76,8 @@ module _ (sizes : List ℕ) (x : OpenPool) (blank : IsBlank x) where
         head = head;
         streams = subst (λ (ss : List DeviceStreams). All AreStreams ss) (sym streams) (All-nil AreStreams);
         count = ap (λ (ss : List DeviceStreams). length ss) streams ∙ sym count;
+        cond = cond;
+        turned = turned;
         saved = subst (λ (s : Space). IsSaved s.parts.ckpt (saved_block x.saved)) (sym blank.space) (subst (λ (b : Option Checkpoint). IsSaved Clear (saved_block b)) (sym blank.saved) tt);
         checkpoint = subst (λ (b : Option Checkpoint). IfSome b IsCheckpoint) (sym blank.saved) tt;
         spelled = ap (λ (s : Space). s.parts.version) blank.space;
@@ -84,6 +85,5 @@ module _ (sizes : List ℕ) (x : OpenPool) (blank : IsBlank x) where
         rows = λ d lt. absurd (omega (arith, lt, count));
         lawful = subst IsLawful (sym blank.space) (lawful_without x.version);
         mounted = subst (λ (s : Space). AreMounted sizes x.table.slots (devices_in s)) (sym blank.space) (mounted x.table.slots blank.slots);
-        service = subst (λ (s : Space). AreInService (devices_in s)) (sym blank.space) service;
         disks = λ d slot lt at. absurd (omega (arith, lt, count));
       }

@@ -30,6 +30,8 @@ with_some sizes x o some = record {
   head = o.head;
   streams = o.streams;
   count = o.count;
+  cond = o.cond;
+  turned = o.turned;
   saved = o.saved;
   checkpoint = o.checkpoint;
   spelled = o.spelled;
@@ -37,7 +39,6 @@ with_some sizes x o some = record {
   rows = o.rows;
   lawful = o.lawful;
   mounted = o.mounted;
-  service = o.service;
   disks = o.disks;
 }
 
@@ -58,6 +59,8 @@ with_any sizes x o = record {
   head = o.head;
   streams = o.streams;
   count = o.count;
+  cond = o.cond;
+  turned = o.turned;
   saved = o.saved;
   checkpoint = o.checkpoint;
   spelled = o.spelled;
@@ -65,7 +68,6 @@ with_any sizes x o = record {
   rows = o.rows;
   lawful = o.lawful;
   mounted = o.mounted;
-  service = o.service;
   disks = o.disks;
 }
 

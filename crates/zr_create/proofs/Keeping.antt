@@ -11,7 +11,6 @@ use Rattle.zr_rules.specs.Space.{Space}
 use Rattle.zr_rules.specs.Steps as steps
 use Rattle.zr_shelf.specs.Disks.{Stand}
 use Rattle.zr_shelf.specs.Moments.{World, IsStill}
-use Rattle.zr_space.specs.Paths.{AreInService}
 use Rattle.zr_store.specs.Store.{Stored, Swaps, Now}
 use Rattle.zr_vdev.specs.Runs.{view_of}
 use Rattle.zr_vdev.specs.declared.kind.Kind.TheVariants.{Block}
@@ -35,7 +34,7 @@ objects_still told is_told a b pool objects tells still h =
     (record { stored = h.stored; held = retold Block pool.table.slots told is_told a.now.seen pool.space None pool.cache h.stored tells h.held; has = h.has })
 
 module _ (sizes : List ℕ) (x : OpenPool) (slot units : ℕ) (o : IsPool 0 sizes x) (free : IsFree x.table.slots slot) (txg : ℕ) (table : Table) (space : Space) (streams : Vec DeviceStreams Global)
-    (is_table : table ≡ with_device x.table slot (new_row units txg)) (adds : steps.AddsDevice x.space space units txg) (service : AreInService (devices_in space)) where
+    (is_table : table ≡ with_device x.table slot (new_row units txg)) (adds : steps.AddsDevice x.space space units txg) where
   abbrev y : OpenPool
   y = record x { table = table; space = space; streams = streams }
 
@@ -47,11 +46,11 @@ module _ (sizes : List ℕ) (x : OpenPool) (slot units : ℕ) (o : IsPool 0 size
   module _ (before now : List (List ℕ)) (kept : KeepsOtherDisks slot before now) where
     reads : (a : Dva) → is_resolved (devices_in x.space) a ≡ true → address_bytes (view_of now table.slots space) a ≡ address_bytes (view_of before x.table.slots x.space) a
     reads a resolves =
-        address_still x.space space units txg adds o.service service x.table.slots table.slots same_slots now a resolves
+        address_still x.space space units txg adds x.table.slots table.slots same_slots now a resolves
         ∙ address_beside x.table.slots slot free (devices_in x.space) before now kept a
 
     blocks_stay : (told is_told : Type 0) (s : Stored) → is_told → HasBlocks told before x s → Now (HasBlocks is_told now y) (λ n. Swaps s n [] [])
-    blocks_stay told is_told s tells held = held_still x.space space units txg adds o.service service x.table.slots table.slots before now reads told is_told x.cache s tells held
+    blocks_stay told is_told s tells held = held_still x.space space units txg adds x.table.slots table.slots before now reads told is_told x.cache s tells held
 
     pub objects_kept : (told is_told : Type 0) (objects : Objects) → is_told → HoldsObjects told before x objects → HoldsObjects is_told now y objects
     objects_kept told is_told objects tells h =

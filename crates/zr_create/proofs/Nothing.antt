@@ -1,8 +1,12 @@
 -- A pool that has nothing yet holds no objects.
-use Rattle.std.proofs.Common.{◌≡◌, ℕ, List, [], Option, None, Some, subst, arith}
+use Rattle.std.proofs.Common.{◌≡◌, ◌∙◌, inl, inr, ℕ, List, [], Option, None, Some, ap, subst, arith}
 use Rattle.std.specs.Prelude.{Contains}
 use Rattle.std.specs.FinMap as map
+use Rattle.std.proofs.lemmas.Bool.{cases_lt}
 use Rattle.std.proofs.lemmas.List.Elements.{All-nil}
+use Rattle.zr_base.specs.declared.space.DevPart.{DevPart}
+use Rattle.zr_base.specs.declared.space.DevRow.{DevRow}
+use Rattle.zr_base.specs.declared.space.DevState.TheVariants.{On}
 use Rattle.zr_base.specs.declared.space.Dva.{Dva}
 use Rattle.zr_bptr.specs.declared.Bptr.{Bptr}
 use Rattle.zr_cache.specs.declared.table.Cache.{Cache}
@@ -11,11 +15,15 @@ use Rattle.zr_cache.specs.Sums.{Entry}
 use Rattle.zr_held.proofs.Empty as held
 use Rattle.zr_held.specs.Steps.{no_tree}
 use Rattle.zr_rules.specs.Equation.{devices_in}
+use Rattle.zr_rules.specs.Places.{is_gone, is_leaving, state_of_dev}
 use Rattle.zr_rules.specs.Space.{Space}
 use Rattle.zr_space.specs.Paths.{AreInService}
+use Rattle.zr_space.proofs.Paths.{part_past}
 use Rattle.zr_store.specs.Store.{Stored}
 use Rattle.zr_sync.specs.Objects.{HoldsObjects, account_of}
+use Rattle.zr_sync.specs.Pools.{IsPool}
 use Rattle.zr_sync.specs.declared.open.OpenPool.{OpenPool}
+use Rattle.zr_create.specs.Devices.{HasDevicesIn}
 use Rattle.zr_vdev.proofs.Moves.{bytes_now, holds_these}
 use Rattle.zr_vdev.specs.Caches.{AreRead}
 use Rattle.zr_vdev.specs.Stores.{IsStoredAt}
@@ -27,6 +35,17 @@ nothing_cached disks slots s c none e has =
     let at : Contains [] e = subst (λ (es : List Entry). Contains es e) none has in
     let lt = at.1 in
     absurd (omega (arith, lt))
+
+-- devices that were just taken on are in service
+module _ (n sizes : List ℕ) (txg : ℕ) (named : List ℕ) (x : OpenPool) (o : IsPool 0 n x) (has : HasDevicesIn sizes txg named x) where
+  state_on : (d : ℕ) → state_of_dev x.space.parts.devs d ≡ On
+  state_on d = elim (cases_lt d x.table.count) [
+    | inl lt ↦ let count = has.count in let new = has.each d (omega (arith, lt, count)) in ap (λ (r : DevRow). r.state) (o.rows d lt ∙ new.row_is)
+    | inr le ↦ let n = o.devices in ap (λ (p : DevPart). p.row.state) (part_past x.space.parts.devs d (omega (arith, le, n)))
+  ]
+
+  pub new_serve : AreInService (devices_in x.space)
+  new_serve = record { there = λ d. ap is_gone (state_on d); stays = λ d. ap is_leaving (state_on d) }
 
 none_lost : (at : Dva) → None ≡ Some at → ⊥
 none_lost at is = cc

@@ -1,10 +1,10 @@
 -- The table of a pool with a device more.
 use Rattle.std.proofs.Common.{◌≡◌, inl, inr, ◌⊎◌, ℕ, suc, ◌+◌, ◌<◌, ◌≤◌, ◌^◌, ◌-◌, ◌/◌, Bool, cond, true, false, List, [], ◌∷◌, length, get_or, set, take, drop, drop-cons, Option, None, Some, refl, sym, ◌∙◌, ap, subst, arith}
 use Rattle.std.specs.Prelude.{◌&&◌}
-use Rattle.std.specs.List.{list_all}
+use Rattle.std.specs.List.{list_all, list_any}
 use Rattle.std.proofs.lemmas.Bool.Decides.{nat_tests}
 use Rattle.std.proofs.lemmas.List.{take_more_set, drop-set-lt, length-set}
-use Rattle.std.proofs.lemmas.List.Folds.{list_all-append}
+use Rattle.std.proofs.lemmas.List.Folds.{list_all-append, list_any-append}
 use Rattle.zr_base.specs.declared.space.DevRow.{DevRow}
 use Rattle.zr_label.specs.Blocks.{is_row, is_no_row}
 use Rattle.zr_label.specs.Geometry.{whole, is_disk_size, units_of_size, unit_at}
@@ -63,6 +63,11 @@ pub front_more : {X : Type 0} (p : X → Bool) (xs : List X) (n : ℕ) (x : X) �
 front_more p xs n x lt all one =
     ap (list_all p) (take_more_set xs n x lt) ∙ (list_all-append p (take n xs) (x ∷ []) ∙ (ap (λ b. b && (p x && true)) all ∙ ap (λ b. b && true) one))
 
+-- and where the one that came passes, one of them does
+pub front_any : {X : Type 0} (p : X → Bool) (xs : List X) (n : ℕ) (x : X) → n < length xs → p x ≡ true → list_any p (take (n + 1) (set xs n x)) ≡ true
+front_any p xs n x lt one =
+    ap (list_any p) (take_more_set xs n x lt) ∙ (list_any-append p (take n xs) (x ∷ []) ∙ grind (arith, nat_tests, one))
+
 second : (a b : Bool) → (a && b) ≡ true → b ≡ true
 second true b is = is
 second false b is = absurd cc
@@ -79,6 +84,6 @@ pub rows_more : (version txg count units : ℕ) (rows : List DevRow) → AreRows
 rows_more version txg count units rows are lt row = record {
   size = length-set rows count (new_row units txg) ∙ are.size;
   devices = front_more (is_row version txg) rows count (new_row units txg) (let n = are.size in omega (arith, lt, n)) are.devices row;
-  on = front_more (λ r. is_on r.state) rows count (new_row units txg) (let n = are.size in omega (arith, lt, n)) are.on refl;
+  on = λ some. front_any (λ r. is_on r.state) rows count (new_row units txg) (let n = are.size in omega (arith, lt, n)) refl;
   rest = rest_less is_no_row rows count (new_row units txg) (let n = are.size in omega (arith, lt, n)) are.rest;
 }

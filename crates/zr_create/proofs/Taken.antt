@@ -1,5 +1,5 @@
 -- A pool with a device more is open.
-use Rattle.std.proofs.Common.{◌≡◌, ◌≢◌, inl, inr, ◌⊎◌, ℕ, zero, suc, ◌+◌, ◌<◌, ◌≤◌, ◌^◌, false, List, [], ◌∷◌, ◌++◌, length, set, Option, None, Some, refl, sym, ◌∙◌, ap, subst, arith}
+use Rattle.std.proofs.Common.{◌≡◌, ◌≢◌, inl, inr, ◌⊎◌, ℕ, zero, suc, ◌+◌, ◌<◌, ◌≤◌, ◌^◌, false, List, [], ◌∷◌, ◌++◌, length, set, Option, None, Some, sym, ◌∙◌, ap, subst, arith}
 use Rattle.std.specs.Prelude.{All, Vec, slice_index, slice_index_or}
 use Rattle.std.specs.Global.{Global}
 use Rattle.std.proofs.lemmas.Bool.{cases_eq}
@@ -12,10 +12,9 @@ use Rattle.zr_label.specs.Blocks.{no_row}
 use Rattle.zr_label.specs.Geometry.{units_of_size, unit_at}
 use Rattle.zr_meta.specs.Heads.{IsSaved}
 use Rattle.zr_rules.specs.Devices.{devices_of, state_at}
-use Rattle.zr_rules.specs.Places.{is_gone, is_leaving, no_part, part_of}
+use Rattle.zr_rules.specs.Places.{is_gone, no_part, part_of}
 use Rattle.zr_rules.specs.Space.{Space}
 use Rattle.zr_rules.specs.Steps as steps
-use Rattle.zr_space.specs.Paths.{AreInService}
 use Rattle.zr_view.specs.Runs.{HasDisk}
 use Rattle.zr_view.specs.Views.{slot_of}
 use Rattle.zr_vdev.specs.Mounts.{AreMounted}
@@ -107,7 +106,7 @@ module _ (sizes : List ℕ) (x : OpenPool) (slot units : ℕ) (o : IsPool 0 size
   has_disk : (d : ℕ) → d < x.table.count + 1 → is_gone (state_at (devices_of parts) d) ≡ false → HasDisk sizes slots d (part_of parts d).row.units
   has_disk d lt there = elim (before_or_new d lt) [
     | inl less ↦
-        let old = o.mounted.disks d (let n = o.devices in omega (arith, less, n)) (o.service.there d) in
+        let old = o.mounted.disks d (let n = o.devices in omega (arith, less, n)) (sym (ap (λ (p : DevPart). is_gone p.row.state) (part_before d less)) ∙ there) in
         record {
           slot = old.slot;
           is = at_other x.table.slots x.table.count slot d (λ is. omega (arith, less, is)) ∙ old.is;
@@ -128,12 +127,6 @@ module _ (sizes : List ℕ) (x : OpenPool) (slot units : ℕ) (o : IsPool 0 size
     disks = λ d lt there. has_disk d (omega (arith, lt, long)) there;
     small = each_part (λ p. p.row.units ≤ 2 ^ 40) x.space.parts.devs (new_part units x.group.txg) o.mounted.small (let s = sized.small in omega (arith, s));
     apart = apart_more x.table.slots x.table.count slot room free o.mounted.apart;
-  }
-
-  service : AreInService (devices_of parts)
-  service = record {
-    there = each_part (λ p. is_gone p.row.state ≡ false) x.space.parts.devs (new_part units x.group.txg) o.service.there refl;
-    stays = each_part (λ p. is_leaving p.row.state ≡ false) x.space.parts.devs (new_part units x.group.txg) o.service.stays refl;
   }
 
   abbrev has_units : DevRow → Option ℕ
@@ -171,6 +164,8 @@ module _ (sizes : List ℕ) (x : OpenPool) (slot units : ℕ) (o : IsPool 0 size
     head = o.head;
     streams = lawful;
     count = more ∙ ap (λ (n : ℕ). n + 1) o.count;
+    cond = o.cond;
+    turned = o.turned;
     saved = subst (λ (k : CkptPart). IsSaved k (saved_block x.saved)) (sym adds.ckpt) o.saved;
     checkpoint = o.checkpoint;
     spelled = adds.version ∙ o.spelled;
@@ -178,7 +173,6 @@ module _ (sizes : List ℕ) (x : OpenPool) (slot units : ℕ) (o : IsPool 0 size
     rows = λ d lt. ap (λ (ps : List DevPart). (part_of ps d).row) adds.devs ∙ rows_are d lt;
     lawful = adds.lawful o.lawful;
     mounted = subst (λ (ps : List DevPart). AreMounted sizes slots (devices_of ps)) (sym adds.devs) mounted;
-    service = subst (λ (ps : List DevPart). AreInService (devices_of ps)) (sym adds.devs) service;
     disks = disk_sizes;
   }
 

@@ -10,7 +10,7 @@ use zr_bptr::{Ptr, Tree};
 use zr_cache::Cache;
 use zr_label::{NO_ROW, Name};
 use zr_space::Space;
-use zr_sync::{OpenPool, Table};
+use zr_sync::{NO_COND, NONE_TURNED, OpenPool, Table};
 use zr_txg::Group;
 
 /// How many blocks an open pool has in its cache at most.
@@ -46,7 +46,9 @@ pub fn empty_pool(alloc: Global, name: Name, guid: u64, version: u64) -> Result<
         dir: none,
         head: none,
         streams: Vec::new(alloc),
+        cond: NO_COND,
         saved: None,
         group: Group::new(alloc, 1),
+        turned: NONE_TURNED,
     })
 }

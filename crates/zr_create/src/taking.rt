@@ -45,6 +45,9 @@ fn push_streams(streams: &mut Vec<DeviceStreams>) -> Result<(), NoMemory>
     streams.push(DeviceStreams {
         held: EMPTY,
         kept: EMPTY,
+        entries: EMPTY,
+        counts: EMPTY,
+        fresh: EMPTY,
         late1: EMPTY,
         late2: EMPTY,
     })?;

@@ -1,5 +1,5 @@
 -- What a walk over an open pool meets.
-use Rattle.std.specs.Prelude.{◌≡◌, ℕ, ◌+◌, List, [], ◌++◌, Option, Some, None}
+use Rattle.std.specs.Prelude.{◌≡◌, ℕ, ◌+◌, List, [], ◌∷◌, ◌++◌, Option, Some, None}
 use Rattle.std.specs.List.{flat_map}
 use Rattle.zr_base.specs.declared.space.Dva.{Dva}
 use Rattle.zr_bptr.specs.declared.Bptr.{Bptr}
@@ -8,6 +8,7 @@ use Rattle.zr_bptr.specs.declared.ObjRec.{ObjRec}
 use Rattle.zr_lookup.specs.Objects.{record_now, AreObjectBlocks}
 use Rattle.zr_store.specs.Store.{Stored}
 use Rattle.zr_sync.specs.declared.open.Checkpoint.{Checkpoint}
+use Rattle.zr_sync.specs.declared.open.CondStreams.{CondStreams}
 use Rattle.zr_sync.specs.declared.open.DeviceStreams.{DeviceStreams}
 use Rattle.zr_tree.specs.Trees.{tree_reach}
 use Rattle.zr_txg.specs.Changes.{Changes}
@@ -39,15 +40,23 @@ pub record AreLiveAddresses (s : Stored) (dir : Tree) (g : Changes) (live : List
   pub of_objects : AreBlocksBelow s dir g 65536 blocks
   pub all : live ≡ addresses_of (tree_reach s dir ++ blocks)
 
+-- the trees of a device's streams, in the order of the head: a stream that the device has not is empty
+abbrev pub trees_of : DeviceStreams → List Tree
+trees_of d = d.held.tree ∷ d.kept.tree ∷ d.entries.tree ∷ d.counts.tree ∷ d.fresh.tree ∷ d.late1.tree ∷ d.late2.tree ∷ []
+
+-- and those of a condensing
+abbrev pub cond_trees : CondStreams → List Tree
+cond_trees c = c.entries.tree ∷ c.counts.tree ∷ []
+
 -- the blocks of a device's streams
 abbrev pub streams_reach : Stored → DeviceStreams → List Bptr
-streams_reach s d = tree_reach s d.held.tree ++ tree_reach s d.kept.tree ++ tree_reach s d.late1.tree ++ tree_reach s d.late2.tree
+streams_reach s d = flat_map (tree_reach s) (trees_of d)
 
--- the blocks of a root's metadata: of the head, and of each device's streams
-abbrev pub metadata_reach : Stored → Tree → List DeviceStreams → List Bptr
-metadata_reach s head streams = tree_reach s head ++ flat_map (streams_reach s) streams
+-- the blocks of a root's metadata: of the head, of each device's streams, and of the streams of the condensing
+abbrev pub metadata_reach : Stored → Tree → List DeviceStreams → CondStreams → List Bptr
+metadata_reach s head streams cond = tree_reach s head ++ flat_map (streams_reach s) streams ++ flat_map (tree_reach s) (cond_trees cond)
 
 -- the blocks of the metadata of the root that a checkpoint holds, if there is one
 abbrev pub saved_reach : Stored → Option Checkpoint → List Bptr
 saved_reach s None = []
-saved_reach s (Some c) = metadata_reach s c.head c.streams.items
+saved_reach s (Some c) = metadata_reach s c.head c.streams.items c.cond

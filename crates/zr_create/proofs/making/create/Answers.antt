@@ -7,7 +7,7 @@ use Rattle.zr_create.specs.Devices.{HaveDisks, HasDevicesIn}
 use Rattle.zr_create.proofs.Staying.{still_in}
 use Rattle.zr_sync.proofs.Disks.{works_more, works_still}
 use Rattle.zr_create.proofs.Checking.{new_disks}
-use Rattle.zr_create.proofs.Nothing.{none_held}
+use Rattle.zr_create.proofs.Nothing.{new_serve, none_held}
 use Rattle.zr_create.proofs.making.create.Goals as goal
 
 pub returns-in_err-check_new-clause-disks : goal.returns-in_err-check_new-clause-disks
@@ -60,7 +60,8 @@ returns-clause-objects g c = λ t.
     let blank = c.in_ok-pool.ensures.blank in
     let same = c.in_ok-take_all.ensures.same in
     c.in_ok-commit.ensures.stays map.empty
-    (none_held (g.S.Shelf.tells c.take_all.new.shelf) (g.S.Shelf.world c.take_all.new.shelf).now.seen before told c.in_ok-take_all.ensures.pool.service (same.dir ∙ blank.dir) (ap (λ (x : Group). x.objects) same.group ∙ blank.objects)
+    (none_held (g.S.Shelf.tells c.take_all.new.shelf) (g.S.Shelf.world c.take_all.new.shelf).now.seen before told
+    (new_serve (g.S.Shelf.sizes c.take_all.new.shelf) (g.S.Shelf.sizes c.check_new.new.shelf) _ c.args.named.now before c.in_ok-take_all.ensures.pool c.in_ok-take_all.ensures.devices) (same.dir ∙ blank.dir) (ap (λ (x : Group). x.objects) same.group ∙ blank.objects)
     (ap entries same.cache ∙ blank.cache))
 
 pub returns-clause-devices : goal.returns-clause-devices

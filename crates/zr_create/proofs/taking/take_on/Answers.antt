@@ -29,9 +29,6 @@ returns-clause-stays g c = λ objects h.
     let told = h.held.told in
     let w0 = g.S.Shelf.world c.args.shelf.now in
     let w1 = g.S.Shelf.world c.prepare_device.new.shelf in
-    let now =
-    taken (g.S.Shelf.sizes c.args.shelf.now) x c.args.slot c.args.units c.requires.pool c.requires.few c.requires.exists (sized _ x.version c.args.units c.requires.pool.version c.requires.units) c.requires.free
-    (g.S.Shelf.sizes c.prepare_device.new.shelf) c.txg-txg.result c.enter.new.table c.add_dev.new.self c.push_streams.new.streams c.prepare_device.ensures.sizes c.txg-txg.ensures c.enter.ensures c.in_ok-add_dev.ensures.ok c.in_ok-push_streams.ensures.lawful c.in_ok-push_streams.ensures.count in
-    objects_kept (g.S.Shelf.sizes c.args.shelf.now) x c.args.slot c.args.units c.requires.pool c.requires.free c.txg-txg.result c.enter.new.table c.add_dev.new.self c.push_streams.new.streams c.enter.ensures c.in_ok-add_dev.ensures.ok now.service
+    objects_kept (g.S.Shelf.sizes c.args.shelf.now) x c.args.slot c.args.units c.requires.pool c.requires.free c.txg-txg.result c.enter.new.table c.add_dev.new.self c.push_streams.new.streams c.enter.ensures c.in_ok-add_dev.ensures.ok
     w0.now.seen w1.now.seen (prepared_beside (slice_index (g.S.Shelf.sizes c.args.shelf.now) c.args.slot) c.args.slot _ c.prepare_device.result w0 w1 (c.prepare_device.ensures.order told))
     (g.S.Shelf.tells c.args.shelf.now) (g.S.Shelf.tells c.prepare_device.new.shelf) objects (c.prepare_device.ensures.told told) h
