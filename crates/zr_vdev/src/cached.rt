@@ -12,17 +12,20 @@ ghost use Rattle.zr_store.specs.declared.StoreErr.TheVariants.{NoMemory, Malform
 ghost use Rattle.zr_store.specs.Causes.{HasCause, IsOf};
 ghost use Rattle.zr_store.specs.Store.{IsPointerTo, IsBlockOf, is_size};
 ghost use Rattle.zr_view.specs.Views.{address_bytes};
-ghost use Rattle.zr_cache.specs.Entries.{bytes_in, capacity, is_recent};
+ghost use Rattle.zr_cache.specs.Entries.{bytes_in, capacity, entries, is_key, is_recent};
+ghost use Rattle.std.specs.Map.{remove_entry};
 ghost use Rattle.zr_vdev.specs.Mounts.{AreMounted};
 ghost use Rattle.zr_rules.specs.Columns.{free_of};
 ghost use Rattle.zr_rules.specs.Placement.{HasNoPlacement};
 ghost use Rattle.zr_rules.specs.Places.{units_of_dev};
-ghost use Rattle.zr_vdev.specs.Puts.{Takes, MayTake, MayPut, IsWriteOf};
+ghost use Rattle.zr_vdev.specs.Stores.{IsInUse};
+ghost use Rattle.zr_vdev.specs.Puts.{GivesBack, Takes, MayTake, MayPut, IsWriteOf};
 ghost use Rattle.zr_vdev.specs.Runs.{view_of, account_of, AreRunsOf};
 ghost use Rattle.zr_vdev.specs.Caches.{AreRead, KeepsBlock};
 
-use crate::kind::{Mount, Place};
+use crate::kind::{Kind, Mount, Place};
 use crate::reads::read_block;
+use crate::vdev::give_back;
 use crate::writes::{NotPut, write_block};
 use std::alloc::Global;
 use zr_base::{Dva, Extent};
@@ -153,4 +156,24 @@ pub fn put_block<S: Shelf, P: Place>(
             Err(error)
         }
     }
+}
+
+/// Gives back the address of a block, which is not cached any more: its units may have other bytes from then on. After an
+/// error nothing was done.
+pub fn free_block(
+    space: &mut Space,
+    cache: &mut Cache,
+    kind: Kind,
+    b: &Bptr,
+) -> Result<(), zr_base::NoMemory>
+    requires { IsInUse kind space.old b.now.at }
+    ensures ok { OnOk result (GivesBack kind space.old space.new b.now.at b.now.birth) }
+    ensures devices { devices_in space.new ≡ devices_in space.old }
+    ensures entries { OnOk result (entries cache.new ≡ remove_entry (is_key b.now) (entries cache.old)) }
+    ensures room { capacity cache.new ≡ capacity cache.old }
+    ensures err { OnErr result ((space.new ≡ space.old) × (cache.new ≡ cache.old)) }
+{
+    give_back(space, kind, b.at, b.birth)?;
+    cache.forget(b);
+    Ok(())
 }

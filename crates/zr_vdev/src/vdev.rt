@@ -12,7 +12,7 @@ ghost use Rattle.zr_vdev.specs.Puts.{GivesBack};
 ghost use Rattle.zr_vdev.specs.Runs.{account_of};
 ghost use Rattle.zr_vdev.specs.Stores.{IsInUse, IsApart, IsStoredAt, HoldsBlocks, Continues, GivesBackLost, shares};
 
-use crate::cached::{get_block, put_block};
+use crate::cached::{free_block, get_block, put_block};
 use crate::kind::{Kind, Mount, Place};
 use crate::nothing::read_nothing;
 use std::alloc::Global;
@@ -85,8 +85,8 @@ fn is_in_use(space: &Space, kind: Kind, at: &Dva) -> Result<bool, NoMemory>
     }
 }
 
-// Gives back what is in use.
-fn give_back(space: &mut Space, kind: Kind, at: Dva, birth: u64) -> Result<(), NoMemory>
+/// Gives back what is in use.
+pub(crate) fn give_back(space: &mut Space, kind: Kind, at: Dva, birth: u64) -> Result<(), NoMemory>
     requires { IsInUse kind space.old at }
     ensures ok { OnOk result (GivesBack kind space.old space.new at birth) }
     ensures devices { devices_in space.new ≡ devices_in space.old }
@@ -213,8 +213,7 @@ impl<S: Shelf, P: Place> Blocks for Vdev<'_, S, P> {
     fn free(&mut self, alloc: Global, b: &Bptr) -> Result<(), StoreErr> {
         let stored = self.has(alloc, &b.at)?;
         if stored {
-            give_back(self.space, self.mount.kind, b.at, b.birth)?;
-            self.cache.forget(b);
+            free_block(self.space, self.cache, self.mount.kind, b)?;
         }
         Ok(())
     }
