@@ -13,7 +13,7 @@ use Rattle.zr_model.specs.State.{Work}
 use Rattle.zr_model.specs.declared.pool.Actor.{Actor}
 use Rattle.zr_model.specs.declared.pool.Actor.TheVariants.{Evac, Discard, Condense}
 use Rattle.zr_model.specs.Runs.{Point, Turn, Meaning}
-use Rattle.zr_pool.specs.Plain.{IsObjectsTurn}
+use Rattle.zr_pool.specs.Plain.{IsObjectsTurn, is_of_removal}
 
 -- the lines on objects
 abbrev pub is_on_objects : Command → Bool
@@ -59,7 +59,7 @@ is_opener _ = false
 abbrev pub IsServed : Command → Type 0
 IsServed (cmd.Create name guid devs) = Unit {0}
 IsServed (cmd.CreateOld name guid devs) = Unit {0}
-IsServed command = (is_on_objects command ≡ true) ⊎ (is_on_pool command ≡ true)
+IsServed command = (is_on_objects command ≡ true) ⊎ ((is_on_pool command ≡ true) ⊎ (is_of_removal command ≡ true))
 
 -- a pool that is made or upgraded is of the version that the line asks for
 abbrev pub IsOfVersion : Command → ℕ → Type 0

@@ -57,6 +57,18 @@ pub fn is_on_pool(command: &Command) -> bool
             | Command::Discard
             | Command::StepDiscard
             | Command::Upgrade
+            | Command::Estimate { .. }
+            | Command::Map { .. }
+    )
+}
+
+/// Whether a line is a step of a removal, or of condensing a mapping.
+pub fn is_of_removal(command: &Command) -> bool
+    ensures { result ≡ is_of_removal command.now }
+{
+    matches!(
+        command,
+        Command::Remove { .. } | Command::Cancel | Command::StepEvac | Command::StepCondense
     )
 }
 
