@@ -72,6 +72,8 @@ abbrev pub IsPlainRefusal : PoolState → Command → Refusal → Type 0
 IsPlainRefusal p cmd.Checkpoint r = IsCheckpointCause p r
 IsPlainRefusal p cmd.Discard r = IsCheckpointCause p r
 IsPlainRefusal p cmd.StepDiscard r = IsCheckpointCause p r
+IsPlainRefusal p (cmd.Remove dev) r = IsCheckpointCause p r
+IsPlainRefusal p (cmd.Estimate dev) r = IsCheckpointCause p r
 IsPlainRefusal p command r = IsObjectCause p.objects command r
 
 -- Nothing is gone back to where the pool that the disks show has no checkpoint, or where the group is not kept.
