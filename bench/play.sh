@@ -1,11 +1,16 @@
 #!/usr/bin/env bash
-# Runs 203 scripts on devices in memory (crates/zr_play) and holds their answers, and the SHA-256 of what each leaves on its
-# devices, against those of an independent model of the program. The gate runs the first few of them.
+# Runs scripts on devices in memory (crates/zr_play) and holds their answers, and the SHA-256 of what each leaves on its
+# devices, against those of an independent model of the program: 203 of objects, and 300 in which devices are given up, of
+# which the digests of the model's answers are kept. The gate runs the first few of each.
 set -u
 top=$(cd "$(dirname "$0")/.." && pwd)
 program=$top/crates/zr_play/out/zr_play
 (cd "$top/crates/zr_play" && rt run < /dev/null > /tmp/zr-play.$$ 2>&1) || { cat /tmp/zr-play.$$ >&2; exit 70; }
 time "$program" < "$top/bench/play/stdin" > /tmp/zr-play.$$
 if cmp /tmp/zr-play.$$ "$top/bench/play/stdout"; then echo "203 scripts: equal"; else status=1; fi
-rm -f /tmp/zr-play.$$
+python3 "$top/bench/play/generate.py" removals > /tmp/zr-removals.$$
+time "$program" < /tmp/zr-removals.$$ > /tmp/zr-play.$$
+python3 "$top/bench/play/generate.py" sums < /tmp/zr-play.$$ > /tmp/zr-sums.$$
+if cmp /tmp/zr-sums.$$ "$top/bench/play/removals.sums"; then echo "300 scripts with removals: equal"; else status=1; fi
+rm -f /tmp/zr-play.$$ /tmp/zr-removals.$$ /tmp/zr-sums.$$
 exit ${status:-0}

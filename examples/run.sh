@@ -53,4 +53,8 @@ begin
 example rewind disk0:8388608 disk1:8388608 disk2:16777216
 begin
 example day disk0:8388608 disk1:8388608 disk2:16777216
+begin
+example mistake disk0:16777216 disk1:16777216
+rm "$folder/disk1"
+example without disk0
 [ "$wrong" -eq 0 ]

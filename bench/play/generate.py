@@ -1,5 +1,10 @@
-"""Makes the scripts of this folder's stdin, each from a number: generate.py > stdin"""
-import random, sys
+"""Makes the scripts of this folder, each from a number.
+
+generate.py > stdin          those of this folder's stdin
+generate.py removals         those in which devices are given up
+generate.py sums < answers   a line for each script that was answered: the SHA-256 of its answers
+"""
+import hashlib, random, sys
 SIZES = [1, 1, 2, 4, 8, 16, 32]
 def script(seed, n=30):
     r = random.Random(seed)
@@ -158,7 +163,23 @@ def condensing(s):
     return words, L
 
 
+def sums(answers):
+    """The SHA-256 of the answers to each script: its replies, its status, and the digest of each device."""
+    found, ended = [], False
+    for line in answers:
+        words = line.split(' ')
+        if ended and not (len(words) == 2 and len(words[1]) == 65):
+            found.append(hashlib.sha256()); ended = False
+        elif not found: found.append(hashlib.sha256())
+        found[-1].update(line.encode())
+        ended = ended or words[0] == 'status' and len(words) == 2
+    return [it.hexdigest() for it in found]
+
+
 if __name__ == '__main__':
+    if sys.argv[1:] == ['sums']:
+        print('\n'.join(sums(sys.stdin)))
+        sys.exit(0)
     if sys.argv[1:] == ['removals']:
         for s in range(1001, 1301):
             words, lines = removals(s) if s % 25 else condensing(s)

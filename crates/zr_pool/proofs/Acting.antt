@@ -38,29 +38,29 @@ pub record IsChangedBy (Holds : PoolState → Type 0) (p : PoolState) (id off : 
 
 module _ (Holds : PoolState → Type 0) (p : PoolState) where
   pub made_on : (id units : ℕ) → Holds (with_objects p (map.insert p.objects id (blank units))) → IsPlainOn Holds p (cmd.Make id units) reply.Done
-  made_on id units h = let q = with_objects p (map.insert p.objects id (blank units)) in record { after = q; holds = h; turn = (q, refl, refl, refl) }
+  made_on id units h = let q = with_objects p (map.insert p.objects id (blank units)) in record { after = q; holds = h; step = (refl, refl) }
 
   pub dropped_on : (id : ℕ) → IsObjectOf p.objects id (λ o. Holds (with_objects p (map.remove p.objects id))) → IsPlainOn Holds p (cmd.Drop id) reply.Done
-  dropped_on id h = let q = with_objects p (map.remove p.objects id) in record { after = q; holds = h.2; turn = (q, refl, refl, refl) }
+  dropped_on id h = let q = with_objects p (map.remove p.objects id) in record { after = q; holds = h.2; step = (refl, refl) }
 
   pub read_on : (id off len : ℕ) (bytes : List ℕ) → IsObjectOf p.objects id (IsReadOf off len bytes) → Holds p → IsPlainOn Holds p (cmd.Read id off len) (reply.Data bytes)
-  read_on id off len bytes o h = record { after = p; holds = h; turn = (p, (o.0, o.1, o.2.are, refl), tested p id o.0 (λ x. reads_lost x off len) o.1 o.2.whole, refl) }
+  read_on id off len bytes o h = record { after = p; holds = h; step = ((o.0, o.1, o.2.are, refl), tested p id o.0 (λ x. reads_lost x off len) o.1 o.2.whole) }
 
   pub sum_on : (id : ℕ) (sum : List ℕ) → IsObjectOf p.objects id (λ o. (has_lost o ≡ false) × (sum ≡ object_sum o)) → Holds p → IsPlainOn Holds p (cmd.Sum id) (reply.Sum sum)
-  sum_on id sum o h = record { after = p; holds = h; turn = (p, (o.0, o.1, o.2.1, refl), tested p id o.0 has_lost o.1 o.2.0, refl) }
+  sum_on id sum o h = record { after = p; holds = h; step = ((o.0, o.1, o.2.1, refl), tested p id o.0 has_lost o.1 o.2.0) }
 
   pub written_on : (id off : ℕ) (bytes : List ℕ) → IsChangedBy Holds p id off bytes → IsPlainOn Holds p (cmd.Write id off bytes) reply.Done
-  written_on id off bytes c = record { after = (with_objects p (map.insert p.objects id (with_bytes c.o off bytes))); holds = c.holds; turn = ((with_objects p (map.insert p.objects id (with_bytes c.o off bytes))), (c.o, c.found, refl), tested p id c.o (λ x. changes_lost x off (length bytes)) c.found c.whole, refl) }
+  written_on id off bytes c = record { after = (with_objects p (map.insert p.objects id (with_bytes c.o off bytes))); holds = c.holds; step = ((c.o, c.found, refl), tested p id c.o (λ x. changes_lost x off (length bytes)) c.found c.whole) }
 
   pub filled_on : (id off len byte : ℕ) → IsChangedBy Holds p id off (replicate len byte) → IsPlainOn Holds p (cmd.Fill id off len byte) reply.Done
   filled_on id off len byte c =
       let whole = subst (λ (n : ℕ). changes_lost c.o off n ≡ false) (length-replicate len byte) c.whole in
-      record { after = (with_objects p (map.insert p.objects id (with_bytes c.o off (replicate len byte)))); holds = c.holds; turn = ((with_objects p (map.insert p.objects id (with_bytes c.o off (replicate len byte)))), (c.o, c.found, refl), tested p id c.o (λ x. changes_lost x off len) c.found whole, refl) }
+      record { after = (with_objects p (map.insert p.objects id (with_bytes c.o off (replicate len byte)))); holds = c.holds; step = ((c.o, c.found, refl), tested p id c.o (λ x. changes_lost x off len) c.found whole) }
 
   pub punched_on : (id off len : ℕ) → IsChangedBy Holds p id off (replicate len zero) → IsPlainOn Holds p (cmd.Punch id off len) reply.Done
   punched_on id off len c =
       let whole = subst (λ (n : ℕ). changes_lost c.o off n ≡ false) (length-replicate len zero) c.whole in
-      record { after = (with_objects p (map.insert p.objects id (with_bytes c.o off (replicate len zero)))); holds = c.holds; turn = ((with_objects p (map.insert p.objects id (with_bytes c.o off (replicate len zero)))), (c.o, c.found, refl), tested p id c.o (λ x. changes_lost x off len) c.found whole, refl) }
+      record { after = (with_objects p (map.insert p.objects id (with_bytes c.o off (replicate len zero)))); holds = c.holds; step = ((c.o, c.found, refl), tested p id c.o (λ x. changes_lost x off len) c.found whole) }
 
   pub changed_by : (id off : ℕ) (bytes : List ℕ) (e : Edit) (In : Object → Type 0) → e.off ≡ off
       → IsObjectOf p.objects id (λ o. In o × (changes_lost o e.off (length bytes) ≡ false) × Holds (with_objects p (map.insert p.objects id (with_bytes o e.off bytes)))) → IsChangedBy Holds p id off bytes
@@ -72,39 +72,39 @@ module _ (Holds : PoolState → Type 0) (p : PoolState) where
   }
 
   pub synced_as : (command : Command) (txg : ℕ) → command ≡ cmd.Sync → Holds p → IsPlainOf Holds p command (reply.Synced txg)
-  synced_as command txg is h = subst (λ (k : Command). IsPlainOf Holds p k (reply.Synced txg)) (sym is) (record { after = p; holds = h; turn = (p, refl, refl, refl) })
+  synced_as command txg is h = subst (λ (k : Command). IsPlainOf Holds p k (reply.Synced txg)) (sym is) (record { after = p; holds = h; step = (refl, refl) })
 
   pub added_as : (command : Command) (dev : List ℕ) → command ≡ cmd.Add dev → Holds (with_devs p (p.devs ++ InService dev ∷ [])) → IsPlainOf Holds p command reply.Done
   added_as command dev is h =
       let q = with_devs p (p.devs ++ InService dev ∷ []) in
-      subst (λ (k : Command). IsPlainOf Holds p k reply.Done) (sym is) (record { after = q; holds = h; turn = (q, refl, refl, refl) })
+      subst (λ (k : Command). IsPlainOf Holds p k reply.Done) (sym is) (record { after = q; holds = h; step = (refl, refl) })
 
   pub listed_as : (command : Command) (lines : List ListLine) → command ≡ cmd.List → Holds p → IsPlainOf Holds p command (reply.List lines)
-  listed_as command lines is h = subst (λ (k : Command). IsPlainOf Holds p k (reply.List lines)) (sym is) (record { after = p; holds = h; turn = (p, refl, refl, refl) })
+  listed_as command lines is h = subst (λ (k : Command). IsPlainOf Holds p k (reply.List lines)) (sym is) (record { after = p; holds = h; step = (refl, refl) })
 
   pub status_as : (command : Command) (lines : StatusLines) → command ≡ cmd.Status → Holds p → IsPlainOf Holds p command (reply.Status lines)
-  status_as command lines is h = subst (λ (k : Command). IsPlainOf Holds p k (reply.Status lines)) (sym is) (record { after = p; holds = h; turn = (p, refl, refl, refl) })
+  status_as command lines is h = subst (λ (k : Command). IsPlainOf Holds p k (reply.Status lines)) (sym is) (record { after = p; holds = h; step = (refl, refl) })
 
   pub audited_as : (command : Command) (lines : List AuditLine) → command ≡ cmd.Audit → Holds p → IsPlainOf Holds p command (reply.Audit lines)
-  audited_as command lines is h = subst (λ (k : Command). IsPlainOf Holds p k (reply.Audit lines)) (sym is) (record { after = p; holds = h; turn = (p, refl, refl, refl) })
+  audited_as command lines is h = subst (λ (k : Command). IsPlainOf Holds p k (reply.Audit lines)) (sym is) (record { after = p; holds = h; step = (refl, refl) })
 
   pub saved_as : (command : Command) → command ≡ cmd.Checkpoint → Holds (with_saved p (Some (record { objects = p.objects; devs = p.devs })) false) → IsPlainOf Holds p command reply.Done
   saved_as command is h =
       let q = with_saved p (Some (record { objects = p.objects; devs = p.devs })) false in
-      subst (λ (k : Command). IsPlainOf Holds p k reply.Done) (sym is) (record { after = q; holds = h; turn = (q, refl, refl, refl) })
+      subst (λ (k : Command). IsPlainOf Holds p k reply.Done) (sym is) (record { after = q; holds = h; step = (refl, refl) })
 
   pub given_up_as : (command : Command) → command ≡ cmd.Discard → Holds (with_saved p None true) → IsPlainOf Holds p command reply.Done
   given_up_as command is h =
       let q = with_saved p None true in
-      subst (λ (k : Command). IsPlainOf Holds p k reply.Done) (sym is) (record { after = q; holds = h; turn = (q, refl, refl, refl) })
+      subst (λ (k : Command). IsPlainOf Holds p k reply.Done) (sym is) (record { after = q; holds = h; step = (refl, refl) })
 
   pub upgraded_as : (command : Command) → command ≡ cmd.Upgrade → Holds p → IsPlainOf Holds p command reply.Done
-  upgraded_as command is h = subst (λ (k : Command). IsPlainOf Holds p k reply.Done) (sym is) (record { after = p; holds = h; turn = (p, refl, refl, refl) })
+  upgraded_as command is h = subst (λ (k : Command). IsPlainOf Holds p k reply.Done) (sym is) (record { after = p; holds = h; step = (refl, refl) })
 
   pub stepped_as : (command : Command) (units : ℕ) (b : Bool) → command ≡ cmd.StepDiscard → (b ≡ false → 0 < units) → Holds (if b then with_saved p p.saved false else p) → IsPlainOf Holds p command (if b then reply.Ended else reply.Freed units)
   stepped_as command units true is some h =
       let q = with_saved p p.saved false in
-      subst (λ (k : Command). IsPlainOf Holds p k reply.Ended) (sym is) (record { after = q; holds = h; turn = (q, refl, refl, refl) })
+      subst (λ (k : Command). IsPlainOf Holds p k reply.Ended) (sym is) (record { after = q; holds = h; step = (refl, refl) })
   stepped_as command units false is some h =
       let lt = some refl in
-      subst (λ (k : Command). IsPlainOf Holds p k (reply.Freed units)) (sym is) (record { after = p; holds = h; turn = (p, (omega (arith, lt), refl), refl, refl) })
+      subst (λ (k : Command). IsPlainOf Holds p k (reply.Freed units)) (sym is) (record { after = p; holds = h; step = ((omega (arith, lt), refl), refl) })

@@ -7,7 +7,7 @@ use Rattle.zr_script.specs.declared.command.Command.TheVariants as cmd
 use Rattle.zr_script.specs.declared.reply.Reply.{Reply}
 use Rattle.zr_script.specs.declared.reply.Reply.TheVariants as reply
 use Rattle.zr_shelf.specs.Disks.{Stand}
-use Rattle.zr_model.specs.State.{State, PoolState, opened, created}
+use Rattle.zr_model.specs.State.{State, PoolState, ShelfPart, Empty, Refused, Is, IsOpened, Work, no_pool, untold, created}
 use Rattle.zr_model.specs.Runs.{Shelf, TurnsTo}
 use Rattle.zr_moves.specs.Answers.{rewound}
 use Rattle.zr_sync.specs.States.{HoldsState}
@@ -15,10 +15,29 @@ use Rattle.zr_sync.specs.declared.fault.Fault.{Fault}
 use Rattle.zr_sync.specs.declared.fault.Fault.TheVariants.{No, Stops}
 use Rattle.zr_sync.specs.declared.open.OpenPool.{OpenPool}
 use Rattle.zr_pool.specs.Ends.{answer_of, is_closing}
-use Rattle.zr_pool.specs.Plain.{exported, IsMade, IsOpeningCause, IsPlainRefusal, IsPlainTurn, IsPlainOn, IsPlainOf, IsOpeningTurn, IsObjectsTurn, shelf_of}
-use Rattle.zr_pool.specs.Pools.{StandsFor}
+use Rattle.zr_pool.specs.Plain.{exported, IsMade, IsOpeningCause, IsPlainRefusal, IsPlainTurn, IsPlainOn, IsPlainOf, IsOpeningTurn, IsObjectsTurn, IsUntold, shelf_of}
+use Rattle.zr_pool.specs.Pools.{IsPartOf, StandsFor, work_of}
 use Rattle.zr_pool.specs.Turns.{on_devices, IsTurn, IsOpenAnswer, IsOpenRefusal, IsClosedAnswer, IsClosedRefusal, stays_open, is_opened, is_opener}
 use Rattle.zr_pool.proofs.Staying.{told_anew}
+
+-- ---- the state of an open pool
+
+-- the state for which a pool stands whose disks hold these objects
+abbrev pub standing : OpenPool → PoolState → State
+standing pool p = record { is_open = true; shelf = Is p; work = work_of pool.space }
+
+pub stands_so : (told : Type 0) (disks : List (List ℕ)) (pool : OpenPool) (p : PoolState) → HoldsState told disks pool p → StandsFor (Some pool) disks (standing pool p)
+stands_so told disks pool p holds = record { is_open = refl; part = told_anew told (Unit {0}) disks pool p tt holds; work = refl }
+
+pub is_opened_so : (pool : OpenPool) (p : PoolState) → IsOpened p (standing pool p)
+is_opened_so pool p = record { is_open = refl; shelf = refl }
+
+-- and where nothing is told of them
+pub stands_untold : (disks : List (List ℕ)) (pool : OpenPool) → StandsFor (Some pool) disks (untold (work_of pool.space))
+stands_untold disks pool = record { is_open = refl; part = tt; work = refl }
+
+pub is_untold_so : (w : Work) → IsUntold (untold w)
+is_untold_so w = record { is_open = refl; shelf = refl }
 
 -- ---- where no pool is open
 
@@ -37,46 +56,36 @@ module _ (old new : Stand) (before : State) (closed : before.is_open ≡ false) 
     takes = takes_closed (reply.No r) before (subst (λ (b : Bool). IsTurn false command (reply.No r) b) (sym closed) (why, refl)) (refl, cause);
   }
 
+  -- the pool stands for this one
+  as_made : (pool : OpenPool) (p : PoolState) → HoldsState told new.seen pool p → IsClosedAnswer command reply.Done → IsOpeningTurn (shelf_of old) before command reply.Done (standing pool p) → Turns (Some pool) reply.Done
+  as_made pool p holds answer opening = record {
+    after = standing pool p;
+    stands_for = stands_so told new.seen pool p holds;
+    takes = takes_closed reply.Done (standing pool p) (answer, refl) opening;
+  }
+
   made_to : (pool : OpenPool) → (name : List ℕ) (guid : ℕ) (devs : List (List ℕ)) → command ≡ cmd.Create name guid devs → IsClosedAnswer command reply.Done → HoldsState told new.seen pool (created name guid devs) → Turns (Some pool) reply.Done
   made_to pool name guid devs is answer holds =
-      let after = opened (created name guid devs) in
-      record {
-        after = after;
-        stands_for = (created name guid devs, refl, told_anew told (Unit {0}) new.seen pool (created name guid devs) tt holds);
-        takes = takes_closed reply.Done after (answer, refl) (subst (λ (k : Command). IsOpeningTurn (shelf_of old) before k reply.Done after) (sym is) refl);
-      }
+      let p = created name guid devs in
+      as_made pool p holds answer (subst (λ (k : Command). IsOpeningTurn (shelf_of old) before k reply.Done (standing pool p)) (sym is) (is_opened_so pool p))
 
   old_made_to : (pool : OpenPool) → (name : List ℕ) (guid : ℕ) (devs : List (List ℕ)) → command ≡ cmd.CreateOld name guid devs → IsClosedAnswer command reply.Done → HoldsState told new.seen pool (created name guid devs) → Turns (Some pool) reply.Done
   old_made_to pool name guid devs is answer holds =
-      let after = opened (created name guid devs) in
-      record {
-        after = after;
-        stands_for = (created name guid devs, refl, told_anew told (Unit {0}) new.seen pool (created name guid devs) tt holds);
-        takes = takes_closed reply.Done after (answer, refl) (subst (λ (k : Command). IsOpeningTurn (shelf_of old) before k reply.Done after) (sym is) refl);
-      }
+      let p = created name guid devs in
+      as_made pool p holds answer (subst (λ (k : Command). IsOpeningTurn (shelf_of old) before k reply.Done (standing pool p)) (sym is) (is_opened_so pool p))
 
   imported_to : (pool : OpenPool) → command ≡ cmd.Import → IsClosedAnswer command reply.Done → IsMade (shelf_of old) (HoldsState told new.seen pool) cmd.Import → Turns (Some pool) reply.Done
-  imported_to pool is answer (p, shows, holds) = record {
-    after = opened p;
-    stands_for = (p, refl, told_anew told (Unit {0}) new.seen pool p tt holds);
-    takes = takes_closed reply.Done (opened p) (answer, refl) (subst (λ (k : Command). IsOpeningTurn (shelf_of old) before k reply.Done (opened p)) (sym is) (p, shows, refl));
-  }
+  imported_to pool is answer (p, shows, holds) =
+      as_made pool p holds answer (subst (λ (k : Command). IsOpeningTurn (shelf_of old) before k reply.Done (standing pool p)) (sym is) (p, shows, is_opened_so pool p))
 
   rewound_to : (pool : OpenPool) → command ≡ cmd.ImportRewind → IsClosedAnswer command reply.Done → IsMade (shelf_of old) (HoldsState told new.seen pool) cmd.ImportRewind → Turns (Some pool) reply.Done
   rewound_to pool is answer (p, saved, shows, has, holds) =
       let q = rewound p saved in
-      record {
-        after = opened q;
-        stands_for = (q, refl, told_anew told (Unit {0}) new.seen pool q tt holds);
-        takes = takes_closed reply.Done (opened q) (answer, refl) (subst (λ (k : Command). IsOpeningTurn (shelf_of old) before k reply.Done (opened q)) (sym is) (p, saved, shows, has, refl));
-      }
+      as_made pool q holds answer (subst (λ (k : Command). IsOpeningTurn (shelf_of old) before k reply.Done (standing pool q)) (sym is) (p, saved, shows, has, is_opened_so pool q))
 
   back_to : (pool : OpenPool) (txg : ℕ) → command ≡ cmd.ImportTxg txg → IsClosedAnswer command reply.Done → IsMade (shelf_of old) (HoldsState told new.seen pool) (cmd.ImportTxg txg) → Turns (Some pool) reply.Done
-  back_to pool txg is answer (p, shows, holds) = record {
-    after = opened p;
-    stands_for = (p, refl, told_anew told (Unit {0}) new.seen pool p tt holds);
-    takes = takes_closed reply.Done (opened p) (answer, refl) (subst (λ (k : Command). IsOpeningTurn (shelf_of old) before k reply.Done (opened p)) (sym is) (p, shows, refl));
-  }
+  back_to pool txg is answer (p, shows, holds) =
+      as_made pool p holds answer (subst (λ (k : Command). IsOpeningTurn (shelf_of old) before k reply.Done (standing pool p)) (sym is) (p, shows, is_opened_so pool p))
 
 done_to : (old new : Stand) (before : State) (closed : before.is_open ≡ false) (told : Type 0) (is_told : told) (command : Command) (pool : OpenPool) → is_opener command ≡ true
     → IsMade (shelf_of old) (HoldsState told new.seen pool) command → TurnsTo on_devices (λ disks state. StandsFor (Some pool) disks state) before old command reply.Done new
@@ -113,32 +122,83 @@ refusal_stays command r = refl
 abbrev pub left_of : Bool → OpenPool → Option OpenPool
 left_of closing pool = if closing then None else Some pool
 
-module _ (old new : Stand) (told : Type 0) (is_told : told) (command : Command) (y : OpenPool) where
+module _ (old new : Stand) (told : Type 0) (command : Command) (y : OpenPool) where
   abbrev Leads : State → Option OpenPool → Reply → Type 0
   Leads before pool answer = TurnsTo on_devices (λ disks state. StandsFor pool disks state) before old command answer new
 
-  refused_open : (p : PoolState) (r : Refusal) → HoldsState told new.seen y p → IsPlainTurn p command (reply.No r) (opened p) → IsOpenRefusal command r → Leads (opened p) (Some y) (reply.No r)
-  refused_open p r holds turn why = record {
-    after = opened p;
-    stands_for = (p, refl, told_anew told (Unit {0}) new.seen y p tt holds);
-    takes = ((why, sym (refusal_stays command r)), turn);
+  -- what a line makes of a state by its parts
+  by_parts : (before after : State) (part : ShelfPart) (answer : Reply) (pool : Option OpenPool) → before.is_open ≡ true → before.shelf ≡ part → StandsFor pool new.seen after
+      → IsTurn true command answer after.is_open → IsObjectsTurn true part (shelf_of old) before command answer after → Leads before pool answer
+  by_parts before after part answer pool is_open shelf stands turn objects = record {
+    after = after;
+    stands_for = stands;
+    takes = subst (λ (b : Bool). IsTurn b command answer after.is_open × IsObjectsTurn b before.shelf (shelf_of old) before command answer after) (sym is_open)
+        (turn, subst (λ (q : ShelfPart). IsObjectsTurn true q (shelf_of old) before command answer after) (sym shelf) objects);
   }
 
-  plain_open : (p : PoolState) (answer : Reply) → IsPlainOn (HoldsState told new.seen y) p command answer → IsOpenAnswer command answer → stays_open command answer ≡ true → Leads (opened p) (Some y) answer
-  plain_open p answer on a stays = record {
-    after = opened on.after;
-    stands_for = (on.after, refl, told_anew told (Unit {0}) new.seen y on.after tt on.holds);
-    takes = ((a, sym stays), on.turn);
-  }
+  refused_open : (before : State) (p : PoolState) (r : Refusal) → before.is_open ≡ true → before.shelf ≡ Is p → HoldsState told new.seen y p → IsPlainRefusal p command r → IsOpenRefusal command r → Leads before (Some y) (reply.No r)
+  refused_open before p r is_open shelf holds cause why =
+      by_parts before (standing y p) (Is p) (reply.No r) (Some y) is_open shelf (stands_so told new.seen y p holds) (why, sym (refusal_stays command r)) (is_opened_so y p, cause)
 
-told_turns : (old new : Stand) (told : Type 0) (is_told : told) (command : Command) (y : OpenPool) (p : PoolState) (answer : Reply) → IsOpenAnswer command answer → IsPlainOf (HoldsState told new.seen y) p command answer
-    → TurnsTo on_devices (λ disks state. StandsFor (left_of (is_closing command (Ok (Some answer))) y) disks state) (opened p) old command answer new
-told_turns old new told is_told cmd.Export y p reply.Done a on = record { after = exported p; stands_for = refl; takes = ((a, refl), refl) }
-told_turns old new told is_told cmd.Export y p answer a on = absurd a
-told_turns old new told is_told command y p answer a on = plain_open old new told is_told command y p answer on a refl
+  plain_open : (before : State) (p : PoolState) (answer : Reply) → before.is_open ≡ true → before.shelf ≡ Is p → (on : IsPlainOn (HoldsState told new.seen y) p command answer) → IsOpenAnswer command answer → stays_open command answer ≡ true
+      → IsPlainTurn p command answer (standing y on.after) → Leads before (Some y) answer
+  plain_open before p answer is_open shelf on a stays turn =
+      by_parts before (standing y on.after) (Is p) answer (Some y) is_open shelf (stands_so told new.seen y on.after on.holds) (a, sym stays) turn
 
-plain_no : (p : PoolState) (command : Command) (r : Refusal) → IsPlainRefusal p command r → IsPlainTurn p command (reply.No r) (opened p)
-plain_no p command r why = (refl, why)
+  untold_open : (before : State) (part : ShelfPart) (answer : Reply) → before.is_open ≡ true → before.shelf ≡ part → IsOpenAnswer command answer → stays_open command answer ≡ true
+      → IsObjectsTurn true part (shelf_of old) before command answer (untold (work_of y.space)) → Leads before (Some y) answer
+  untold_open before part answer is_open shelf a stays turn = by_parts before (untold (work_of y.space)) part answer (Some y) is_open shelf (stands_untold new.seen y) (a, sym stays) turn
+
+module _ (old new : Stand) (told : Type 0) (y : OpenPool) (before : State) (is_open : before.is_open ≡ true) where
+  abbrev Comes : Command → Reply → Type 0
+  Comes command answer = TurnsTo on_devices (λ disks state. StandsFor (left_of (is_closing command (Ok (Some answer))) y) disks state) before old command answer new
+
+  -- a line to a pool whose objects are told
+  told_turns : (command : Command) (p : PoolState) (answer : Reply) → before.shelf ≡ Is p → IsOpenAnswer command answer → IsPlainOf (HoldsState told new.seen y) p command answer → Comes command answer
+  told_turns cmd.Export p reply.Done shelf a on = by_parts old new told cmd.Export y before (exported p) (Is p) reply.Done None is_open shelf refl (a, refl) refl
+  told_turns cmd.Export p answer shelf a on = absurd a
+  told_turns (cmd.Remove dev) p (reply.No r) shelf a on = absurd on
+  told_turns (cmd.Remove dev) p answer shelf a on = untold_open old new told (cmd.Remove dev) y before (Is p) answer is_open shelf a refl (is_untold_so (work_of y.space))
+  told_turns cmd.Cancel p (reply.No r) shelf a on = absurd on
+  told_turns cmd.Cancel p answer shelf a on = untold_open old new told cmd.Cancel y before (Is p) answer is_open shelf a refl (is_untold_so (work_of y.space))
+  told_turns cmd.StepEvac p (reply.No r) shelf a on = absurd on
+  told_turns cmd.StepEvac p answer shelf a on = untold_open old new told cmd.StepEvac y before (Is p) answer is_open shelf a refl (is_untold_so (work_of y.space))
+  told_turns cmd.StepCondense p (reply.No r) shelf a on = absurd on
+  told_turns cmd.StepCondense p answer shelf a on = untold_open old new told cmd.StepCondense y before (Is p) answer is_open shelf a refl (is_untold_so (work_of y.space))
+  told_turns command p (reply.No r) shelf a on = absurd on.step.0
+  told_turns command p answer shelf a on = plain_open old new told command y before p answer is_open shelf on a refl (on.after, on.step, is_opened_so y on.after)
+
+  -- and to one whose objects are not
+  untold_turns : (command : Command) (answer : Reply) → before.shelf ≡ Empty → IsOpenAnswer command answer → Comes command answer
+  untold_turns cmd.Export (reply.No r) shelf a = absurd a
+  untold_turns cmd.Export reply.Done shelf a = by_parts old new told cmd.Export y before no_pool Empty reply.Done None is_open shelf refl (a, refl) refl
+  untold_turns cmd.Export answer shelf a = absurd a
+  untold_turns command (reply.No r) shelf a = untold_open old new told command y before Empty (reply.No r) is_open shelf a refl (is_untold_so (work_of y.space))
+  untold_turns command answer shelf a = untold_open old new told command y before Empty answer is_open shelf a refl (is_untold_so (work_of y.space))
+
+  untold_refused : (command : Command) (r : Refusal) → before.shelf ≡ Empty → IsOpenRefusal command r → TurnsTo on_devices (λ disks state. StandsFor (Some y) disks state) before old command (reply.No r) new
+  untold_refused command r shelf why = untold_open old new told command y before Empty (reply.No r) is_open shelf why (refusal_stays command r) (is_untold_so (work_of y.space))
+
+-- what a line makes of the state by what is told
+abbrev Meets : Type 0 → Type 0 → Command → Stand → OpenPool → OpenPool → Result (Option Reply) Fault → PoolState → Stand → Type 0
+Meets told1 told command old x y r p new = HoldsState told1 old.seen x p →
+    IfOk r (λ found. IfSome found (IsPlainOf (HoldsState told new.seen y) p command)) × ((n : Refusal) → r ≡ Err (No n) → HoldsState told new.seen y p × IsPlainRefusal p command n)
+
+turns_by : (old new : Stand) (before : State) (told1 told : Type 0) → told1 → (command : Command) (x y : OpenPool) (r : Result (Option Reply) Fault) (part : ShelfPart) → before.is_open ≡ true → before.shelf ≡ part → IsPartOf old.seen x part
+    → ((p : PoolState) → Meets told1 told command old x y r p new)
+    → IfOk r (λ found. IfSome found (IsOpenAnswer command)) → ((n : Refusal) → r ≡ Err (No n) → IsOpenRefusal command n)
+    → IfOk (answer_of r) (λ found. IfSome found (λ answer. TurnsTo on_devices (λ disks state. StandsFor (left_of (is_closing command r) y) disks state) before old command answer new))
+turns_by old new before told1 told was command x y (Ok None) part is_open shelf stood meets a refused = tt
+turns_by old new before told1 told was command x y (Err (Stops s)) part is_open shelf stood meets a refused = tt
+turns_by old new before told1 told was command x y (Ok (Some answer)) (Is p) is_open shelf held meets a refused =
+    told_turns old new told y before is_open command p answer shelf a (meets p (told_anew (Unit {0}) told1 old.seen x p was held)).0
+turns_by old new before told1 told was command x y (Ok (Some answer)) Empty is_open shelf held meets a refused = untold_turns old new told y before is_open command answer shelf a
+turns_by old new before told1 told was command x y (Ok (Some answer)) (Refused n) is_open shelf held meets a refused = absurd held
+turns_by old new before told1 told was command x y (Err (No n)) (Is p) is_open shelf held meets a refused =
+    let m = (meets p (told_anew (Unit {0}) told1 old.seen x p was held)).1 n refl in
+    refused_open old new told command y before p n is_open shelf m.0 m.1 (refused n refl)
+turns_by old new before told1 told was command x y (Err (No n)) Empty is_open shelf held meets a refused = untold_refused old new told y before is_open command n shelf (refused n refl)
+turns_by old new before told1 told was command x y (Err (No n)) (Refused r) is_open shelf held meets a refused = absurd held
 
 pub open_turns : (old new : Stand) (before : State) (told1 told : Type 0) → told1 → told → (command : Command) (x y : OpenPool) (r : Result (Option Reply) Fault) → StandsFor (Some x) old.seen before
     → ((p : PoolState) → HoldsState told1 old.seen x p → IfOk r (λ found. IfSome found (IsPlainOf (HoldsState told new.seen y) p command)))
@@ -146,12 +206,5 @@ pub open_turns : (old new : Stand) (before : State) (told1 told : Type 0) → to
     → ((p : PoolState) → HoldsState told1 old.seen x p → (n : Refusal) → r ≡ Err (No n) → IsPlainRefusal p command n)
     → IfOk r (λ found. IfSome found (IsOpenAnswer command)) → ((n : Refusal) → r ≡ Err (No n) → IsOpenRefusal command n)
     → IfOk (answer_of r) (λ found. IfSome found (λ answer. TurnsTo on_devices (λ disks state. StandsFor (left_of (is_closing command r) y) disks state) before old command answer new))
-open_turns old new before told1 told was is_told command x y (Ok None) stood acts stays cause a refused = tt
-open_turns old new before told1 told was is_told command x y (Err (Stops s)) stood acts stays cause a refused = tt
-open_turns old new before told1 told was is_told command x y (Ok (Some answer)) (p, is, held) acts stays cause a refused =
-    let h = told_anew (Unit {0}) told1 old.seen x p was held in
-    subst (λ (s : State). TurnsTo on_devices (λ disks state. StandsFor (left_of (is_closing command (Ok (Some answer))) y) disks state) s old command answer new) (sym is) (told_turns old new told is_told command y p answer a (acts p h))
-open_turns old new before told1 told was is_told command x y (Err (No n)) (p, is, held) acts stays cause a refused =
-    let h = told_anew (Unit {0}) told1 old.seen x p was held in
-    subst (λ (s : State). TurnsTo on_devices (λ disks state. StandsFor (Some y) disks state) s old command (reply.No n) new) (sym is)
-    (refused_open old new told is_told command y p n (stays p h n refl) (plain_no p command n (cause p h n refl)) (refused n refl))
+open_turns old new before told1 told was is_told command x y r stood acts stays cause a refused =
+    turns_by old new before told1 told was command x y r before.shelf stood.is_open refl stood.part (λ p h. (acts p h, λ n is. (stays p h n is, cause p h n is))) a refused

@@ -1,5 +1,5 @@
 -- What a line to the pool on devices makes of the plain objects that its disks hold.
-use Rattle.std.specs.Prelude.{◌≡◌, ◌⊎◌, ℕ, Bool, true, false, List, length, Option, Some, None, is_some}
+use Rattle.std.specs.Prelude.{◌≡◌, ◌⊎◌, ℕ, Bool, true, false, List, length, Option, Some, None, is_some, MatchBool}
 use Rattle.std.specs.FinMap as map
 use Rattle.zr_base.specs.declared.refusal.Refusal.{Refusal}
 use Rattle.zr_base.specs.declared.refusal.Refusal.TheVariants as refusal
@@ -8,7 +8,7 @@ use Rattle.zr_script.specs.declared.command.Command.TheVariants as cmd
 use Rattle.zr_script.specs.declared.reply.Reply.{Reply}
 use Rattle.zr_script.specs.declared.reply.Reply.TheVariants as reply
 use Rattle.zr_model.specs.Objects.{Objects}
-use Rattle.zr_model.specs.State.{State, PoolState, Saved, ShelfPart, Is, opened, created}
+use Rattle.zr_model.specs.State.{State, PoolState, Saved, ShelfPart, Empty, Refused, Is, IsOpened, no_pool, no_work, created}
 use Rattle.zr_model.specs.Runs.{Shelf}
 use Rattle.zr_shelf.specs.Disks.{Stand}
 use Rattle.zr_open.specs.Shown.{Shows, ShowsGroup}
@@ -72,6 +72,8 @@ abbrev pub IsPlainRefusal : PoolState → Command → Refusal → Type 0
 IsPlainRefusal p cmd.Checkpoint r = IsCheckpointCause p r
 IsPlainRefusal p cmd.Discard r = IsCheckpointCause p r
 IsPlainRefusal p cmd.StepDiscard r = IsCheckpointCause p r
+IsPlainRefusal p (cmd.Remove dev) r = IsCheckpointCause p r
+IsPlainRefusal p (cmd.Estimate dev) r = IsCheckpointCause p r
 IsPlainRefusal p command r = IsObjectCause p.objects command r
 
 -- Nothing is gone back to where the pool that the disks show has no checkpoint, or where the group is not kept.
@@ -83,40 +85,69 @@ IsOpeningCause shelf command r = Unit {0}
 -- ---- lines
 
 abbrev pub exported : PoolState → State
-exported p = record { is_open = false; shelf = Is p }
+exported p = record { is_open = false; shelf = Is p; work = no_work }
 
--- What a line makes of the objects of an open pool: an export closes it, and all else that is done is a step of plain objects.
+-- a line that is done takes the step of plain objects, and needs no lost block
+abbrev pub IsStep : PoolState → Command → Reply → PoolState → Type 0
+IsStep p command answer q = Acts p command answer q × (needs_lost p command ≡ false)
+
+-- a pool is open, of whose objects nothing is told
+pub record IsUntold (s : State) : Type 0 where
+  pub is_open : s.is_open ≡ true
+  pub shelf : s.shelf ≡ Empty
+
+-- a step of a removal, or of condensing a mapping: what the objects are behind it is not told yet
+abbrev pub is_of_removal : Command → Bool
+is_of_removal (cmd.Remove dev) = true
+is_of_removal cmd.Cancel = true
+is_of_removal cmd.StepEvac = true
+is_of_removal cmd.StepCondense = true
+is_of_removal command = false
+
+-- What a line makes of the objects of an open pool: an export closes it, behind a step of a removal nothing is told of them, and all else that is done is a step of plain objects.
 abbrev pub IsPlainTurn : PoolState → Command → Reply → State → Type 0
-IsPlainTurn p command (reply.No r) new = (new ≡ opened p) × IsPlainRefusal p command r
+IsPlainTurn p command (reply.No r) new = IsOpened p new × IsPlainRefusal p command r
 IsPlainTurn p cmd.Export reply.Done new = new ≡ exported p
-IsPlainTurn p command answer new = (q : PoolState) × Acts p command answer q × (needs_lost p command ≡ false) × (new ≡ opened q)
+IsPlainTurn p command answer new = MatchBool (is_of_removal command) (IsUntold new) ((q : PoolState) × IsStep p command answer q × IsOpened q new)
+
+-- where nothing is told of the objects, nothing is until the pool is opened anew
+abbrev pub IsUntoldTurn : Command → Reply → State → Type 0
+IsUntoldTurn command (reply.No r) new = IsUntold new
+IsUntoldTurn cmd.Export reply.Done new = new ≡ no_pool
+IsUntoldTurn command answer new = IsUntold new
 
 -- A pool that is made has no objects, one that is imported is what the disks show, by the current root or by that of a group that is kept, and one that goes back to its checkpoint is what this had saved.
 abbrev pub IsOpeningTurn : Shelf → State → Command → Reply → State → Type 0
 IsOpeningTurn shelf old command (reply.No r) new = (new ≡ old) × IsOpeningCause shelf command r
-IsOpeningTurn shelf old (cmd.Create name guid devs) reply.Done new = new ≡ opened (created name guid devs)
-IsOpeningTurn shelf old (cmd.CreateOld name guid devs) reply.Done new = new ≡ opened (created name guid devs)
-IsOpeningTurn shelf old cmd.Import reply.Done new = (p : PoolState) × Shows shelf.paths shelf.disks p × (new ≡ opened p)
-IsOpeningTurn shelf old cmd.ImportRewind reply.Done new = (p : PoolState) × (saved : Saved) × Shows shelf.paths shelf.disks p × (p.saved ≡ Some saved) × (new ≡ opened (rewound p saved))
-IsOpeningTurn shelf old (cmd.ImportTxg txg) reply.Done new = (p : PoolState) × ShowsGroup shelf.paths shelf.disks txg p × (new ≡ opened p)
+IsOpeningTurn shelf old (cmd.Create name guid devs) reply.Done new = IsOpened (created name guid devs) new
+IsOpeningTurn shelf old (cmd.CreateOld name guid devs) reply.Done new = IsOpened (created name guid devs) new
+IsOpeningTurn shelf old cmd.Import reply.Done new = (p : PoolState) × Shows shelf.paths shelf.disks p × IsOpened p new
+IsOpeningTurn shelf old cmd.ImportRewind reply.Done new = (p : PoolState) × (saved : Saved) × Shows shelf.paths shelf.disks p × (p.saved ≡ Some saved) × IsOpened (rewound p saved) new
+IsOpeningTurn shelf old (cmd.ImportTxg txg) reply.Done new = (p : PoolState) × ShowsGroup shelf.paths shelf.disks txg p × IsOpened p new
 IsOpeningTurn shelf old command answer new = new ≡ old
 
--- what a line makes of the objects; a state that is open has a pool
+-- what a line makes of the objects; a state that is open has a pool, or nothing is told of it
 abbrev pub IsObjectsTurn : Bool → ShelfPart → Shelf → State → Command → Reply → State → Type 0
 IsObjectsTurn true (Is p) shelf old command answer new = IsPlainTurn p command answer new
-IsObjectsTurn true part shelf old command answer new = ⊥
+IsObjectsTurn true Empty shelf old command answer new = IsUntoldTurn command answer new
+IsObjectsTurn true (Refused r) shelf old command answer new = ⊥
 IsObjectsTurn false part shelf old command answer new = IsOpeningTurn shelf old command answer new
 
 -- The line was answered, and what is behind it is held.
 pub record IsPlainOn (Holds : PoolState → Type 0) (p : PoolState) (command : Command) (answer : Reply) : Type 0 where
   pub after : PoolState
   pub holds : Holds after
-  pub turn : IsPlainTurn p command answer (opened after)
+  pub step : IsStep p command answer after
 
--- so was each line but an export, behind which no pool is open to hold them
+-- the answer is no refusal
+abbrev pub IsDone : Reply → Type 0
+IsDone (reply.No r) = ⊥
+IsDone answer = Unit {0}
+
+-- so was each line but an export, behind which no pool is open to hold them, and a step of a removal, which was done
 abbrev pub IsPlainOf : (PoolState → Type 0) → PoolState → Command → Reply → Type 0
 IsPlainOf Holds p cmd.Export reply.Done = Unit {0}
-IsPlainOf Holds p command answer = IsPlainOn Holds p command answer
+IsPlainOf Holds p command answer = MatchBool (is_of_removal command) (IsDone answer) (IsPlainOn Holds p command answer)
 
 -- a pool that was made is a new one, one that was imported is what the disks showed, and one that went back to its checkpoint is what this had saved
 abbrev pub IsMade : Shelf → (PoolState → Type 0) → Command → Type 0

@@ -1,13 +1,35 @@
 -- The pool on the devices of the words.
-use Rattle.std.specs.Prelude.{◌≡◌, ℕ, false, ◌≤◌, List, length, Option, Some, None, IfSome}
-use Rattle.zr_model.specs.State.{State, PoolState, opened}
+use Rattle.std.specs.Prelude.{◌≡◌, ℕ, Bool, true, false, ◌≤◌, List, length, Option, Some, None, IfSome}
+use Rattle.std.specs.List.{list_any}
+use Rattle.zr_base.specs.declared.space.DevPart.{DevPart}
+use Rattle.zr_image.specs.StateOf.{is_discarding}
+use Rattle.zr_model.specs.State.{State, PoolState, ShelfPart, Empty, Refused, Is, Work}
+use Rattle.zr_rules.specs.Places.{is_leaving}
+use Rattle.zr_rules.specs.Space.{Space}
+use Rattle.zr_rules.specs.Steps.{has_condensing}
 use Rattle.zr_sync.specs.Pools.{IsOpen}
 use Rattle.zr_sync.specs.States.{HoldsState}
 use Rattle.zr_sync.specs.declared.open.OpenPool.{OpenPool}
 
--- an open pool stands for a state whose objects its disks hold
-abbrev pub IsStateOf : List (List ℕ) → OpenPool → State → Type 0
-IsStateOf disks pool state = (p : PoolState) × (state ≡ opened p) × HoldsState (Unit {0}) disks pool p
+-- a device is leaving
+abbrev pub is_evacuating : Space → Bool
+is_evacuating s = list_any (λ (p : DevPart). is_leaving p.row.state) s.parts.devs
+
+-- which actors have work on a pool of this space
+abbrev pub work_of : Space → Work
+work_of s = record { evac = is_evacuating s; discard = is_discarding s.parts.ckpt; condense = has_condensing s }
+
+-- what is told of an open pool: its disks hold these objects, or nothing
+abbrev pub IsPartOf : List (List ℕ) → OpenPool → ShelfPart → Type 0
+IsPartOf disks pool (Is p) = HoldsState (Unit {0}) disks pool p
+IsPartOf disks pool Empty = Unit {0}
+IsPartOf disks pool (Refused r) = ⊥
+
+-- An open pool stands for a state whose objects, where they are told, its disks hold, and in which its actors have the work that they have.
+pub record IsStateOf (disks : List (List ℕ)) (pool : OpenPool) (state : State) : Type 0 where
+  pub is_open : state.is_open ≡ true
+  pub part : IsPartOf disks pool state.shelf
+  pub work : state.work ≡ work_of pool.space
 
 -- what the pool, if one is open, and the disks stand for
 abbrev pub StandsFor : Option OpenPool → List (List ℕ) → State → Type 0

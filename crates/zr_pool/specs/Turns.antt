@@ -1,7 +1,11 @@
 -- What the pool on devices says of its answers so far: each is one to its line, and the pool is open where it should be.
-use Rattle.std.specs.Prelude.{◌≡◌, ◌⊎◌, ℕ, ◌<◌, ◌==◌, if◌then◌else◌, Bool, true, false, List, length}
+use Rattle.std.specs.Prelude.{◌≡◌, ◌⊎◌, ℕ, ◌<◌, ◌≤◌, ◌==◌, if◌then◌else◌, Bool, true, false, List, length}
 use Rattle.zr_base.specs.declared.refusal.Refusal.{Refusal}
 use Rattle.zr_base.specs.declared.refusal.Refusal.TheVariants as refusal
+use Rattle.zr_base.specs.declared.space.Condensed.{Condensed}
+use Rattle.zr_base.specs.declared.space.Condensed.TheVariants as condensed
+use Rattle.zr_removal.specs.declared.evacuate.Evacuated.{Evacuated}
+use Rattle.zr_removal.specs.declared.evacuate.Evacuated.TheVariants.{Copied, Gone, Cancelled}
 use Rattle.zr_script.specs.declared.command.Command.{Command}
 use Rattle.zr_script.specs.declared.command.Command.TheVariants as cmd
 use Rattle.zr_script.specs.declared.reply.Reply.{Reply}
@@ -9,11 +13,11 @@ use Rattle.zr_script.specs.declared.reply.Reply.TheVariants as reply
 use Rattle.zr_lines.specs.Sought.{IsDamaged}
 use Rattle.zr_open.specs.Opened.{IsImportRefusal}
 use Rattle.zr_lines.specs.Answers.{IsNoRoom, IsSumRefusal, IsReadRefusal, IsMakeRefusal, IsDropRefusal}
-use Rattle.zr_model.specs.State.{ShelfPart, Is}
+use Rattle.zr_model.specs.State.{Work}
 use Rattle.zr_model.specs.declared.pool.Actor.{Actor}
-use Rattle.zr_model.specs.declared.pool.Actor.TheVariants.{Discard}
+use Rattle.zr_model.specs.declared.pool.Actor.TheVariants.{Evac, Discard, Condense}
 use Rattle.zr_model.specs.Runs.{Point, Turn, Meaning}
-use Rattle.zr_pool.specs.Plain.{IsObjectsTurn}
+use Rattle.zr_pool.specs.Plain.{IsObjectsTurn, is_of_removal}
 
 -- the lines on objects
 abbrev pub is_on_objects : Command → Bool
@@ -30,6 +34,18 @@ is_on_objects _ = false
 abbrev pub step_reply : ℕ → Reply
 step_reply units = if units == 0 then reply.Ended else reply.Freed units
 
+-- the reply to a step of a removal
+abbrev pub evac_reply : Evacuated → Reply
+evac_reply (Copied units) = reply.Copied units
+evac_reply (Gone index) = reply.Gone index
+evac_reply (Cancelled index) = reply.Cancelled index
+
+-- and to one of condensing
+abbrev pub condense_reply : Condensed → Reply
+condense_reply (condensed.Kept entries) = reply.Kept entries
+condense_reply condensed.Done = reply.Ended
+condense_reply condensed.Nothing = reply.Ended
+
 -- the lines on a whole pool that is open
 abbrev pub is_on_pool : Command → Bool
 is_on_pool cmd.Sync = true
@@ -42,6 +58,8 @@ is_on_pool cmd.Checkpoint = true
 is_on_pool cmd.Discard = true
 is_on_pool cmd.StepDiscard = true
 is_on_pool cmd.Upgrade = true
+is_on_pool (cmd.Estimate dev) = true
+is_on_pool (cmd.Map index) = true
 is_on_pool _ = false
 
 -- the lines that make a pool or open one
@@ -57,7 +75,7 @@ is_opener _ = false
 abbrev pub IsServed : Command → Type 0
 IsServed (cmd.Create name guid devs) = Unit {0}
 IsServed (cmd.CreateOld name guid devs) = Unit {0}
-IsServed command = (is_on_objects command ≡ true) ⊎ (is_on_pool command ≡ true)
+IsServed command = (is_on_objects command ≡ true) ⊎ ((is_on_pool command ≡ true) ⊎ (is_of_removal command ≡ true))
 
 -- a pool that is made or upgraded is of the version that the line asks for
 abbrev pub IsOfVersion : Command → ℕ → Type 0
@@ -95,6 +113,17 @@ IsDiscardRefusal refusal.NoCheckpoint = Unit {0}
 IsDiscardRefusal refusal.DiscardingCheckpoint = Unit {0}
 IsDiscardRefusal r = ⊥
 
+-- to take a device out of service: a checkpoint is held or being discarded, another device is leaving, this one is none, is not in service or is the only one that is, or there is no room
+abbrev pub IsRemoveRefusal : Refusal → Type 0
+IsRemoveRefusal refusal.CheckpointExists = Unit {0}
+IsRemoveRefusal refusal.DiscardingCheckpoint = Unit {0}
+IsRemoveRefusal refusal.RemovalInProgress = Unit {0}
+IsRemoveRefusal refusal.NoSuchDevice = Unit {0}
+IsRemoveRefusal refusal.NotInService = Unit {0}
+IsRemoveRefusal refusal.OnlyDevice = Unit {0}
+IsRemoveRefusal (refusal.NoRoom needed free) = free < needed
+IsRemoveRefusal r = ⊥
+
 -- what a line to an open pool may be refused for
 abbrev pub IsOpenRefusal : Command → Refusal → Type 0
 IsOpenRefusal (cmd.Create name guid devs) r = r ≡ refusal.PoolIsOpen
@@ -115,6 +144,12 @@ IsOpenRefusal cmd.Checkpoint r = IsCheckpointRefusal r
 IsOpenRefusal cmd.Discard r = IsDiscardRefusal r
 IsOpenRefusal cmd.StepDiscard r = r ≡ refusal.NothingToDo
 IsOpenRefusal cmd.Upgrade r = r ≡ refusal.NothingToDo
+IsOpenRefusal (cmd.Remove dev) r = IsRemoveRefusal r
+IsOpenRefusal (cmd.Estimate dev) r = IsRemoveRefusal r
+IsOpenRefusal cmd.Cancel r = r ≡ refusal.NoRemoval
+IsOpenRefusal cmd.StepEvac r = r ≡ refusal.NothingToDo
+IsOpenRefusal cmd.StepCondense r = r ≡ refusal.NothingToDo
+IsOpenRefusal (cmd.Map index) r = r ≡ refusal.NoSuchDevice
 IsOpenRefusal _ r = ⊥
 
 -- what a line to an open pool is answered when it is done
@@ -138,6 +173,15 @@ IsOpenAnswer cmd.Discard reply.Done = Unit {0}
 IsOpenAnswer cmd.Upgrade reply.Done = Unit {0}
 IsOpenAnswer cmd.StepDiscard (reply.Freed units) = 0 < units
 IsOpenAnswer cmd.StepDiscard reply.Ended = Unit {0}
+IsOpenAnswer (cmd.Remove dev) reply.Done = Unit {0}
+IsOpenAnswer (cmd.Estimate dev) (reply.Estimate n) = Unit {0}
+IsOpenAnswer cmd.Cancel (reply.Cancelled i) = Unit {0}
+IsOpenAnswer cmd.StepEvac (reply.Copied n) = (1 ≤ n) × (n ≤ 256)
+IsOpenAnswer cmd.StepEvac (reply.Gone i) = Unit {0}
+IsOpenAnswer cmd.StepEvac (reply.Cancelled i) = Unit {0}
+IsOpenAnswer cmd.StepCondense (reply.Kept n) = Unit {0}
+IsOpenAnswer cmd.StepCondense reply.Ended = Unit {0}
+IsOpenAnswer (cmd.Map index) (reply.Map lines) = Unit {0}
 IsOpenAnswer _ _ = ⊥
 
 -- what a line is refused for while no pool is open
@@ -169,10 +213,12 @@ abbrev pub IsTurn : Bool → Command → Reply → Bool → Type 0
 IsTurn true command answer after = IsOpenAnswer command answer × (after ≡ stays_open command answer)
 IsTurn false command answer after = IsClosedAnswer command answer × (after ≡ is_opened answer)
 
--- a checkpoint is being discarded, and no other work is left by the lines that are served
-abbrev pub works_on : Bool → ShelfPart → Actor → Bool
-works_on true (Is p) Discard = p.discarding
-works_on is_open part actor = false
+-- the actor has work on the devices of an open pool
+abbrev pub works_on : Bool → Work → Actor → Bool
+works_on true work Evac = work.evac
+works_on true work Discard = work.discard
+works_on true work Condense = work.condense
+works_on false work actor = false
 
 -- What commands mean to the pool on devices, so far as it is claimed: each answer is one to its line, the pool is open where it should be, and the objects that are told are those of a
 -- pool of plain objects. Of damage that ends a run nothing is said yet.
@@ -181,5 +227,5 @@ on_devices = record {
   takes = λ p t. IsTurn p.state.is_open t.command t.answer t.point.state.is_open × IsObjectsTurn p.state.is_open p.state.shelf p.shelf p.state t.command t.answer t.point.state;
   serves = λ paths state command. IsServed command;
   damages = λ p command found. Unit {0};
-  works = λ state actor. works_on state.is_open state.shelf actor;
+  works = λ state actor. works_on state.is_open state.work actor;
 }

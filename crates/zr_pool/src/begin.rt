@@ -13,6 +13,7 @@ ghost use Rattle.zr_pool.specs.Plain.{IsMade, IsOpeningCause, shelf_of};
 ghost use Rattle.zr_pool.specs.Turns.{IsServed, IsClosedRefusal, IsOfVersion, is_opener};
 
 use crate::lines::{is_on_objects, is_on_pool};
+use crate::removals::is_of_removal;
 use crate::names::name_of;
 use std::alloc::Global;
 use zr_base::{Blob, Refusal};
@@ -69,7 +70,9 @@ pub fn begin<S: Shelf>(
         Command::Import => import(alloc, shelf),
         Command::ImportRewind => rewind(alloc, shelf),
         Command::ImportTxg { txg } => go_back(alloc, shelf, *txg),
-        _ if is_on_objects(command) || is_on_pool(command) => Err(Fault::No(Refusal::NoPoolOpen)),
+        _ if is_on_objects(command) || is_on_pool(command) || is_of_removal(command) => {
+            Err(Fault::No(Refusal::NoPoolOpen))
+        }
         _ => Ok(None),
     }
 }

@@ -8,6 +8,7 @@ mod begin;
 mod lines;
 mod names;
 mod pool;
+mod removals;
 mod replies;
 
 pub use pool::DevicePool;

@@ -14,6 +14,7 @@ ghost use Rattle.zr_sync.specs.States.{HoldsState};
 ghost use Rattle.zr_pool.specs.Plain.{IsPlainOf, IsPlainRefusal};
 ghost use Rattle.zr_pool.specs.Turns.{step_reply, IsOfVersion, IsOpenAnswer, IsOpenRefusal, is_on_objects, is_on_pool};
 
+use crate::removals::estimate_of;
 use std::alloc::Global;
 use zr_base::{Blob, Refusal};
 use zr_change::{Bytes, Edit};
@@ -23,7 +24,7 @@ use zr_lines::{Reach, change, drop, give_up, make, read, step, sum, take, upgrad
 use zr_script::{Command, Reply};
 use zr_shelf::Shelf;
 use zr_sync::{Fault, OpenPool, commit};
-use zr_tables::{audit, list, status};
+use zr_tables::{audit, list, map_lines, status};
 
 /// Whether a line is on an object.
 pub fn is_on_objects(command: &Command) -> bool
@@ -57,6 +58,8 @@ pub fn is_on_pool(command: &Command) -> bool
             | Command::Discard
             | Command::StepDiscard
             | Command::Upgrade
+            | Command::Estimate { .. }
+            | Command::Map { .. }
     )
 }
 
@@ -220,6 +223,8 @@ pub fn pool_line<S: Shelf>(
             upgrade(alloc, pool, shelf, pick)?;
             Ok(Reply::Done)
         }
+        Command::Estimate { dev } => Ok(Reply::Estimate(estimate_of(paths, pool, dev)?)),
+        Command::Map { index } => Ok(Reply::Map(map_lines(alloc, pool, *index)?)),
         _ => unreachable!(),
     }
 }

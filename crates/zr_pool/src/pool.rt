@@ -18,11 +18,13 @@ ghost use Rattle.zr_pool.specs.Turns.{IsServed, IsTurn, IsClosedRefusal, IsOpenR
 
 use crate::begin::begin;
 use crate::lines::{is_on_objects, is_on_pool, object_line, pool_line};
+use crate::removals::{is_of_removal, removal_line};
 use crate::replies::answer_of;
 use std::alloc::Global;
-use zr_base::{Blob, CkptPart, Items, NoMemory, Refusal};
+use zr_base::{Blob, Items, NoMemory, Refusal};
 use zr_choose::Chooser;
 use zr_model::{Actor, Pool, Stop};
+use zr_removal::has_work;
 use zr_script::{Command, Reply};
 use zr_shelf::Shelf;
 use zr_sync::{Fault, OpenPool};
@@ -91,6 +93,9 @@ fn open_line<S: Shelf>(
     }
     if is_on_pool(command) {
         return Ok(Some(pool_line(alloc, paths, pool, shelf, pick, command)?));
+    }
+    if is_of_removal(command) {
+        return Ok(Some(removal_line(alloc, paths, pool, shelf, pick, command)?));
     }
     if is_opener(command) {
         return Err(Fault::No(Refusal::PoolIsOpen));
@@ -173,9 +178,9 @@ impl Pool for DevicePool {
     }
 
     fn has_work(&self, actor: Actor) -> bool {
-        match (&self.pool, actor) {
-            (Some(pool), Actor::Discard) => pool.space.ckpt() == CkptPart::Discarding,
-            _ => false,
+        match &self.pool {
+            Some(pool) => has_work(pool, actor),
+            None => false,
         }
     }
 }

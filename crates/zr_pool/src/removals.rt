@@ -1,0 +1,131 @@
+//! The lines of a removal, and of condensing a mapping.
+//!
+//! Each goes to its call. What the devices hold of the objects behind a step that is done is not told yet; a line that is
+//! refused changes nothing.
+ghost use Rattle.std.specs.Prelude.{◌≡◌, ◌≤◌, ◌<◌, ℕ, List, true, length, IfOk, IfErr, OnOk, IsErrOf};
+ghost use Rattle.zr_base.specs.Counts.{HasRisen};
+ghost use Rattle.zr_base.specs.declared.refusal.Refusal.{Refusal};
+ghost use Rattle.zr_base.specs.declared.space.CkptPart.TheVariants.{Clear};
+ghost use Rattle.zr_base.specs.declared.space.DevState.TheVariants.{On};
+ghost use Rattle.zr_model.specs.State.{PoolState};
+ghost use Rattle.zr_removal.specs.Refusals.{HasNoRemoval};
+ghost use Rattle.zr_rules.specs.Places.{state_of_dev};
+ghost use Rattle.zr_shelf.specs.Counts.{NoneFell};
+ghost use Rattle.zr_sync.specs.Pools.{IsOpen};
+ghost use Rattle.zr_sync.specs.States.{HasCheckpoint, HoldsState};
+ghost use Rattle.zr_sync.specs.Writes.{WorksOnDisks};
+ghost use Rattle.zr_sync.specs.declared.fault.Fault.TheVariants.{No, Stops};
+ghost use Rattle.zr_sync.specs.declared.stop.Stop.TheVariants.{DiskFault};
+ghost use Rattle.zr_pool.specs.Plain.{IsCheckpointCause, IsDone, IsPlainRefusal, is_of_removal};
+ghost use Rattle.zr_pool.specs.Turns.{IsOpenAnswer, IsOpenRefusal, IsRemoveRefusal, condense_reply, evac_reply};
+
+use std::alloc::Global;
+use zr_base::{Blob, Condensed, Refusal};
+use zr_choose::Chooser;
+use zr_create::slot_of;
+use zr_removal::{Evacuated, cancel, device_on, estimate, has_other, may_remove, remove, step_condense, step_evac};
+use zr_script::{Command, Reply};
+use zr_shelf::Shelf;
+use zr_sync::{Fault, OpenPool};
+
+/// Whether a line is a step of a removal, or of condensing a mapping.
+pub fn is_of_removal(command: &Command) -> bool
+    ensures { result ≡ is_of_removal command.now }
+{
+    matches!(
+        command,
+        Command::Remove { .. } | Command::Cancel | Command::StepEvac | Command::StepCondense
+    )
+}
+
+// The device in service that a line names, where a removal may begin.
+fn removable(paths: &[Blob], pool: &OpenPool, dev: &Blob) -> Result<u32, Refusal>
+    requires pool { (sizes : List ℕ) × IsOpen sizes pool.now }
+    ensures known { IfOk result (λ d. d < pool.now.table.count) }
+    ensures on { IfOk result (λ d. state_of_dev pool.now.space.parts.devs d ≡ On) }
+    ensures clear { OnOk result (pool.now.space.parts.ckpt ≡ Clear) }
+    ensures alone { OnOk result (HasNoRemoval pool.now.space) }
+    ensures refused { IfErr result IsRemoveRefusal }
+    ensures cause { (p : PoolState) → HasCheckpoint pool.now.space.parts.ckpt p.saved p.discarding → IfErr result (IsCheckpointCause p) }
+{
+    may_remove(pool)?;
+    let Some(slot) = slot_of(paths, dev) else {
+        return Err(Refusal::NoSuchDevice);
+    };
+    match device_on(pool, slot) {
+        Some(dev) => Ok(dev),
+        None => Err(Refusal::NotInService),
+    }
+}
+
+/// In bytes: what the mapping of a device would take, were it removed.
+pub fn estimate_of(paths: &[Blob], pool: &OpenPool, dev: &Blob) -> Result<u64, Refusal>
+    requires pool { (sizes : List ℕ) × IsOpen sizes pool.now }
+    ensures refused { IfErr result IsRemoveRefusal }
+    ensures cause { (p : PoolState) → HasCheckpoint pool.now.space.parts.ckpt p.saved p.discarding → IfErr result (IsCheckpointCause p) }
+{
+    let dev = removable(paths, pool, dev)?;
+    if !has_other(pool, dev) {
+        return Err(Refusal::OnlyDevice);
+    }
+    Ok(estimate(pool, dev))
+}
+
+// The reply to a step of a removal.
+fn evac_reply(done: Evacuated) -> Reply
+    ensures { result ≡ evac_reply done }
+{
+    match done {
+        Evacuated::Copied(units) => Reply::Copied(units),
+        Evacuated::Gone(index) => Reply::Gone(index),
+        Evacuated::Cancelled(index) => Reply::Cancelled(index),
+    }
+}
+
+// The reply to a step of condensing that had work.
+fn condense_reply(done: Condensed) -> Reply
+    ensures { result ≡ condense_reply done }
+{
+    match done {
+        Condensed::Kept(entries) => Reply::Kept(entries),
+        Condensed::Done => Reply::Ended,
+        Condensed::Nothing => Reply::Ended,
+    }
+}
+
+/// A step of a removal of an open pool, or of condensing a mapping.
+pub fn removal_line<S: Shelf>(
+    alloc: Global,
+    paths: &[Blob],
+    pool: &mut OpenPool,
+    shelf: &mut S,
+    pick: &Chooser,
+    command: &Command,
+) -> Result<Reply, Fault>
+    requires pool { IsOpen (S.sizes shelf.old) pool.old }
+    requires line { is_of_removal command.now ≡ true }
+    ensures sizes { S.sizes shelf.new ≡ S.sizes shelf.old }
+    ensures none_fell { NoneFell (S.counts shelf.old) (S.counts shelf.new) }
+    ensures told { S.tells shelf.old → S.tells shelf.new }
+    ensures disks { S.tells shelf.old → WorksOnDisks (S.world shelf.old) (S.world shelf.new) }
+    ensures fault { IsErrOf result (Stops DiskFault) → HasRisen (S.counts shelf.old).disk (S.counts shelf.new).disk }
+    ensures pool { OnOk result (IsOpen (S.sizes shelf.new) pool.new) }
+    ensures unchanged { (r : Refusal) → IsErrOf result (No r) → pool.new ≡ pool.old }
+    ensures untouched { (r : Refusal) → IsErrOf result (No r) → S.world shelf.new ≡ S.world shelf.old }
+    ensures cause { (p : PoolState) → HoldsState (S.tells shelf.old) (S.world shelf.old).now.seen pool.old p → (r : Refusal) → IsErrOf result (No r) → IsPlainRefusal p command.now r }
+    ensures done { IfOk result IsDone }
+    ensures answer { IfOk result (IsOpenAnswer command.now) }
+    ensures refused { (r : Refusal) → IsErrOf result (No r) → IsOpenRefusal command.now r }
+{
+    match command {
+        Command::Remove { dev } => {
+            let dev = removable(paths, pool, dev)?;
+            remove(alloc, pool, shelf, pick, dev)?;
+            Ok(Reply::Done)
+        }
+        Command::Cancel => Ok(Reply::Cancelled(cancel(alloc, pool, shelf, pick)?)),
+        Command::StepEvac => Ok(evac_reply(step_evac(alloc, pool, shelf, pick)?)),
+        Command::StepCondense => Ok(condense_reply(step_condense(alloc, pool, shelf, pick)?)),
+        _ => unreachable!(),
+    }
+}
