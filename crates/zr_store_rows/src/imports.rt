@@ -7,7 +7,7 @@ use std::alloc::Global;
 use std::test::Fail;
 use zr_base::{Blob, CkptPart, DevRow, DevState, Extent, Items};
 use zr_bptr::{Bptr, ObjRec, Ptr, Tree, encode_records};
-use zr_import::{ImportErr, Root, are_on, import_root, read_saved, saved_uber};
+use zr_import::{ImportErr, Root, read_meta, read_root, read_saved, read_saved_meta, saved_uber};
 use zr_label::{NO_ROW, Name, Uber, is_uber};
 use zr_meta::{Head, encode_head, is_head, late_words};
 use zr_ranges::RangeSet;
@@ -161,10 +161,11 @@ fn import(
 ) -> Result<Result<Root, ImportErr>, Fail>
     requires { IsUber uber.now }
 {
-    if !are_on(uber) {
-        return Err(Fail::new("not in service"));
-    }
-    Ok(import_root(alloc, store, uber))
+    let meta = match read_meta(alloc, store, uber) {
+        Ok(meta) => meta,
+        Err(error) => return Ok(Err(error)),
+    };
+    Ok(read_root(alloc, store, meta, uber.txg))
 }
 
 #[test]
@@ -246,10 +247,14 @@ fn saved_of(
     let Some(saved) = saved_uber(uber, current.parts.ckpt, block.as_slice()) else {
         return Err(Fail::new("no saved root"));
     };
-    if !is_uber(&saved) || !are_on(&saved) {
+    if !is_uber(&saved) {
         return Err(Fail::new("no root"));
     }
-    Ok(read_saved(alloc, store, current, &saved))
+    let meta = match read_saved_meta(alloc, store, &saved) {
+        Ok(meta) => meta,
+        Err(error) => return Ok(Err(error)),
+    };
+    Ok(read_saved(alloc, store, current, meta, saved.txg))
 }
 
 #[test]
