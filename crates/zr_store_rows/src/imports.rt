@@ -1,5 +1,5 @@
 //! A small root in memory: one object in one leaf of the directory, and what is refused of roots like it.
-ghost use Rattle.std.specs.Prelude.{IfOk, IfSome};
+ghost use Rattle.std.specs.Prelude.{◌≤◌, IfOk, IfSome, length};
 ghost use Rattle.zr_bptr.specs.Spelling.{IsTree, IsObject};
 ghost use Rattle.zr_label.specs.Blocks.{IsUber};
 
@@ -9,7 +9,7 @@ use zr_base::{Blob, CkptPart, DevRow, DevState, Dva, Extent, Items};
 use zr_bptr::{Bptr, ObjRec, Ptr, Tree, encode_records};
 use zr_import::{ImportErr, Root, read_meta, read_root, read_saved, read_saved_meta, saved_uber};
 use zr_label::{NO_ROW, Name, Uber, is_uber};
-use zr_meta::{Head, encode_head, is_head, late_words};
+use zr_meta::{Head, Stream, encode_head, is_head, late_words};
 use zr_ranges::RangeSet;
 use zr_root::{write_root, write_stream};
 use zr_store::{Blocks, MemBlocks};
@@ -277,6 +277,13 @@ fn a_saved_root_is_read_beside(rt: HostRuntime) -> Result<(), Fail> {
     Ok(())
 }
 
+const LEAVING: DevRow = DevRow {
+    state: DevState::Leaving,
+    added: 1,
+    units: 896,
+    gone: 0,
+};
+
 const GONE: DevRow = DevRow {
     state: DevState::Gone,
     added: 1,
@@ -284,37 +291,59 @@ const GONE: DevRow = DevRow {
     gone: 2,
 };
 
-// A root over a device in service and one that is gone. Of the latter the four units from 8 on were copied to the former,
-// from this place on, and these of them are obsolete.
-fn root_over_gone(
-    alloc: Global,
-    store: &mut MemBlocks,
-    dir: Tree,
-    held: u64,
-    copied: u64,
-    obsolete: &[u64],
-) -> Result<Uber, Fail>
-    ensures { IfOk result IsUber }
+// The words of a log of one extent of a device.
+fn words_of(alloc: Global, dev: u32, start: u64, len: u64) -> Result<Vec<u64>, Fail>
+    ensures { IfOk result (λ words. length words.items ≤ 10) }
 {
-    if held == 0 || held > 100 || copied > 100 || obsolete.len() > 10 {
+    if dev > 1 || start > 100 || len == 0 || len > 100 {
         return Err(Fail::new("not so many units"));
     }
     let mut set = RangeSet::new(alloc);
-    set.add(Extent {
-        start: 0,
-        len: held,
-    })?;
+    set.add(Extent { start, len })?;
     let none = RangeSet::new(alloc);
-    let words = late_words(alloc, &set, &none, 2, 0)?;
+    let words = late_words(alloc, &set, &none, 2, dev)?;
     if words.len() > 10 {
         return Err(Fail::new("too many words"));
     }
+    Ok(words)
+}
+
+// The streams of a device in service of which the first units are held.
+fn first_streams(alloc: Global, store: &mut MemBlocks, held: u64) -> Result<Items<Stream>, Fail> {
+    let words = words_of(alloc, 0, 0, held)?;
     let mut streams = Items::new(alloc);
     streams.push(write_stream(alloc, store, words.as_slice())?)?;
     streams.push(write_stream(alloc, store, &[])?)?;
-    streams.push(write_stream(alloc, store, &[8 * 8, 8 * 4, 8 * copied])?)?;
+    Ok(streams)
+}
+
+// The streams of a mapping of one entry, from the ninth unit on, of which these units are obsolete.
+fn put_mapping(
+    alloc: Global,
+    store: &mut MemBlocks,
+    streams: &mut Items<Stream>,
+    copied: u64,
+    obsolete: &[u64],
+) -> Result<(), Fail> {
+    if copied > 100 || obsolete.len() > 10 {
+        return Err(Fail::new("not so many units"));
+    }
+    streams.push(write_stream(alloc, store, &[8 * 9, 8, 8 * copied])?)?;
     streams.push(write_stream(alloc, store, &[0])?)?;
     streams.push(write_stream(alloc, store, obsolete)?)?;
+    Ok(())
+}
+
+// A root over a device in service and another one, with these streams.
+fn root_over(
+    alloc: Global,
+    store: &mut MemBlocks,
+    dir: Tree,
+    other: DevRow,
+    streams: Items<Stream>,
+) -> Result<Uber, Fail>
+    ensures { IfOk result IsUber }
+{
     let head = Head {
         form: 1,
         dir,
@@ -323,39 +352,21 @@ fn root_over_gone(
         cond: None,
         streams,
     };
-    if !is_head(&head, &[ROW, GONE]) {
+    if !is_head(&head, &[ROW, other]) {
         return Err(Fail::new("no head"));
     }
-    let bytes = encode_head(alloc, &head, &[ROW, GONE])?;
-    if bytes.is_empty() || bytes.len() > 8192 {
-        return Err(Fail::new("not so many bytes"));
-    }
-    let root = write_root(alloc, store, bytes.as_slice())?;
-    let mut rows = [NO_ROW; 32];
-    rows[0] = ROW;
-    rows[1] = GONE;
-    let uber = Uber {
-        version: 2,
-        txg: 3,
-        guid: 7,
-        len: bytes.len() as u64,
-        count: 2,
-        reset: 0,
-        root,
-        rows,
-        name: Name {
-            len: 0,
-            bytes: [0; 63],
-        },
-    };
+    let bytes = encode_head(alloc, &head, &[ROW, other])?;
+    let mut uber = root_in(alloc, store, bytes.as_slice(), 3)?;
+    uber.count = 2;
+    uber.rows[1] = other;
     if !is_uber(&uber) {
         return Err(Fail::new("no root"));
     }
     Ok(uber)
 }
 
-// The same block by its address on the device that is gone.
-fn on_gone(b: &Bptr) -> Bptr {
+// The same block by its address on the other device.
+fn on_other(b: &Bptr) -> Bptr {
     let mut moved = *b;
     moved.at = Dva {
         dev: 1,
@@ -365,23 +376,41 @@ fn on_gone(b: &Bptr) -> Bptr {
     moved
 }
 
-// How the import of the root ends that has one block by its address on a device that is gone, where these of its units are
-// obsolete.
+// How the import of a root ends whose second block has its address on a device that is gone. Its unit was copied to where
+// the block lies, and these units are obsolete. The first block is another one, or the second by its own place.
 fn import_over_gone(
     alloc: Global,
-    both: bool,
+    twice: bool,
     obsolete: &[u64],
 ) -> Result<Result<Root, ImportErr>, Fail> {
     let mut store = MemBlocks::new(alloc, 64);
     let a = store.put(alloc, &[1; 4096], 0)?;
     let b = store.put(alloc, &[2; 4096], 0)?;
-    if b.at.start == 0 {
-        return Err(Fail::new("no unit before it"));
-    }
-    let first = if both { b } else { a };
-    let dir = directory(alloc, &mut store, &first, &on_gone(&b))?;
-    let copied = b.at.start - 1;
-    let uber = root_over_gone(alloc, &mut store, dir, 4, copied, obsolete)?;
+    let first = if twice { b } else { a };
+    let dir = directory(alloc, &mut store, &first, &on_other(&b))?;
+    let mut streams = first_streams(alloc, &mut store, 4)?;
+    put_mapping(alloc, &mut store, &mut streams, b.at.start, obsolete)?;
+    let uber = root_over(alloc, &mut store, dir, GONE, streams)?;
+    import(alloc, &mut store, &uber)
+}
+
+// How the import of a root ends whose second block lies on a device that is leaving, with a copy on the first. The first
+// block is another one, or leads to that copy.
+fn import_over_leaving(
+    alloc: Global,
+    leads_to_copy: bool,
+) -> Result<Result<Root, ImportErr>, Fail> {
+    let mut store = MemBlocks::new(alloc, 64);
+    let a = store.put(alloc, &[1; 4096], 0)?;
+    let b = store.put(alloc, &[2; 4096], 0)?;
+    let first = if leads_to_copy { b } else { a };
+    let dir = directory(alloc, &mut store, &first, &on_other(&b))?;
+    let mut streams = first_streams(alloc, &mut store, 4)?;
+    let words = words_of(alloc, 1, 9, 1)?;
+    streams.push(write_stream(alloc, &mut store, words.as_slice())?)?;
+    streams.push(write_stream(alloc, &mut store, &[])?)?;
+    put_mapping(alloc, &mut store, &mut streams, b.at.start, &[])?;
+    let uber = root_over(alloc, &mut store, dir, LEAVING, streams)?;
     import(alloc, &mut store, &uber)
 }
 
@@ -389,7 +418,7 @@ fn import_over_gone(
 fn an_address_leads_over_a_gone_device(rt: HostRuntime) -> Result<(), Fail> {
     let alloc = rt.alloc();
     let root = import_over_gone(alloc, false, &[])??;
-    assert_eq!(rt; root.meta.len(), 5);
+    assert_eq!(rt; root.meta.len(), 4);
     assert_eq!(rt; root.parts.devs.len(), 2);
     Ok(())
 }
@@ -397,10 +426,7 @@ fn an_address_leads_over_a_gone_device(rt: HostRuntime) -> Result<(), Fail> {
 #[test]
 fn an_address_passes_no_obsolete_unit(rt: HostRuntime) -> Result<(), Fail> {
     let alloc = rt.alloc();
-    let mut set = RangeSet::new(alloc);
-    set.add(Extent { start: 9, len: 1 })?;
-    let none = RangeSet::new(alloc);
-    let words = late_words(alloc, &set, &none, 2, 1)?;
+    let words = words_of(alloc, 1, 9, 1)?;
     let found = import_over_gone(alloc, false, words.as_slice())?;
     assert_eq!(rt; found.err(), Some(ImportErr::Rule(7)));
     Ok(())
@@ -410,6 +436,16 @@ fn an_address_passes_no_obsolete_unit(rt: HostRuntime) -> Result<(), Fail> {
 fn two_addresses_lead_to_no_common_unit(rt: HostRuntime) -> Result<(), Fail> {
     let alloc = rt.alloc();
     let found = import_over_gone(alloc, true, &[])?;
+    assert_eq!(rt; found.err(), Some(ImportErr::Rule(7)));
+    Ok(())
+}
+
+#[test]
+fn a_copy_goes_with_its_block(rt: HostRuntime) -> Result<(), Fail> {
+    let alloc = rt.alloc();
+    let root = import_over_leaving(alloc, false)??;
+    assert_eq!(rt; root.parts.devs.len(), 2);
+    let found = import_over_leaving(alloc, true)?;
     assert_eq!(rt; found.err(), Some(ImportErr::Rule(7)));
     Ok(())
 }
