@@ -28,6 +28,6 @@ pub use errors::ImportErr;
 pub use mark::Mark;
 pub use metadata::{Meta, read_meta};
 pub use objects::walk_objects;
-pub use roots::{Root, are_on, read_root};
+pub use roots::{Root, read_root};
 pub use saved::{read_saved, read_saved_meta, saved_uber};
 pub use spent::Spent;

@@ -3,13 +3,10 @@
 //! Its metadata stands on devices in service and is read first. It tells the devices with their mappings, over which the
 //! directory and the objects are read then.
 ghost use Rattle.std.specs.Prelude.{◌≡◌, ℕ, IfOk, OnOk};
-ghost use Rattle.std.specs.List.{list_all};
 ghost use Rattle.zr_bptr.specs.Spelling.{IsTree};
-ghost use Rattle.zr_label.specs.Blocks.{IsUber};
-ghost use Rattle.zr_rules.specs.Places.{is_on};
 ghost use Rattle.zr_store.specs.Causes.{Costs};
 ghost use Rattle.zr_store.specs.Store.{Stored};
-ghost use Rattle.zr_image.specs.Roots.{rows_of, without_late};
+ghost use Rattle.zr_image.specs.Roots.{without_late};
 ghost use Rattle.zr_objset.specs.Records.{all_reach};
 ghost use Rattle.zr_import.specs.Causes.{HasCause};
 ghost use Rattle.zr_import.specs.Directories.{IsInPlace};
@@ -17,13 +14,11 @@ ghost use Rattle.zr_base.specs.declared.space.CkptPart.TheVariants.{Held};
 ghost use Rattle.zr_import.specs.Spending.{HasOlder, MarksHeld};
 
 use crate::errors::ImportErr;
-use crate::heads::rows_of;
 use crate::metadata::{Meta, drop_late};
 use crate::objects::walk_objects;
 use crate::spent::Spent;
 use std::alloc::Global;
-use zr_base::{DevRow, DevState, Dva, Items, NoMemory, SpaceParts};
-use zr_label::Uber;
+use zr_base::{Dva, Items, NoMemory, SpaceParts};
 use zr_meta::Head;
 use zr_space::Space;
 use zr_store::Blocks;
@@ -47,26 +42,6 @@ impl Root {
         drop_late(alloc, &mut self.parts)?;
         Ok(())
     }
-}
-
-fn is_on(r: &DevRow) -> bool
-    ensures { result ≡ is_on r.now.state }
-{
-    r.state == DevState::On
-}
-
-fn are_all_on(rows: &[DevRow]) -> bool
-    ensures { result ≡ list_all (λ r. is_on r.state) rows.now }
-{
-    rows.iter().all(|r| is_on(r))
-}
-
-/// Whether all devices of a root are in service.
-pub fn are_on(uber: &Uber) -> bool
-    requires { IsUber uber.now }
-    ensures { result ≡ list_all (λ r. is_on r.state) (rows_of uber.now) }
-{
-    are_all_on(rows_of(uber))
 }
 
 /// Reads the directory and all objects of a root but their leaves, where the store resolves addresses over the devices that
