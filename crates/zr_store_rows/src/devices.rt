@@ -1,15 +1,18 @@
 //! Two stores over one space, shelf and cache, one after the other; and blocks that are read where they were written.
-ghost use Rattle.std.specs.Prelude.{◌≡◌, ◌≤◌, ◌<◌, ◌∷◌, [], length, IfOk, Some};
+ghost use Rattle.std.specs.Prelude.{◌≡◌, ◌≤◌, ◌<◌, ◌∷◌, [], length, IfOk, IfErr, IsErrOf, Some};
 ghost use Rattle.zr_base.specs.declared.space.Policy.{Policy};
 ghost use Rattle.zr_shelf.specs.Counts.{NoneFell};
 ghost use Rattle.zr_rules.specs.Choices.{AreRuns, IsPick};
+ghost use Rattle.zr_rules.specs.Columns.{free_units, uncopied_units};
 ghost use Rattle.zr_rules.specs.Equation.{devices_in};
 ghost use Rattle.zr_vdev.specs.Mounts.{AreMounted};
 ghost use Rattle.zr_vdev.specs.Stores.{Continues};
+ghost use Rattle.zr_vdev.specs.declared.copy.Copied.TheVariants.{Fault};
+ghost use Rattle.zr_store.specs.declared.StoreErr.TheVariants.{Failed};
 
 use std::alloc::Global;
 use std::test::Fail;
-use zr_base::{Dva, Extent, Policy};
+use zr_base::{Dva, Extent, NoMemory, Policy};
 use zr_bptr::{Bptr, Ptr, Tree};
 use zr_cache::Cache;
 use zr_choose::{Chooser, pick_first};
@@ -18,7 +21,7 @@ use zr_shelf::{Desk, Shelf, SureDesk};
 use zr_space::Space;
 use zr_store::{Blocks, StoreErr};
 use zr_tree::set_all;
-use zr_vdev::{Kind, Mount, Place, Vdev, get_block};
+use zr_vdev::{Copied, Kind, Mount, NotPut, Place, Vdev, copy_step, get_block, put_block};
 
 const NO_TREE: Tree = Tree {
     root: Ptr::Hole,
@@ -114,6 +117,54 @@ fn one_device<D: Desk>(alloc: Global, desk: &mut D) -> Result<Space, Fail>
     Ok(space)
 }
 
+// Reads a block from a disk that never fails: no answer is that it did.
+pub fn read_surely(
+    alloc: Global,
+    space: &Space,
+    desk: &mut SureDesk,
+    cache: &mut Cache,
+    slots: &[Option<u32>],
+    b: &Bptr,
+) -> Result<Vec<u8>, StoreErr>
+    requires { AreMounted (⟦<SureDesk as Shelf>⟧.sizes desk.old) slots.now (devices_in space.now) }
+    ensures never { IsErrOf result Failed → ⊥ }
+    ensures mounted { AreMounted (⟦<SureDesk as Shelf>⟧.sizes desk.new) slots.now (devices_in space.now) }
+{
+    get_block(alloc, space, desk, cache, slots, b)
+}
+
+// Puts a block on such a disk, in the same way.
+pub fn put_surely<P: Place>(
+    alloc: Global,
+    space: &mut Space,
+    desk: &mut SureDesk,
+    cache: &mut Cache,
+    mount: &Mount<P>,
+    bytes: &[u8; 4096],
+) -> Result<Bptr, NotPut>
+    requires mounted { AreMounted (⟦<SureDesk as Shelf>⟧.sizes desk.old) mount.now.slots.now (devices_in space.old) }
+    requires group { 1 ≤ mount.now.txg }
+    ensures never { IfErr result (λ e. e.error ≡ Failed → ⊥) }
+{
+    put_block(alloc, space, desk, cache, mount, bytes, 0)
+}
+
+// And so does a step of a removal, which is never given up.
+pub fn copy_surely(
+    alloc: Global,
+    space: &mut Space,
+    desk: &mut SureDesk,
+    cache: &mut Cache,
+    slots: &[Option<u32>],
+    pick: &Chooser,
+) -> Result<Copied, NoMemory>
+    requires mounted { AreMounted (⟦<SureDesk as Shelf>⟧.sizes desk.old) slots.now (devices_in space.old) }
+    requires room { uncopied_units space.old ≤ free_units space.old }
+    ensures never { IfOk result (λ c. c ≡ Fault → ⊥) }
+{
+    copy_step(alloc, space, desk, cache, slots, pick)
+}
+
 #[test]
 fn blocks_are_read_where_they_were_written(rt: HostRuntime) -> Result<(), Fail> {
     let alloc = rt.alloc();
@@ -139,7 +190,7 @@ fn blocks_are_read_where_they_were_written(rt: HostRuntime) -> Result<(), Fail> 
     let moment = desk.moment();
     let mut empty = Cache::new(alloc, 1)?;
     assert_eq!(rt;
-        get_block(alloc, &space, &mut desk, &mut empty, &slots, &a)?.as_slice(),
+        read_surely(alloc, &space, &mut desk, &mut empty, &slots, &a)?.as_slice(),
         [5; 4096].as_slice()
     );
     let read = desk.moment();

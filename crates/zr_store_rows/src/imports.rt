@@ -1,15 +1,15 @@
 //! A small root in memory: one object in one leaf of the directory, and what is refused of roots like it.
-ghost use Rattle.std.specs.Prelude.{IfOk, IfSome};
+ghost use Rattle.std.specs.Prelude.{◌≤◌, IfOk, IfSome, length};
 ghost use Rattle.zr_bptr.specs.Spelling.{IsTree, IsObject};
 ghost use Rattle.zr_label.specs.Blocks.{IsUber};
 
 use std::alloc::Global;
 use std::test::Fail;
-use zr_base::{Blob, CkptPart, DevRow, DevState, Extent, Items};
+use zr_base::{Blob, CkptPart, DevRow, DevState, Dva, Extent, Items};
 use zr_bptr::{Bptr, ObjRec, Ptr, Tree, encode_records};
-use zr_import::{ImportErr, Root, are_on, import_root, read_saved, saved_uber};
+use zr_import::{ImportErr, Root, read_meta, read_root, read_saved, read_saved_meta, saved_uber};
 use zr_label::{NO_ROW, Name, Uber, is_uber};
-use zr_meta::{Head, encode_head, is_head, late_words};
+use zr_meta::{Head, Stream, encode_head, is_head, late_words};
 use zr_ranges::RangeSet;
 use zr_root::{write_root, write_stream};
 use zr_store::{Blocks, MemBlocks};
@@ -161,10 +161,11 @@ fn import(
 ) -> Result<Result<Root, ImportErr>, Fail>
     requires { IsUber uber.now }
 {
-    if !are_on(uber) {
-        return Err(Fail::new("not in service"));
-    }
-    Ok(import_root(alloc, store, uber))
+    let meta = match read_meta(alloc, store, uber) {
+        Ok(meta) => meta,
+        Err(error) => return Ok(Err(error)),
+    };
+    Ok(read_root(alloc, store, meta, uber.txg))
 }
 
 #[test]
@@ -246,10 +247,14 @@ fn saved_of(
     let Some(saved) = saved_uber(uber, current.parts.ckpt, block.as_slice()) else {
         return Err(Fail::new("no saved root"));
     };
-    if !is_uber(&saved) || !are_on(&saved) {
+    if !is_uber(&saved) {
         return Err(Fail::new("no root"));
     }
-    Ok(read_saved(alloc, store, current, &saved))
+    let meta = match read_saved_meta(alloc, store, &saved) {
+        Ok(meta) => meta,
+        Err(error) => return Ok(Err(error)),
+    };
+    Ok(read_saved(alloc, store, current, meta, saved.txg))
 }
 
 #[test]
@@ -269,5 +274,178 @@ fn a_saved_root_is_read_beside(rt: HostRuntime) -> Result<(), Fail> {
     let saved = saved_of(alloc, &mut store, &current, &second)??;
     assert_eq!(rt; saved.head.dir, dir);
     assert_eq!(rt; saved.meta.len(), 2);
+    Ok(())
+}
+
+const LEAVING: DevRow = DevRow {
+    state: DevState::Leaving,
+    added: 1,
+    units: 896,
+    gone: 0,
+};
+
+const GONE: DevRow = DevRow {
+    state: DevState::Gone,
+    added: 1,
+    units: 896,
+    gone: 2,
+};
+
+// The words of a log of one extent of a device.
+fn words_of(alloc: Global, dev: u32, start: u64, len: u64) -> Result<Vec<u64>, Fail>
+    ensures { IfOk result (λ words. length words.items ≤ 10) }
+{
+    if dev > 1 || start > 100 || len == 0 || len > 100 {
+        return Err(Fail::new("not so many units"));
+    }
+    let mut set = RangeSet::new(alloc);
+    set.add(Extent { start, len })?;
+    let none = RangeSet::new(alloc);
+    let words = late_words(alloc, &set, &none, 2, dev)?;
+    if words.len() > 10 {
+        return Err(Fail::new("too many words"));
+    }
+    Ok(words)
+}
+
+// The streams of a device in service of which the first units are held.
+fn first_streams(alloc: Global, store: &mut MemBlocks, held: u64) -> Result<Items<Stream>, Fail> {
+    let words = words_of(alloc, 0, 0, held)?;
+    let mut streams = Items::new(alloc);
+    streams.push(write_stream(alloc, store, words.as_slice())?)?;
+    streams.push(write_stream(alloc, store, &[])?)?;
+    Ok(streams)
+}
+
+// The streams of a mapping of one entry, from the ninth unit on, of which these units are obsolete.
+fn put_mapping(
+    alloc: Global,
+    store: &mut MemBlocks,
+    streams: &mut Items<Stream>,
+    copied: u64,
+    obsolete: &[u64],
+) -> Result<(), Fail> {
+    if copied > 100 || obsolete.len() > 10 {
+        return Err(Fail::new("not so many units"));
+    }
+    streams.push(write_stream(alloc, store, &[8 * 9, 8, 8 * copied])?)?;
+    streams.push(write_stream(alloc, store, &[0])?)?;
+    streams.push(write_stream(alloc, store, obsolete)?)?;
+    Ok(())
+}
+
+// A root over a device in service and another one, with these streams.
+fn root_over(
+    alloc: Global,
+    store: &mut MemBlocks,
+    dir: Tree,
+    other: DevRow,
+    streams: Items<Stream>,
+) -> Result<Uber, Fail>
+    ensures { IfOk result IsUber }
+{
+    let head = Head {
+        form: 1,
+        dir,
+        saved: None,
+        ckpt: CkptPart::Clear,
+        cond: None,
+        streams,
+    };
+    if !is_head(&head, &[ROW, other]) {
+        return Err(Fail::new("no head"));
+    }
+    let bytes = encode_head(alloc, &head, &[ROW, other])?;
+    let mut uber = root_in(alloc, store, bytes.as_slice(), 3)?;
+    uber.count = 2;
+    uber.rows[1] = other;
+    if !is_uber(&uber) {
+        return Err(Fail::new("no root"));
+    }
+    Ok(uber)
+}
+
+// The same block by its address on the other device.
+fn on_other(b: &Bptr) -> Bptr {
+    let mut moved = *b;
+    moved.at = Dva {
+        dev: 1,
+        start: 9,
+        len: 1,
+    };
+    moved
+}
+
+// How the import of a root ends whose second block has its address on a device that is gone. Its unit was copied to where
+// the block lies, and these units are obsolete. The first block is another one, or the second by its own place.
+fn import_over_gone(
+    alloc: Global,
+    twice: bool,
+    obsolete: &[u64],
+) -> Result<Result<Root, ImportErr>, Fail> {
+    let mut store = MemBlocks::new(alloc, 64);
+    let a = store.put(alloc, &[1; 4096], 0)?;
+    let b = store.put(alloc, &[2; 4096], 0)?;
+    let first = if twice { b } else { a };
+    let dir = directory(alloc, &mut store, &first, &on_other(&b))?;
+    let mut streams = first_streams(alloc, &mut store, 4)?;
+    put_mapping(alloc, &mut store, &mut streams, b.at.start, obsolete)?;
+    let uber = root_over(alloc, &mut store, dir, GONE, streams)?;
+    import(alloc, &mut store, &uber)
+}
+
+// How the import of a root ends whose second block lies on a device that is leaving, with a copy on the first. The first
+// block is another one, or leads to that copy.
+fn import_over_leaving(
+    alloc: Global,
+    leads_to_copy: bool,
+) -> Result<Result<Root, ImportErr>, Fail> {
+    let mut store = MemBlocks::new(alloc, 64);
+    let a = store.put(alloc, &[1; 4096], 0)?;
+    let b = store.put(alloc, &[2; 4096], 0)?;
+    let first = if leads_to_copy { b } else { a };
+    let dir = directory(alloc, &mut store, &first, &on_other(&b))?;
+    let mut streams = first_streams(alloc, &mut store, 4)?;
+    let words = words_of(alloc, 1, 9, 1)?;
+    streams.push(write_stream(alloc, &mut store, words.as_slice())?)?;
+    streams.push(write_stream(alloc, &mut store, &[])?)?;
+    put_mapping(alloc, &mut store, &mut streams, b.at.start, &[])?;
+    let uber = root_over(alloc, &mut store, dir, LEAVING, streams)?;
+    import(alloc, &mut store, &uber)
+}
+
+#[test]
+fn an_address_leads_over_a_gone_device(rt: HostRuntime) -> Result<(), Fail> {
+    let alloc = rt.alloc();
+    let root = import_over_gone(alloc, false, &[])??;
+    assert_eq!(rt; root.meta.len(), 4);
+    assert_eq!(rt; root.parts.devs.len(), 2);
+    Ok(())
+}
+
+#[test]
+fn an_address_passes_no_obsolete_unit(rt: HostRuntime) -> Result<(), Fail> {
+    let alloc = rt.alloc();
+    let words = words_of(alloc, 1, 9, 1)?;
+    let found = import_over_gone(alloc, false, words.as_slice())?;
+    assert_eq!(rt; found.err(), Some(ImportErr::Rule(7)));
+    Ok(())
+}
+
+#[test]
+fn two_addresses_lead_to_no_common_unit(rt: HostRuntime) -> Result<(), Fail> {
+    let alloc = rt.alloc();
+    let found = import_over_gone(alloc, true, &[])?;
+    assert_eq!(rt; found.err(), Some(ImportErr::Rule(7)));
+    Ok(())
+}
+
+#[test]
+fn a_copy_goes_with_its_block(rt: HostRuntime) -> Result<(), Fail> {
+    let alloc = rt.alloc();
+    let root = import_over_leaving(alloc, false)??;
+    assert_eq!(rt; root.parts.devs.len(), 2);
+    let found = import_over_leaving(alloc, true)?;
+    assert_eq!(rt; found.err(), Some(ImportErr::Rule(7)));
     Ok(())
 }
