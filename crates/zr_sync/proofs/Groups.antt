@@ -15,7 +15,6 @@ use Rattle.zr_rules.specs.Devices.{Devices}
 use Rattle.zr_rules.specs.Equation.{devices_in}
 use Rattle.zr_rules.specs.Space.{Space}
 use Rattle.zr_rules.specs.Steps.{Commits}
-use Rattle.zr_space.specs.Paths.{AreInService}
 use Rattle.zr_txg.specs.Changes.{Changes, ObjectChange, block_count}
 use Rattle.zr_vdev.specs.Mounts.{AreMounted}
 use Rattle.zr_commit.proofs.Roots.{meta_tree}
@@ -76,7 +75,6 @@ ended sizes reset x y u height o next lawful tall commits txg none rest =
       rows = λ d lt. commits.rows d ∙ o.rows d lt;
       lawful = commits.lawful o.lawful;
       mounted = subst (λ (ds : Devices). AreMounted sizes x.table.slots ds) (sym devices) o.mounted;
-      service = subst AreInService (sym devices) o.service;
       disks = o.disks;
     })
 

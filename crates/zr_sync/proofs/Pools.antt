@@ -1,14 +1,13 @@
 -- An open pool through the steps of a commit.
 use Rattle.std.proofs.Common.{◌≡◌, ℕ, ◌≤◌, ◌<◌, ◌^◌, true, List, length, get_or, Option, Some, refl, sym, ◌∙◌, ap, subst, arith}
-use Rattle.std.specs.Prelude.{IsTrue, slice_index, slice_index_or, slice_set, All}
+use Rattle.std.specs.Prelude.{slice_index, slice_index_or, slice_set, All}
 use Rattle.std.proofs.lemmas.List.Elements.{All-set}
-use Rattle.std.proofs.lemmas.Bool.Decides.{nat_tests}
 use Rattle.zr_base.specs.Counts.{HasRisen}
 use Rattle.zr_base.specs.declared.space.CkptPart.{CkptPart}
+use Rattle.zr_base.specs.declared.space.DevRow.{DevRow}
 use Rattle.zr_label.specs.Blocks.{no_row}
-use Rattle.zr_label.specs.Geometry.{is_disk_size, units_of_size, unit_at}
+use Rattle.zr_label.specs.Geometry.{units_of_size}
 use Rattle.zr_meta.specs.Heads.{IsSaved}
-use Rattle.zr_rules.specs.Equation.{devices_in}
 use Rattle.zr_rules.specs.Places.{units_of_dev}
 use Rattle.zr_rules.specs.Roles.{Role}
 use Rattle.zr_rules.specs.Space.{role_at}
@@ -16,18 +15,17 @@ use Rattle.zr_shelf.specs.Counts.{Counts, NoneFell}
 use Rattle.zr_shelf.specs.Doings.{WritesOnly}
 use Rattle.zr_shelf.specs.Moments.{World}
 use Rattle.zr_shelf.proofs.Doings.{writes_more}
-use Rattle.zr_view.specs.Runs.{HasDisk}
 use Rattle.zr_vdev.specs.Puts.{IsWriteOf}
 use Rattle.zr_vdev.specs.Stores.{Continues, IsWriteInto, KeepsOthers, may_write}
 use Rattle.zr_vdev.specs.declared.kind.Kind.TheVariants.{Block, Meta}
 use Rattle.zr_vdev.proofs.Follows.{continues_itself, continues_more, narrower, others_itself, widen}
-use Rattle.zr_vdev.proofs.Frames.{continues_mounted, continues_service}
+use Rattle.zr_vdev.proofs.Frames.{continues_mounted}
 use Rattle.zr_sync.specs.declared.open.DeviceStreams.{DeviceStreams}
 use Rattle.zr_sync.specs.declared.open.OpenPool.{OpenPool}
 use Rattle.zr_lookup.specs.Groups.{IsLawfulGroup}
 use Rattle.zr_sync.specs.Pools.{AreStreams, IsOpen, IsInLimits, AreRows, IsAfter, IsDirectory, saved_block}
 use Rattle.zr_sync.specs.Writes.{WritesMetadata, WritesTrees, WritesBlocks, WritesAll}
-use Rattle.zr_sync.proofs.Sizes.{disk_used}
+use Rattle.zr_sync.proofs.Rows.{row_few}
 use Rattle.zr_sync.proofs.Disks.{works_more, works_trees, works_metadata}
 
 -- ---- faults
@@ -89,7 +87,6 @@ metadata_open n1 n2 c1 c2 t1 t2 w1 w2 x y o p streams =
       rows = λ d lt. (rows.each d).row ∙ o.rows d lt;
       lawful = rows.lawful o.lawful;
       mounted = continues_mounted x.space y.space p.goes o.mounted;
-      service = continues_service x.space y.space p.goes o.service;
       disks = λ d slot lt is. subst (λ (n : List ℕ). units_of_size (slice_index n slot) 2 ≡ Some (slice_index_or x.table.rows d no_row).units) (sym p.goes.sizes) (o.disks d slot lt is);
     })
 
@@ -143,7 +140,6 @@ blocks_open n1 n2 c1 c2 t1 t2 w1 w2 x y o p lawful limits =
       rows = λ d lt. (rows.each d).row ∙ o.rows d lt;
       lawful = rows.lawful o.lawful;
       mounted = continues_mounted x.space y.space p.goes o.mounted;
-      service = continues_service x.space y.space p.goes o.service;
       disks = λ d slot lt is. subst (λ (n : List ℕ). units_of_size (slice_index n slot) 2 ≡ Some (slice_index_or x.table.rows d no_row).units) (sym p.goes.sizes) (o.disks d slot lt is);
     })
 
@@ -174,7 +170,6 @@ trees_open n1 n2 c1 c2 t1 t2 w1 w2 x y o p dir =
       rows = λ d lt. (rows.each d).row ∙ o.rows d lt;
       lawful = rows.lawful o.lawful;
       mounted = continues_mounted x.space y.space p.goes o.mounted;
-      service = continues_service x.space y.space p.goes o.service;
       disks = λ d slot lt is. subst (λ (n : List ℕ). units_of_size (slice_index n slot) 2 ≡ Some (slice_index_or x.table.rows d no_row).units) (sym p.goes.sizes) (o.disks d slot lt is);
     })
 
@@ -233,10 +228,8 @@ trees_written {n1} {n2} {c1} {c2} {t1} {t2} {w1} {w2} {x} {y} p = record {
 
 -- ---- devices
 
-size_bound : (size units : ℕ) → IsTrue (is_disk_size 2 size) → unit_at units ≤ size → units ≤ 2 ^ 26
-size_bound size units is fits = grind (arith, nat_tests, is, fits)
-
 pub small_device : (n : List ℕ) (x : OpenPool) (d : ℕ) → IsOpen n x → d < x.table.count → units_of_dev x.space.parts.devs d ≤ 2 ^ 26
 small_device n x d o lt =
-    let has : HasDisk n x.table.slots d ((devices_in x.space).row d).units = o.mounted.disks d (omega (arith, lt, o.devices)) (o.service.there d) in
-    size_bound (slice_index n has.slot) (units_of_dev x.space.parts.devs d) (disk_used (slice_index n has.slot) _ (o.disks d has.slot lt has.is)) has.fits
+    let few = row_few x.version x.group.txg x.table.count x.table.rows d o.few lt o.table in
+    let same : units_of_dev x.space.parts.devs d ≡ (slice_index_or x.table.rows d no_row).units = ap (λ (r : DevRow). r.units) (o.rows d lt) in
+    omega (arith, few, same)

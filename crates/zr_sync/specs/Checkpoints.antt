@@ -20,7 +20,7 @@ no_stream = record { words = 0; tree = record { root = Hole; height = 0 } }
 
 -- streams of no words
 abbrev pub no_streams : DeviceStreams
-no_streams = record { held = no_stream; kept = no_stream; late1 = no_stream; late2 = no_stream }
+no_streams = record { held = no_stream; kept = no_stream; entries = no_stream; counts = no_stream; fresh = no_stream; late1 = no_stream; late2 = no_stream }
 
 -- metadata of the saved root is given back, and nothing else is changed: where there is none, nothing at all
 pub record GivesSavedMeta (old new : Space) : Type 0 where

@@ -1,7 +1,8 @@
 -- The head of an open pool, as it stands on the disks.
-use Rattle.std.specs.Prelude.{◌≡◌, ℕ, List, [], ◌∷◌, length, take, None}
-use Rattle.std.specs.List.{flat_map}
+use Rattle.std.specs.Prelude.{◌≡◌, ℕ, List, [], ◌∷◌, ◌++◌, length, take, None}
 use Rattle.zr_base.specs.declared.space.DevRow.{DevRow}
+use Rattle.zr_base.specs.declared.space.DevState.{DevState}
+use Rattle.zr_base.specs.declared.space.DevState.TheVariants.{On, Leaving, Gone}
 use Rattle.zr_bptr.specs.declared.Ptr.{Ptr}
 use Rattle.zr_bptr.specs.declared.Tree.{Tree}
 use Rattle.zr_meta.specs.declared.Head.{Head}
@@ -16,13 +17,21 @@ use Rattle.zr_sync.specs.Pools.{saved_block}
 use Rattle.zr_sync.specs.declared.open.DeviceStreams.{DeviceStreams}
 use Rattle.zr_sync.specs.declared.open.OpenPool.{OpenPool}
 
--- the streams of a device in the order of the head
-abbrev pub streams_in : DeviceStreams → List Stream
-streams_in d = d.held ∷ d.kept ∷ d.late1 ∷ d.late2 ∷ []
+-- the streams that a device of this state has, in the order of the head
+abbrev pub streams_in : DevState → DeviceStreams → List Stream
+streams_in On d = d.held ∷ d.kept ∷ d.late1 ∷ d.late2 ∷ []
+streams_in Leaving d = d.held ∷ d.kept ∷ d.entries ∷ d.counts ∷ d.fresh ∷ d.late1 ∷ d.late2 ∷ []
+streams_in Gone d = d.entries ∷ d.counts ∷ d.fresh ∷ []
+
+-- those of all devices, which have these rows
+abbrev pub streams_of : List DevRow → List DeviceStreams → List Stream
+streams_of [] devices = []
+streams_of (r ∷ rows) [] = []
+streams_of (r ∷ rows) (d ∷ devices) = streams_in r.state d ++ streams_of rows devices
 
 -- the head of an open pool: its directory, its streams and its checkpoint
 abbrev pub head_of : OpenPool → Head
-head_of pool = record { form = 2; dir = pool.dir; saved = saved_block pool.saved; ckpt = pool.space.parts.ckpt; cond = None; streams = flat_map streams_in pool.streams.items }
+head_of pool = record { form = 2; dir = pool.dir; saved = saved_block pool.saved; ckpt = pool.space.parts.ckpt; cond = None; streams = streams_of (take pool.table.count pool.table.rows) pool.streams.items }
 
 -- what the disks have is told as they read, and what is cached is what stands there
 pub record IsSeen (tells : Type 0) (disks : List (List ℕ)) (pool : OpenPool) : Type 0 where

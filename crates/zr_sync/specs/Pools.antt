@@ -1,6 +1,6 @@
 -- An open pool, as each call needs it and leaves it.
 use Rattle.std.specs.Prelude.{◌≡◌, ℕ, ◌+◌, ◌≤◌, ◌<◌, ◌⊎◌, List, All, length, take, drop, slice_index, slice_index_or, IsTrue, Option, Some, None, IfSome}
-use Rattle.std.specs.List.{list_all}
+use Rattle.std.specs.List.{list_all, list_any}
 use Rattle.zr_bptr.specs.declared.Tree.{Tree}
 use Rattle.zr_bptr.specs.Spelling.{IsTree}
 use Rattle.zr_base.specs.declared.space.DevRow.{DevRow}
@@ -13,7 +13,6 @@ use Rattle.zr_rules.specs.Equation.{devices_in}
 use Rattle.zr_rules.specs.Places.{is_on, part_of}
 use Rattle.zr_rules.specs.Space.{IsLawful}
 use Rattle.zr_txg.specs.Changes.{Changes, block_count}
-use Rattle.zr_space.specs.Paths.{AreInService}
 use Rattle.zr_view.specs.Views.{slot_of}
 use Rattle.zr_vdev.specs.Mounts.{AreMounted}
 use Rattle.zr_sync.specs.declared.open.Checkpoint.{Checkpoint}
@@ -23,6 +22,9 @@ use Rattle.zr_sync.specs.declared.open.OpenPool.{OpenPool}
 pub record AreStreams (s : DeviceStreams) : Type 0 where
   pub held : IsStream s.held
   pub kept : IsStream s.kept
+  pub entries : IsStream s.entries
+  pub counts : IsStream s.counts
+  pub fresh : IsStream s.fresh
   pub late1 : IsStream s.late1
   pub late2 : IsStream s.late2
 
@@ -47,11 +49,11 @@ pub record IsDirectory (t : Tree) : Type 0 where
   pub low : t.height ≤ 3
   pub unit : IsRootOf t.height t.root
 
--- The rows of so many devices, all in service, and then rows of zeros: what a root of this version and group may have as its table.
+-- The rows of so many devices, of which one at least is in service if there is any, and then rows of zeros: what a root of this version and group may have as its table.
 pub record AreRows (version txg count : ℕ) (rows : List DevRow) : Type 0 where
   pub size : length rows ≡ 32
   pub devices : IsTrue (list_all (is_row version txg) (take count rows))
-  pub on : IsTrue (list_all (λ r. is_on r.state) (take count rows))
+  pub on : 1 ≤ count → IsTrue (list_any (λ r. is_on r.state) (take count rows))
   pub rest : IsTrue (list_all is_no_row (drop count rows))
 
 -- the open group has at most 64 changed blocks and 64 changed objects
@@ -59,7 +61,7 @@ pub record IsInLimits (g : Changes) : Type 0 where
   pub blocks : block_count g.objects ≤ 64
   pub objects : length g.objects ≤ 64
 
--- A pool of so many devices at least and of 32 at most, all in service, whose disks have these sizes. Each device has the units of its disk, so none lies in a label. A root is saved exactly while a checkpoint is held.
+-- A pool of so many devices at least and of 32 at most, whose disks have these sizes. Each device that is there has a disk of its own with all its units, so none lies in a label; one that is gone may have one or none. A root is saved exactly while a checkpoint is held.
 pub record IsPool (least : ℕ) (sizes : List ℕ) (pool : OpenPool) : Type 0 where
   pub version : (pool.version ≡ 1) ⊎ (pool.version ≡ 2)
   pub guid : 0 < pool.guid
@@ -83,7 +85,6 @@ pub record IsPool (least : ℕ) (sizes : List ℕ) (pool : OpenPool) : Type 0 wh
   pub rows : (d : ℕ) → d < pool.table.count → (part_of pool.space.parts.devs d).row ≡ slice_index_or pool.table.rows d no_row
   pub lawful : IsLawful pool.space
   pub mounted : AreMounted sizes pool.table.slots (devices_in pool.space)
-  pub service : AreInService (devices_in pool.space)
   pub disks : (d slot : ℕ) → d < pool.table.count → slot_of pool.table.slots d ≡ Some slot → units_of_size (slice_index sizes slot) 2 ≡ Some (slice_index_or pool.table.rows d no_row).units
 
 -- a pool that is open on disks of these sizes

@@ -7,11 +7,16 @@ use zr_meta::Stream;
 use zr_space::Space;
 use zr_txg::Group;
 
-/// The streams of a device in service: the logs of its held and of its kept units, and its two late sets.
+/// The streams of a device. While it is there these are the logs of its held and of its kept units, and its two late
+/// sets. Once it is leaving it has the entries of its mapping too, their counts, and the log of its fresh obsolete units:
+/// behind its going it has these three alone. A stream that it has not is `EMPTY`.
 #[derive(Clone, Copy, PartialEq, Eq, Debug)]
 pub struct DeviceStreams {
     pub held: Stream,
     pub kept: Stream,
+    pub entries: Stream,
+    pub counts: Stream,
+    pub fresh: Stream,
     pub late1: Stream,
     pub late2: Stream,
 }
@@ -65,6 +70,9 @@ pub const EMPTY: Stream = Stream {
 pub const NO_STREAMS: DeviceStreams = DeviceStreams {
     held: EMPTY,
     kept: EMPTY,
+    entries: EMPTY,
+    counts: EMPTY,
+    fresh: EMPTY,
     late1: EMPTY,
     late2: EMPTY,
 };

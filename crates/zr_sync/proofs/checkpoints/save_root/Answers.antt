@@ -2,18 +2,16 @@ use Rattle.std.proofs.Common.{◌≡◌, ◌∙◌, ℕ, List, Some, length, ref
 use Rattle.std.specs.Prelude.{All, Vec}
 use Rattle.std.specs.Global.{Global}
 use Rattle.zr_label.specs.Blocks.{SpellsUber}
-use Rattle.zr_rules.specs.Equation.{devices_in}
-use Rattle.zr_space.specs.Paths.{AreInService}
+use Rattle.zr_base.specs.declared.space.DevRow.{DevRow}
+use Rattle.zr_rules.specs.Places.{is_leaving}
 use Rattle.zr_sync.specs.Checkpoints.{no_streams}
 use Rattle.zr_sync.specs.declared.open.DeviceStreams.{DeviceStreams}
-use Rattle.zr_vdev.proofs.Follows.{rows_devices}
 use Rattle.zr_sync.proofs.SavedRoots.{saves_open}
 use Rattle.zr_sync.proofs.checkpoints.save_root.Goals as goal
 
 pub hold-requires-clause-stays : goal.hold-requires-clause-stays
 hold-requires-clause-stays c =
-    let given : AreInService (devices_in c.give_saved.new.space) = subst AreInService (sym (rows_devices c.args.pool.now.space c.give_saved.new.space c.in_ok-give_saved.ensures.gives.others.rows)) c.requires.pool.1.service in
-    given.stays
+    λ d. ap (λ (r : DevRow). is_leaving r.state) (c.in_ok-give_saved.ensures.gives.others.rows.each d).row ∙ c.requires.stays d
 
 pub returns-clause-saves : goal.returns-clause-saves
 returns-clause-saves c =

@@ -60,7 +60,7 @@ returns-clause-objects g c = λ s held stored.
     let first = c.args.shelf.now in
     let last = c.publish_root.new.shelf in
     ended_written c.args.reset (g.S.Shelf.tells first) (g.S.Shelf.tells last) (g.S.Shelf.world first).now.seen (g.S.Shelf.world last).now.seen c.args.pool.now c.write_all.new.pool c.end_group.new.pool s
-    c.in_ok-root.ensures.pool.service c.end_group.ensures.table c.end_group.ensures.cache c.end_group.ensures.dir c.end_group.ensures.live c.end_group.ensures.space held stored
+    c.end_group.ensures.table c.end_group.ensures.cache c.end_group.ensures.dir c.end_group.ensures.space held stored
     (now_held (λ m h. c.publish_root.ensures.blocks m h) (c.in_ok-root.ensures.objects s held stored))
 
 pub returns-clause-stays : goal.returns-clause-stays
@@ -71,7 +71,7 @@ returns-clause-stays g c = λ objects h.
     let stored = trees_stored x objects (block_count x.group.objects) c.is_in_order.ensures c.requires.pool.group h in
     objects_written x c.end_group.new.pool objects (block_count x.group.objects) c.is_in_order.ensures c.requires.pool.group c.end_group.ensures.empty h
     (ended_written c.args.reset (g.S.Shelf.tells first) (g.S.Shelf.tells last) (g.S.Shelf.world first).now.seen (g.S.Shelf.world last).now.seen x c.write_all.new.pool c.end_group.new.pool h.stored
-    c.in_ok-root.ensures.pool.service c.end_group.ensures.table c.end_group.ensures.cache c.end_group.ensures.dir c.end_group.ensures.live c.end_group.ensures.space h.held stored
+    c.end_group.ensures.table c.end_group.ensures.cache c.end_group.ensures.dir c.end_group.ensures.space h.held stored
     (now_held (λ m held. c.publish_root.ensures.blocks m held) (c.in_ok-root.ensures.objects h.stored h.held stored)))
 
 pub returns-clause-stands : goal.returns-clause-stands
