@@ -23,7 +23,7 @@ use Rattle.zr_vdev.proofs.Frames.{continues_mounted}
 use Rattle.zr_sync.specs.declared.open.DeviceStreams.{DeviceStreams}
 use Rattle.zr_sync.specs.declared.open.OpenPool.{OpenPool}
 use Rattle.zr_lookup.specs.Groups.{IsLawfulGroup}
-use Rattle.zr_sync.specs.Pools.{AreStreams, IsOpen, IsInLimits, AreRows, IsAfter, IsDirectory, saved_block}
+use Rattle.zr_sync.specs.Pools.{AreCondStreams, AreStreams, IsOpen, IsInLimits, AreRows, IsAfter, IsDirectory, saved_block}
 use Rattle.zr_sync.specs.Writes.{WritesMetadata, WritesTrees, WritesBlocks, WritesAll}
 use Rattle.zr_sync.proofs.Rows.{row_few}
 use Rattle.zr_sync.proofs.Disks.{works_more, works_trees, works_metadata}
@@ -56,13 +56,13 @@ metadata_more n1 n2 n3 c1 c2 c3 t1 t2 t3 w1 w2 w3 x y z p q =
     record {
       goes = continues_more Meta x.table.slots n1 n2 n3 c1 c2 c3 t1 t2 t3 w1 w2 w3 x.space y.space z.space x.cache y.cache z.cache p.goes
           (subst (λ (slots : List (Option ℕ)). Continues Meta slots n2 n3 c2 c3 t2 t3 w2 w3 y.space z.space y.cache z.cache) same q.goes);
-      rest = q.rest ∙ ap (λ (o : OpenPool). record o { space = z.space; cache = z.cache; streams = z.streams }) p.rest;
+      rest = q.rest ∙ ap (λ (o : OpenPool). record o { space = z.space; cache = z.cache; streams = z.streams; cond = z.cond }) p.rest;
       count = q.count ∙ p.count;
     }
 
 pub metadata_open : (n1 n2 : List ℕ) (c1 c2 : Counts) (t1 t2 : Type 0) (w1 w2 : World) (x y : OpenPool)
-    → IsOpen n1 x → WritesMetadata n1 n2 c1 c2 t1 t2 w1 w2 x y → All AreStreams y.streams.items → IsOpen n2 y
-metadata_open n1 n2 c1 c2 t1 t2 w1 w2 x y o p streams =
+    → IsOpen n1 x → WritesMetadata n1 n2 c1 c2 t1 t2 w1 w2 x y → All AreStreams y.streams.items → AreCondStreams y.cond → IsOpen n2 y
+metadata_open n1 n2 c1 c2 t1 t2 w1 w2 x y o p streams cond =
     let rows = p.goes.space.rows in
     subst (IsOpen n2) (sym p.rest) (record {
       version = o.version;
@@ -80,6 +80,8 @@ metadata_open n1 n2 c1 c2 t1 t2 w1 w2 x y o p streams =
       head = o.head;
       streams = streams;
       count = p.count ∙ o.count;
+      cond = cond;
+      turned = o.turned;
       saved = subst (λ (k : CkptPart). IsSaved k (saved_block x.saved)) (sym rows.ckpt) o.saved;
       checkpoint = o.checkpoint;
       spelled = rows.version ∙ o.spelled;
@@ -92,10 +94,10 @@ metadata_open n1 n2 c1 c2 t1 t2 w1 w2 x y o p streams =
 
 -- a step that leaves all but the space, the cache and the streams
 pub step_open : {n1 n2 : List ℕ} {c1 c2 : Counts} {t1 t2 : Type 0} {w1 w2 : World} (x y : OpenPool)
-    → IsOpen n1 x → Continues Meta x.table.slots n1 n2 c1 c2 t1 t2 w1 w2 x.space y.space x.cache y.cache → y ≡ record x { space = y.space; cache = y.cache; streams = y.streams } → length y.streams.items ≡ length x.streams.items
-    → All AreStreams y.streams.items → IsOpen n2 y
-step_open {n1} {n2} {c1} {c2} {t1} {t2} {w1} {w2} x y o goes rest count streams =
-    metadata_open n1 n2 c1 c2 t1 t2 w1 w2 x y o (record { goes = goes; rest = rest; count = count }) streams
+    → IsOpen n1 x → Continues Meta x.table.slots n1 n2 c1 c2 t1 t2 w1 w2 x.space y.space x.cache y.cache → y ≡ record x { space = y.space; cache = y.cache; streams = y.streams; cond = y.cond } → length y.streams.items ≡ length x.streams.items
+    → All AreStreams y.streams.items → AreCondStreams y.cond → IsOpen n2 y
+step_open {n1} {n2} {c1} {c2} {t1} {t2} {w1} {w2} x y o goes rest count streams cond =
+    metadata_open n1 n2 c1 c2 t1 t2 w1 w2 x y o (record { goes = goes; rest = rest; count = count }) streams cond
 
 -- a step that leaves all but the streams
 pub streams_step : (n : List ℕ) (c : Counts) (t : Type 0) (w : World) (x y : OpenPool) → y ≡ record x { streams = y.streams } → length y.streams.items ≡ length x.streams.items → WritesMetadata n n c c t t w w x y
@@ -103,7 +105,7 @@ streams_step n c t w x y rest count =
     subst (WritesMetadata n n c c t t w w x) (sym rest) (record { goes = continues_itself Meta x.table.slots n c t w x.space x.cache; rest = refl; count = count })
 
 pub streams_open : (n : List ℕ) (c : Counts) (t : Type 0) (w : World) (x y : OpenPool) → IsOpen n x → y ≡ record x { streams = y.streams } → length y.streams.items ≡ length x.streams.items → All AreStreams y.streams.items → IsOpen n y
-streams_open n c t w x y o rest count streams = metadata_open n n c c t t w w x y o (streams_step n c t w x y rest count) streams
+streams_open n c t w x y o rest count streams = metadata_open n n c c t t w w x y o (streams_step n c t w x y rest count) streams (subst AreCondStreams (sym (ap (λ (p : OpenPool). p.cond) rest)) o.cond)
 
 -- the streams of a device
 pub streams_at : (xs : List DeviceStreams) (i : ℕ) (a : DeviceStreams) → i < length xs → a ≡ get_or xs i a → All AreStreams xs → AreStreams a
@@ -133,6 +135,8 @@ blocks_open n1 n2 c1 c2 t1 t2 w1 w2 x y o p lawful limits =
       head = o.head;
       streams = o.streams;
       count = o.count;
+      cond = o.cond;
+      turned = o.turned;
       saved = subst (λ (k : CkptPart). IsSaved k (saved_block x.saved)) (sym rows.ckpt) o.saved;
       checkpoint = o.checkpoint;
       spelled = rows.version ∙ o.spelled;
@@ -163,6 +167,8 @@ trees_open n1 n2 c1 c2 t1 t2 w1 w2 x y o p dir =
       head = o.head;
       streams = o.streams;
       count = o.count;
+      cond = o.cond;
+      turned = o.turned;
       saved = subst (λ (k : CkptPart). IsSaved k (saved_block x.saved)) (sym rows.ckpt) o.saved;
       checkpoint = o.checkpoint;
       spelled = rows.version ∙ o.spelled;
@@ -208,8 +214,8 @@ all_written {n1} {n2} {n3} {c1} {c2} {c3} {t1} {t2} {t3} {w1} {w2} {w3} {x} {y} 
   metadata = q.goes.space;
   rest =
       q.rest
-      ∙ (ap (λ (o : OpenPool). record o { space = z.space; cache = z.cache; streams = z.streams }) p.rest
-      ∙ ap (λ (o : OpenPool). record x { space = z.space; cache = z.cache; dir = o.dir; streams = z.streams }) (sym q.rest));
+      ∙ (ap (λ (o : OpenPool). record o { space = z.space; cache = z.cache; streams = z.streams; cond = z.cond }) p.rest
+      ∙ ap (λ (o : OpenPool). record x { space = z.space; cache = z.cache; dir = o.dir; streams = z.streams; cond = z.cond }) (sym q.rest));
 }
 
 pub trees_written : {n1 n2 : List ℕ} {c1 c2 : Counts} {t1 t2 : Type 0} {w1 w2 : World} {x y : OpenPool}
@@ -223,7 +229,7 @@ trees_written {n1} {n2} {c1} {c2} {t1} {t2} {w1} {w2} {x} {y} p = record {
   mid = y.space;
   blocks = p.goes.space;
   metadata = others_itself Meta y.space;
-  rest = p.rest ∙ ap (λ (o : OpenPool). record x { space = y.space; cache = y.cache; dir = y.dir; streams = o.streams }) (sym p.rest);
+  rest = p.rest ∙ ap (λ (o : OpenPool). record x { space = y.space; cache = y.cache; dir = y.dir; streams = o.streams; cond = o.cond }) (sym p.rest);
 }
 
 -- ---- devices

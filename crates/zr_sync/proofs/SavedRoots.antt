@@ -32,10 +32,10 @@ use Rattle.zr_vdev.specs.declared.kind.Kind.TheVariants.{Block, Meta}
 use Rattle.zr_vdev.proofs.Follows.{gives_others, others_itself, others_more, rows_devices, space_step}
 use Rattle.zr_vdev.proofs.Frames.{held_beside}
 use Rattle.zr_vdev.proofs.Held.{read_same}
-use Rattle.zr_sync.specs.Checkpoints.{GivesSavedMeta, SavesRoot, DropsRoot, no_streams}
+use Rattle.zr_sync.specs.Checkpoints.{GivesSavedMeta, SavesRoot, DropsRoot, no_cond, no_streams}
 use Rattle.zr_sync.specs.Heads.{IsSeen}
 use Rattle.zr_sync.specs.Objects.{HoldsObjects}
-use Rattle.zr_sync.specs.Pools.{AreStreams, IsCheckpoint, IsOpen, IsSameIdentity, IsSamePool, saved_block}
+use Rattle.zr_sync.specs.Pools.{AreCondStreams, AreStreams, IsCheckpoint, IsOpen, IsSameIdentity, IsSamePool, saved_block}
 use Rattle.zr_sync.specs.declared.open.Checkpoint.{Checkpoint}
 use Rattle.zr_sync.specs.declared.open.DeviceStreams.{DeviceStreams}
 use Rattle.zr_sync.specs.declared.open.OpenPool.{OpenPool}
@@ -190,8 +190,8 @@ held_lawful c o is lawful = subst (λ (b : Option Checkpoint). IfSome b IsCheckp
 
 -- the pool is open as before
 pub saves_open : (sizes : List ℕ) (x y : OpenPool) (given : Space) (c : Checkpoint) (txg : ℕ) → IsOpen sizes x → GivesSavedMeta x.space given → HoldsCheckpoint given y.space txg → txg < 2 ^ 64 → length c.block ≡ 4096 → c.head ≡ x.head → c.streams ≡ x.streams → y.saved ≡ Some c
-    → All (λ (d : DeviceStreams). d ≡ no_streams) y.streams.items → length y.streams.items ≡ length x.streams.items → y.head ≡ no_streams.held.tree → y ≡ record x { space = y.space; saved = y.saved; head = y.head; streams = y.streams } → IsOpen sizes y
-saves_open sizes x y given c txg o gives holds small long c_head c_streams saved streams count head rest =
+    → All (λ (d : DeviceStreams). d ≡ no_streams) y.streams.items → length y.streams.items ≡ length x.streams.items → y.head ≡ no_streams.held.tree → c.cond ≡ x.cond → y.cond ≡ no_cond → y ≡ record x { space = y.space; saved = y.saved; head = y.head; streams = y.streams; cond = y.cond } → IsOpen sizes y
+saves_open sizes x y given c txg o gives holds small long c_head c_streams saved streams count head c_cond cond rest =
     let rows = gives.others.rows in
     let devices : devices_in y.space ≡ devices_in x.space = held_devices txg given y.space holds ∙ rows_devices x.space given rows in
     subst (IsOpen sizes) (sym rest) (record {
@@ -210,8 +210,10 @@ saves_open sizes x y given c txg o gives holds small long c_head c_streams saved
       head = no_tree_lawful y.head head;
       streams = λ i d lt. no_streams_lawful _ (streams i d lt);
       count = count ∙ o.count;
+      cond = subst AreCondStreams (sym cond) (record { entries = (refl, refl); counts = (refl, refl) });
+      turned = o.turned;
       saved = held_saved txg y.space.parts.ckpt c y.saved holds.ckpt_is saved long small;
-      checkpoint = held_lawful c y.saved saved (record { head = subst IsTree (sym c_head) o.head; streams = subst (λ (v : Vec DeviceStreams Global). All AreStreams v.items) (sym c_streams) o.streams });
+      checkpoint = held_lawful c y.saved saved (record { head = subst IsTree (sym c_head) o.head; streams = subst (λ (v : Vec DeviceStreams Global). All AreStreams v.items) (sym c_streams) o.streams; cond = subst AreCondStreams (sym c_cond) o.cond });
       spelled = holds.version ∙ (rows.version ∙ o.spelled);
       devices = holds.devices ∙ (rows.devices ∙ o.devices);
       rows = λ d lt. (holds.each d).row ∙ ((rows.each d).row ∙ o.rows d lt);
@@ -256,6 +258,8 @@ drops_open sizes x y o gives rest =
       head = o.head;
       streams = o.streams;
       count = o.count;
+      cond = o.cond;
+      turned = o.turned;
       saved = subst (λ (k : CkptPart). IsSaved k None) (sym rows.ckpt) tt;
       checkpoint = tt;
       spelled = rows.version ∙ o.spelled;
@@ -353,6 +357,8 @@ discards_open sizes x y b o k was ckpt rest =
       head = o.head;
       streams = o.streams;
       count = o.count;
+      cond = o.cond;
+      turned = o.turned;
       saved = unsaved b y.space.parts.ckpt x.saved ckpt (subst (λ (c : CkptPart). IsSaved c (saved_block x.saved)) was o.saved);
       checkpoint = o.checkpoint;
       spelled = k.version ∙ o.spelled;

@@ -1,5 +1,5 @@
 -- An open pool, as each call needs it and leaves it.
-use Rattle.std.specs.Prelude.{◌≡◌, ℕ, ◌+◌, ◌≤◌, ◌<◌, ◌⊎◌, List, All, length, take, drop, slice_index, slice_index_or, IsTrue, Option, Some, None, IfSome}
+use Rattle.std.specs.Prelude.{◌≡◌, ℕ, false, replicate, ◌+◌, ◌≤◌, ◌<◌, ◌⊎◌, List, All, length, take, drop, slice_index, slice_index_or, IsTrue, Option, Some, None, IfSome}
 use Rattle.std.specs.List.{list_all, list_any}
 use Rattle.zr_bptr.specs.declared.Tree.{Tree}
 use Rattle.zr_bptr.specs.Spelling.{IsTree}
@@ -16,8 +16,10 @@ use Rattle.zr_txg.specs.Changes.{Changes, block_count}
 use Rattle.zr_view.specs.Views.{slot_of}
 use Rattle.zr_vdev.specs.Mounts.{AreMounted}
 use Rattle.zr_sync.specs.declared.open.Checkpoint.{Checkpoint}
+use Rattle.zr_sync.specs.declared.open.CondStreams.{CondStreams}
 use Rattle.zr_sync.specs.declared.open.DeviceStreams.{DeviceStreams}
 use Rattle.zr_sync.specs.declared.open.OpenPool.{OpenPool}
+use Rattle.zr_sync.specs.declared.open.Turned.{Turned}
 
 pub record AreStreams (s : DeviceStreams) : Type 0 where
   pub held : IsStream s.held
@@ -28,10 +30,15 @@ pub record AreStreams (s : DeviceStreams) : Type 0 where
   pub late1 : IsStream s.late1
   pub late2 : IsStream s.late2
 
+pub record AreCondStreams (s : CondStreams) : Type 0 where
+  pub entries : IsStream s.entries
+  pub counts : IsStream s.counts
+
 -- the trees of the metadata of the root that a checkpoint holds are lawful
 pub record IsCheckpoint (c : Checkpoint) : Type 0 where
   pub head : IsTree c.head
   pub streams : All AreStreams c.streams.items
+  pub cond : AreCondStreams c.cond
 
 -- the block of that root
 abbrev pub saved_block : Option Checkpoint → Option (List ℕ)
@@ -61,6 +68,10 @@ pub record IsInLimits (g : Changes) : Type 0 where
   pub blocks : block_count g.objects ≤ 64
   pub objects : length g.objects ≤ 64
 
+-- mappings that changed at their end alone
+abbrev pub none_turned : List Turned
+none_turned = replicate 32 (record { entries = false; counts = false })
+
 -- A pool of so many devices at least and of 32 at most, whose disks have these sizes. Each device that is there has a disk of its own with all its units, so none lies in a label; one that is gone may have one or none. A root is saved exactly while a checkpoint is held.
 pub record IsPool (least : ℕ) (sizes : List ℕ) (pool : OpenPool) : Type 0 where
   pub version : (pool.version ≡ 1) ⊎ (pool.version ≡ 2)
@@ -78,6 +89,8 @@ pub record IsPool (least : ℕ) (sizes : List ℕ) (pool : OpenPool) : Type 0 wh
   pub head : IsTree pool.head
   pub streams : All AreStreams pool.streams.items
   pub count : length pool.streams.items ≡ pool.table.count
+  pub cond : AreCondStreams pool.cond
+  pub turned : length pool.turned ≡ 32
   pub saved : IsSaved pool.space.parts.ckpt (saved_block pool.saved)
   pub checkpoint : IfSome pool.saved IsCheckpoint
   pub spelled : pool.space.parts.version ≡ pool.version

@@ -21,7 +21,7 @@ ghost use Rattle.zr_sync.specs.declared.open.DeviceStreams.{DeviceStreams};
 ghost use Rattle.zr_sync.specs.declared.stop.Stop.TheVariants.{DiskFault};
 
 use crate::commits::{commit, commit_anew};
-use crate::open::{Checkpoint, DeviceStreams, EMPTY, NO_STREAMS, OpenPool};
+use crate::open::{Checkpoint, DeviceStreams, EMPTY, NO_COND, NO_STREAMS, OpenPool};
 use crate::stop::Stop;
 use std::alloc::Global;
 use std::mem;
@@ -83,8 +83,10 @@ fn save_root(alloc: Global, pool: &mut OpenPool) -> Result<(), NoMemory>
         block,
         head: pool.head,
         streams,
+        cond: pool.cond,
     });
     pool.head = EMPTY.tree;
+    pool.cond = NO_COND;
     Ok(())
 }
 

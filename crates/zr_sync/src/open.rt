@@ -29,18 +29,35 @@ pub struct Table {
     pub slots: [Option<u32>; 32],
 }
 
+/// The streams of the condensing that goes on: the entries that it has kept, and their counts. Where none goes on both
+/// are `EMPTY`.
+#[derive(Clone, Copy, PartialEq, Eq, Debug)]
+pub struct CondStreams {
+    pub entries: Stream,
+    pub counts: Stream,
+}
+
+/// Which streams of a mapping the next commit has to write anew, since their words changed otherwise than at their end.
+#[derive(Clone, Copy, PartialEq, Eq, Debug)]
+pub struct Turned {
+    pub entries: bool,
+    pub counts: bool,
+}
+
 /// The root that a checkpoint holds: its block, as each later head has it, and where its metadata stands, which are the
-/// tree of its head and the streams of each device that it had.
+/// tree of its head, the streams of each device that it had, and those of its condensing.
 #[derive(Drop)]
 pub struct Checkpoint {
     pub block: Blob,
     pub head: Tree,
     pub streams: Vec<DeviceStreams>,
+    pub cond: CondStreams,
 }
 
-/// An open pool. `last` is the root that was committed last, none before the first. `dir`, `head` and `streams` are its
-/// directory, the tree of its head, and the streams of each device. `saved` is the root that a checkpoint holds,
-/// none where no checkpoint is held. `group` is what was changed since.
+/// An open pool. `last` is the root that was committed last, none before the first. `dir`, `head`, `streams` and `cond`
+/// are its directory, the tree of its head, the streams of each device, and those of the condensing that goes on. `saved`
+/// is the root that a checkpoint holds, none where no checkpoint is held. `group` is what was changed since, and `turned`
+/// tells of each device which streams of its mapping no longer begin with the words that they have.
 #[derive(Drop)]
 pub struct OpenPool {
     pub name: Name,
@@ -53,8 +70,10 @@ pub struct OpenPool {
     pub dir: Tree,
     pub head: Tree,
     pub streams: Vec<DeviceStreams>,
+    pub cond: CondStreams,
     pub saved: Option<Checkpoint>,
     pub group: Group,
+    pub turned: [Turned; 32],
 }
 
 /// A stream without words.
@@ -76,3 +95,15 @@ pub const NO_STREAMS: DeviceStreams = DeviceStreams {
     late1: EMPTY,
     late2: EMPTY,
 };
+
+/// The streams of no condensing.
+pub const NO_COND: CondStreams = CondStreams {
+    entries: EMPTY,
+    counts: EMPTY,
+};
+
+/// Mappings that changed at their end alone.
+pub const NONE_TURNED: [Turned; 32] = [Turned {
+    entries: false,
+    counts: false,
+}; 32];

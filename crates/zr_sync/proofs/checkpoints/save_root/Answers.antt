@@ -21,12 +21,13 @@ returns-clause-saves c =
       last = c.last_root-root.ensures.last;
       block = c.in_ok-block.block;
       spelled = subst (λ (b : List ℕ). SpellsUber b c.last_root-root.result) (sym c.in_ok-block.ensures) c.encode.ensures.spelling;
-      saved = ap (λ (v : Vec DeviceStreams Global). Some (record { block = c.in_ok-block.block; head = c.args.pool.now.head; streams = v })) c.replace-streams.ensures.value;
+      saved = ap (λ (v : Vec DeviceStreams Global). Some (record { block = c.in_ok-block.block; head = c.args.pool.now.head; streams = v; cond = c.args.pool.now.cond })) c.replace-streams.ensures.value;
       given = c.give_saved.new.space;
       gives = c.in_ok-give_saved.ensures.gives;
       holds = c.hold.ensures;
       streams = subst (λ (v : Vec DeviceStreams Global). All (λ (s : DeviceStreams). s ≡ no_streams) v.items) (sym none) c.in_ok-none.ensures.clear;
       count = ap (λ (v : Vec DeviceStreams Global). length v.items) none ∙ c.in_ok-none.ensures.count ∙ ap (λ (xs : List DeviceStreams). length xs) c.as_slice.ensures.value;
+      cond = refl;
       head = refl;
       rest = refl;
     }
@@ -37,4 +38,4 @@ returns-clause-pool c = λ sizes o.
     saves_open sizes c.args.pool.now _ c.give_saved.new.space _ c.last_root-root.result.txg o c.in_ok-give_saved.ensures.gives c.hold.ensures
     c.last_root-root.ensures.lawful.head.txg_fits (ap (λ (b : List ℕ). length b) c.in_ok-block.ensures ∙ c.encode.ensures.size) refl c.replace-streams.ensures.value refl
     (subst (λ (v : Vec DeviceStreams Global). All (λ (s : DeviceStreams). s ≡ no_streams) v.items) (sym none) c.in_ok-none.ensures.clear)
-    (ap (λ (v : Vec DeviceStreams Global). length v.items) none ∙ c.in_ok-none.ensures.count ∙ ap (λ (xs : List DeviceStreams). length xs) c.as_slice.ensures.value) refl refl
+    (ap (λ (v : Vec DeviceStreams Global). length v.items) none ∙ c.in_ok-none.ensures.count ∙ ap (λ (xs : List DeviceStreams). length xs) c.as_slice.ensures.value) refl refl refl refl
