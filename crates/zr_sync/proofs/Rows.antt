@@ -1,5 +1,5 @@
 -- The rows of a pool's devices: what a head and a root want of them, and how they go on into the next group.
-use Rattle.std.proofs.Common.{◌≡◌, ◌∙◌, ℕ, zero, suc, ◌+◌, ◌<◌, ◌≤◌, ◌^◌, Bool, true, false, List, [], ◌∷◌, ◌++◌, length, take, get_or, refl, sym, ap, append_assoc, add-one, length-append, arith}
+use Rattle.std.proofs.Common.{◌≡◌, ◌∙◌, ℕ, zero, suc, ◌+◌, ◌<◌, ◌≤◌, ◌^◌, Bool, true, false, List, [], ◌∷◌, ◌++◌, length, take, get_or, Option, Some, None, refl, sym, ap, append_assoc, add-one, length-append, arith}
 use Rattle.std.specs.Prelude.{IsTrue, ◌&&◌, nat_le, slice_index_or, sum_by}
 use Rattle.std.specs.List.{list_all}
 use Rattle.std.proofs.lemmas.Bool.Decides.{nat_tests}
@@ -9,10 +9,12 @@ use Rattle.zr_base.specs.declared.space.DevRow.{DevRow}
 use Rattle.zr_base.specs.declared.space.DevState.{DevState}
 use Rattle.zr_base.specs.declared.space.DevState.TheVariants.{On, Leaving, Gone}
 use Rattle.zr_label.specs.Blocks.{IsTable, is_row, is_going, most_units, no_row}
+use Rattle.zr_meta.specs.declared.CondAt.{CondAt}
 use Rattle.zr_meta.specs.declared.Stream.{Stream}
-use Rattle.zr_meta.specs.Heads.{stream_count}
-use Rattle.zr_sync.specs.Heads.{streams_in, streams_of}
+use Rattle.zr_meta.specs.Heads.{cond_count, stream_count, stream_total}
+use Rattle.zr_sync.specs.Heads.{cond_streams, streams_in, streams_of}
 use Rattle.zr_sync.specs.Pools.{AreRows}
+use Rattle.zr_sync.specs.declared.open.CondStreams.{CondStreams}
 use Rattle.zr_sync.specs.declared.open.DeviceStreams.{DeviceStreams}
 
 and_parts : (a b : Bool) → IsTrue (a && b) → IsTrue a × IsTrue b
@@ -109,7 +111,7 @@ state_streams Leaving d = refl
 state_streams Gone d = refl
 
 -- the devices have as many streams as their states say
-pub streams_count : (rows : List DevRow) (devices : List DeviceStreams) → length rows ≡ length devices → length (streams_of rows devices) ≡ sum_by (λ (r : DevRow). stream_count 2 r.state) rows
+streams_count : (rows : List DevRow) (devices : List DeviceStreams) → length rows ≡ length devices → length (streams_of rows devices) ≡ sum_by (λ (r : DevRow). stream_count 2 r.state) rows
 streams_count [] [] e = refl
 streams_count [] (d ∷ devices) e = absurd (omega (arith, e))
 streams_count (r ∷ rows) [] e = absurd (omega (arith, e))
@@ -119,6 +121,18 @@ streams_count (r ∷ rows) (d ∷ devices) e =
     let both = length-append (streams_in r.state d) (streams_of rows devices) in
     let sum : sum_by (λ (x : DevRow). stream_count 2 x.state) (r ∷ rows) ≡ stream_count 2 r.state + sum_by (λ (x : DevRow). stream_count 2 x.state) rows = sum_by-cons (λ (x : DevRow). stream_count 2 x.state) r rows in
     omega (arith, one, more, both, sum)
+
+cond_length : (at : Option CondAt) (s : CondStreams) → length (cond_streams at s) ≡ cond_count at
+cond_length None s = refl
+cond_length (Some c) s = refl
+
+-- and those of the condensing come behind them
+pub all_streams : (rows : List DevRow) (devices : List DeviceStreams) (at : Option CondAt) (s : CondStreams) → length rows ≡ length devices → length (streams_of rows devices ++ cond_streams at s) ≡ stream_total 2 rows at
+all_streams rows devices at s e =
+    let one = streams_count rows devices e in
+    let two = cond_length at s in
+    let both = length-append (streams_of rows devices) (cond_streams at s) in
+    omega (arith, one, two, both)
 
 -- those of one device more
 pub streams_more : (rows : List DevRow) (devices : List DeviceStreams) (i : ℕ) (row : DevRow) (device : DeviceStreams) → i < length rows → i < length devices

@@ -93,9 +93,10 @@ head_same table v w h root len same has = record {
 }
 
 -- a group that ends leaves the head
-pub ended_head : (reset : Bool) (disks : List (List ℕ)) (x y : OpenPool) (root : Ptr) (len : ℕ) → y.table ≡ x.table → y.dir ≡ x.dir → y.streams ≡ x.streams → y.saved ≡ x.saved → Commits reset x.space y.space → HasHead disks x root len → HasHead disks y root len
-ended_head reset disks x y root len table dir streams saved commits has =
+pub ended_head : (reset : Bool) (disks : List (List ℕ)) (x y : OpenPool) (root : Ptr) (len : ℕ) → y.table ≡ x.table → y.dir ≡ x.dir → y.streams ≡ x.streams → y.cond ≡ x.cond → y.saved ≡ x.saved → Commits reset x.space y.space → HasHead disks x root len → HasHead disks y root len
+ended_head reset disks x y root len table dir streams cond saved commits has =
     let ckpt = commits.ckpt in
+    let part = commits.cond in
     let devices = commits_devices reset x.space y.space commits in
     let heads : head_of y ≡ head_of x = cc in
     let rows : take y.table.count y.table.rows ≡ take x.table.count x.table.rows = ap (λ (t : Table). take t.count t.rows) table in

@@ -3,20 +3,21 @@ ghost use Rattle.std.specs.Prelude.{ℕ, List, ◌≡◌, ◌++◌, ◌≤◌, �
 ghost use Rattle.std.specs.List.{AllByRecursion};
 ghost use Rattle.zr_base.specs.Counts.{HasRisen};
 ghost use Rattle.zr_label.specs.Blocks.{IsMetaRoot};
-ghost use Rattle.zr_meta.specs.Heads.{IsHead, IsStream, head_words};
-ghost use Rattle.zr_sync.specs.Heads.{HasHead, IsSeen, head_of, streams_in};
-ghost use Rattle.zr_sync.specs.Pools.{AreStreams, IsOpen, saved_block};
+ghost use Rattle.zr_meta.specs.Heads.{IsCond, IsHead, IsStream};
+ghost use Rattle.zr_sync.specs.Heads.{HasHead, IsSeen, cond_at, cond_streams, head_of, streams_in};
+ghost use Rattle.zr_sync.specs.Pools.{AreCondStreams, AreStreams, IsOpen, saved_block};
 ghost use Rattle.zr_sync.specs.Writes.{WritesMetadata};
 ghost use Rattle.zr_sync.specs.declared.stop.Stop.TheVariants.{DiskFault};
 
-use crate::open::{Checkpoint, DeviceStreams, OpenPool};
+use crate::open::{Checkpoint, CondStreams, DeviceStreams, OpenPool};
 use crate::stop::Stop;
 use crate::stores::put_head;
 use std::alloc::Global;
 use zr_base::{Blob, DevState, Items, NoMemory};
 use zr_bptr::Ptr;
-use zr_meta::{Head, Stream};
+use zr_meta::{CondAt, Head, Stream};
 use zr_shelf::Shelf;
+use zr_space::Space;
 use zr_vdev::{Kind, Mount, Place};
 
 // Adds the logs of a device that is there.
@@ -86,6 +87,38 @@ fn block_of(alloc: Global, saved: &Option<Checkpoint>) -> Result<Option<Blob>, N
     }
 }
 
+// The condensing that goes on, as a head tells it.
+fn cond_at(space: &Space) -> Option<CondAt>
+    ensures at { result ≡ cond_at space.now.parts.cond }
+    ensures fits { IsCond result }
+{
+    let cond = space.condensing()?;
+    Some(CondAt {
+        dev: cond.dev(),
+        at: cond.at(),
+    })
+}
+
+// Adds the streams of the condensing that goes on, if one does.
+fn add_condensing(
+    streams: &mut Items<Stream>,
+    at: Option<CondAt>,
+    cond: &CondStreams,
+) -> Result<(), NoMemory>
+    requires lawful { AllByRecursion IsStream streams.old }
+    requires cond { AreCondStreams cond.now }
+    ensures lawful { OnOk result (AllByRecursion IsStream streams.new) }
+    ensures added { OnOk result (streams.new ≡ streams.old ++ cond_streams at cond.now) }
+{
+    match at {
+        None => Ok(()),
+        Some(_) => {
+            streams.push(cond.entries)?;
+            streams.push(cond.counts)
+        }
+    }
+}
+
 // The head of the next root.
 fn head_of(alloc: Global, pool: &OpenPool) -> Result<Head, NoMemory>
     requires { (sizes : List ℕ) × IsOpen sizes pool.now }
@@ -100,13 +133,15 @@ fn head_of(alloc: Global, pool: &OpenPool) -> Result<Head, NoMemory>
             &pool.streams[dev],
         )?;
     }
+    let cond = cond_at(&pool.space);
+    add_condensing(&mut streams, cond, &pool.cond)?;
     let saved = block_of(alloc, &pool.saved)?;
     Ok(Head {
         form: 2,
         dir: pool.dir,
         saved,
         ckpt: pool.space.ckpt(),
-        cond: None,
+        cond,
         streams,
     })
 }

@@ -85,7 +85,7 @@ returns-clause-stands g c = λ seen.
     subst (λ (r : Ptr). HasHead before pool r len) (sym c.next_root-next.ensures.root_is) (subst (λ (n : ℕ). HasHead before pool c.in_ok-root.root n) (sym c.next_root-next.ensures.len_is) (c.in_ok-root.ensures.stands seen)) in
     let published = head_same (take pool.table.count pool.table.rows) (view_of before pool.table.slots pool.space) (view_of now pool.table.slots pool.space) (head_of pool) root len (c.publish_root.ensures.bytes (c.write_all.ensures.wrote.told seen.told)) wrote in
     subst (λ (o : Option Uber). IfSome o (λ (u : Uber). HasHead now c.end_group.new.pool u.root u.len)) (sym c.end_group.ensures.last)
-    (ended_head c.args.reset now pool c.end_group.new.pool root len c.end_group.ensures.table c.end_group.ensures.dir c.end_group.ensures.streams c.end_group.ensures.saved c.end_group.ensures.space published)
+    (ended_head c.args.reset now pool c.end_group.new.pool root len c.end_group.ensures.table c.end_group.ensures.dir c.end_group.ensures.streams c.end_group.ensures.cond c.end_group.ensures.saved c.end_group.ensures.space published)
 
 pub returns-clause-seen : goal.returns-clause-seen
 returns-clause-seen g c = λ seen.
