@@ -127,11 +127,7 @@ fn head_of(alloc: Global, pool: &OpenPool) -> Result<Head, NoMemory>
 {
     let mut streams = Items::new(alloc);
     for dev in 0..pool.table.count as usize {
-        add_streams(
-            &mut streams,
-            pool.table.rows[dev].state,
-            &pool.streams[dev],
-        )?;
+        add_streams(&mut streams, pool.table.rows[dev].state, &pool.streams[dev])?;
     }
     let cond = cond_at(&pool.space);
     add_condensing(&mut streams, cond, &pool.cond)?;
