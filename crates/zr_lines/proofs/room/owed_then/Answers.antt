@@ -24,6 +24,18 @@ pieces_of-requires-clause-count c =
     let olds = ap (λ (bs : List Bptr). length bs) (c.as_slice.ensures.value ∙ (c.in_ok-old.ensures ∙ ap olds_of c.as_slice-plan.ensures.value)) in
     omega (arith, planned, old, olds)
 
+pub overflow_add-pieces : goal.overflow_add-pieces
+overflow_add-pieces c =
+    let g = c.args.pool.now.group in
+    let i = c.args.intent.now in
+    let planned = few_planned g c.args.id i c.requires.intent in
+    let old = olds_short i.plan.items in
+    let puts = c.puts.ensures.most in
+    let pieces = c.pieces_of.ensures.few in
+    let olds = ap (λ (bs : List Bptr). length bs) (c.as_slice.ensures.value ∙ (c.in_ok-old.ensures ∙ ap olds_of c.as_slice-plan.ensures.value)) in
+    let plan = ap (λ (ps : List Planned). length ps) c.as_slice-plan.ensures.value in
+    omega (arith, planned, old, puts, pieces, olds, plan)
+
 pub owed_with-requires-clause-pieces : goal.owed_with-requires-clause-pieces
 owed_with-requires-clause-pieces c =
     let g = c.args.pool.now.group in
