@@ -60,8 +60,8 @@ fn demand_to_take(pool: &OpenPool) -> Result<(), Refusal>
     }
 }
 
-// Refuses to give up a checkpoint where there is none, or where it is being discarded. While one is held no device is
-// leaving, so that the last test is never met.
+// Refuses to give up a checkpoint where there is none, or where it is being discarded. No removal begins while one is
+// held; that is tested here, since nothing that is known of an open pool says so.
 fn demand_to_give(pool: &OpenPool) -> Result<(), Refusal>
     ensures stays { OnOk result (AllStay pool.now.space) }
     ensures refused { IfErr result (IsGiveRefusal pool.now pool.now.space.parts.ckpt) }
