@@ -27,7 +27,8 @@ pub use fault::Fault;
 pub use logs::Logs;
 pub use mappings::{MappingStream, cond_grows, mapping_grows};
 pub use open::{
-    Checkpoint, CondStreams, DeviceStreams, EMPTY, NO_COND, NONE_TURNED, OpenPool, Table, Turned,
+    Checkpoint, CondStreams, DeviceStreams, EMPTY, NO_COND, NO_STREAMS, NONE_TURNED, OpenPool,
+    Table, Turned,
 };
 pub use stop::Stop;
 pub use stores::{give_streams, give_tree, put_group, put_head, put_log, put_words};
