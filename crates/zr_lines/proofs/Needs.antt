@@ -1,14 +1,16 @@
 -- The numbers from which the room that is needed is computed.
-use Rattle.std.proofs.Common.{◌≡◌, ℕ, ◌+◌, ◌-◌, ◌*◌, ◌^◌, ◌≤◌, List, [], ◌∷◌, length, map, Option, Some, None, ◌∙◌, ap, arith}
-use Rattle.std.specs.Prelude.{IsTrue}
+use Rattle.std.proofs.Common.{◌≡◌, ℕ, ◌+◌, ◌-◌, ◌*◌, ◌^◌, ◌≤◌, List, [], ◌∷◌, length, map, Option, Some, None, ◌∙◌, sym, ap, subst, arith}
+use Rattle.std.specs.Prelude.{All, IsTrue}
 use Rattle.std.specs.Global.{Vec}
 use Rattle.std.proofs.lemmas.Bool.Decides.{nat_tests}
 use Rattle.std.proofs.lemmas.List.{length-map, length-append}
 use Rattle.std.proofs.lemmas.List.Concat.{flat_map-cons}
+use Rattle.std.proofs.lemmas.List.Elements.{All-nil, All-cons, All-head, All-tail, All-append}
 use Rattle.std.proofs.lemmas.List.FromFn.{length-range_with_len}
 use Rattle.std.proofs.lemmas.List.Sums.{sum_by-cons}
 use Rattle.std.proofs.Math.Nat.{mul-le-mul}
 use Rattle.zr_base.specs.Blocks.{is_block_size}
+use Rattle.zr_bptr.specs.Spelling.{IsLawful, IsPointer}
 use Rattle.zr_bptr.specs.declared.Bptr.{Bptr}
 use Rattle.zr_bptr.specs.declared.Ptr.{Ptr}
 use Rattle.zr_bptr.specs.declared.Ptr.TheVariants.{Hole, At}
@@ -20,6 +22,7 @@ use Rattle.zr_room.specs.Counts.{sizes_with}
 use Rattle.zr_rules.specs.Equation.{devices_in}
 use Rattle.zr_rules.specs.Owed.{owed}
 use Rattle.zr_rules.specs.Space.{Space}
+use Rattle.zr_tree.specs.Blocks.{FitsAt}
 use Rattle.zr_tree.specs.Trees.{own}
 use Rattle.zr_txg.specs.Changes.{Changes, block_count}
 use Rattle.zr_lines.specs.Intents.{IsIntent}
@@ -59,6 +62,17 @@ olds_short (p ∷ plan) =
     let both = length-append (own p.old) (olds_of plan) in
     let whole = ap (λ (bs : List Bptr). length bs) (flat_map-cons (λ (q : Planned). own q.old) p plan) in
     omega (arith, rest, one, both, whole)
+
+-- the old blocks are lawful where their pointers are
+one_lawful : (p : Ptr) → IsLawful p → All IsPointer (own p)
+one_lawful Hole h = All-nil IsPointer
+one_lawful (At b) h = All-cons IsPointer b [] h (All-nil IsPointer)
+
+pub olds_lawful : (plan : List Planned) → All (λ (p : Planned). FitsAt 0 p.old) plan → All IsPointer (olds_of plan)
+olds_lawful [] h = All-nil IsPointer
+olds_lawful (p ∷ plan) h =
+    let P : Planned → Type 0 = λ q. FitsAt 0 q.old in
+    subst (All IsPointer) (sym (flat_map-cons (λ (q : Planned). own q.old) p plan)) (All-append IsPointer (own p.old) (olds_of plan) (one_lawful p.old (All-head P p plan h).1) (olds_lawful plan (All-tail P p plan h)))
 
 small_units : (n : ℕ) → IsTrue (is_block_size n) → n ≤ 32
 small_units n h = grind (arith, nat_tests, h)

@@ -4,7 +4,6 @@ use Rattle.std.specs.Prelude.{IsTrue, IfSome, ◌&&◌, nat_le}
 use Rattle.std.specs.List.{list_all}
 use Rattle.std.proofs.lemmas.Bool.Decides.{nat_tests}
 use Rattle.zr_base.specs.declared.space.DevRow.{DevRow}
-use Rattle.zr_base.specs.declared.space.Dva.{Dva}
 use Rattle.zr_label.specs.Blocks.{is_going, is_row, most_units}
 use Rattle.zr_label.specs.declared.root.Uber.{Uber}
 use Rattle.zr_model.specs.Objects.{Objects}
@@ -12,12 +11,12 @@ use Rattle.zr_moves.specs.Moves.{with_version}
 use Rattle.zr_rules.specs.Roles.{is_live_role}
 use Rattle.zr_rules.specs.Space.{Space, role_at, IsLawful}
 use Rattle.zr_shelf.specs.Moments.{World}
-use Rattle.zr_space.specs.Live.{IsLive}
 use Rattle.zr_sync.specs.Anew.{RenewsLogs}
 use Rattle.zr_sync.specs.Commits.{EndsGroup, IsNextRoot, IsShownFrom}
 use Rattle.zr_sync.specs.Objects.{HoldsObjects}
 use Rattle.zr_sync.specs.Pools.{IsOpen}
 use Rattle.zr_sync.specs.declared.open.OpenPool.{OpenPool}
+use Rattle.zr_sync.proofs.Holding.{StaysLive}
 use Rattle.zr_sync.proofs.SavedRoots.{live_objects}
 use Rattle.zr_lines.specs.Upgrades.{Upgrades, renewed}
 
@@ -27,8 +26,8 @@ version_role : (s : Space) (v d u : ℕ) → role_at (with_version s v) d u ≡ 
 unfolding role_at
 version_role s v d u = refl
 
-version_live : (s : Space) (v : ℕ) (a : Dva) → IsLive s a → IsLive (with_version s v) a
-version_live s v a l = record { known = l.known; some = l.some; within = l.within; used = λ d u leads. ap is_live_role (version_role s v d u) ∙ l.used d u leads }
+version_live : (s : Space) (v : ℕ) → StaysLive s (with_version s v)
+version_live s v = record { devices = refl; counts = λ d. refl; fresh = λ d u. refl; live = λ d u live. ap is_live_role (version_role s v d u) ∙ live }
 
 version_lawful : (s : Space) (v : ℕ) → IsLawful s → IsLawful (with_version s v)
 version_lawful s v l = record { devices = l.devices; sets = l.sets; once = l.once; copies = l.copies; born = l.born }
@@ -89,6 +88,8 @@ renewed_open sizes x o = record {
   head = o.head;
   streams = o.streams;
   count = o.count;
+  cond = o.cond;
+  turned = o.turned;
   saved = o.saved;
   checkpoint = o.checkpoint;
   spelled = refl;
@@ -96,12 +97,11 @@ renewed_open sizes x o = record {
   rows = o.rows;
   lawful = version_lawful x.space 2 o.lawful;
   mounted = o.mounted;
-  service = o.service;
   disks = o.disks;
 }
 
 pub renewed_objects : (sizes : List ℕ) (t : Type 0) (disks : List (List ℕ)) (x : OpenPool) (objects : Objects) → IsOpen sizes x → HoldsObjects t disks x objects → HoldsObjects t disks (renewed x) objects
-renewed_objects sizes t disks x objects o h = live_objects t disks x (renewed x) objects o.service refl (version_live x.space 2) refl refl refl refl h
+renewed_objects sizes t disks x objects o h = live_objects t disks x (renewed x) objects (version_live x.space 2) refl refl refl refl h
 
 -- ---- the commit behind it
 

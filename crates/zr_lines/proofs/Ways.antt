@@ -7,39 +7,21 @@ use Rattle.zr_lines.specs.Sought.{CanTake}
 use Rattle.zr_txg.specs.Changes.{Changes, object_in, block_count}
 use Rattle.zr_change.specs.Changes.{SetsObject}
 use Rattle.zr_sync.specs.declared.open.OpenPool.{OpenPool}
-use Rattle.zr_sync.specs.Pools.{IsOpen, IsInLimits, AreRows, IsAfter}
+use Rattle.zr_shelf.specs.Counts.{Counts}
+use Rattle.zr_shelf.specs.Moments.{World}
+use Rattle.zr_sync.specs.Pools.{IsOpen, IsInLimits}
+use Rattle.zr_sync.specs.Writes.{WritesBlocks}
+use Rattle.zr_sync.proofs.Pools.{blocks_open}
+use Rattle.zr_vdev.specs.declared.kind.Kind.TheVariants.{Block}
+use Rattle.zr_vdev.proofs.Follows.{continues_itself}
 use Rattle.zr_lines.specs.Counts.{new_object}
 use Rattle.zr_lines.specs.Groups.{IsReadyGroup}
 
 -- the group alone changes
-pub group_open : (n : List ℕ) (x y : OpenPool) → IsOpen n x → y ≡ record x { group = y.group } → y.group.txg ≡ x.group.txg → IsLawfulGroup y.group → IsInLimits y.group → IsOpen n y
-group_open n x y o rest txg lawful limits =
-    subst (IsOpen n) (sym rest) (record {
-      version = o.version;
-      guid = o.guid;
-      name = o.name;
-      some = o.some;
-      few = o.few;
-      table = subst (λ (t : ℕ). AreRows x.version t x.table.count x.table.rows) (sym txg) o.table;
-      slots = o.slots;
-      first = subst (λ (t : ℕ). 1 ≤ t) (sym txg) o.first;
-      after = subst (λ (t : ℕ). IsAfter x.last t) (sym txg) o.after;
-      group = lawful;
-      limits = limits;
-      dir = o.dir;
-      head = o.head;
-      streams = o.streams;
-      count = o.count;
-      saved = o.saved;
-      checkpoint = o.checkpoint;
-      spelled = o.spelled;
-      devices = o.devices;
-      rows = o.rows;
-      lawful = o.lawful;
-      mounted = o.mounted;
-      service = o.service;
-      disks = o.disks;
-    })
+pub group_open : (n : List ℕ) (c : Counts) (t : Type 0) (w : World) (x y : OpenPool) → IsOpen n x → y ≡ record x { group = y.group } → y.group.txg ≡ x.group.txg → IsLawfulGroup y.group → IsInLimits y.group → IsOpen n y
+group_open n c t w x y o rest txg lawful limits =
+    let alone : WritesBlocks n n c c t t w w x (record x { group = y.group }) = record { goes = continues_itself Block x.table.slots n c t w x.space x.cache; rest = refl; txg = txg } in
+    subst (IsOpen n) (sym rest) (blocks_open n n c c t t w w x (record x { group = y.group }) o alone lawful limits)
 
 -- ---- the group that is ready
 

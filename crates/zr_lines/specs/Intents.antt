@@ -14,6 +14,7 @@ use Rattle.zr_lines.specs.Sought.{CanTake}
 use Rattle.zr_model.specs.Objects.{Objects}
 use Rattle.zr_sync.specs.Holds.{HasBlocks}
 use Rattle.zr_lookup.specs.Objects.{record_now}
+use Rattle.zr_tree.specs.Blocks.{FitsAt}
 use Rattle.zr_lines.specs.Counts.{new_object}
 use Rattle.zr_store.specs.Store.{Stored}
 use Rattle.zr_sync.specs.Objects.{account_of}
@@ -29,7 +30,7 @@ abbrev pub HasPlace : Changes → ℕ → List ℕ → Type 0
 HasPlace g id indices = CanTake (new_in g id indices) (new_object g id) g
 
 -- What is meant may be done to an object of the group: its record is the one that the group has, if it has one, and the
--- blocks come in a row, for which the group has a place.
+-- blocks come in a row, for which the group has a place. The old ones are lawful.
 pub record IsIntent (g : Changes) (id : ℕ) (i : Intent) : Type 0 where
   pub low : id < 65536
   pub object : IsObject i.rec
@@ -38,6 +39,7 @@ pub record IsIntent (g : Changes) (id : ℕ) (i : Intent) : Type 0 where
   pub top : i.last < 2 ^ 25
   pub row : map (λ p. p.index) i.plan.items ≡ range_with_len i.first (i.last + 1 - i.first)
   pub new : AreNew i.rec.units i.plan.items
+  pub olds : All (λ p. FitsAt 0 p.old) i.plan.items
   pub place : HasPlace g id (map (λ p. p.index) i.plan.items)
 
 -- the blocks are those that the edit touches, which are in the line's reach

@@ -13,7 +13,7 @@ ghost use Rattle.zr_sync.specs.Pools.{IsOpen};
 ghost use Rattle.zr_sync.specs.Writes.{WorksOnDisks};
 ghost use Rattle.zr_sync.specs.declared.fault.Fault.TheVariants.{No, Stops};
 ghost use Rattle.zr_sync.specs.declared.stop.Stop.TheVariants.{DiskFault};
-ghost use Rattle.zr_lines.specs.Refusals.{IsGiveRefusal, IsStepRefusal, IsTakeRefusal, checkpoint_needs};
+ghost use Rattle.zr_lines.specs.Refusals.{AllStay, IsGiveRefusal, IsRemovalRefusal, IsStepRefusal, IsTakeRefusal, checkpoint_needs};
 
 use std::alloc::Global;
 use zr_base::{CkptPart, Refusal};
@@ -32,13 +32,27 @@ fn needed(pool: &OpenPool) -> u64
     owed_with(pool, blocks, objects, 0) + metadata_with(pool, blocks, objects)
 }
 
-// Refuses a checkpoint where there is one, or one is being discarded, or there is no room for it.
+// Refuses what a removal bars, where a device is leaving.
+fn demand_to_stay(pool: &OpenPool) -> Result<(), Refusal>
+    ensures stays { OnOk result (AllStay pool.now.space) }
+    ensures refused { IfErr result (IsRemovalRefusal pool.now.space) }
+{
+    match pool.space.leaving() {
+        Some(_) => Err(Refusal::RemovalInProgress),
+        None => Ok(()),
+    }
+}
+
+// Refuses a checkpoint where a device is leaving, where there is one already, or one is being discarded, or there is no
+// room for it.
 fn demand_to_take(pool: &OpenPool) -> Result<(), Refusal>
     requires { (sizes : List ℕ) × IsOpen sizes pool.now }
+    ensures stays { OnOk result (AllStay pool.now.space) }
     ensures clear { OnOk result (pool.now.space.parts.ckpt ≡ Clear) }
     ensures enough { OnOk result (checkpoint_needs pool.now ≤ free_units pool.now.space) }
     ensures refused { IfErr result (IsTakeRefusal pool.now pool.now.space.parts.ckpt) }
 {
+    demand_to_stay(pool)?;
     match pool.space.ckpt() {
         CkptPart::Held(_) => Err(Refusal::CheckpointExists),
         CkptPart::Discarding => Err(Refusal::DiscardingCheckpoint),
@@ -46,14 +60,16 @@ fn demand_to_take(pool: &OpenPool) -> Result<(), Refusal>
     }
 }
 
-// Refuses to give up a checkpoint where there is none, or where it is being discarded.
+// Refuses to give up a checkpoint where there is none, or where it is being discarded. No removal begins while one is
+// held; that is tested here, since nothing that is known of an open pool says so.
 fn demand_to_give(pool: &OpenPool) -> Result<(), Refusal>
-    ensures { IfErr result (IsGiveRefusal pool.now.space.parts.ckpt) }
+    ensures stays { OnOk result (AllStay pool.now.space) }
+    ensures refused { IfErr result (IsGiveRefusal pool.now pool.now.space.parts.ckpt) }
 {
     match pool.space.ckpt() {
         CkptPart::Clear => Err(Refusal::NoCheckpoint),
         CkptPart::Discarding => Err(Refusal::DiscardingCheckpoint),
-        CkptPart::Held(_) => Ok(()),
+        CkptPart::Held(_) => demand_to_stay(pool),
     }
 }
 
@@ -68,7 +84,7 @@ fn demand_to_step(pool: &OpenPool) -> Result<(), Refusal>
     }
 }
 
-/// Takes a checkpoint of the pool, where it has none and there is room for one.
+/// Takes a checkpoint of the pool, where no device is leaving, it has none and there is room for one.
 pub fn take<S: Shelf>(
     alloc: Global,
     pool: &mut OpenPool,
@@ -82,6 +98,7 @@ pub fn take<S: Shelf>(
     ensures disks { S.tells shelf.old → WorksOnDisks (S.world shelf.old) (S.world shelf.new) }
     ensures fault { IsErrOf result (Stops DiskFault) → HasRisen (S.counts shelf.old).disk (S.counts shelf.new).disk }
     ensures pool { OnOk result (IsOpen (S.sizes shelf.new) pool.new) }
+    ensures remain { OnOk result (AllStay pool.old.space) }
     ensures enough { OnOk result (checkpoint_needs pool.old ≤ free_units pool.old.space) }
     ensures held { OnOk result (pool.new.space.parts.ckpt ≡ Held pool.old.group.txg) }
     ensures takes { OnOk result (TakesCheckpoint (S.sizes shelf.old) (S.tells shelf.old) (S.world shelf.new) pool.old pool.new) }
@@ -112,7 +129,7 @@ pub fn give_up<S: Shelf>(
     ensures discarding { OnOk result (pool.new.space.parts.ckpt ≡ Discarding) }
     ensures gives { OnOk result (GivesUpCheckpoint (S.sizes shelf.old) (S.tells shelf.old) (S.world shelf.new) pool.old pool.new) }
     ensures objects { (objects : Objects) → HoldsObjects (S.tells shelf.old) (S.world shelf.old).now.seen pool.old objects → OnOk result (HoldsObjects (S.tells shelf.new) (S.world shelf.new).now.seen pool.new objects) }
-    ensures refused { (r : Refusal) → IsErrOf result (No r) → IsGiveRefusal pool.old.space.parts.ckpt r }
+    ensures refused { (r : Refusal) → IsErrOf result (No r) → IsGiveRefusal pool.old pool.old.space.parts.ckpt r }
     ensures unchanged { (r : Refusal) → IsErrOf result (No r) → pool.new ≡ pool.old }
     ensures untouched { (r : Refusal) → IsErrOf result (No r) → S.world shelf.new ≡ S.world shelf.old }
 {

@@ -1,7 +1,7 @@
 //! What a line adds to the counts from which the room is computed.
-ghost use Rattle.std.specs.Prelude.{◌≡◌, ◌≤◌, length};
+ghost use Rattle.std.specs.Prelude.{◌≡◌, ◌+◌, ◌*◌, ◌^◌, ◌≤◌, All, length};
+ghost use Rattle.zr_bptr.specs.Spelling.{IsPointer};
 ghost use Rattle.zr_rules.specs.Equation.{devices_in};
-ghost use Rattle.zr_space.specs.Paths.{AreInService};
 ghost use Rattle.zr_lines.specs.Counts.{new_object, pieces_in};
 
 use zr_bptr::Bptr;
@@ -16,11 +16,13 @@ pub fn new_objects(pool: &OpenPool, id: u32) -> u64
     u64::from(pool.group.object(id).is_none())
 }
 
-/// How many pieces a free of these blocks touches. Linear in the blocks.
+/// How many pieces a free of these blocks touches, wherever they lead: of a block that is where its pointer says it is one.
+/// It costs what `Space::touch` does for each block.
 pub fn pieces_of(pool: &OpenPool, blocks: &[Bptr]) -> u64
-    requires service { AreInService (devices_in pool.now.space) }
+    requires lawful { All IsPointer blocks.now }
+    requires count { length blocks.now ≤ 2 ^ 25 + 2 ^ 21 }
     ensures pieces { result ≡ pieces_in (devices_in pool.now.space) blocks.now }
-    ensures few { result ≤ length blocks.now }
+    ensures few { result ≤ 1056 * length blocks.now }
 {
     let mut pieces = 0;
     for b in blocks {

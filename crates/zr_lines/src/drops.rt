@@ -2,12 +2,12 @@
 //!
 //! The object's blocks are found first, and what a free of them touches is asked of the room. Only then are they given
 //! back, and the open group records that the object is gone.
-ghost use Rattle.std.specs.Prelude.{◌≡◌, ◌≤◌, ◌<◌, ◌+◌, ◌^◌, ◌↔◌, ◌⊎◌, ℕ, List, [], length, IsOk, IfErr, IfOk, IsErrOf, OnOk, Ok, Option, None};
+ghost use Rattle.std.specs.Prelude.{◌≡◌, ◌≤◌, ◌<◌, ◌+◌, ◌^◌, ◌↔◌, ◌⊎◌, ℕ, List, [], All, length, IsOk, IfErr, IfOk, IsErrOf, OnOk, Ok, Option, None};
 ghost use Rattle.zr_base.specs.Counts.{HasRisen};
 ghost use Rattle.zr_base.specs.declared.refusal.Refusal.{Refusal};
 ghost use Rattle.zr_base.specs.declared.refusal.Refusal.TheVariants.{NoRoom, NoSuchObject};
 ghost use Rattle.zr_base.specs.declared.space.Dva.{Dva};
-ghost use Rattle.zr_bptr.specs.Spelling.{IsTree};
+ghost use Rattle.zr_bptr.specs.Spelling.{IsPointer, IsTree};
 ghost use Rattle.zr_bptr.specs.declared.Bptr.{Bptr};
 ghost use Rattle.zr_change.specs.Changes.{SetsObject};
 ghost use Rattle.zr_lines.specs.Sought.{CanTake};
@@ -17,7 +17,6 @@ ghost use Rattle.zr_lookup.specs.Objects.{record_now};
 ghost use Rattle.zr_rules.specs.Columns.{free_units};
 ghost use Rattle.zr_rules.specs.Equation.{devices_in};
 ghost use Rattle.zr_shelf.specs.Counts.{NoneFell};
-ghost use Rattle.zr_space.specs.Paths.{AreInService};
 ghost use Rattle.zr_store.specs.Store.{Stored, AreStored, Now, Swaps};
 ghost use Rattle.zr_sync.specs.Pools.{IsOpen, IsSamePool};
 ghost use Rattle.zr_sync.specs.Writes.{WorksOnDisks, WritesBlocks};
@@ -65,7 +64,6 @@ fn read_blocks<S: Shelf, P: Place>(
     id: u64,
 ) -> Result<Vec<Bptr>, Fault>
     requires mounted { AreMounted (S.sizes shelf.old) mount.slots.now (devices_in space.old) }
-    requires service { AreInService (devices_in space.old) }
     requires txg { 1 ≤ mount.txg }
     requires dir { IsTree dir.now }
     requires low { dir.now.height ≤ 3 }
@@ -75,7 +73,8 @@ fn read_blocks<S: Shelf, P: Place>(
     ensures refused { (r : Refusal) → IsErrOf result (No r) → IsSumRefusal r }
     ensures held { (s : Stored) → HoldsBlocks mount.entry.kind mount.entry.slots.now (S.tells shelf.old) (S.world shelf.old).now.seen space.old None cache.old s → Now (HoldsBlocks mount.entry.kind mount.entry.slots.now (S.tells shelf.new) (S.world shelf.new).now.seen space.new None cache.new) (λ n. Swaps s n [] []) }
     ensures none { (s : Stored) → HoldsBlocks mount.entry.kind mount.entry.slots.now (S.tells shelf.old) (S.world shelf.old).now.seen space.old None cache.old s → IsErrOf result (No NoSuchObject) → record_now s dir.now group.now id ≡ None }
-    ensures count { IfOk result (λ blocks. length blocks.items ≤ 2 ^ 36) }
+    ensures lawful { IfOk result (λ blocks. All IsPointer blocks.items) }
+    ensures count { IfOk result (λ blocks. length blocks.items ≤ 2 ^ 25 + 2 ^ 21) }
     ensures blocks { (s : Stored) → HoldsBlocks mount.entry.kind mount.entry.slots.now (S.tells shelf.old) (S.world shelf.old).now.seen space.old None cache.old s → IfOk result (λ blocks. AreBlocksOf s dir.now group.now id blocks.items) }
 {
     let mut store = Vdev::new(space, shelf, cache, mount);
@@ -98,7 +97,8 @@ fn object_blocks<S: Shelf, P: Place>(
     ensures refused { (r : Refusal) → IsErrOf result (No r) → IsSumRefusal r }
     ensures held { (s : Stored) → HasBlocks (S.tells shelf.old) (S.world shelf.old).now.seen pool.old s → Now (HasBlocks (S.tells shelf.new) (S.world shelf.new).now.seen pool.new) (λ n. Swaps s n [] []) }
     ensures none { (s : Stored) → HasBlocks (S.tells shelf.old) (S.world shelf.old).now.seen pool.old s → IsErrOf result (No NoSuchObject) → record_now s pool.old.dir pool.old.group id ≡ None }
-    ensures count { IfOk result (λ blocks. length blocks.items ≤ 2 ^ 36) }
+    ensures lawful { IfOk result (λ blocks. All IsPointer blocks.items) }
+    ensures count { IfOk result (λ blocks. length blocks.items ≤ 2 ^ 25 + 2 ^ 21) }
     ensures blocks { (s : Stored) → HasBlocks (S.tells shelf.old) (S.world shelf.old).now.seen pool.old s → IfOk result (λ blocks. AreBlocksOf s pool.old.dir pool.old.group id blocks.items) }
 {
     let mount = Mount {
@@ -155,7 +155,8 @@ fn make_way_for<S: Shelf, P: Place>(
 // Refuses a drop for which there is no room: what is owed with it may not exceed what is free, the slop included.
 fn demand_to_drop(pool: &OpenPool, id: u32, blocks: &[Bptr]) -> Result<(), Refusal>
     requires pool { (sizes : List ℕ) × IsOpen sizes pool.now }
-    requires blocks { length blocks.now ≤ 2 ^ 36 }
+    requires lawful { All IsPointer blocks.now }
+    requires count { length blocks.now ≤ 2 ^ 25 + 2 ^ 21 }
     ensures enough { IsOk result ↔ room_to_drop pool.now.space pool.now.group id blocks.now ≤ free_units pool.now.space }
     ensures short { IfErr result (λ r. r ≡ NoRoom (room_to_drop pool.now.space pool.now.group id blocks.now) (free_units pool.now.space)) }
 {
@@ -179,7 +180,6 @@ fn free_blocks<S: Shelf, P: Place>(
     blocks: &[Bptr],
 ) -> Result<(), Fault>
     requires mounted { AreMounted (S.sizes shelf.old) mount.slots.now (devices_in space.old) }
-    requires service { AreInService (devices_in space.old) }
     requires txg { 1 ≤ mount.txg }
     requires lawful { IsLawfulGroup group.old }
     requires id { id < 65536 }

@@ -2,11 +2,11 @@
 //!
 //! A line looks at its object through one store, from its record to its blocks, so that all that it finds was held at one
 //! moment.
-ghost use Rattle.std.specs.Prelude.{◌≡◌, ◌<◌, ◌≤◌, ◌^◌, IfOk, IsErrOf, length, Some, None};
+ghost use Rattle.std.specs.Prelude.{◌≡◌, ◌+◌, ◌<◌, ◌≤◌, ◌^◌, All, IfOk, IsErrOf, length, Some, None};
 ghost use Rattle.zr_base.specs.Counts.{HasRisen};
 ghost use Rattle.zr_base.specs.declared.refusal.Refusal.{Refusal};
 ghost use Rattle.zr_base.specs.declared.refusal.Refusal.TheVariants.{NoSuchObject, OutOfRange};
-ghost use Rattle.zr_bptr.specs.Spelling.{IsObject, IsTree};
+ghost use Rattle.zr_bptr.specs.Spelling.{IsObject, IsPointer, IsTree};
 ghost use Rattle.zr_lookup.specs.Groups.{IsLawfulGroup};
 ghost use Rattle.zr_lookup.specs.Objects.{record_now};
 ghost use Rattle.zr_store.specs.Store.{Stored};
@@ -22,14 +22,11 @@ use zr_bptr::{Bptr, ObjRec, Tree};
 use zr_change::fits_object;
 use zr_lookup::{blocks_of, read_range, record_of, sum_object};
 use zr_store::Blocks;
-use zr_sync::{Fault, Stop};
+use zr_sync::Fault;
 use zr_txg::Group;
 
 /// The most bytes that one line reads.
 pub const MOST_READ: u64 = 4096;
-
-/// The most blocks that are listed for a drop. No memory holds a list of more.
-const MOST_FREED: usize = 68_719_476_736;
 
 /// The record of an object that is there.
 pub(crate) fn record_present<B: Blocks>(
@@ -126,13 +123,10 @@ pub(crate) fn blocks_present<B: Blocks>(
     ensures fault { IsErrOf result (Stops DiskFault) → HasRisen (B.account store.old).faults (B.account store.new).faults }
     ensures refused { (r : Refusal) → IsErrOf result (No r) → IsSumRefusal r }
     ensures none { (s : Stored) → B.holds store.old s → IsErrOf result (No NoSuchObject) → record_now s dir.now group.now id ≡ None }
-    ensures count { IfOk result (λ blocks. length blocks.items ≤ 2 ^ 36) }
+    ensures lawful { IfOk result (λ blocks. All IsPointer blocks.items) }
+    ensures count { IfOk result (λ blocks. length blocks.items ≤ 2 ^ 25 + 2 ^ 21) }
     ensures blocks { (s : Stored) → B.holds store.old s → IfOk result (λ blocks. AreBlocksOf s dir.now group.now id blocks.items) }
 {
     let rec = record_present(alloc, store, dir, group, id)?;
-    let blocks = blocks_of(alloc, store, group, id as u32, &rec)?;
-    if blocks.len() > MOST_FREED {
-        return Err(Fault::Stops(Stop::NoMemory));
-    }
-    Ok(blocks)
+    Ok(blocks_of(alloc, store, group, id as u32, &rec)?)
 }

@@ -8,7 +8,6 @@ ghost use Rattle.zr_sync.specs.Holds.{HasBlocks};
 ghost use Rattle.zr_lookup.specs.Groups.{IsLawfulGroup};
 ghost use Rattle.zr_lookup.specs.Objects.{record_now};
 ghost use Rattle.zr_rules.specs.Equation.{devices_in};
-ghost use Rattle.zr_space.specs.Paths.{AreInService};
 ghost use Rattle.zr_store.specs.Store.{Stored, Now, Swaps};
 ghost use Rattle.zr_sync.specs.Pools.{IsOpen, IsSamePool};
 ghost use Rattle.zr_sync.specs.Writes.{WorksOnDisks, WritesBlocks};
@@ -47,7 +46,6 @@ fn read_bytes<S: Shelf, P: Place>(
     len: u64,
 ) -> Result<Vec<u8>, Fault>
     requires mounted { AreMounted (S.sizes shelf.old) mount.slots.now (devices_in space.old) }
-    requires service { AreInService (devices_in space.old) }
     requires txg { 1 ≤ mount.txg }
     requires dir { IsTree dir.now }
     requires low { dir.now.height ≤ 3 }
@@ -127,7 +125,6 @@ fn read_sum<S: Shelf, P: Place>(
     id: u64,
 ) -> Result<[u8; 32], Fault>
     requires mounted { AreMounted (S.sizes shelf.old) mount.slots.now (devices_in space.old) }
-    requires service { AreInService (devices_in space.old) }
     requires txg { 1 ≤ mount.txg }
     requires dir { IsTree dir.now }
     requires low { dir.now.height ≤ 3 }

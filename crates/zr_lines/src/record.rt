@@ -8,7 +8,6 @@ ghost use Rattle.zr_bptr.specs.declared.ObjRec.{ObjRec};
 ghost use Rattle.zr_lookup.specs.Groups.{IsLawfulGroup};
 ghost use Rattle.zr_lookup.specs.Objects.{record_now};
 ghost use Rattle.zr_rules.specs.Equation.{devices_in};
-ghost use Rattle.zr_space.specs.Paths.{AreInService};
 ghost use Rattle.zr_store.specs.Store.{Stored, Now, Swaps};
 ghost use Rattle.zr_sync.specs.Pools.{IsOpen};
 ghost use Rattle.zr_sync.specs.Writes.{WritesBlocks};
@@ -47,7 +46,6 @@ fn read_record<S: Shelf, P: Place>(
     id: u64,
 ) -> Result<Option<ObjRec>, Fault>
     requires mounted { AreMounted (S.sizes shelf.old) mount.slots.now (devices_in space.old) }
-    requires service { AreInService (devices_in space.old) }
     requires txg { 1 ≤ mount.txg }
     requires dir { IsTree dir.now }
     requires low { dir.now.height ≤ 3 }

@@ -12,7 +12,6 @@ ghost use Rattle.zr_lookup.specs.Groups.{IsLawfulGroup};
 ghost use Rattle.zr_lookup.specs.Objects.{record_now};
 ghost use Rattle.zr_rules.specs.Columns.{free_units};
 ghost use Rattle.zr_rules.specs.Equation.{devices_in};
-ghost use Rattle.zr_space.specs.Paths.{AreInService};
 ghost use Rattle.zr_store.specs.Store.{AreStored, Now, Stored, Swaps};
 ghost use Rattle.zr_sync.specs.Pools.{IsInLimits};
 ghost use Rattle.zr_sync.specs.declared.fault.Fault.TheVariants.{No, Stops};
@@ -48,7 +47,6 @@ pub(crate) fn look_at<S: Shelf, P: Place>(
     reach: Reach,
 ) -> Result<Option<Intent>, Fault>
     requires mounted { AreMounted (S.sizes shelf.old) mount.slots.now (devices_in space.old) }
-    requires service { AreInService (devices_in space.old) }
     requires txg { 1 ≤ mount.txg }
     requires dir { IsTree dir.now }
     requires low { dir.now.height ≤ 3 }
@@ -82,7 +80,6 @@ pub(crate) fn change_at<S: Shelf, P: Place>(
     intent: &Intent,
 ) -> Result<(), Fault>
     requires mounted { AreMounted (S.sizes shelf.old) mount.slots.now (devices_in space.old) }
-    requires service { AreInService (devices_in space.old) }
     requires txg { 1 ≤ mount.txg }
     requires group { IsLawfulGroup group.old }
     requires intent { IsIntent group.old id intent.now }

@@ -1,5 +1,5 @@
 -- Lists of keys and values by rising key, cut and joined at a key.
-use Rattle.std.proofs.Common.{◌≡◌, ◌≢◌, ℕ, suc, ◌+◌, ◌-◌, ◌^◌, ◌<◌, ◌≤◌, List, [], ◌∷◌, ◌++◌, take, refl, sym, ◌∙◌, ap, subst, arith, None, Option, ⊎_elim}
+use Rattle.std.proofs.Common.{◌≡◌, ◌≢◌, ℕ, suc, ◌+◌, ◌-◌, ◌^◌, ◌<◌, ◌≤◌, List, [], ◌∷◌, ◌++◌, length, take, refl, sym, ◌∙◌, ap, subst, arith, None, Option, ⊎_elim}
 use Rattle.std.specs.List.{slice_range}
 use Rattle.std.proofs.lemmas.Bool.{lt-ltb, le-ltb, eq-eqb, ne_eqb, cases_lt}
 use Rattle.zr_bptr.specs.declared.Bptr.{Bptr}
@@ -20,6 +20,14 @@ in_order low high (e ∷ es) between =
     let first : low ≤ e.0 = between.0 in
     let rest = in_order (suc e.0) high es between.1 in
     omega (arith, first, rest)
+
+-- there are no more than there are keys
+pub few_keys : {V : Type 0} (low high : ℕ) (es : List (ℕ × V)) → IsBetween low high es → low + length es ≤ high
+few_keys low high [] h = omega (arith, h)
+few_keys low high (e ∷ es) h =
+    let rest = few_keys (suc e.0) high es h.1 in
+    let first = h.0 in
+    omega (arith, rest, first)
 
 pub past : {V : Type 0} (low high k : ℕ) (es : List (ℕ × V)) → IsBetween low high es → high ≤ k → value_at es k ≡ None
 past low high k [] between le = refl

@@ -143,7 +143,36 @@ lawful_top level p b fits is = subst IsLawful is fits.1
 pub lawful_leaf : (level : ℕ) (p : Ptr) (b : Bptr) → FitsAt level p → p ≡ At b → level ≡ 0 → FitsAt 0 (At b)
 lawful_leaf level p b fits is level_is = subst (FitsAt 0) is (subst (λ (l : ℕ). FitsAt l p) level_is fits)
 
+-- ---- how many tree blocks there are
+
+pub none_more : (level n : ℕ) → 31 * n + 1 ≤ 31 * n + 32 ^ level
+none_more level n =
+    let low : 0 ≤ level = omega arith in
+    let some : 32 ^ 0 ≤ 32 ^ level = pow-le-pow_right (omega arith) low in
+    omega (arith, some)
+
+pub kids_begin : (n w : ℕ) → 31 * n + 0 ≤ 31 * n + 0 * w
+kids_begin n w = omega arith
+
+-- behind i pointers to blocks of a level that has at most w leaves, and behind one more
+pub kids_few : (mid new first i w : ℕ) → 31 * mid + i ≤ 31 * first + i * w → 31 * new + 1 ≤ 31 * mid + w → 31 * new + (i + 1) ≤ 31 * first + (i + 1) * w
+kids_few mid new first i w so_far more =
+    let next : (i + 1) * w ≡ i * w + w = omega arith in
+    omega (arith, so_far, more, next)
+
+-- with the block itself
+pub all_few : (level below i old first new : ℕ) → level ≡ suc below → i ≡ 32 → first ≡ old + 1 → 31 * new + i ≤ 31 * first + i * 32 ^ below → 31 * new + 1 ≤ 31 * old + 32 ^ level
+all_few level below i old first new level_is all one so_far =
+    let whole = power level below level_is in
+    let times : i * 32 ^ below ≡ 32 * 32 ^ below = ap (λ (n : ℕ). n * 32 ^ below) all in
+    omega (arith, whole, times, all, one, so_far)
+
 -- ---- whole trees
+
+pub whole_few : (height blocks none : ℕ) → height ≤ 5 → none ≡ 0 → 31 * blocks + 1 ≤ 31 * none + 32 ^ height → blocks ≤ 2 ^ 21
+whole_few height blocks none low is few =
+    let less : 32 ^ height ≤ 32 ^ 5 = pow-le-pow_right (omega arith) low in
+    omega (arith, less, is, few)
 
 pub low_top : (height : ℕ) → height ≤ 5 → (0 + 1) * 32 ^ height ≤ 2 ^ 25
 low_top height low =

@@ -2,7 +2,7 @@
 //!
 //! A walk over the tree gives its leaves by rising index. The changes of the group, which rise too, then take their places
 //! among them.
-ghost use Rattle.std.specs.Prelude.{◌≡◌, ◌++◌, ℕ, All, map, IfOk};
+ghost use Rattle.std.specs.Prelude.{◌≡◌, ◌+◌, ◌^◌, ◌≤◌, ◌++◌, ℕ, All, length, map, IfOk};
 ghost use Rattle.zr_store.specs.Causes.{Costs, HasCause};
 ghost use Rattle.zr_store.specs.Store.{Stored};
 ghost use Rattle.zr_bptr.specs.Spelling.{IsObject, IsPointer};
@@ -36,6 +36,8 @@ fn walk_object<B: Blocks>(
     ensures errors { (s : Stored) → B.holds store.old s → TellsOf s (tree_blocks s rec.now.tree) result }
     ensures leaves_fit { IfOk result (λ w. All (λ leaf. FitsAt 0 (At leaf.1)) w.leaves.items) }
     ensures blocks_fit { IfOk result (λ w. All IsPointer w.blocks.items) }
+    ensures few_leaves { IfOk result (λ w. length w.leaves.items ≤ 2 ^ 25) }
+    ensures few_blocks { IfOk result (λ w. length w.blocks.items ≤ 2 ^ 21) }
     ensures leaves { (s : Stored) → B.holds store.old s → IfOk result (λ w. HasLeaves (pointer_now s group.now id rec.now) w.leaves.items) }
     ensures tree_blocks { (s : Stored) → B.holds store.old s → IfOk result (λ w. w.blocks.items ≡ tree_blocks s rec.now.tree) }
 {
@@ -92,6 +94,7 @@ pub fn blocks_of<B: Blocks>(
     ensures same { (s : Stored) → B.holds store.old s → B.holds store.new s }
     ensures errors { (s : Stored) → B.holds store.old s → TellsOf s (tree_blocks s rec.now.tree) result }
     ensures lawful { IfOk result (λ blocks. All IsPointer blocks.items) }
+    ensures few { IfOk result (λ blocks. length blocks.items ≤ 2 ^ 25 + 2 ^ 21) }
     ensures blocks { (s : Stored) → B.holds store.old s → IfOk result (λ blocks. AreObjectBlocks s group.now id rec.now blocks.items) }
 {
     let walked = walk_object(alloc, store, group, id, rec)?;

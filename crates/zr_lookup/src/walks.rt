@@ -91,6 +91,7 @@ fn walk_below<B: Blocks>(
     ensures between { OnOk result (IsBetween 0 ((place + 1) * 32 ^ level) leaves.new.items) }
     ensures leaves_fit { OnOk result (All (λ leaf. FitsAt 0 (At leaf.1)) leaves.new.items) }
     ensures blocks_fit { OnOk result (All IsPointer tree.new.items) }
+    ensures few { OnOk result (31 * length tree.new.items + 1 ≤ 31 * length tree.old.items + 32 ^ level) }
     ensures tree_blocks { (s : Stored) → B.holds store.old s → OnOk result (tree.new.items ≡ tree.old.items ++ blocks s level p.now) }
     ensures leaves { (s : Stored) → B.holds store.old s → OnOk result (Fills (place * 32 ^ level) ((place + 1) * 32 ^ level) (λ index. block_in (leaf_at s level p.now index)) leaves.old.items leaves.new.items) }
 {
@@ -126,6 +127,7 @@ pub(crate) fn walk_tree<B: Blocks>(
     ensures between { IfOk result (λ w. IsBetween 0 (2 ^ 25) w.leaves.items) }
     ensures leaves_fit { IfOk result (λ w. All (λ leaf. FitsAt 0 (At leaf.1)) w.leaves.items) }
     ensures blocks_fit { IfOk result (λ w. All IsPointer w.blocks.items) }
+    ensures few_blocks { IfOk result (λ w. length w.blocks.items ≤ 2 ^ 21) }
     ensures tree_blocks { (s : Stored) → B.holds store.old s → IfOk result (λ w. w.blocks.items ≡ tree_blocks s t.now) }
     ensures leaves { (s : Stored) → B.holds store.old s → IfOk result (λ w. (index : ℕ) → value_at w.leaves.items index ≡ block_in (tree_at s t.now index)) }
 {

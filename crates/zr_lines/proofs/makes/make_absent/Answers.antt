@@ -18,7 +18,7 @@ returns-clause-pool g c = λ done.
     let count = new.block_count in
     let ready = ready_group id c.new_objects-objects.result c.in_ok-make_way.field-0 c.args.pool.now mid c.new_objects-objects.ensures.new (λ no. (way.stays no).0) way.due way.empty way.txg in
     let takes = ready_takes id c.new_objects-objects.result c.args.pool.now.group mid.group ready c.new_objects-objects.ensures.new way.takes in
-    group_open (g.S.Shelf.sizes c.make_way.new.shelf) mid c.record_new.new.pool way.pool new.rest new.sets.txg new.lawful
+    group_open (g.S.Shelf.sizes c.make_way.new.shelf) (g.S.Shelf.counts c.make_way.new.shelf) (g.S.Shelf.tells c.make_way.new.shelf) (g.S.Shelf.world c.make_way.new.shelf) mid c.record_new.new.pool way.pool new.rest new.sets.txg new.lawful
     (set_limits id (Some (blank c.args.units)) mid.group c.record_new.new.pool.group takes new.sets (omega (arith, count)))
 
 pub returns-clause-made : goal.returns-clause-made

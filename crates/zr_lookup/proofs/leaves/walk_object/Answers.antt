@@ -1,10 +1,10 @@
-use Rattle.std.proofs.Common.{◌∙◌, ◌^◌, ℕ, List, sym, ap, subst}
+use Rattle.std.proofs.Common.{◌∙◌, ◌^◌, ℕ, List, sym, ap, subst, arith}
 use Rattle.std.specs.Prelude.{All}
 use Rattle.zr_bptr.specs.declared.Bptr.{Bptr}
 use Rattle.zr_bptr.specs.declared.Ptr.TheVariants.{At}
 use Rattle.zr_tree.specs.Blocks.{FitsAt}
 use Rattle.zr_txg.specs.Tables.{value_at}
-use Rattle.zr_lookup.proofs.Keys.{rising}
+use Rattle.zr_lookup.proofs.Keys.{few_keys, rising}
 use Rattle.zr_lookup.proofs.Groups.{changes_between, changes_fit, overlaid_pointer}
 use Rattle.zr_lookup.proofs.leaves.walk_object.Goals as goal
 
@@ -29,3 +29,6 @@ returns-clause-leaves g c = λ s holds.
           ∙ overlaid_pointer s c.args.group.now c.args.id c.args.rec.now index c.changes.result.now c.as_slice.result.now c.changes.ensures.changes
           (ap (λ (es : List (ℕ × Bptr)). value_at es index) c.as_slice.ensures.value ∙ c.in_ok-walked.ensures.leaves s holds index);
     }
+
+pub returns-clause-few_leaves : goal.returns-clause-few_leaves
+returns-clause-few_leaves g c = let few = few_keys 0 (2 ^ 25) c.in_ok-leaves.leaves.items c.in_ok-leaves.ensures.between in omega (arith, few)

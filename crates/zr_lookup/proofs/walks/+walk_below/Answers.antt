@@ -1,7 +1,7 @@
 use Rattle.std.proofs.Common.{◌≡◌, ◌∙◌, ◌+◌, ◌-◌, ◌*◌, ◌^◌, ◌<◌, ◌∷◌, [], ℕ, suc, length, get_or, sym, ap, subst, arith, rules, append-nil}
 use Rattle.std.specs.Prelude.{All}
 use Rattle.std.proofs.lemmas.Result.{err_from_is_err_and}
-use Rattle.std.proofs.lemmas.List.{get_or_default}
+use Rattle.std.proofs.lemmas.List.{get_or_default, length_push}
 use Rattle.std.proofs.lemmas.List.Elements.{All-push}
 use Rattle.zr_bptr.specs.declared.Bptr.{Bptr}
 use Rattle.zr_bptr.specs.declared.Ptr.TheVariants.{Hole, At}
@@ -11,7 +11,7 @@ use Rattle.zr_tree.specs.Blocks.{FitsAt}
 use Rattle.zr_tree.specs.Trees.{blocks}
 use Rattle.zr_tree.proofs.Wholes.{tells_from, tells_within, top_within, kid_within}
 use Rattle.zr_lookup.specs.Lists.{IsBetween}
-use Rattle.zr_lookup.proofs.Walking.{power, under, hole_fills, hole_between, leaf_between, leaf_fills, begins, one_more, all_fill, all_between, first_between, walked_blocks, blocks_more, lawful_top, lawful_leaf}
+use Rattle.zr_lookup.proofs.Walking.{power, under, hole_fills, hole_between, leaf_between, leaf_fills, begins, one_more, all_fill, all_between, first_between, walked_blocks, blocks_more, lawful_top, lawful_leaf, none_more, kids_begin, kids_few, all_few}
 use Rattle.zr_lookup.proofs.walks.+walk_below.Goals as goal
 
 pub returns-in-Hole-clause-between : goal.returns-in-Hole-clause-between
@@ -19,6 +19,12 @@ returns-in-Hole-clause-between g t c = hole_between c.args.place (32 ^ c.args.le
 
 pub returns-in-Hole-clause-leaves : goal.returns-in-Hole-clause-leaves
 returns-in-Hole-clause-leaves g t c = λ s holds. hole_fills s c.args.level (c.args.place * 32 ^ c.args.level) ((c.args.place + 1) * 32 ^ c.args.level) c.args.p.now c.args.leaves.now.items c.in-Hole.is c.requires.before
+
+pub returns-in-Hole-clause-few : goal.returns-in-Hole-clause-few
+returns-in-Hole-clause-few g t c = none_more c.args.level (length c.args.tree.now.items)
+
+pub returns-then-level-eq0-clause-few : goal.returns-then-level-eq0-clause-few
+returns-then-level-eq0-clause-few g t c = none_more c.args.level (length c.args.tree.now.items)
 
 pub returns-then-level-eq0-clause-between : goal.returns-then-level-eq0-clause-between
 returns-then-level-eq0-clause-between g t c = leaf_between c.args.level c.args.place c.args.leaves.now.items c.push.new.self.items c.in-At.b c.if-level-eq0.true c.requires.before c.in_ok-push.ensures.items
@@ -55,6 +61,7 @@ loop-i-init g t c =
       between = first_between c.args.level (c.args.level - 1) c.args.place c.args.leaves.now.items level_is c.requires.before;
       leaves_fit = c.requires.leaves_fit;
       blocks_fit = subst (All IsPointer) (sym c.in_ok-push-2.ensures.items) (All-push IsPointer c.args.tree.now.items c.in-At.b c.requires.blocks_fit (lawful_top c.args.level c.args.p.now c.in-At.b c.requires.fits c.in-At.is));
+      few = kids_begin (length c.push-2.new.self.items) (32 ^ (c.args.level - 1));
       so_far = λ s holds. sym (append-nil c.push-2.new.self.items);
       filled = λ s holds. begins s c.args.level (32 * c.args.place * 32 ^ (c.args.level - 1)) ((32 * c.args.place + 0) * 32 ^ (c.args.level - 1)) c.args.p.now c.args.leaves.now.items (omega arith);
     }
@@ -110,6 +117,7 @@ loop-i-preserved g t c =
       between = subst (λ (n : ℕ). IsBetween 0 n c.walk_below.new.leaves.items) end h.between;
       leaves_fit = h.leaves_fit;
       blocks_fit = h.blocks_fit;
+      few = kids_few (length c.loop-i.tree.items) (length c.walk_below.new.tree.items) _ i (32 ^ below) inv.few h.few;
       so_far = λ s holds. blocks_more s below i items next _ c.loop-i.tree.items c.walk_below.new.tree.items lt next_is (inv.so_far s holds) (h.tree_blocks s (inv.same s holds));
       filled = λ s holds. one_more s c.args.level below place i c.args.p.now c.in-At.b items next c.args.leaves.now.items c.loop-i.leaves.items c.walk_below.new.leaves.items level_is c.in-At.is (c.deref-next-items.ensures.value ∙ c.in_ok-pointers.ensures.means s holds) count lt next_is (inv.filled s holds) (h.leaves s (inv.same s holds));
     }
@@ -120,6 +128,14 @@ returns-clause-between g t c =
     let count : length c.deref-next-items.result.now ≡ 32 = ap length c.deref-next-items.ensures.value ∙ c.in_ok-pointers.ensures.count in
     let all : c.loop-i.i ≡ 32 = omega (arith, count, c.loop-i-test.false) in
     all_between c.args.level (c.args.level - 1) c.args.place c.loop-i.i c.loop-i.leaves.items level_is all c.loop-i.invariant.between
+
+pub returns-clause-few : goal.returns-clause-few
+returns-clause-few g t c =
+    let level_is : c.args.level ≡ suc (c.args.level - 1) = omega arith in
+    let count : length c.deref-next-items.result.now ≡ 32 = ap length c.deref-next-items.ensures.value ∙ c.in_ok-pointers.ensures.count in
+    let all : c.loop-i.i ≡ 32 = omega (arith, count, c.loop-i-test.false) in
+    let one : length c.push-2.new.self.items ≡ length c.args.tree.now.items + 1 = ap length c.in_ok-push-2.ensures.items ∙ length_push c.args.tree.now.items c.in-At.b in
+    all_few c.args.level (c.args.level - 1) c.loop-i.i (length c.args.tree.now.items) (length c.push-2.new.self.items) (length c.loop-i.tree.items) level_is all one c.loop-i.invariant.few
 
 pub returns-clause-leaves : goal.returns-clause-leaves
 returns-clause-leaves g t c = λ s holds.

@@ -1,4 +1,4 @@
-use Rattle.std.proofs.Common.{◌≡◌, ◌+◌, ◌-◌, ◌*◌, ◌^◌, ◌++◌, take}
+use Rattle.std.proofs.Common.{◌≡◌, ◌+◌, ◌-◌, ◌*◌, ◌^◌, ◌≤◌, ◌++◌, length, take}
 use Rattle.std.specs.Prelude.{All}
 use Rattle.std.specs.List.{flat_map}
 use Rattle.zr_bptr.specs.declared.Ptr.TheVariants.{At}
@@ -22,6 +22,7 @@ invariant-loop-i g l = record {
   between : IsBetween 0 ((32 * l.place + l.i) * 32 ^ (l.level - 1)) l.leaves.items;
   leaves_fit : All (λ leaf. FitsAt 0 (At leaf.1)) l.leaves.items;
   blocks_fit : All IsPointer l.tree.items;
+  few : 31 * length l.tree.items + l.i ≤ 31 * length l.initial.tree.items + l.i * 32 ^ (l.level - 1);
   so_far : (s : Stored) → g.B.Blocks.holds l.fn.store s → l.tree.items ≡ l.initial.tree.items ++ flat_map (blocks s (l.level - 1)) (take l.i l.next-items);
   filled : (s : Stored) → g.B.Blocks.holds l.fn.store s → Fills (32 * l.place * 32 ^ (l.level - 1)) ((32 * l.place + l.i) * 32 ^ (l.level - 1)) (λ index. block_in (leaf_at s l.level l.p index)) l.initial.leaves.items l.leaves.items;
 }
