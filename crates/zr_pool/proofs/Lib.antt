@@ -4,3 +4,4 @@ pub mod Refused
 pub mod Acting
 pub mod Staying
 pub mod Turning
+pub mod Working

@@ -13,7 +13,7 @@ use Rattle.zr_create.specs.Refusals.{ChecksNext}
 use Rattle.zr_base.specs.declared.refusal.Refusal.TheVariants as refusal
 use Rattle.zr_base.specs.declared.space.CkptPart.{CkptPart}
 use Rattle.zr_base.specs.declared.space.CkptPart.TheVariants.{Clear, Held, Discarding}
-use Rattle.zr_lines.specs.Refusals.{IsTakeRefusal, IsGiveRefusal, IsStepRefusal}
+use Rattle.zr_lines.specs.Refusals.{IsKeptRefusal, IsTakeRefusal, IsGiveRefusal, IsStepRefusal}
 use Rattle.zr_model.specs.State.{PoolState}
 use Rattle.zr_lines.specs.Answers.{IsAnswered}
 use Rattle.zr_sync.specs.States.{HasCheckpoint}
@@ -23,7 +23,10 @@ use Rattle.zr_open.specs.Rewound.{ShowsNoSaved}
 use Rattle.zr_script.specs.declared.command.Command.{Command}
 use Rattle.zr_script.specs.declared.command.Command.TheVariants as cmd
 use Rattle.zr_pool.specs.Plain.{IsCheckpointCause, IsOpeningCause}
-use Rattle.zr_pool.specs.Turns.{IsAddRefusal, IsChangeRefusal, IsCheckpointRefusal, IsDiscardRefusal}
+use Rattle.zr_removal.specs.Refusals.{IsMayRefusal}
+use Rattle.zr_removal.specs.Refusals as removal
+use Rattle.zr_rules.specs.Space.{Space}
+use Rattle.zr_pool.specs.Turns.{IsAddRefusal, IsChangeRefusal, IsCheckpointRefusal, IsDiscardRefusal, IsRemoveRefusal}
 
 -- the fault that was passed on
 pub fault_same : {B : Type 0} (e f : Fault) (r : Refusal) (result : Result B Fault) → result ≡ Err f → f ≡ e → result ≡ Err (No r) → e ≡ No r
@@ -62,26 +65,34 @@ answered_ok result is = subst IsAnswered (sym is) tt
 -- ---- a checkpoint
 
 -- why none is taken
+kept_cause : (part : CkptPart) (p : PoolState) (pool : OpenPool) (r : Refusal) → HasCheckpoint part p.saved p.discarding → IsKeptRefusal pool part r → IsCheckpointCause p r
+kept_cause Clear p pool r h is = subst (IsCheckpointCause p) (sym is.is) tt
+kept_cause (Held txg) p pool r h is = subst (IsCheckpointCause p) (sym is) h.0
+kept_cause Discarding p pool r h is = subst (IsCheckpointCause p) (sym is) h.1
+
 pub take_cause : (part : CkptPart) (p : PoolState) (pool : OpenPool) (r : Refusal) → HasCheckpoint part p.saved p.discarding → IsTakeRefusal pool part r → IsCheckpointCause p r
-take_cause Clear p pool r h is = subst (IsCheckpointCause p) (sym is.is) tt
-take_cause (Held txg) p pool r h is = subst (IsCheckpointCause p) (sym is) h.0
-take_cause Discarding p pool r h is = subst (IsCheckpointCause p) (sym is) h.1
+take_cause part p pool r h (inl leaves) = subst (IsCheckpointCause p) (sym leaves.is) tt
+take_cause part p pool r h (inr kept) = kept_cause part p pool r h kept.1
+
+kept_refusal : (part : CkptPart) (pool : OpenPool) (r : Refusal) → IsKeptRefusal pool part r → IsCheckpointRefusal r
+kept_refusal Clear pool r is = subst IsCheckpointRefusal (sym is.is) is.less
+kept_refusal (Held txg) pool r is = subst IsCheckpointRefusal (sym is) tt
+kept_refusal Discarding pool r is = subst IsCheckpointRefusal (sym is) tt
 
 pub take_refusal : (part : CkptPart) (pool : OpenPool) (r : Refusal) → IsTakeRefusal pool part r → IsCheckpointRefusal r
-take_refusal Clear pool r is = subst IsCheckpointRefusal (sym is.is) is.less
-take_refusal (Held txg) pool r is = subst IsCheckpointRefusal (sym is) tt
-take_refusal Discarding pool r is = subst IsCheckpointRefusal (sym is) tt
+take_refusal part pool r (inl leaves) = subst IsCheckpointRefusal (sym leaves.is) tt
+take_refusal part pool r (inr kept) = kept_refusal part pool r kept.1
 
 -- why none is given up
-pub give_cause : (part : CkptPart) (p : PoolState) (r : Refusal) → HasCheckpoint part p.saved p.discarding → IsGiveRefusal part r → IsCheckpointCause p r
-give_cause Clear p r h is = subst (IsCheckpointCause p) (sym is) h
-give_cause (Held txg) p r h is = absurd is
-give_cause Discarding p r h is = subst (IsCheckpointCause p) (sym is) h.1
+pub give_cause : (part : CkptPart) (p : PoolState) (pool : OpenPool) (r : Refusal) → HasCheckpoint part p.saved p.discarding → IsGiveRefusal pool part r → IsCheckpointCause p r
+give_cause Clear p pool r h is = subst (IsCheckpointCause p) (sym is) h
+give_cause (Held txg) p pool r h is = subst (IsCheckpointCause p) (sym is.is) tt
+give_cause Discarding p pool r h is = subst (IsCheckpointCause p) (sym is) h.1
 
-pub give_refusal : (part : CkptPart) (r : Refusal) → IsGiveRefusal part r → IsDiscardRefusal r
-give_refusal Clear r is = subst IsDiscardRefusal (sym is) tt
-give_refusal (Held txg) r is = absurd is
-give_refusal Discarding r is = subst IsDiscardRefusal (sym is) tt
+pub give_refusal : (part : CkptPart) (pool : OpenPool) (r : Refusal) → IsGiveRefusal pool part r → IsDiscardRefusal r
+give_refusal Clear pool r is = subst IsDiscardRefusal (sym is) tt
+give_refusal (Held txg) pool r is = subst IsDiscardRefusal (sym is.is) tt
+give_refusal Discarding pool r is = subst IsDiscardRefusal (sym is) tt
 
 -- why there is nothing to do
 pub step_cause : (part : CkptPart) (p : PoolState) (r : Refusal) → HasCheckpoint part p.saved p.discarding → IsStepRefusal part r → IsCheckpointCause p r
@@ -111,3 +122,24 @@ pub opened_as : (A B : OpenPool → Type 0) (r : Result (Option OpenPool) Fault)
 opened_as A B (Ok None) each h = tt
 opened_as A B (Ok (Some pool)) each h = each pool h
 opened_as A B (Err e) each h = tt
+
+-- ---- a removal
+
+-- why no removal begins
+pub may_cause : (s : Space) (part : CkptPart) (p : PoolState) (r : Refusal) → HasCheckpoint part p.saved p.discarding → IsMayRefusal s part r → IsCheckpointCause p r
+may_cause s Clear p r h is = subst (IsCheckpointCause p) (sym is.0) tt
+may_cause s (Held txg) p r h is = subst (IsCheckpointCause p) (sym is) h.0
+may_cause s Discarding p r h is = subst (IsCheckpointCause p) (sym is) h.1
+
+pub may_refusal : (s : Space) (part : CkptPart) (r : Refusal) → IsMayRefusal s part r → IsRemoveRefusal r
+may_refusal s Clear r is = subst IsRemoveRefusal (sym is.0) tt
+may_refusal s (Held txg) r is = subst IsRemoveRefusal (sym is) tt
+may_refusal s Discarding r is = subst IsRemoveRefusal (sym is) tt
+
+pub remove_cause : (pool : OpenPool) (d : ℕ) (p : PoolState) (r : Refusal) → removal.IsRemoveRefusal pool d r → IsCheckpointCause p r
+remove_cause pool d p r (inl only) = subst (IsCheckpointCause p) (sym only.0) tt
+remove_cause pool d p r (inr short) = subst (IsCheckpointCause p) (sym short.is) tt
+
+pub remove_refusal : (pool : OpenPool) (d : ℕ) (r : Refusal) → removal.IsRemoveRefusal pool d r → IsRemoveRefusal r
+remove_refusal pool d r (inl only) = subst IsRemoveRefusal (sym only.0) tt
+remove_refusal pool d r (inr short) = subst IsRemoveRefusal (sym short.is) short.less

@@ -100,15 +100,17 @@ IsAddRefusal (refusal.DeviceInUse slot) = Unit {0}
 IsAddRefusal (refusal.TooMany limit) = limit ≡ 32
 IsAddRefusal r = ⊥
 
--- what a checkpoint may be refused for: there is one, one is being discarded, or there is no room for it
+-- what a checkpoint may be refused for: a device is leaving, there is one, one is being discarded, or there is no room for it
 abbrev pub IsCheckpointRefusal : Refusal → Type 0
+IsCheckpointRefusal refusal.RemovalInProgress = Unit {0}
 IsCheckpointRefusal refusal.CheckpointExists = Unit {0}
 IsCheckpointRefusal refusal.DiscardingCheckpoint = Unit {0}
 IsCheckpointRefusal (refusal.NoRoom needed free) = free < needed
 IsCheckpointRefusal r = ⊥
 
--- and to give one up: there is none, or it is being discarded
+-- and to give one up: there is none, it is being discarded, or a device is leaving
 abbrev pub IsDiscardRefusal : Refusal → Type 0
+IsDiscardRefusal refusal.RemovalInProgress = Unit {0}
 IsDiscardRefusal refusal.NoCheckpoint = Unit {0}
 IsDiscardRefusal refusal.DiscardingCheckpoint = Unit {0}
 IsDiscardRefusal r = ⊥

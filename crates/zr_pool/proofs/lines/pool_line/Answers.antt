@@ -119,14 +119,14 @@ returns-in_err-give_up-in-Discard-clause-cause g c = λ p h r is.
     let res = c.from_residual-in_err-give_up-in-Discard in
     let q = err_from_is_err_and res.result res.ensures.1 in
     let e = fault_same c.in_err-give_up-in-Discard.field-0.0 q.0 r res.result q.1 q.2 is in
-    subst (λ (command : Command). IsPlainRefusal p command r) (sym c.in-Discard.is) (give_cause c.args.pool.now.space.parts.ckpt p r h.checkpoint (c.give_up.ensures.refused r (c.in_err-give_up-in-Discard.was ∙ ap Err e)))
+    subst (λ (command : Command). IsPlainRefusal p command r) (sym c.in-Discard.is) (give_cause c.args.pool.now.space.parts.ckpt p c.args.pool.now r h.checkpoint (c.give_up.ensures.refused r (c.in_err-give_up-in-Discard.was ∙ ap Err e)))
 
 pub returns-in_err-give_up-in-Discard-clause-refused : goal.returns-in_err-give_up-in-Discard-clause-refused
 returns-in_err-give_up-in-Discard-clause-refused g c = λ r is.
     let res = c.from_residual-in_err-give_up-in-Discard in
     let q = err_from_is_err_and res.result res.ensures.1 in
     let e = fault_same c.in_err-give_up-in-Discard.field-0.0 q.0 r res.result q.1 q.2 is in
-    subst (λ (command : Command). IsOpenRefusal command r) (sym c.in-Discard.is) (give_refusal c.args.pool.now.space.parts.ckpt r (c.give_up.ensures.refused r (c.in_err-give_up-in-Discard.was ∙ ap Err e)))
+    subst (λ (command : Command). IsOpenRefusal command r) (sym c.in-Discard.is) (give_refusal c.args.pool.now.space.parts.ckpt c.args.pool.now r (c.give_up.ensures.refused r (c.in_err-give_up-in-Discard.was ∙ ap Err e)))
 
 pub returns-in_ok-upgrade-in-Upgrade-clause-acts : goal.returns-in_ok-upgrade-in-Upgrade-clause-acts
 returns-in_ok-upgrade-in-Upgrade-clause-acts g c = λ p h.

@@ -1,0 +1,59 @@
+-- Which actors have work on an open pool.
+use Rattle.std.proofs.Common.{◌≡◌, ◌↔◌, ◌∙◌, ℕ, zero, suc, Bool, true, false, List, [], ◌∷◌, refl, sym, ap, subst}
+use Rattle.std.specs.Prelude.{IsTrue, ◌||◌}
+use Rattle.std.specs.List.{list_any}
+use Rattle.zr_base.specs.declared.space.CkptPart.{CkptPart}
+use Rattle.zr_base.specs.declared.space.CkptPart.TheVariants.{Clear, Held, Discarding}
+use Rattle.zr_base.specs.declared.space.DevPart.{DevPart}
+use Rattle.zr_image.specs.StateOf.{is_discarding}
+use Rattle.zr_model.specs.declared.pool.Actor.{Actor}
+use Rattle.zr_model.specs.declared.pool.Actor.TheVariants.{Evac, Discard, Condense}
+use Rattle.zr_removal.specs.Refusals.{HasWork}
+use Rattle.zr_rules.specs.Places.{is_leaving, state_of_dev}
+use Rattle.zr_rules.specs.Space.{Space}
+use Rattle.zr_rules.specs.Steps.{has_condensing}
+use Rattle.zr_pool.specs.Pools.{is_evacuating, work_of}
+use Rattle.zr_pool.specs.Turns.{works_on}
+
+false_true : false ≡ true → ⊥
+false_true e = cc
+
+-- two tests of which each holds where the other does
+same_test : (a b : Bool) → (a ≡ true → b ≡ true) → (b ≡ true → a ≡ true) → a ≡ b
+same_test true true f g = refl
+same_test true false f g = absurd (false_true (f refl))
+same_test false true f g = absurd (false_true (g refl))
+same_test false false f g = refl
+
+abbrev is_leaving_part : DevPart → Bool
+is_leaving_part p = is_leaving p.row.state
+
+or_right : (a b : Bool) → b ≡ true → (a || b) ≡ true
+or_right true b is = refl
+or_right false b is = is
+
+any_leaving : (ps : List DevPart) (d : ℕ) → is_leaving (state_of_dev ps d) ≡ true → list_any is_leaving_part ps ≡ true
+any_leaving [] d is = absurd (false_true is)
+any_leaving (p ∷ ps) zero is = ap (λ (b : Bool). b || list_any is_leaving_part ps) is
+any_leaving (p ∷ ps) (suc d) is = or_right (is_leaving_part p) (list_any is_leaving_part ps) (any_leaving ps d is)
+
+one_leaving : (ps : List DevPart) → list_any is_leaving_part ps ≡ true → (d : ℕ) × (is_leaving (state_of_dev ps d) ≡ true)
+one_leaving [] is = absurd (false_true is)
+one_leaving (p ∷ ps) is = by_first (is_leaving_part p) refl
+  where
+    by_first : (b : Bool) → is_leaving_part p ≡ b → (d : ℕ) × (is_leaving (state_of_dev (p ∷ ps) d) ≡ true)
+    by_first true first = (0, first)
+    by_first false first =
+        let rest = one_leaving ps (sym (ap (λ (b : Bool). b || list_any is_leaving_part ps) first) ∙ is) in
+        (suc rest.0, rest.1)
+
+discards_so : (k : CkptPart) → is_discarding k ≡ true → k ≡ Discarding
+discards_so Clear is = absurd (false_true is)
+discards_so (Held txg) is = absurd (false_true is)
+discards_so Discarding is = refl
+
+-- what is answered of an actor is what the state has
+pub works_so : (s : Space) (actor : Actor) (result : Bool) → (IsTrue result ↔ HasWork s actor) → result ≡ works_on true (work_of s) actor
+works_so s Evac result is = same_test result (is_evacuating s) (λ yes. let w = is.0 yes in any_leaving s.parts.devs w.0 w.1) (λ any. is.1 (one_leaving s.parts.devs any))
+works_so s Discard result is = same_test result (is_discarding s.parts.ckpt) (λ yes. ap is_discarding (is.0 yes)) (λ some. is.1 (discards_so s.parts.ckpt some))
+works_so s Condense result is = same_test result (has_condensing s) (λ yes. is.0 yes) (λ due. is.1 due)
