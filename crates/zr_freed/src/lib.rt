@@ -1,0 +1,38 @@
+//! Blocks that may be freed one after another are held before the first is.
+//!
+//! Whoever opens a root must know that the pointers that it met lead to units of their own, over removed devices or not. Each
+//! pointer that is met is freed in a space that is thrown away: where all of them could be freed, no two led to one unit, no
+//! obsolete unit was passed, and no entry was passed by more units than it has. So the space that the frees began from holds
+//! the blocks.
+#![tactic(auto)]
+
+ghost use Rattle.std.specs.Prelude.{ℕ, List, [], Option, None, ◌≡◌};
+ghost use Rattle.zr_base.specs.declared.space.Dva.{Dva};
+ghost use Rattle.zr_bptr.specs.declared.Bptr.{Bptr};
+ghost use Rattle.zr_cache.specs.declared.table.Cache.{Cache};
+ghost use Rattle.zr_freed.specs.Chains.{AreInUse, FreesInTurn};
+ghost use Rattle.zr_obsolete.specs.Obsolete.{Fits};
+ghost use Rattle.zr_rules.specs.Equation.{Spends};
+ghost use Rattle.zr_rules.specs.Places.{part_of};
+ghost use Rattle.zr_rules.specs.Space.{Space};
+ghost use Rattle.zr_store.specs.Store.{Stored};
+ghost use Rattle.zr_vdev.specs.Caches.{AreRead};
+ghost use Rattle.zr_vdev.specs.Stores.{HoldsBlocks, addresses_of};
+ghost use Rattle.zr_vdev.specs.declared.kind.Kind.TheVariants.{Block};
+
+/// Where no entry has more obsolete units than units, no address at all spends more than there is.
+pub fn nothing_is_spent()
+    ensures { (s : Space) → ((d : ℕ) → Fits (part_of s.parts.devs d).entries (part_of s.parts.devs d).counts (part_of s.parts.devs d).fresh) → Spends s [] }
+{}
+
+/// Addresses that were freed one after another are in use where the frees began: each may be freed there by itself, no two
+/// lead to one unit, and together they spend no more than there is.
+pub fn freed_are_in_use()
+    ensures { (birth : ℕ) (old new : Space) (list : List Dva) → Spends old [] → FreesInTurn birth old new list → AreInUse old list }
+{}
+
+/// So a store over the space where the frees began holds the blocks with these addresses, as its disks have them.
+pub fn freed_are_held()
+    ensures { (birth : ℕ) (told : Type 0) (disks : List (List ℕ)) (slots : List (Option ℕ)) (cache : Cache) (old new : Space) (pointers : List Bptr) → told → AreRead disks slots old cache → Spends old [] → FreesInTurn birth old new (addresses_of pointers)
+        → (s : Stored) × HoldsBlocks Block slots told disks old None cache s × (s.pointers ≡ pointers) }
+{}
