@@ -6,7 +6,6 @@ use Rattle.std.proofs.lemmas.List.{take_all}
 use Rattle.zr_bptr.specs.declared.Bptr.{Bptr}
 use Rattle.zr_bptr.specs.declared.Ptr.{Ptr}
 use Rattle.zr_bptr.specs.declared.Ptr.TheVariants.{At}
-use Rattle.zr_ranges.specs.Ranges.{Ranges}
 use Rattle.zr_store.specs.Store.{Stored}
 use Rattle.zr_tree.specs.Trees.{kids, slot, reach, leaves_below}
 use Rattle.zr_tree.proofs.Walking.{reach_of}
@@ -14,14 +13,11 @@ use Rattle.zr_import.specs.Shapes.{HasFirst, AddsLeaves}
 use Rattle.zr_import.specs.Units.{MarksAll}
 use Rattle.zr_import.proofs.Marking.{marks_then}
 
-pub marks_block : (s : Stored) (txg level below n : ℕ) (p : Ptr) (b : Bptr) (ps items : List Ptr) (old mid new : List Ranges) → level ≡ suc below → p ≡ At b → ps ≡ kids s below b → items ≡ ps → length items ≤ n
-    → MarksAll txg old mid (b ∷ []) → MarksAll txg mid new (flat_map (reach s below) (take n items)) → MarksAll txg old new (reach s level p)
-marks_block s txg level below n p b ps items old mid new level_is is kids_are same le one rest =
-    let all = subst (λ (qs : List Ptr). MarksAll txg mid new (flat_map (reach s below) qs)) (take_all n items le ∙ same) rest in
-    subst (MarksAll txg old new) (sym (reach_of s level below p b ps level_is is kids_are)) (marks_then txg old mid new (b ∷ []) (flat_map (reach s below) ps) one all)
-
-pub marks_leaf : (s : Stored) (txg level : ℕ) (p : Ptr) (b : Bptr) (old new : List Ranges) → level ≡ 0 → p ≡ At b → MarksAll txg old new (b ∷ []) → MarksAll txg old new (reach s level p)
-marks_leaf s txg level p b old new level_is is one = subst (λ (l : ℕ). MarksAll txg old new (reach s l p)) (sym level_is) (subst (λ (q : Ptr). MarksAll txg old new (reach s 0 q)) (sym is) one)
+pub marks_block : {M : Type 0} (Marks : M → M → Bptr → Type 0) (s : Stored) (txg level below n : ℕ) (p : Ptr) (b : Bptr) (ps items : List Ptr) (old mid new : M) → level ≡ suc below → p ≡ At b → ps ≡ kids s below b → items ≡ ps → length items ≤ n
+    → MarksAll Marks txg old mid (b ∷ []) → MarksAll Marks txg mid new (flat_map (reach s below) (take n items)) → MarksAll Marks txg old new (reach s level p)
+marks_block {M} Marks s txg level below n p b ps items old mid new level_is is kids_are same le one rest =
+    let all = subst (λ (qs : List Ptr). MarksAll Marks txg mid new (flat_map (reach s below) qs)) (take_all n items le ∙ same) rest in
+    subst (MarksAll Marks txg old new) (sym (reach_of s level below p b ps level_is is kids_are)) (marks_then Marks txg old mid new (b ∷ []) (flat_map (reach s below) ps) one all)
 
 leaves_of : (s : Stored) (level below : ℕ) (p : Ptr) (b : Bptr) (ps : List Ptr) → level ≡ suc below → p ≡ At b → ps ≡ kids s below b → leaves_below s level p ≡ flat_map (leaves_below s below) ps
 leaves_of s level below p b ps level_is is kids_are =

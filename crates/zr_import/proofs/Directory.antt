@@ -8,7 +8,6 @@ use Rattle.std.proofs.lemmas.List.{take_all}
 use Rattle.zr_bptr.specs.declared.Bptr.{Bptr}
 use Rattle.zr_bptr.specs.declared.ObjRec.{ObjRec}
 use Rattle.zr_bptr.specs.declared.Tree.{Tree}
-use Rattle.zr_ranges.specs.Ranges.{Ranges}
 use Rattle.zr_store.specs.Store.{Stored}
 use Rattle.zr_tree.specs.Trees.{tree_reach}
 use Rattle.zr_objset.specs.Records.{records_in, leaf_reach, all_reach}
@@ -37,10 +36,10 @@ pub met_all : (s : Stored) (dir : Tree) (met met_now slice : List Bptr) → met 
 met_all s dir met met_now slice none met_is slice_is = slice_is ∙ met_is ∙ ap (λ (xs : List Bptr). xs ++ tree_reach s dir) none
 
 -- the directory was walked, and then its objects
-pub all_marked : (s : Stored) (dir : Tree) (txg n : ℕ) (slice : List Bptr) (objects items : List ObjRec) (old mid new : List Ranges) → MarksAll txg old mid (tree_reach s dir) → slice ≡ tree_reach s dir
+pub all_marked : {M : Type 0} (Marks : M → M → Bptr → Type 0) (s : Stored) (dir : Tree) (txg n : ℕ) (slice : List Bptr) (objects items : List ObjRec) (old mid new : M) → MarksAll Marks txg old mid (tree_reach s dir) → slice ≡ tree_reach s dir
     → objects ≡ flat_map (objects_in s) slice → items ≡ objects → length items ≤ n
-    → MarksAll txg mid new (flat_map (λ (r : ObjRec). tree_reach s r.tree) (take n items)) → MarksAll txg old new (all_reach s dir)
-all_marked s dir txg n slice objects items old mid new one slice_is found items_are le two =
+    → MarksAll Marks txg mid new (flat_map (λ (r : ObjRec). tree_reach s r.tree) (take n items)) → MarksAll Marks txg old new (all_reach s dir)
+all_marked {M} Marks s dir txg n slice objects items old mid new one slice_is found items_are le two =
     let f : ObjRec → List Bptr = λ r. tree_reach s r.tree in
     let whole = ap (flat_map f) (take_all n items le ∙ items_are ∙ found ∙ ap (flat_map (objects_in s)) slice_is) ∙ objects_reach s (tree_reach s dir) in
-    marks_then txg old mid new (tree_reach s dir) (flat_map (leaf_reach s) (tree_reach s dir)) one (subst (MarksAll txg mid new) whole two)
+    marks_then Marks txg old mid new (tree_reach s dir) (flat_map (leaf_reach s) (tree_reach s dir)) one (subst (MarksAll Marks txg mid new) whole two)

@@ -8,4 +8,3 @@ pub mod Young
 pub mod Reading
 pub mod Directory
 pub mod Places
-pub mod Fewer

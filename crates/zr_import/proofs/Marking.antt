@@ -5,7 +5,6 @@ use Rattle.std.proofs.Math.Seq.{take-suc}
 use Rattle.std.proofs.lemmas.Grind.{flat_map-append}
 use Rattle.std.proofs.lemmas.List.Sums.{sum_by-append, sum_by-cons}
 use Rattle.zr_bptr.specs.declared.Bptr.{Bptr}
-use Rattle.zr_ranges.specs.Ranges.{Ranges}
 use Rattle.zr_store.specs.Store.{Stored}
 use Rattle.zr_meta.specs.declared.Stream.{Stream}
 use Rattle.zr_import.specs.Units.{MarksAll}
@@ -14,9 +13,10 @@ use Rattle.zr_import.specs.Words.{HaveWords}
 use Rattle.zr_root.specs.Streams.{HasWords}
 use Rattle.zr_import.proofs.Leaves.{adds_then}
 
-pub marks_then : (txg : ℕ) (a b c : List Ranges) (xs ys : List Bptr) → MarksAll txg a b xs → MarksAll txg b c ys → MarksAll txg a c (xs ++ ys)
-marks_then txg a b c [] ys one two = subst (λ (o : List Ranges). MarksAll txg o c ys) one two
-marks_then txg a b c (x ∷ xs) ys (birth, (mid, (has, (takes, rest)))) two = (birth, (mid, (has, (takes, marks_then txg mid b c xs ys rest two))))
+module _ {M : Type 0} (Marks : M → M → Bptr → Type 0) where
+  pub marks_then : (txg : ℕ) (a b c : M) (xs ys : List Bptr) → MarksAll Marks txg a b xs → MarksAll Marks txg b c ys → MarksAll Marks txg a c (xs ++ ys)
+  marks_then txg a b c [] ys one two = subst (λ (o : M). MarksAll Marks txg o c ys) one two
+  marks_then txg a b c (x ∷ xs) ys (birth, (mid, (marked, rest))) two = (birth, (mid, (marked, marks_then txg mid b c xs ys rest two)))
 
 pub next_flat : {X : Type 0} (f : X → List Bptr) (items : List X) (i : ℕ) (d : X) → i < length items → flat_map f (take (i + 1) items) ≡ flat_map f (take i items) ++ f (get_or items i d)
 next_flat {X} f items i d lt =
@@ -25,8 +25,9 @@ next_flat {X} f items i d lt =
     ∙ ap (λ (xs : List Bptr). flat_map f (take i items) ++ xs) (append-nil (f (get_or items i d)))
 
 -- the blocks of one more
-pub marks_more : {X : Type 0} (txg : ℕ) (f : X → List Bptr) (items : List X) (i : ℕ) (d : X) (a b c : List Ranges) → i < length items → MarksAll txg a b (flat_map f (take i items)) → MarksAll txg b c (f (get_or items i d)) → MarksAll txg a c (flat_map f (take (i + 1) items))
-marks_more {X} txg f items i d a b c lt one two = subst (MarksAll txg a c) (sym (next_flat f items i d lt)) (marks_then txg a b c (flat_map f (take i items)) (f (get_or items i d)) one two)
+pub marks_more : {X M : Type 0} (Marks : M → M → Bptr → Type 0) (txg : ℕ) (f : X → List Bptr) (items : List X) (i : ℕ) (d : X) (a b c : M) → i < length items → MarksAll Marks txg a b (flat_map f (take i items)) → MarksAll Marks txg b c (f (get_or items i d))
+    → MarksAll Marks txg a c (flat_map f (take (i + 1) items))
+marks_more {X} {M} Marks txg f items i d a b c lt one two = subst (MarksAll Marks txg a c) (sym (next_flat f items i d lt)) (marks_then Marks txg a b c (flat_map f (take i items)) (f (get_or items i d)) one two)
 
 -- the leaves of one more
 pub adds_more : {X : Type 0} (s : Stored) (f : X → List Bptr) (items : List X) (i : ℕ) (d : X) (a b c : List ℕ) → i < length items → AddsLeaves s (flat_map f (take i items)) a b → AddsLeaves s (f (get_or items i d)) b c → AddsLeaves s (flat_map f (take (i + 1) items)) a c

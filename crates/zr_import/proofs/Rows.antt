@@ -88,8 +88,3 @@ counted_few u h words parts few spelled =
     let c = words_count h.form (rows_of u) (pieces h.streams words) in
     let d = length-take u.count u.rows in
     omega (arith, a, b, c, d, few)
-
--- nothing is condensed, whether late sets count or not
-pub counted_quiet : (u : Uber) (parts : SpaceParts) → parts.cond ≡ None → (late_counted u parts).cond ≡ None
-counted_quiet u parts h =
-    elim (reset_of u == u.txg) as (λ b. (if b then record parts { devs = map (λ (p : DevPart). record p { late1 = []; late2 = [] }) parts.devs } else parts).cond ≡ None) [ true ↦ h | false ↦ h ]

@@ -8,9 +8,9 @@ use Rattle.zr_store.specs.declared.StoreErr.TheVariants as store
 use Rattle.zr_import.specs.declared.errors.ImportErr.{ImportErr}
 use Rattle.zr_import.specs.declared.errors.ImportErr.TheVariants.{Rule, Damaged, Failed, NoMemory}
 
--- the rules that are looked at: the form, the sets, condensing, and the uses of units
+-- the rules that are looked at: the form, the sets, and the uses of units
 abbrev pub IsRule : ℕ → Type 0
-IsRule n = (n ≡ 1) ⊎ ((n ≡ 2) ⊎ ((n ≡ 5) ⊎ (n ≡ 7)))
+IsRule n = (n ≡ 1) ⊎ ((n ≡ 2) ⊎ (n ≡ 7))
 
 -- what a store's answer to a read says of the root: a pointer that does not resolve is a matter of units, and a block
 -- outside its form one of form

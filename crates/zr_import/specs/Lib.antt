@@ -4,3 +4,4 @@ pub mod Shapes
 pub mod Words
 pub mod Directories
 pub mod Saved
+pub mod Spending

@@ -1,12 +1,13 @@
--- Units that pointers may still lead to.
+-- Units that pointers may still lead to, and blocks that are marked one after another.
 use Rattle.std.specs.List.{filter}
-use Rattle.std.specs.Prelude.{◌≡◌, ◌≢◌, ℕ, ◌≤◌, ◌<◌, nat_lt, true, List, [], ◌∷◌, slice_index_or, map, All}
+use Rattle.std.specs.Prelude.{◌≡◌, ◌≢◌, ℕ, ◌≤◌, ◌<◌, nat_lt, ◌&&◌, List, [], ◌∷◌, slice_index_or, map, if◌then◌else◌}
 use Rattle.zr_base.specs.declared.space.Dva.{Dva}
 use Rattle.zr_bptr.specs.declared.Bptr.{Bptr}
 use Rattle.zr_base.specs.declared.space.DevPart.{DevPart}
+use Rattle.zr_base.specs.declared.space.DevRow.{DevRow}
 use Rattle.zr_base.specs.declared.space.Extent.{Extent}
-use Rattle.zr_base.specs.Extents.{has_unit, HasAll, IsMaximal, RemovesUnits}
-use Rattle.zr_rules.specs.Places.{is_kept, part_of}
+use Rattle.zr_base.specs.Extents.{HasAll, IsMaximal, RemovesUnits}
+use Rattle.zr_rules.specs.Places.{is_on}
 use Rattle.zr_ranges.specs.Ranges.{Ranges}
 
 -- the units of the device with this index
@@ -27,14 +28,19 @@ pub record Takes (old new : List Ranges) (d : ℕ) (e : Extent) : Type 0 where
   pub taken : RemovesUnits (units_at old d) (units_at new d) e
   pub others : (other : ℕ) → other ≢ d → units_at new other ≡ units_at old other
 
--- each unit that is there was there
-abbrev pub AreFewer : List Ranges → List Ranges → Type 0
-AreFewer old new = (d u : ℕ) → has_unit (units_at new d) u ≡ true → has_unit (units_at old d) u ≡ true
+-- the units of the block are there
+abbrev pub MayMeet : List Ranges → Bptr → Type 0
+MayMeet sets b = Has sets b.at.dev (extent_of b.at)
 
--- These blocks were marked in order: none is younger than the group, and the units of each were there and are gone.
-abbrev pub MarksAll : ℕ → List Ranges → List Ranges → List Bptr → Type 0
-MarksAll txg old new [] = new ≡ old
-MarksAll txg old new (b ∷ bs) = (b.birth ≤ txg) × ((mid : List Ranges) × (Has old b.at.dev (extent_of b.at) × (Takes old mid b.at.dev (extent_of b.at) × MarksAll txg mid new bs)))
+-- the units of the block were there, and are no longer
+pub record Meets (old new : List Ranges) (b : Bptr) : Type 0 where
+  pub has : MayMeet old b
+  pub takes : Takes old new b.at.dev (extent_of b.at)
+
+-- These blocks were marked in order, each as a mark does it, and none is younger than the group.
+abbrev pub MarksAll : {M : Type 0} → (M → M → Bptr → Type 0) → ℕ → M → M → List Bptr → Type 0
+MarksAll Marks txg old new [] = new ≡ old
+MarksAll {M} Marks txg old new (b ∷ bs) = (b.birth ≤ txg) × ((mid : M) × (Marks old mid b × MarksAll Marks txg mid new bs))
 
 -- the blocks that were born behind a group
 abbrev pub young_of : ℕ → List Bptr → List Bptr
@@ -44,22 +50,13 @@ young_of since bs = filter (λ (b : Bptr). nat_lt since b.birth) bs
 abbrev pub HasMaximal : DevPart → Type 0
 HasMaximal p = IsMaximal p.held
 
--- These blocks were marked, where at first just the held units could be. Just the kept units are left.
-pub record MarksHeld (txg : ℕ) (devs : List DevPart) (blocks : List Bptr) : Type 0 where
-  pub held : List Ranges
+-- all units of a device in service, and none of another
+abbrev pub serving_units : DevRow → List Extent
+serving_units r = if is_on r.state && nat_lt 0 r.units then record { start = 0; len = r.units } ∷ [] else []
+
+-- These blocks were marked, where at first just the units of devices in service could be.
+pub record MarksServing (txg : ℕ) (rows : List DevRow) (blocks : List Bptr) : Type 0 where
+  pub start : List Ranges
   pub left : List Ranges
-  pub held_is : map (λ (r : Ranges). r.extents) held ≡ map (λ (p : DevPart). p.held) devs
-  pub marks : MarksAll txg held left blocks
-  pub kept : (d u : ℕ) → is_kept devs d u ≡ true → has_unit (units_at left d) u ≡ true
-  pub just : (d u : ℕ) → has_unit (units_at left d) u ≡ true → is_kept devs d u ≡ true
-  pub spent : All (λ (p : DevPart). p.kept ≡ []) devs → All (λ (r : Ranges). r.extents ≡ []) left
-
--- The held units of the devices that no block has which was born behind the group.
-pub record HasOlder (txg since : ℕ) (devs : List DevPart) (blocks : List Bptr) (older : List Ranges) : Type 0 where
-  pub held : List Ranges
-  pub held_is : map (λ (r : Ranges). r.extents) held ≡ map (λ (p : DevPart). p.held) devs
-  pub young : MarksAll txg held older (young_of since blocks)
-
--- just the held units of the devices are there
-abbrev pub HaveHeld : List Ranges → List DevPart → Type 0
-HaveHeld sets devs = (d : ℕ) → units_at sets d ≡ (part_of devs d).held
+  pub start_is : map (λ (r : Ranges). r.extents) start ≡ map serving_units rows
+  pub marks : MarksAll Meets txg start left blocks

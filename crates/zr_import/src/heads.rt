@@ -10,7 +10,7 @@ ghost use Rattle.zr_bptr.specs.Spelling.{IsPointer};
 ghost use Rattle.zr_bptr.specs.declared.Ptr.TheVariants.{At};
 ghost use Rattle.zr_tree.specs.Trees.{reach, tree_reach};
 ghost use Rattle.zr_root.specs.Streams.{HasBytes, HasWords};
-ghost use Rattle.zr_import.specs.Units.{MarksAll};
+ghost use Rattle.zr_import.specs.Units.{MarksAll, Meets};
 ghost use Rattle.zr_import.specs.Words.{HaveWords};
 ghost use Rattle.zr_label.specs.Blocks.{IsUber};
 ghost use Rattle.zr_meta.specs.Heads.{IsHead, IsStream, head_bytes};
@@ -64,7 +64,7 @@ fn read_bytes<B: Blocks>(
     requires root { IsPointer root.now }
     requires some { 0 < len }
     requires len { len ≤ 2 ^ 50 }
-    ensures marks { (s : Stored) → B.holds store.old s → OnOk result (MarksAll txg marks.old marks.new (reach s root.now.level (At root.now))) }
+    ensures marks { (s : Stored) → B.holds store.old s → OnOk result (MarksAll Meets txg marks.old marks.new (reach s root.now.level (At root.now))) }
     ensures met { (s : Stored) → B.holds store.old s → OnOk result (met.new.items ≡ met.old.items ++ reach s root.now.level (At root.now)) }
     ensures bytes { (s : Stored) → B.holds store.old s → IfOk result (λ bytes. HasBytes s (record { root = At root.now; height = root.now.level }) bytes.items) }
     ensures follows { (start : B) → B.follows start store.old → B.follows start store.new }
@@ -133,7 +133,7 @@ pub(crate) fn read_head<B: Blocks>(
     ensures same { (s : Stored) → B.holds store.old s → B.holds store.new s }
     ensures head { IfOk result (IsHead (rows_of uber.now)) }
     ensures form { IfOk result (λ h. (h.form ≡ 1) ↔ (uber.now.reset ≡ 0)) }
-    ensures marks { (s : Stored) → B.holds store.old s → OnOk result (MarksAll uber.now.txg marks.old marks.new (tree_reach s (head_tree uber.now))) }
+    ensures marks { (s : Stored) → B.holds store.old s → OnOk result (MarksAll Meets uber.now.txg marks.old marks.new (tree_reach s (head_tree uber.now))) }
     ensures met { (s : Stored) → B.holds store.old s → OnOk result (met.new.items ≡ met.old.items ++ tree_reach s (head_tree uber.now)) }
     ensures bytes { (s : Stored) → B.holds store.old s → IfOk result (λ h. HasBytes s (head_tree uber.now) (head_bytes h)) }
     ensures fits { IfOk result (λ h. All (λ t. div_ceil t.words 512 ≤ concrete_units (rows_of uber.now)) h.streams) }
@@ -172,7 +172,7 @@ fn read_stream<B: Blocks>(
     ensures cause { HasCause (B.account store.old) (B.account store.new) result }
     ensures same { (s : Stored) → B.holds store.old s → B.holds store.new s }
     ensures count { IfOk result (λ ns. length ns.items ≡ stream.now.words) }
-    ensures marks { (s : Stored) → B.holds store.old s → OnOk result (MarksAll txg marks.old marks.new (tree_reach s stream.now.tree)) }
+    ensures marks { (s : Stored) → B.holds store.old s → OnOk result (MarksAll Meets txg marks.old marks.new (tree_reach s stream.now.tree)) }
     ensures met { (s : Stored) → B.holds store.old s → OnOk result (met.new.items ≡ met.old.items ++ tree_reach s stream.now.tree) }
     ensures words { (s : Stored) → B.holds store.old s → IfOk result (λ ns. HasWords s stream.now ns.items) }
 {
@@ -199,7 +199,7 @@ pub(crate) fn read_streams<B: Blocks>(
     ensures cause { HasCause (B.account store.old) (B.account store.new) result }
     ensures same { (s : Stored) → B.holds store.old s → B.holds store.new s }
     ensures count { IfOk result (λ ns. length ns.items ≡ sum_by (λ t. t.words) streams.now) }
-    ensures marks { (s : Stored) → B.holds store.old s → OnOk result (MarksAll txg marks.old marks.new (flat_map (λ t. tree_reach s t.tree) streams.now)) }
+    ensures marks { (s : Stored) → B.holds store.old s → OnOk result (MarksAll Meets txg marks.old marks.new (flat_map (λ t. tree_reach s t.tree) streams.now)) }
     ensures met { (s : Stored) → B.holds store.old s → OnOk result (met.new.items ≡ met.old.items ++ flat_map (λ t. tree_reach s t.tree) streams.now) }
     ensures words { (s : Stored) → B.holds store.old s → IfOk result (λ ns. HaveWords s streams.now ns.items) }
 {

@@ -1,22 +1,23 @@
-//! The units to which a pointer may still lead.
+//! The units to which a pointer of the metadata may still lead.
 //!
-//! A unit that was met is taken out. So a pointer may be marked where all its units are there, and what is left behind a
-//! walk are the units that it did not meet. Each pointer takes some units out of the middle of a set, so the sets are in
-//! pages.
-ghost use Rattle.std.specs.Prelude.{◌≡◌, ◌↔◌, ◌<◌, ◌≤◌, ◌^◌, ℕ, [], length, map, false, IsTrue, IfOk, OnErr, All};
+//! Metadata stands on devices in service alone, so its addresses are its units. A unit that was met is taken out, and a
+//! pointer may be marked where all its units are there. Each pointer takes some units out of the middle of a set, so the
+//! sets are in pages.
+ghost use Rattle.std.specs.Prelude.{◌≡◌, ◌↔◌, ◌<◌, ◌≤◌, ◌^◌, ℕ, length, map, false, IsTrue, IfOk, OnErr, All};
 ghost use Rattle.zr_base.specs.Extents.{HasAll, HasNone, IsMaximal};
 ghost use Rattle.zr_ranges.specs.Ranges.{Ranges};
-ghost use Rattle.zr_rules.specs.Places.{part_of};
-ghost use Rattle.zr_import.specs.Units.{units_at, extent_of, Has, HaveHeld, Takes, HasMaximal};
+ghost use Rattle.zr_import.specs.Units.{units_at, extent_of, serving_units, Has, Takes, HasMaximal};
 
+use crate::mark::Mark;
 use std::alloc::Global;
 use std::marker::Model;
 use zr_base::{DevPart, DevRow, DevState, Dva, Extent, NoMemory};
+use zr_bptr::Bptr;
 use zr_paged::PagedSet;
 
 /// The units of each device to which a pointer may still lead.
 #[derive(Drop)]
-pub struct Marks {
+pub(crate) struct Marks {
     left: Vec<PagedSet>,
 }
 
@@ -74,27 +75,10 @@ fn is_apart(set: &PagedSet, e: Extent) -> bool
     }
 }
 
-/// Whether the set has just the units of these maximal extents. It goes over all of them.
-fn is_just(set: &PagedSet, extents: &[Extent]) -> Result<bool, NoMemory>
-    ensures { IfOk result (λ yes. IsTrue yes ↔ (set.now.extents ≡ extents.now)) }
-{
-    let all = set.to_set()?;
-    Ok(all.extents() == extents)
-}
-
-/// The held units of the device with this index.
-fn held_at(parts: &[DevPart], dev: usize) -> &[Extent]
-    ensures { result.now ≡ (part_of parts.now dev).held }
-{
-    if dev >= parts.len() {
-        return &[];
-    }
-    parts[dev].held.as_slice()
-}
-
 /// All units of a device in service, and none of another.
 fn row_set(alloc: Global, row: &DevRow) -> Result<PagedSet, NoMemory>
     requires { row.now.units ≤ 2 ^ 36 }
+    ensures { IfOk result (λ set. set.extents ≡ serving_units row.now) }
 {
     let mut set = PagedSet::new(alloc);
     if row.state == DevState::On && row.units > 0 {
@@ -110,6 +94,7 @@ impl Marks {
     /// All units of the devices in service.
     pub fn of_rows(alloc: Global, rows: &[DevRow]) -> Result<Marks, NoMemory>
         requires { All (λ r. r.units ≤ 2 ^ 36) rows.now }
+        ensures { IfOk result (λ marks. map (λ (s : Ranges). s.extents) marks ≡ map serving_units rows.now) }
     {
         let mut left = Vec::new(alloc);
         for row in rows {
@@ -128,15 +113,6 @@ impl Marks {
             left.push(set_of(alloc, part.held.as_slice())?)?;
         }
         Ok(Marks { left })
-    }
-
-    /// No device.
-    pub fn none(alloc: Global) -> Marks
-        ensures { result ≡ [] }
-    {
-        Marks {
-            left: Vec::new(alloc),
-        }
     }
 
     /// Takes out units, where all of them are there. It costs a search among the extents, and the move of one page.
@@ -162,16 +138,6 @@ impl Marks {
         Ok(true)
     }
 
-    /// Marks an address: false where it is not within its device, or meets a unit that was met before or may not be met.
-    pub fn mark(&mut self, at: &Dva) -> Result<bool, NoMemory>
-        ensures fits { IfOk result (λ yes. IsTrue yes ↔ Has self.old at.now.dev (extent_of at.now)) }
-        ensures takes { IfOk result (λ yes. IsTrue yes → Takes self.old self.new at.now.dev (extent_of at.now)) }
-        ensures same { IfOk result (λ yes. yes ≡ false → self.new ≡ self.old) }
-        ensures err { OnErr result ((d : ℕ) → units_at self.new d ≡ units_at self.old d) }
-    {
-        self.take(at.dev, extent_of(at))
-    }
-
     /// Whether none of the units is there.
     pub fn is_apart(&self, dev: u32, e: Extent) -> bool
         ensures { IsTrue result ↔ HasNone (units_at self.now dev) e }
@@ -179,35 +145,16 @@ impl Marks {
         let dev = dev as usize;
         dev >= self.left.len() || is_apart(&self.left[dev], e)
     }
+}
 
-    /// Whether just these units of the device with this index are there.
-    fn has_just(&self, dev: usize, extents: &[Extent]) -> Result<bool, NoMemory>
-        ensures { IfOk result (λ yes. IsTrue yes ↔ (units_at self.now dev ≡ extents.now)) }
-    {
-        if dev >= self.left.len() {
-            return Ok(extents.is_empty());
-        }
-        is_just(&self.left[dev], extents)
-    }
+impl Mark for Marks {
+    ghost use Rattle.zr_import.specs.Units.{MayMeet, Meets};
 
-    /// Whether just the held units of the devices are there. It goes over the extents, and takes the memory of one
-    /// device's.
-    pub fn are_held(&self, parts: &[DevPart]) -> Result<bool, NoMemory>
-        ensures { IfOk result (λ yes. IsTrue yes ↔ HaveHeld self.now parts.now) }
-    {
-        let devices = self.left.len().max(parts.len());
-        for dev in 0..devices {
-            if !self.has_just(dev, held_at(parts, dev))? {
-                return Ok(false);
-            }
-        }
-        Ok(true)
-    }
+    ghost may = { MayMeet };
 
-    /// Whether no unit is there.
-    pub fn is_empty(&self) -> bool
-        ensures { IsTrue result ↔ All (λ s. s.extents ≡ []) self.now }
-    {
-        self.left.iter().all(|set| set.first().is_none())
+    ghost marks = { Meets };
+
+    fn mark(&mut self, b: &Bptr) -> Result<bool, NoMemory> {
+        self.take(b.at.dev, extent_of(&b.at))
     }
 }

@@ -1,17 +1,15 @@
 //! The metadata of a root: its head, and what its streams record.
-ghost use Rattle.std.specs.Prelude.{◌≡◌, ◌+◌, ◌*◌, ◌^◌, ◌<◌, ◌≤◌, ◌↔◌, List, ℕ, length, map, sum_by, [], None, ◌⊎◌, All, IfOk, IfErr, IsErrOf, IsTrue, true};
-ghost use Rattle.std.specs.List.{list_all};
+ghost use Rattle.std.specs.Prelude.{◌≡◌, ◌+◌, ◌*◌, ◌^◌, ◌<◌, ◌≤◌, ◌↔◌, List, ℕ, length, map, sum_by, [], ◌⊎◌, All, IfOk, IfErr, IsErrOf, OnOk, IsTrue, true};
 ghost use Rattle.zr_label.specs.Blocks.{IsUber};
 ghost use Rattle.zr_meta.specs.Heads.{IsHead};
 ghost use Rattle.zr_meta.specs.Parts.{SpellsParts};
-ghost use Rattle.zr_rules.specs.Places.{is_on};
 ghost use Rattle.zr_store.specs.Causes.{Costs};
 ghost use Rattle.zr_store.specs.Store.{Stored};
 ghost use Rattle.zr_image.specs.Roots.{late_counted, rows_of, without_late};
 ghost use Rattle.zr_import.specs.Causes.{HasCause};
 ghost use Rattle.zr_import.specs.declared.errors.ImportErr.TheVariants as error;
 ghost use Rattle.zr_base.specs.declared.space.DevPart.{DevPart};
-ghost use Rattle.zr_import.specs.Units.{HasMaximal, MarksAll};
+ghost use Rattle.zr_import.specs.Units.{HasMaximal, MarksServing};
 ghost use Rattle.zr_import.specs.Words.{ReadsMeta, meta_reach};
 
 use crate::errors::ImportErr;
@@ -65,29 +63,25 @@ fn devs_without_late(alloc: Global, parts: &[DevPart]) -> Result<Items<DevPart>,
     Ok(devs)
 }
 
-/// What a root records but for its late sets.
-pub(crate) fn without_late(alloc: Global, parts: &SpaceParts) -> Result<SpaceParts, NoMemory>
-    requires { parts.now.cond ≡ None }
-    ensures { IfOk result (λ rest. rest ≡ without_late parts.now) }
+/// Counts the late sets as empty. It goes over the other sets of the devices.
+pub(crate) fn drop_late(alloc: Global, parts: &mut SpaceParts) -> Result<(), NoMemory>
+    ensures { OnOk result (parts.new ≡ without_late parts.old) }
 {
     let devs = devs_without_late(alloc, parts.devs.as_slice())?;
-    Ok(SpaceParts {
-        version: parts.version,
-        devs,
-        cond: None,
-        ckpt: parts.ckpt,
-    })
+    parts.devs = devs;
+    Ok(())
 }
 
 /// The late sets count as empty where the root is a reset, or is of the first form: it has freed all, whatever they say.
 fn late_counted(alloc: Global, uber: &Uber, parts: SpaceParts) -> Result<SpaceParts, NoMemory>
-    requires { parts.cond ≡ None }
     ensures { IfOk result (λ counted. counted ≡ late_counted uber.now parts) }
 {
+    let mut parts = parts;
     if uber.reset != 0 && uber.reset != uber.txg {
         return Ok(parts);
     }
-    without_late(alloc, &parts)
+    drop_late(alloc, &mut parts)?;
+    Ok(parts)
 }
 
 /// Whether none of the blocks lies on units that are held.
@@ -127,17 +121,12 @@ fn addresses(alloc: Global, met: &[Bptr]) -> Result<Items<Dva>, NoMemory>
     Ok(ats)
 }
 
-/// The metadata of a root. Each of its blocks is marked, and then read; rule 7 is broken where one may not be marked, is
-/// younger than the root, or is held besides, rule 1 where one is outside its form, rule 2 where a set is, and rule 5
-/// where something is condensed: no device is gone. Of a root that is a reset, the late sets count as empty.
-pub fn read_meta<B: Blocks>(
-    alloc: Global,
-    store: &mut B,
-    marks: &mut Marks,
-    uber: &Uber,
-) -> Result<Meta, ImportErr>
+/// The metadata of a root. Each of its blocks is marked, and then read; rule 7 is broken where one is not on a device in
+/// service, was met before, is younger than the root, or is held besides, rule 1 where one is outside its form, and rule 2
+/// where a set is. Of a root that is a reset, the late sets count as empty. The time and the memory are linear in the blocks
+/// of the metadata.
+pub fn read_meta<B: Blocks>(alloc: Global, store: &mut B, uber: &Uber) -> Result<Meta, ImportErr>
     requires uber { IsUber uber.now }
-    requires on { IsTrue (list_all (λ r. is_on r.state) (rows_of uber.now)) }
     ensures follows { (start : B) → B.follows start store.old → B.follows start store.new }
     ensures costs { Costs 0 0 (B.account store.old) (B.account store.new) }
     ensures cause { HasCause (B.account store.old) (B.account store.new) result }
@@ -145,22 +134,19 @@ pub fn read_meta<B: Blocks>(
     ensures head { IfOk result (λ meta. IsHead (rows_of uber.now) meta.head) }
     ensures held { IfOk result (λ meta. All HasMaximal meta.parts.devs) }
     ensures few { IfOk result (λ meta. length meta.parts.devs ≤ 32) }
-    ensures quiet { IfOk result (λ meta. meta.parts.cond ≡ None) }
     ensures reads { (s : Stored) → B.holds store.old s → IfOk result (λ meta. ReadsMeta s uber.now meta.head meta.parts) }
-    ensures marks { (s : Stored) → B.holds store.old s → IfOk result (λ meta. MarksAll uber.now.txg marks.old marks.new (meta_reach s uber.now meta.head)) }
+    ensures marks { (s : Stored) → B.holds store.old s → IfOk result (λ meta. MarksServing uber.now.txg (rows_of uber.now) (meta_reach s uber.now meta.head)) }
     ensures at { (s : Stored) → B.holds store.old s → IfOk result (λ meta. meta.at ≡ map (λ b. b.at) (meta_reach s uber.now meta.head)) }
 {
+    let mut marks = Marks::of_rows(alloc, rows_of(uber))?;
     let mut met = Vec::new(alloc);
-    let head = read_head(alloc, store, marks, uber, &mut met)?;
+    let head = read_head(alloc, store, &mut marks, uber, &mut met)?;
     let streams = head.streams.as_slice();
-    let words = read_streams(alloc, store, marks, streams, uber.txg, &mut met)?;
+    let words = read_streams(alloc, store, &mut marks, streams, uber.txg, &mut met)?;
     let parts = read_parts(alloc, uber, &head, words.as_slice())?;
     let held = Marks::of_held(alloc, parts.devs.as_slice())?;
     if !are_apart(&held, met.as_slice()) {
         return Err(ImportErr::Rule(7));
-    }
-    if head.cond.is_some() {
-        return Err(ImportErr::Rule(5));
     }
     let parts = late_counted(alloc, uber, parts)?;
     let at = addresses(alloc, met.as_slice())?;

@@ -4,9 +4,9 @@
 //! are those of now that no block has which was born behind the checkpoint. This says at once that the kept units are those
 //! that the saved root has alone, that what both have was born by the checkpoint, and that what is born later is no unit of
 //! the saved root.
-ghost use Rattle.std.specs.Prelude.{◌≡◌, ◌↔◌, ◌<◌, ◌≤◌, ◌+◌, ℕ, length, map, None, IfOk, IsTrue, true};
-ghost use Rattle.std.specs.List.{list_all};
+ghost use Rattle.std.specs.Prelude.{◌≡◌, ◌↔◌, ◌<◌, ◌≤◌, ◌+◌, ℕ, length, map, All, IfOk, OnOk, IsTrue, true};
 ghost use Rattle.zr_base.specs.Readers.{Reads};
+ghost use Rattle.zr_bptr.specs.Spelling.{IsTree};
 ghost use Rattle.zr_base.specs.declared.space.CkptPart.TheVariants.{Clear};
 ghost use Rattle.zr_image.specs.Current.{row_at};
 ghost use Rattle.zr_image.specs.Roots as image;
@@ -14,17 +14,19 @@ ghost use Rattle.zr_image.specs.Roots.{rows_of, IsRowStill, IsSavedUber};
 ghost use Rattle.zr_import.specs.Causes.{HasSavedCause, as_saved};
 ghost use Rattle.zr_import.specs.Directories.{IsInPlace};
 ghost use Rattle.zr_import.specs.Saved.{IsOlder};
-ghost use Rattle.zr_import.specs.Units.{HaveHeld, MarksHeld};
+ghost use Rattle.zr_import.specs.Spending.{HaveHeld, MarksHeld};
+ghost use Rattle.zr_import.specs.Units.{HasMaximal, MarksServing};
 ghost use Rattle.zr_import.specs.Words.{ReadsMeta, meta_reach};
 ghost use Rattle.zr_label.specs.Blocks.{IsUber};
 ghost use Rattle.zr_meta.specs.Heads.{IsHead};
 ghost use Rattle.zr_objset.specs.Records.{all_reach};
-ghost use Rattle.zr_rules.specs.Places.{is_on};
 ghost use Rattle.zr_store.specs.Causes.{Costs};
 ghost use Rattle.zr_store.specs.Store.{Stored};
 
 use crate::errors::ImportErr;
-use crate::roots::{Root, import_root};
+use crate::metadata::{Meta, read_meta};
+use crate::roots::{Root, read_root};
+use crate::spent::have_held;
 use std::alloc::Global;
 use zr_base::{CkptPart, DevRow, DevState};
 use zr_label::Uber;
@@ -93,38 +95,59 @@ fn as_saved(error: ImportErr) -> ImportErr
     }
 }
 
-/// Reads the saved root of a root that holds a checkpoint. Rule 8 is broken where the saved root breaks a rule by itself,
-/// where it holds a checkpoint itself, or where it does not fit the root that saved it. It costs what `import_root` does.
+/// The metadata of a saved root, as `read_meta` reads it. Rule 8 is broken where it breaks a rule by itself.
+pub fn read_saved_meta<B: Blocks>(
+    alloc: Global,
+    store: &mut B,
+    uber: &Uber,
+) -> Result<Meta, ImportErr>
+    requires uber { IsUber uber.now }
+    ensures follows { (start : B) → B.follows start store.old → B.follows start store.new }
+    ensures costs { Costs 0 0 (B.account store.old) (B.account store.new) }
+    ensures cause { HasSavedCause (B.account store.old) (B.account store.new) result }
+    ensures same { (s : Stored) → B.holds store.old s → B.holds store.new s }
+    ensures head { IfOk result (λ meta. IsHead (rows_of uber.now) meta.head) }
+    ensures held { IfOk result (λ meta. All HasMaximal meta.parts.devs) }
+    ensures few { IfOk result (λ meta. length meta.parts.devs ≤ 32) }
+    ensures reads { (s : Stored) → B.holds store.old s → IfOk result (λ meta. ReadsMeta s uber.now meta.head meta.parts) }
+    ensures marks { (s : Stored) → B.holds store.old s → IfOk result (λ meta. MarksServing uber.now.txg (rows_of uber.now) (meta_reach s uber.now meta.head)) }
+    ensures at { (s : Stored) → B.holds store.old s → IfOk result (λ meta. meta.at ≡ map (λ b. b.at) (meta_reach s uber.now meta.head)) }
+{
+    match read_meta(alloc, store, uber) {
+        Ok(meta) => Ok(meta),
+        Err(error) => Err(as_saved(error)),
+    }
+}
+
+/// Reads the directory and all objects of the saved root of a root that holds a checkpoint, as `read_root` reads them. Rule 8
+/// is broken where the saved root breaks a rule by itself, where it holds a checkpoint itself, or where it does not fit the
+/// root that saved it: it must have just the held units of now that no block has which was born behind the checkpoint.
 pub fn read_saved<B: Blocks>(
     alloc: Global,
     store: &mut B,
     current: &Root,
-    uber: &Uber,
+    meta: Meta,
+    txg: u64,
 ) -> Result<Root, ImportErr>
-    requires uber { IsUber uber.now }
-    requires on { IsTrue (list_all (λ r. is_on r.state) (rows_of uber.now)) }
-    ensures clear { IfOk result (λ saved. saved.parts.ckpt ≡ Clear) }
-    ensures fits { IfOk result (λ saved. HaveHeld current.now.older saved.parts.devs) }
-    ensures head { IfOk result (λ saved. IsHead (rows_of uber.now) saved.head) }
-    ensures few { IfOk result (λ saved. length saved.parts.devs ≤ 32) }
-    ensures quiet { IfOk result (λ saved. saved.parts.cond ≡ None) }
-    ensures reads { (s : Stored) → B.holds store.old s → IfOk result (λ saved. ReadsMeta s uber.now saved.head saved.parts) }
-    ensures meta { (s : Stored) → B.holds store.old s → IfOk result (λ saved. saved.meta ≡ map (λ b. b.at) (meta_reach s uber.now saved.head)) }
-    ensures live { (s : Stored) → B.holds store.old s → IfOk result (λ saved. MarksHeld uber.now.txg saved.parts.devs (all_reach s saved.head.dir)) }
-    ensures place { (s : Stored) → B.holds store.old s → IfOk result (λ saved. IsInPlace s saved.head.dir) }
+    requires dir { IsTree meta.head.dir }
+    ensures root { IfOk result (λ saved. saved ≡ record { head = meta.head; parts = meta.parts; meta = meta.at; older = saved.older }) }
+    ensures clear { OnOk result (meta.parts.ckpt ≡ Clear) }
+    ensures fits { OnOk result (HaveHeld current.now.older meta.parts.devs) }
+    ensures live { (s : Stored) → B.holds store.old s → OnOk result (MarksHeld txg meta.parts meta.at (all_reach s meta.head.dir)) }
+    ensures place { (s : Stored) → B.holds store.old s → OnOk result (IsInPlace s meta.head.dir) }
     ensures follows { (start : B) → B.follows start store.old → B.follows start store.new }
     ensures costs { Costs 0 0 (B.account store.old) (B.account store.new) }
     ensures cause { HasSavedCause (B.account store.old) (B.account store.new) result }
     ensures same { (s : Stored) → B.holds store.old s → B.holds store.new s }
 {
-    let saved = match import_root(alloc, store, uber) {
+    let saved = match read_root(alloc, store, meta, txg) {
         Ok(saved) => saved,
         Err(error) => return Err(as_saved(error)),
     };
     if saved.parts.ckpt != CkptPart::Clear {
         return Err(ImportErr::Rule(RULE));
     }
-    if !current.older.are_held(saved.parts.devs.as_slice())? {
+    if !have_held(&current.older, saved.parts.devs.as_slice()) {
         return Err(ImportErr::Rule(RULE));
     }
     Ok(saved)

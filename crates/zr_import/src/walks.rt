@@ -3,9 +3,6 @@
 //! What stands where is tested as soon as the block above is read: a hole where a leaf must be, a block where none may
 //! be, a leaf of another length. Then the pointers are gone below in order, and each is marked before its block is read.
 //! Each level ends by its number, so that a walk goes at most five blocks deep.
-//!
-//! While a checkpoint is held, a walk also keeps the units that no block has which was born behind it: the saved root has
-//! just these.
 ghost use Rattle.std.specs.Prelude.{◌≡◌, ◌≢◌, ◌+◌, ◌-◌, ◌*◌, ◌^◌, ◌<◌, ◌≤◌, ◌↔◌, ◌++◌, ◌∷◌, [], List, ℕ, length, true, All, IfOk, IfErr, OnOk, IsTrue, ◌⊎◌};
 ghost use Rattle.zr_bptr.specs.Spelling.{IsTree, IsPointer};
 ghost use Rattle.zr_bptr.specs.declared.Ptr.TheVariants.{At};
@@ -16,11 +13,12 @@ ghost use Rattle.zr_tree.specs.Trees.{kids, reach, leaves_below, tree_reach, IsW
 ghost use Rattle.zr_import.specs.Causes.{HasCause};
 ghost use Rattle.zr_import.specs.declared.errors.ImportErr.TheVariants.{NoMemory, Rule};
 ghost use Rattle.zr_import.specs.declared.walks.Kept.TheVariants.{Nothing, Bytes};
-ghost use Rattle.zr_import.specs.Units.{MarksAll, young_of};
+ghost use Rattle.zr_import.specs.Units.{MarksAll, Meets};
 ghost use Rattle.zr_import.specs.Shapes.{MayStand, StandFrom, StandBelow, HasFirst, AddsLeaves, ReadsTree};
 
 use crate::blocks::{read_pointers, read_unit};
 use crate::errors::ImportErr;
+use crate::mark::Mark;
 use crate::marks::Marks;
 use std::alloc::{AllocError, Global};
 use zr_bptr::{Bptr, Ptr, Tree};
@@ -35,38 +33,33 @@ pub(crate) enum Kept {
     Nothing,
 }
 
-/// What a walk goes by: the group of its root, the group behind which a block is young, the units of a leaf, the index at and
-/// behind which no block stands, whether no hole stands before it, and what is kept.
+/// What a walk goes by: the group of its root, the units of a leaf, the index at and behind which no block stands, whether no
+/// hole stands before it, and what is kept.
 #[derive(Clone, Copy, PartialEq, Eq, Debug)]
 pub(crate) struct Shape {
     pub txg: u64,
-    pub since: u64,
     pub leaf_units: u32,
     pub leaves: u64,
     pub full: bool,
     pub kept: Kept,
 }
 
-/// What a walk met: its blocks, each before what lies below it, and the bytes of its leaves. Besides, the units that it found
-/// no young block on.
+/// What a walk met: its blocks, each before what lies below it, and the bytes of its leaves.
 #[derive(Drop)]
 pub(crate) struct Found {
     pub met: Vec<Bptr>,
     pub bytes: Vec<u8>,
-    pub older: Marks,
 }
 
 impl Found {
-    /// Nothing yet, with the units that may have older blocks.
-    pub(crate) fn new(alloc: Global, older: Marks) -> Found
+    /// Nothing yet.
+    pub(crate) fn new(alloc: Global) -> Found
         ensures met { result.met.items ≡ [] }
         ensures bytes { result.bytes.items ≡ [] }
-        ensures older { result.older ≡ older }
     {
         Found {
             met: Vec::new(alloc),
             bytes: Vec::new(alloc),
-            older,
         }
     }
 }
@@ -115,28 +108,16 @@ fn are_in_place(shape: &Shape, level: u32, index: u64, pointers: &[Ptr]) -> bool
     true
 }
 
-/// Takes the units of a young block out of those of older ones.
-fn pass_young(older: &mut Marks, shape: &Shape, b: &Bptr) -> Result<(), ImportErr>
-    requires { b.now.birth ≤ shape.now.txg }
-    ensures older { OnOk result (MarksAll shape.now.txg older.old older.new (young_of shape.now.since (b.now ∷ []))) }
-    ensures errors { IfErr result (λ e. (e ≡ NoMemory) ⊎ (e ≡ Rule 7)) }
-{
-    if b.birth > shape.since && !older.mark(&b.at)? {
-        return Err(ImportErr::Rule(7));
-    }
-    Ok(())
-}
-
 /// Marks a pointer that is not younger than the root.
-fn meet(marks: &mut Marks, txg: u64, b: &Bptr) -> Result<(), ImportErr>
-    ensures marks { OnOk result (MarksAll txg marks.old marks.new (b.now ∷ [])) }
+fn meet<M: Mark>(marks: &mut M, txg: u64, b: &Bptr) -> Result<(), ImportErr>
+    ensures marks { OnOk result (MarksAll M.marks txg marks.old marks.new (b.now ∷ [])) }
     ensures birth { OnOk result (b.now.birth ≤ txg) }
     ensures errors { IfErr result (λ e. (e ≡ NoMemory) ⊎ (e ≡ Rule 7)) }
 {
     if b.birth > txg {
         return Err(ImportErr::Rule(7));
     }
-    if !marks.mark(&b.at)? {
+    if !marks.mark(b)? {
         return Err(ImportErr::Rule(7));
     }
     Ok(())
@@ -154,7 +135,6 @@ fn keep<B: Blocks>(
     ensures met { kept ≢ Nothing → OnOk result (found.new.met.items ≡ found.old.met.items ++ b.now ∷ []) }
     ensures leaf { (s : Stored) → B.holds store.old s → kept ≡ Bytes → level ≡ 0 → OnOk result (AddsLeaves s (b.now ∷ []) found.old.bytes.items found.new.bytes.items) }
     ensures block { 0 < level → OnOk result (found.new.bytes.items ≡ found.old.bytes.items) }
-    ensures older { found.new.older ≡ found.old.older }
     ensures follows { (start : B) → B.follows start store.old → B.follows start store.new }
     ensures costs { Costs 0 0 (B.account store.old) (B.account store.new) }
     ensures cause { HasCause (B.account store.old) (B.account store.new) result }
@@ -200,10 +180,10 @@ fn pointers_below<B: Blocks>(
 }
 
 /// Goes below a pointer of a level whose first leaf has this index.
-fn walk_below<B: Blocks>(
+fn walk_below<B: Blocks, M: Mark>(
     alloc: Global,
     store: &mut B,
-    marks: &mut Marks,
+    marks: &mut M,
     shape: &Shape,
     level: u32,
     index: u64,
@@ -214,8 +194,7 @@ fn walk_below<B: Blocks>(
     requires index { index ≤ 2 ^ 26 * (5 - level) }
     ensures met { (s : Stored) → B.holds store.old s → shape.now.kept ≢ Nothing → OnOk result (found.new.met.items ≡ found.old.met.items ++ reach s level p.now) }
     ensures sound { (s : Stored) → B.holds store.old s → FitsAt level p.now → OnOk result (IsSoundAt s level p.now) }
-    ensures marks { (s : Stored) → B.holds store.old s → OnOk result (MarksAll shape.now.txg marks.old marks.new (reach s level p.now)) }
-    ensures older { (s : Stored) → B.holds store.old s → OnOk result (MarksAll shape.now.txg found.old.older found.new.older (young_of shape.now.since (reach s level p.now))) }
+    ensures marks { (s : Stored) → B.holds store.old s → OnOk result (MarksAll M.marks shape.now.txg marks.old marks.new (reach s level p.now)) }
     ensures bytes { (s : Stored) → B.holds store.old s → shape.now.kept ≡ Bytes → OnOk result (AddsLeaves s (leaves_below s level p.now) found.old.bytes.items found.new.bytes.items) }
     ensures stand { (s : Stored) → B.holds store.old s → MayStand shape.now level index p.now → OnOk result (StandBelow s shape.now level index p.now) }
     ensures first { (s : Stored) → B.holds store.old s → shape.now.full ≡ true → MayStand shape.now level index p.now → OnOk result (HasFirst s shape.now.leaves shape.now.leaf_units level index p.now) }
@@ -228,7 +207,6 @@ fn walk_below<B: Blocks>(
         return Ok(());
     };
     meet(marks, shape.txg, b)?;
-    pass_young(&mut found.older, shape, b)?;
     keep(alloc, store, shape.kept, level, b, found)?;
     if level == 0 {
         return Ok(());
@@ -245,10 +223,10 @@ fn walk_below<B: Blocks>(
 }
 
 /// Walks a tree, and adds to what was found.
-pub(crate) fn walk_tree<B: Blocks>(
+pub(crate) fn walk_tree<B: Blocks, M: Mark>(
     alloc: Global,
     store: &mut B,
-    marks: &mut Marks,
+    marks: &mut M,
     shape: &Shape,
     t: &Tree,
     found: &mut Found,
@@ -257,8 +235,7 @@ pub(crate) fn walk_tree<B: Blocks>(
     ensures met { (s : Stored) → B.holds store.old s → shape.now.kept ≢ Nothing → OnOk result (found.new.met.items ≡ found.old.met.items ++ tree_reach s t.now) }
     ensures sound { (s : Stored) → B.holds store.old s → OnOk result (IsSoundAt s t.now.height t.now.root) }
     ensures stand { (s : Stored) → B.holds store.old s → MayStand shape.now t.now.height 0 t.now.root → OnOk result (StandBelow s shape.now t.now.height 0 t.now.root) }
-    ensures marks { (s : Stored) → B.holds store.old s → OnOk result (MarksAll shape.now.txg marks.old marks.new (tree_reach s t.now)) }
-    ensures older { (s : Stored) → B.holds store.old s → OnOk result (MarksAll shape.now.txg found.old.older found.new.older (young_of shape.now.since (tree_reach s t.now))) }
+    ensures marks { (s : Stored) → B.holds store.old s → OnOk result (MarksAll M.marks shape.now.txg marks.old marks.new (tree_reach s t.now)) }
     ensures follows { (start : B) → B.follows start store.old → B.follows start store.new }
     ensures costs { Costs 0 0 (B.account store.old) (B.account store.new) }
     ensures cause { HasCause (B.account store.old) (B.account store.new) result }
@@ -270,7 +247,7 @@ pub(crate) fn walk_tree<B: Blocks>(
 /// The bytes of a tree of so many leaves of one unit, and its blocks behind those that were met before. A pointer that is
 /// younger than the group, or that may not be marked, breaks rule 7; a block or a leaf outside its form, a hole before the
 /// last leaf and a block behind it rule 1. Each block is marked and then read, by rising index.
-pub fn read_marked<B: Blocks>(
+pub(crate) fn read_marked<B: Blocks>(
     alloc: Global,
     store: &mut B,
     marks: &mut Marks,
@@ -289,7 +266,7 @@ pub fn read_marked<B: Blocks>(
     ensures len { IfOk result (λ bytes. length bytes.items ≡ 4096 * leaves) }
     ensures met { (s : Stored) → B.holds store.old s → OnOk result (met.new.items ≡ met.old.items ++ reach s root.now.level (At root.now)) }
     ensures sound { (s : Stored) → B.holds store.old s → OnOk result (IsSoundAt s root.now.level (At root.now)) }
-    ensures marks { (s : Stored) → B.holds store.old s → OnOk result (MarksAll txg marks.old marks.new (reach s root.now.level (At root.now))) }
+    ensures marks { (s : Stored) → B.holds store.old s → OnOk result (MarksAll Meets txg marks.old marks.new (reach s root.now.level (At root.now))) }
     ensures bytes { (s : Stored) → B.holds store.old s → IfOk result (λ bytes. ReadsTree s (record { root = At root.now; height = root.now.level }) leaves bytes.items) }
 {
     if root.at.len != 1 {
@@ -297,13 +274,12 @@ pub fn read_marked<B: Blocks>(
     }
     let shape = Shape {
         txg,
-        since: u64::MAX,
         leaf_units: 1,
         leaves,
         full: true,
         kept: Kept::Bytes,
     };
-    let mut found = Found::new(alloc, Marks::none(alloc));
+    let mut found = Found::new(alloc);
     let level = u32::from(root.level);
     walk_below(
         alloc,

@@ -5,7 +5,7 @@ use Rattle.std.proofs.Common.{subst, ◌++◌}
 use Rattle.zr_bptr.specs.declared.Tree.{Tree}
 use Rattle.zr_tree.specs.Trees.{tree_reach}
 use Rattle.zr_root.specs.Streams.{HasBytes}
-use Rattle.zr_import.specs.Units.{MarksAll}
+use Rattle.zr_import.specs.Units.{MarksAll, Meets}
 use Rattle.zr_import.proofs.Reading.{stream_tree, stream_some, no_words}
 use Rattle.zr_import.proofs.heads.read_stream.Goals as goal
 
@@ -24,7 +24,7 @@ pub read_bytes-requires-clause-some : goal.read_bytes-requires-clause-some
 read_bytes-requires-clause-some g c = let some = stream_some c.args.stream.now c.in-At.root c.in-At.is c.requires in omega (arith, some)
 
 pub returns-clause-marks : goal.returns-clause-marks
-returns-clause-marks g c = λ s holds. subst (λ (t : Tree). MarksAll c.args.txg c.args.marks.now c.read_bytes.new.marks (tree_reach s t)) (stream_tree c.args.stream.now c.in-At.root c.in-At.is c.requires) (c.in_ok-bytes.ensures.marks s holds)
+returns-clause-marks g c = λ s holds. subst (λ (t : Tree). MarksAll Meets c.args.txg c.args.marks.now c.read_bytes.new.marks (tree_reach s t)) (stream_tree c.args.stream.now c.in-At.root c.in-At.is c.requires) (c.in_ok-bytes.ensures.marks s holds)
 
 pub returns-clause-met : goal.returns-clause-met
 returns-clause-met g c = λ s holds. subst (λ (t : Tree). c.read_bytes.new.met.items ≡ c.args.met.now.items ++ tree_reach s t) (stream_tree c.args.stream.now c.in-At.root c.in-At.is c.requires) (c.in_ok-bytes.ensures.met s holds)

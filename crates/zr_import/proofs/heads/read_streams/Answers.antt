@@ -2,6 +2,7 @@ use Rattle.std.proofs.Common.{rules, ◌≡◌, ◌∙◌, ◌++◌, ◌<◌, Li
 use Rattle.zr_meta.specs.declared.Stream.{Stream}
 use Rattle.zr_tree.specs.Trees.{tree_reach}
 use Rattle.zr_objset.proofs.Walking.{reach_more}
+use Rattle.zr_import.specs.Units.{Meets}
 use Rattle.zr_import.specs.Words.{HaveWords}
 use Rattle.std.proofs.Common.{take, ◌+◌}
 use Rattle.zr_import.proofs.Marking.{marks_more, words_next, count_next}
@@ -20,7 +21,7 @@ loop-stream-preserved g c =
       costs = search rules;
       same = search rules;
       count = count_next items i _ _ _ _ lt inv.count own.count (ap (λ (xs : List ℕ). length xs) added ∙ length-append c.loop-stream.all.items c.in_ok-ns.ns.items);
-      marks = λ s holds. marks_more c.args.txg (λ (t : Stream). tree_reach s t.tree) items i _ _ _ _ lt (inv.marks s holds) (own.marks s (inv.same s holds));
+      marks = λ s holds. marks_more Meets c.args.txg (λ (t : Stream). tree_reach s t.tree) items i _ _ _ _ lt (inv.marks s holds) (own.marks s (inv.same s holds));
       met = λ s holds. reach_more (λ (t : Stream). tree_reach s t.tree) items i _ _ _ _ lt (inv.met s holds) (own.met s (inv.same s holds));
       words = λ s holds. subst (λ (xs : List ℕ). HaveWords s (take (i + 1) items) xs) (sym added) (words_next s items i _ _ _ lt (inv.words s holds) (own.words s (inv.same s holds)));
     }

@@ -1,4 +1,4 @@
-use Rattle.std.proofs.Common.{rules, ◌≡◌, None, ◌∙◌, ◌≤◌, List, length, subst, sym, ap}
+use Rattle.std.proofs.Common.{rules, ◌≡◌, ◌∙◌, ◌≤◌, List, length, subst, sym, ap}
 use Rattle.std.specs.Prelude.{All}
 use Rattle.zr_base.specs.declared.space.SpaceParts.{SpaceParts}
 use Rattle.std.proofs.Common.{ℕ, ◌++◌, map}
@@ -10,9 +10,9 @@ use Rattle.zr_meta.specs.Parts.{SpellsParts}
 use Rattle.zr_tree.specs.Trees.{tree_reach}
 use Rattle.zr_image.specs.Roots.{head_tree, rows_of}
 use Rattle.zr_import.specs.Words.{HaveWords}
-use Rattle.zr_import.specs.Units.{HasMaximal, MarksAll}
+use Rattle.zr_import.specs.Units.{HasMaximal, MarksAll, Meets, serving_units}
 use Rattle.zr_import.proofs.Marking.{marks_then}
-use Rattle.zr_import.proofs.Rows.{all_of, parts_maximal, counted_maximal, counted_few, counted_quiet}
+use Rattle.zr_import.proofs.Rows.{all_of, parts_maximal, counted_maximal, counted_few}
 use Rattle.zr_import.proofs.metadata.read_meta.Goals as goal
 
 pub of_held-requires : goal.of_held-requires
@@ -31,9 +31,6 @@ pub returns-clause-few : goal.returns-clause-few
 returns-clause-few g c =
     subst (λ (p : SpaceParts). length p.devs ≤ 32) (sym c.in_ok-parts-2.ensures) (counted_few c.args.uber.now c.in_ok-head.head _ c.in_ok-parts.parts c.requires.uber.head.devices c.in_ok-parts.ensures.parts)
 
-pub returns-clause-quiet : goal.returns-clause-quiet
-returns-clause-quiet g c = subst (λ (p : SpaceParts). p.cond ≡ None) (sym c.in_ok-parts-2.ensures) (counted_quiet c.args.uber.now c.in_ok-parts.parts (search rules))
-
 pub returns-clause-reads : goal.returns-clause-reads
 returns-clause-reads g c = λ s holds.
     let h = c.in_ok-head.head in
@@ -48,8 +45,13 @@ returns-clause-reads g c = λ s holds.
 
 pub returns-clause-marks : goal.returns-clause-marks
 returns-clause-marks g c = λ s holds.
-    let streams = subst (λ (ts : List Stream). MarksAll c.args.uber.now.txg c.read_head.new.marks c.read_streams.new.marks (flat_map (λ (t : Stream). tree_reach s t.tree) ts)) c.as_slice-streams.ensures (c.in_ok-words.ensures.marks s (c.in_ok-head.ensures.same s holds)) in
-    marks_then c.args.uber.now.txg c.args.marks.now c.read_head.new.marks c.read_streams.new.marks _ _ (c.in_ok-head.ensures.marks s holds) streams
+    let streams = subst (λ (ts : List Stream). MarksAll Meets c.args.uber.now.txg c.read_head.new.marks c.read_streams.new.marks (flat_map (λ (t : Stream). tree_reach s t.tree) ts)) c.as_slice-streams.ensures (c.in_ok-words.ensures.marks s (c.in_ok-head.ensures.same s holds)) in
+    record {
+      start = c.in_ok-marks.marks;
+      left = c.read_streams.new.marks;
+      start_is = c.in_ok-marks.ensures ∙ ap (map serving_units) c.rows_of.ensures;
+      marks = marks_then Meets c.args.uber.now.txg c.in_ok-marks.marks c.read_head.new.marks c.read_streams.new.marks _ _ (c.in_ok-head.ensures.marks s holds) streams;
+    }
 
 pub returns-clause-at : goal.returns-clause-at
 returns-clause-at g c = λ s holds.

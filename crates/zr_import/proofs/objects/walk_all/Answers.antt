@@ -12,7 +12,6 @@ use Rattle.zr_import.specs.declared.walks.Shape.{Shape}
 use Rattle.zr_import.proofs.Marking.{marks_more}
 use Rattle.zr_import.proofs.Directory.{all_marked, met_all}
 use Rattle.zr_import.proofs.Places.{in_place}
-use Rattle.zr_import.proofs.Young.{young_more, young_all}
 use Rattle.zr_import.proofs.objects.walk_all.Goals as goal
 
 pub loop-r-preserved : goal.loop-r-preserved
@@ -25,8 +24,7 @@ loop-r-preserved g c =
       follows = search rules;
       costs = search rules;
       same = search rules;
-      marks = λ s holds. marks_more c.args.ages.now.txg (λ (r : ObjRec). tree_reach s r.tree) items i _ _ _ _ lt (inv.marks s holds) (c.in_ok-walk_object.ensures.marks s (inv.same s holds));
-      older = λ s holds. young_more c.args.ages.now.txg c.args.ages.now.since (λ (r : ObjRec). tree_reach s r.tree) items i _ _ _ _ lt (inv.older s holds) (c.in_ok-walk_object.ensures.older s (inv.same s holds));
+      marks = λ s holds. marks_more g.M.Mark.marks c.args.txg (λ (r : ObjRec). tree_reach s r.tree) items i _ _ _ _ lt (inv.marks s holds) (c.in_ok-walk_object.ensures.marks s (inv.same s holds));
       sized = λ s holds. All-more (HasItsLength s) items i _ lt (inv.sized s holds) (c.in_ok-walk_object.ensures.length s (inv.same s holds));
     }
 
@@ -34,15 +32,8 @@ pub returns-clause-marks : goal.returns-clause-marks
 returns-clause-marks g c = λ s holds.
     let there = c.in_ok-walk_tree.ensures.same s holds in
     let slice = met_all s c.args.dir.now _ _ _ c.requires.first (c.in_ok-walk_tree.ensures.met s holds (λ is. cc)) c.as_slice.ensures.value in
-    all_marked s c.args.dir.now c.args.ages.now.txg c.loop-r.r-index _ _ _ _ _ _ (c.in_ok-walk_tree.ensures.marks s holds) slice
+    all_marked g.M.Mark.marks s c.args.dir.now c.args.txg c.loop-r.r-index _ _ _ _ _ _ (c.in_ok-walk_tree.ensures.marks s holds) slice
     (c.in_ok-objects.ensures.objects s there) c.deref-r-items.ensures.value c.loop-r-test.false (c.loop-r.invariant.marks s holds)
-
-pub returns-clause-older : goal.returns-clause-older
-returns-clause-older g c = λ s holds.
-    let there = c.in_ok-walk_tree.ensures.same s holds in
-    let slice = met_all s c.args.dir.now _ _ _ c.requires.first (c.in_ok-walk_tree.ensures.met s holds (λ is. cc)) c.as_slice.ensures.value in
-    young_all s c.args.dir.now c.args.ages.now.txg c.args.ages.now.since c.loop-r.r-index _ _ _ _ _ _ (c.in_ok-walk_tree.ensures.older s holds) slice
-    (c.in_ok-objects.ensures.objects s there) c.deref-r-items.ensures.value c.loop-r-test.false (c.loop-r.invariant.older s holds)
 
 pub returns-clause-place : goal.returns-clause-place
 returns-clause-place g c = λ s holds.
@@ -50,7 +41,7 @@ returns-clause-place g c = λ s holds.
     let slice = met_all s c.args.dir.now _ _ _ c.requires.first (c.in_ok-walk_tree.ensures.met s holds (λ is. cc)) c.as_slice.ensures.value in
     let items = c.deref-r-items.result.now in
     let all = subst (All (HasItsLength s)) (take_all c.loop-r.r-index items c.loop-r-test.false) (c.loop-r.invariant.sized s holds) in
-    let shape : Shape = record { txg = c.args.ages.now.txg; since = c.args.ages.now.since; leaf_units = 1; leaves = 4096; full = false; kept = Pointers } in
+    let shape : Shape = record { txg = c.args.txg; leaf_units = 1; leaves = 4096; full = false; kept = Pointers } in
     in_place s shape c.args.dir.now items refl (c.in_ok-walk_tree.ensures.sound s holds) (c.in_ok-walk_tree.ensures.stand s holds)
     (c.deref-r-items.ensures.value ∙ c.in_ok-objects.ensures.objects s there ∙ ap (flat_map (objects_in s)) slice) all
 

@@ -8,5 +8,5 @@ use Rattle.zr_import.proofs.objects.walk_object.Goals as goal
 pub returns-clause-length : goal.returns-clause-length
 returns-clause-length g c = λ s holds.
     let r = c.args.r.now in
-    let shape : Shape = record { txg = c.args.ages.now.txg; since = c.args.ages.now.since; leaf_units = r.units; leaves = 2 ^ 25; full = false; kept = Nothing } in
+    let shape : Shape = record { txg = c.args.txg; leaf_units = r.units; leaves = 2 ^ 25; full = false; kept = Nothing } in
     on_ok_weaker c.walk_tree.result (has_length s shape r refl) (c.walk_tree.ensures.stand s holds (object_root shape r (omega arith) refl refl c.requires.sized))

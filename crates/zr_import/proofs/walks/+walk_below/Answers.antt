@@ -12,9 +12,6 @@ use Rattle.zr_tree.proofs.Walking.{walked, sound_block}
 use Rattle.zr_import.specs.Shapes.{MayStand, StandBelow, HasFirst}
 use Rattle.zr_import.proofs.Dense.{block_first}
 use Rattle.zr_import.proofs.Marking.{marks_more, adds_more}
-use Rattle.zr_import.proofs.Young.{young_more, young_block}
-use Rattle.zr_import.specs.Units.{MarksAll, young_of}
-use Rattle.zr_ranges.specs.Ranges.{Ranges}
 use Rattle.zr_import.proofs.Below.{marks_block, adds_block, first_more}
 use Rattle.zr_import.proofs.Places.{block_stands, stands_more}
 use Rattle.zr_import.proofs.walks.+walk_below.Goals as goal
@@ -40,8 +37,7 @@ loop-next-preserved g t c =
       sound = λ s holds.
           let fit = subst (All (FitsAt below)) (sym c.deref-next-items.ensures.value) c.in_ok-pointers.ensures.fit in
           All-more (IsSoundAt s below) items i Hole lt (inv.sound s holds) (c.in_ok-walk_below.ensures.sound s (inv.same s holds) (fit i Hole lt));
-      marks = λ s holds. marks_more c.args.shape.now.txg (reach s below) items i _ _ _ _ lt (inv.marks s holds) (c.in_ok-walk_below.ensures.marks s (inv.same s holds));
-      older = λ s holds. young_more c.args.shape.now.txg c.args.shape.now.since (reach s below) items i _ _ _ _ lt (inv.older s holds) (c.in_ok-walk_below.ensures.older s (inv.same s holds));
+      marks = λ s holds. marks_more g.M.Mark.marks c.args.shape.now.txg (reach s below) items i _ _ _ _ lt (inv.marks s holds) (c.in_ok-walk_below.ensures.marks s (inv.same s holds));
       bytes = λ s holds kept. adds_more s (leaves_below s below) items i _ _ _ _ lt (inv.bytes s holds kept) (c.in_ok-walk_below.ensures.bytes s (inv.same s holds) kept);
       stand = λ s holds.
           stands_more s c.args.shape.now below c.args.index i items (subst (λ (at : ℕ). StandBelow s c.args.shape.now below at (slot items i)) inv.at_is (c.in_ok-walk_below.ensures.stand s (inv.same s holds) here)) (inv.stand s holds);
@@ -69,15 +65,8 @@ returns-clause-sound g t c = λ s holds fits.
 pub returns-clause-marks : goal.returns-clause-marks
 returns-clause-marks g t c = λ s holds.
     let level_is : c.args.level ≡ suc (c.args.level - 1) = omega arith in
-    marks_block s c.args.shape.now.txg c.args.level (c.args.level - 1) c.loop-next.next-index c.args.p.now c.in-At.b c.in_ok-pointers.pointers.items c.deref-next-items.result.now _ _ _
+    marks_block g.M.Mark.marks s c.args.shape.now.txg c.args.level (c.args.level - 1) c.loop-next.next-index c.args.p.now c.in-At.b c.in_ok-pointers.pointers.items c.deref-next-items.result.now _ _ _
     level_is c.in-At.is (c.in_ok-pointers.ensures.means s (c.in_ok-keep.ensures.same s holds)) c.deref-next-items.ensures.value c.loop-next-test.false c.in_ok-meet.ensures.marks (c.loop-next.invariant.marks s holds)
-
-pub returns-clause-older : goal.returns-clause-older
-returns-clause-older g t c = λ s holds.
-    let level_is : c.args.level ≡ suc (c.args.level - 1) = omega arith in
-    young_block s c.args.shape.now.txg c.args.shape.now.since c.args.level (c.args.level - 1) c.loop-next.next-index c.args.p.now c.in-At.b c.in_ok-pointers.pointers.items c.deref-next-items.result.now _ c.keep.new.found.older _
-    level_is c.in-At.is (c.in_ok-pointers.ensures.means s (c.in_ok-keep.ensures.same s holds)) c.deref-next-items.ensures.value c.loop-next-test.false
-    (subst (λ (o : List Ranges). MarksAll c.args.shape.now.txg c.args.found.now.older o (young_of c.args.shape.now.since (c.in-At.b ∷ []))) (sym c.in_ok-keep.ensures.older) c.in_ok-pass_young.ensures.older) (c.loop-next.invariant.older s holds)
 
 pub returns-clause-bytes : goal.returns-clause-bytes
 returns-clause-bytes g t c = λ s holds kept.

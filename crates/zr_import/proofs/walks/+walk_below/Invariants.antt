@@ -5,7 +5,7 @@ use Rattle.zr_store.specs.Causes.{Costs}
 use Rattle.zr_store.specs.Store.{Stored}
 use Rattle.zr_tree.specs.Trees.{reach, leaves_below, slot, IsSoundAt}
 use Rattle.zr_import.specs.Shapes.{HasFirst, AddsLeaves, StandBelow}
-use Rattle.zr_import.specs.Units.{MarksAll, young_of}
+use Rattle.zr_import.specs.Units.{MarksAll}
 use Rattle.zr_import.specs.declared.walks.Kept.TheVariants.{Nothing, Bytes}
 use Rattle.zr_import.proofs.walks.+walk_below.Given as goal
 
@@ -21,8 +21,7 @@ invariant-loop-next g l = record {
   at_is : l.at ≡ l.index + l.next-index * 32 ^ (l.level - 1);
   so_far : (s : Stored) → g.B.Blocks.holds l.fn.store s → l.shape.kept ≢ Nothing → l.found.met.items ≡ l.initial.found.met.items ++ flat_map (reach s (l.level - 1)) (take l.next-index l.next-items);
   sound : (s : Stored) → g.B.Blocks.holds l.fn.store s → All (IsSoundAt s (l.level - 1)) (take l.next-index l.next-items);
-  marks : (s : Stored) → g.B.Blocks.holds l.fn.store s → MarksAll l.shape.txg l.initial.marks l.marks (flat_map (reach s (l.level - 1)) (take l.next-index l.next-items));
-  older : (s : Stored) → g.B.Blocks.holds l.fn.store s → MarksAll l.shape.txg l.initial.found.older l.found.older (young_of l.shape.since (flat_map (reach s (l.level - 1)) (take l.next-index l.next-items)));
+  marks : (s : Stored) → g.B.Blocks.holds l.fn.store s → MarksAll g.M.Mark.marks l.shape.txg l.initial.marks l.marks (flat_map (reach s (l.level - 1)) (take l.next-index l.next-items));
   bytes : (s : Stored) → g.B.Blocks.holds l.fn.store s → l.shape.kept ≡ Bytes → AddsLeaves s (flat_map (leaves_below s (l.level - 1)) (take l.next-index l.next-items)) l.initial.found.bytes.items l.found.bytes.items;
   stand : (s : Stored) → g.B.Blocks.holds l.fn.store s → (k : ℕ) → k < l.next-index → StandBelow s l.shape (l.level - 1) (l.index + k * 32 ^ (l.level - 1)) (slot l.next-items k);
   first : (s : Stored) → g.B.Blocks.holds l.fn.store s → l.shape.full ≡ true → (k : ℕ) → k < l.next-index → HasFirst s l.shape.leaves l.shape.leaf_units (l.level - 1) (l.index + k * 32 ^ (l.level - 1)) (slot l.next-items k);

@@ -5,7 +5,7 @@ use Rattle.std.proofs.lemmas.Bool.{eqb-true}
 use Rattle.std.proofs.lemmas.Bool.Decides.{nat_tests}
 use Rattle.std.proofs.lemmas.Slice.Eq.{slice_eq-Decides}
 use Rattle.zr_base.specs.declared.space.Extent.{Extent}
-use Rattle.zr_import.proofs.marks.is_just.Goals as goal
+use Rattle.zr_import.proofs.spent.are_same.Goals as goal
 
 both : (x y : Bool) → (x && y) ≡ true → (x ≡ true) × (y ≡ true)
 both true y is = (refl, is)
@@ -30,7 +30,4 @@ one_extent a b = (
 )
 
 pub returns : goal.returns
-returns c =
-    let same = c.extents.ensures.extents ∙ c.in_ok-all.ensures in
-    let decides = slice_eq-Decides one_extent c.extents.result.now c.args.extents.now c.eq.result c.eq.ensures in
-    subst (λ (xs : List Extent). Decides c.eq.result (xs ≡ c.args.extents.now)) same decides
+returns c = slice_eq-Decides one_extent c.args.one.now c.args.other.now c.eq.result c.eq.ensures
