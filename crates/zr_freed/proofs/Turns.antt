@@ -142,7 +142,7 @@ module _ (birth : ℕ) (old new : Space) (a : Dva) (may : IsFreeable old a) (fre
 
 pub freed_in_use : (birth : ℕ) (old new : Space) (list : List Dva) → Spends old [] → FreesInTurn birth old new list → AreInUse old list
 freed_in_use birth old new [] none is = record { each = All-nil (IsFreeable old); once = λ d u. omega arith; spends = none }
-freed_in_use birth old new (a ∷ list) none (mid, ((may, frees), rest)) =
+freed_in_use birth old new (a ∷ list) none (mid, (may, frees), rest) =
     one_more birth old mid a may frees list (freed_in_use birth mid new list (spends_after birth old mid a may frees) rest)
 
 -- ---- nothing at all

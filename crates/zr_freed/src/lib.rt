@@ -6,19 +6,28 @@
 //! the blocks.
 #![tactic(auto)]
 
-ghost use Rattle.std.specs.Prelude.{ℕ, List, [], Option, None, ◌≡◌};
+ghost use Rattle.std.specs.Prelude.{ℕ, ◌*◌, List, [], length, map, Option, None, ◌≡◌, true};
 ghost use Rattle.zr_base.specs.declared.space.Dva.{Dva};
+ghost use Rattle.zr_base.specs.declared.space.SpaceParts.{SpaceParts};
 ghost use Rattle.zr_bptr.specs.declared.Bptr.{Bptr};
 ghost use Rattle.zr_cache.specs.declared.table.Cache.{Cache};
 ghost use Rattle.zr_freed.specs.Chains.{AreInUse, FreesInTurn};
+ghost use Rattle.zr_image.specs.Roots.{without_late};
 ghost use Rattle.zr_obsolete.specs.Obsolete.{Fits};
+ghost use Rattle.zr_rules.specs.Devices.{Devices};
 ghost use Rattle.zr_rules.specs.Equation.{Spends};
 ghost use Rattle.zr_rules.specs.Places.{part_of};
+ghost use Rattle.zr_rules.specs.Resolve.{is_resolved};
 ghost use Rattle.zr_rules.specs.Space.{Space};
+ghost use Rattle.zr_space.specs.Opens.{IsOpened};
 ghost use Rattle.zr_store.specs.Store.{Stored};
 ghost use Rattle.zr_vdev.specs.Caches.{AreRead};
+ghost use Rattle.zr_vdev.specs.Mounts.{AreMounted};
 ghost use Rattle.zr_vdev.specs.Stores.{HoldsBlocks, addresses_of};
 ghost use Rattle.zr_vdev.specs.declared.kind.Kind.TheVariants.{Block};
+ghost use Rattle.zr_view.specs.Views.{address_bytes};
+
+use zr_shelf::Shelf;
 
 /// Where no entry has more obsolete units than units, no address at all spends more than there is.
 pub fn nothing_is_spent()
@@ -32,7 +41,18 @@ pub fn freed_are_in_use()
 {}
 
 /// So a store over the space where the frees began holds the blocks with these addresses, as its disks have them.
-pub fn freed_are_held()
-    ensures { (birth : ℕ) (told : Type 0) (disks : List (List ℕ)) (slots : List (Option ℕ)) (cache : Cache) (old new : Space) (pointers : List Bptr) → told → AreRead disks slots old cache → Spends old [] → FreesInTurn birth old new (addresses_of pointers)
-        → (s : Stored) × HoldsBlocks Block slots told disks old None cache s × (s.pointers ≡ pointers) }
+pub fn freed_are_held<S: Shelf>()
+    ensures { (birth : ℕ) (shelf : S) (disks : List (List ℕ)) (slots : List (Option ℕ)) (cache : Cache) (old new : Space) (pointers : List Bptr) → S.tells shelf → AreRead disks slots old cache → Spends old [] → FreesInTurn birth old new (addresses_of pointers)
+        → (s : Stored) × HoldsBlocks Block slots (S.tells shelf) disks old None cache s × (s.pointers ≡ pointers) }
+{}
+
+/// A root may have several spaces: with other late sets, and beside whatever metadata of the root that it saved. What is in use in
+/// one of them, beside nothing, is in use in each.
+pub fn in_use_beside()
+    ensures { (own parts : SpaceParts) (meta saved : List Dva) (old new : Space) (list : List Dva) → without_late own ≡ without_late parts → IsOpened own meta [] old → IsOpened parts meta saved new → AreInUse old list → AreInUse new list }
+{}
+
+/// An address that resolves over devices whose units stand on disks has all of its bytes there.
+pub fn resolved_is_whole()
+    ensures { (disks : List (List ℕ)) (sizes : List ℕ) (slots : List (Option ℕ)) (ds : Devices) (at : Dva) → map length disks ≡ sizes → AreMounted sizes slots ds → is_resolved ds at ≡ true → length (address_bytes (record { disks = disks; slots = slots; devices = ds }) at) ≡ 4096 * at.len }
 {}

@@ -1,4 +1,4 @@
-//! Which rule the parts of a root break first.
+//! A root before its space is known: its devices, over which its metadata is read, and which rule its parts break first.
 //!
 //! What a root records may have been written by anyone. Some of its rules are told by its parts alone: what its mappings are,
 //! where they lead, how far a condensing has come, and what a device that is leaving has copied. They are tested in their
@@ -10,11 +10,13 @@ ghost use Rattle.zr_judge.specs.Parts.{HasMapping};
 ghost use Rattle.zr_rules.specs.Devices.{devices_of};
 ghost use Rattle.zr_rules.specs.Resolve.{IsRanked};
 
+mod blank;
 mod condensing;
 mod mappings;
 mod removal;
 mod sets;
 
+pub use blank::blank_space;
 use condensing::may_condense;
 use mappings::are_mapped;
 use removal::may_leave;
@@ -24,8 +26,11 @@ use zr_chain::Devs;
 
 // The rules of mappings, of where they lead, of what is condensed, and of what leaves.
 const MAPPINGS: u8 = 3;
+
 const DESTINATIONS: u8 = 4;
+
 const CONDENSING: u8 = 5;
+
 const REMOVAL: u8 = 6;
 
 // Whether each mapping leads to devices that are there or went later. It takes a look at each entry.

@@ -29,12 +29,7 @@ fn are_entries_in(entries: &[Entry], units: &RangeSet) -> bool {
 }
 
 // Whether each unit of the extents below the end has an entry.
-fn are_copied(
-    alloc: Global,
-    map: &Imap,
-    extents: &[Extent],
-    end: u64,
-) -> Result<bool, NoMemory> {
+fn are_copied(alloc: Global, map: &Imap, extents: &[Extent], end: u64) -> Result<bool, NoMemory> {
     for e in extents {
         if let Some(below) = part_below(*e, end) {
             if !has_entries(alloc, map, below)? {
@@ -68,11 +63,7 @@ fn is_evacuated(alloc: Global, part: &DevPart) -> Result<bool, NoMemory>
 }
 
 /// Whether no device is leaving, or one that may while no checkpoint is there.
-pub(crate) fn may_leave(
-    alloc: Global,
-    parts: &[DevPart],
-    ckpt: CkptPart,
-) -> Result<bool, NoMemory>
+pub(crate) fn may_leave(alloc: Global, parts: &[DevPart], ckpt: CkptPart) -> Result<bool, NoMemory>
     requires { All HasMapping parts.now }
 {
     let mut met = false;

@@ -4,5 +4,5 @@ use Rattle.zr_freed.proofs.freed_are_held.Goals as goal
 use Rattle.zr_vdev.specs.Stores.{addresses_of}
 
 pub returns : goal.returns
-returns c = λ birth told disks slots cache old new pointers is_told read none frees.
-    (held_blocks slots disks old pointers, (in_use_held told disks slots cache old pointers is_told read (freed_in_use birth old new (addresses_of pointers) none frees), refl))
+returns g c = λ birth shelf disks slots cache old new pointers told read none frees.
+    (held_blocks slots disks old pointers, in_use_held (g.S.Shelf.tells shelf) disks slots cache old pointers told read (freed_in_use birth old new (addresses_of pointers) none frees), refl)
