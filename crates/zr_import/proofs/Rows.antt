@@ -1,5 +1,5 @@
 -- The rows of the devices of a root, and what its parts record of them.
-use Rattle.std.specs.Prelude.{IsTrue, None, All, true, false, Bool, ◌&&◌, ◌==◌, nat_le, if◌then◌else◌, map}
+use Rattle.std.specs.Prelude.{IsTrue, All, true, false, Bool, ◌&&◌, ◌==◌, nat_le, if◌then◌else◌, map}
 use Rattle.std.specs.List.{AllByRecursion, list_all}
 use Rattle.std.proofs.Common.{◌≡◌, ◌≤◌, ◌+◌, ◌^◌, ℕ, zero, suc, List, [], ◌∷◌, length, drop, refl, ap, arith}
 use Rattle.std.proofs.lemmas.Bool.Decides.{nat_tests}

@@ -1,6 +1,6 @@
 -- What a walk freed of each of its two spaces.
-use Rattle.std.specs.Prelude.{nat_lt, ◌≤◌, ◌<◌}
-use Rattle.std.proofs.Common.{◌≡◌, ℕ, Bool, true, false, List, [], ◌∷◌, refl, sym, ◌∙◌, ap, subst, arith}
+use Rattle.std.specs.Prelude.{nat_lt}
+use Rattle.std.proofs.Common.{◌≡◌, ℕ, Bool, true, false, List, [], ◌∷◌, refl, ap, subst, arith}
 use Rattle.std.proofs.lemmas.Bool.Decides.{nat_tests}
 use Rattle.zr_bptr.specs.declared.Bptr.{Bptr}
 use Rattle.zr_rules.specs.Space.{Space}

@@ -1,4 +1,4 @@
-use Rattle.std.proofs.Common.{rules, ◌≡◌, ◌∙◌, ◌≤◌, List, length, subst, sym, ap}
+use Rattle.std.proofs.Common.{◌∙◌, ◌≤◌, List, length, subst, sym, ap}
 use Rattle.std.specs.Prelude.{All}
 use Rattle.zr_base.specs.declared.space.SpaceParts.{SpaceParts}
 use Rattle.std.proofs.Common.{ℕ, ◌++◌, map}

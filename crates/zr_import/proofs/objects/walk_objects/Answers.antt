@@ -1,6 +1,3 @@
-use Rattle.std.proofs.Common.{◌≡◌, List, subst}
-use Rattle.zr_base.specs.declared.space.DevPart.{DevPart}
-use Rattle.zr_import.specs.Spending.{HaveKept}
 use Rattle.zr_import.proofs.Young.{spent_all, spent_young}
 use Rattle.zr_import.proofs.objects.walk_objects.Goals as goal
 
