@@ -63,3 +63,4 @@ pub mod FreeImages
 pub mod FreeWhole
 pub mod ImageSteps
 pub mod FreeLeaving
+pub mod MetaRuns

@@ -21,7 +21,7 @@ use Rattle.zr_space.specs.declared.whole.Whole.{Whole}
 
 -- ---- what is left
 
-count_addresses : (d : ℕ) (es : List Extent) → sum_by (λ (a : Dva). a.len) (addresses d es) ≡ unit_count es
+pub count_addresses : (d : ℕ) (es : List Extent) → sum_by (λ (a : Dva). a.len) (addresses d es) ≡ unit_count es
 count_addresses d [] = refl
 count_addresses d (e ∷ es) = sum_by-cons (λ (a : Dva). a.len) (record { dev = d; start = e.start; len = e.len }) (addresses d es) ∙ ap (λ (n : ℕ). e.len + n) (count_addresses d es)
 

@@ -16,3 +16,4 @@ pub mod Copying
 pub mod Leavings
 pub mod Condensing
 pub mod FreeVisits
+pub mod Metadata

@@ -22,6 +22,7 @@ mod open;
 mod reads;
 mod records;
 mod remap;
+mod removal;
 mod resume;
 mod room;
 mod saved;

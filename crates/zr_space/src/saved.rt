@@ -9,7 +9,7 @@ use crate::space::{Space, extent_of};
 use zr_base::{Dva, Extent, NoMemory};
 
 // The front of an extent of a device, as long as an address may be.
-fn front_of(dev: u32, e: Extent) -> Dva
+pub(crate) fn front_of(dev: u32, e: Extent) -> Dva
     ensures dev { result.dev ≡ dev }
     ensures start { result.start ≡ e.start }
     ensures some { 0 < e.len → 0 < result.len }
