@@ -1,9 +1,12 @@
 pub mod Slots
 pub mod Rows
 pub mod Units
+pub mod Parts
+pub mod Alike
+pub mod Blank
+pub mod Streams
 pub mod Opening
 pub mod Views
-pub mod Marked
 pub mod Holding
 pub mod Showing
 pub mod Meant

@@ -1,5 +1,5 @@
 -- What the slots show of a pool, and where its devices stand.
-use Rattle.std.specs.Prelude.{◌≡◌, ℕ, ◌<◌, false, List, length, slice_index, Option, Some, Result}
+use Rattle.std.specs.Prelude.{◌≡◌, ℕ, ◌<◌, Bool, false, not, ◌&&◌, nat_lt, List, length, slice_index, Option, Some, None, Result, if◌then◌else◌}
 use Rattle.zr_base.specs.declared.refusal.Refusal.{Refusal}
 use Rattle.zr_label.specs.Geometry.{units_of_size}
 use Rattle.zr_label.specs.declared.root.Uber.{Uber}
@@ -27,3 +27,11 @@ pub record HasItsDisks (sizes : List ℕ) (slots : List (Option ℕ)) (u : Uber)
   pub disks : (d : ℕ) → d < u.count → is_gone (row_at u d).state ≡ false → HasDisk sizes slots d (row_at u d).units
   pub apart : (d e slot : ℕ) → slot_of slots d ≡ Some slot → slot_of slots e ≡ Some slot → d ≡ e
   pub sized : (d slot : ℕ) → d < u.count → slot_of slots d ≡ Some slot → units_of_size (slice_index sizes slot) 2 ≡ Some (row_at u d).units
+
+-- the root has the device, and it is not gone
+abbrev pub is_there : Uber → ℕ → Bool
+is_there u d = nat_lt d u.count && not (is_gone (row_at u d).state)
+
+-- the slots of the devices of the root that are there, and no others
+abbrev pub IsCut : Uber → List (Option ℕ) → List (Option ℕ) → Type 0
+IsCut u slots cut = (d : ℕ) → slot_of cut d ≡ (if is_there u d then slot_of slots d else None)

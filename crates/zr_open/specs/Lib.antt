@@ -7,3 +7,4 @@ pub mod Rewound
 pub mod Left
 pub mod Scanned
 pub mod Groups
+pub mod Bases

@@ -9,17 +9,16 @@ use Rattle.zr_open.specs.declared.look.Looked.{Looked}
 use Rattle.zr_open.specs.declared.saved.Beside.TheVariants.{NotServed}
 use Rattle.zr_current.specs.Current.{HasSlots}
 use Rattle.zr_open.specs.Found.{FindsOn, HasItsDisks}
-use Rattle.zr_open.specs.Opened.{AreOn, CoversOwed, IsFresh, IsServed}
-use Rattle.zr_open.specs.Roots.{FindsBeside, HasParts, IsKept, Stands, image_of, meta_of, saved_in}
+use Rattle.zr_open.specs.Opened.{CoversOwed, IsFresh, IsServed}
+use Rattle.zr_open.specs.Roots.{FindsBeside, HasParts, IsKept, Stands, meta_of, saved_in}
 
 -- In the trees of the root stands what it records, and it was found so with what is saved beside it. The pool is open on that.
 pub record IsLookedAt (sizes : List ℕ) (tells : Type 0) (disks : List (List ℕ)) (l : Looked) : Type 0 where
   pub uber : IsUber l.found.root
   pub long : length l.found.slots ≡ 32
   pub mounted : HasItsDisks sizes l.found.slots l.found.root
-  pub on : AreOn l.found.root
   pub head : IsHead (rows_of l.found.root) l.root.head
-  pub stands : tells → Stands (image_of disks l.found.slots l.found.root) l.found.root l.root
+  pub stands : tells → Stands disks l.found.slots l.found.root l.root
   pub form : IsServed l.root.head
   pub beside : FindsBeside tells disks l.found.slots l.found.root l.root l.beside
   pub served : ¬ l.beside ≡ NotServed

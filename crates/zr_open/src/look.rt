@@ -18,7 +18,7 @@ use crate::pool::{is_served, open};
 use crate::read::read;
 use crate::saved::{Beside, checkpoint_of, read_beside, saved_meta};
 use std::alloc::Global;
-use zr_import::{Root, are_on};
+use zr_import::Root;
 use zr_shelf::Shelf;
 use zr_slots::Found;
 use zr_sync::{Fault, OpenPool};
@@ -41,8 +41,7 @@ impl Looked {
     }
 }
 
-/// Looks at the pool by a root. The answer is None where the devices of the root, or of the one that it saved, are not all in
-/// service, and where one of the two has no late sets that count.
+/// Looks at the pool by a root. The answer is None where the root, or the one that it saved, has no late sets that count.
 pub(crate) fn look_at<S: Shelf>(
     alloc: Global,
     shelf: &mut S,
@@ -61,9 +60,6 @@ pub(crate) fn look_at<S: Shelf>(
     ensures refused { (r : Refusal) → IsErrOf result (No r) → IsRefusedRoot r ⊎ IsRefusedSaved (S.tells shelf.old) (S.world shelf.old).now.seen found.now.slots found.now.root r }
     ensures none { IfOk result (λ o. IfNone o (IsNotServed (S.tells shelf.old) (S.world shelf.old).now.seen found.now.slots found.now.root)) }
 {
-    if !are_on(&found.root) {
-        return Ok(None);
-    }
     let root = read(alloc, shelf, found)?;
     if !is_served(&root.head) {
         return Ok(None);

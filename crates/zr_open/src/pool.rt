@@ -18,7 +18,7 @@ ghost use Rattle.zr_sync.specs.Heads.{streams_in};
 use crate::read::CACHED;
 use crate::room::{has_groups, has_room};
 use std::alloc::{AllocError, Global};
-use zr_base::{Dva, NoMemory, Refusal, SpaceParts};
+use zr_base::{DevRow, DevState, Dva, NoMemory, Refusal, SpaceParts};
 use zr_bptr::{Ptr, Tree};
 use zr_cache::Cache;
 use zr_import::Root;
@@ -26,7 +26,7 @@ use zr_label::Uber;
 use zr_meta::{Head, Stream};
 use zr_slots::Found;
 use zr_space::Space;
-use zr_sync::{Checkpoint, DeviceStreams, Fault, OpenPool, Table};
+use zr_sync::{Checkpoint, CondStreams, DeviceStreams, Fault, NO_STREAMS, OpenPool, Table};
 use zr_txg::Group;
 
 /// Whether the late sets of the head count.
@@ -36,8 +36,8 @@ pub(crate) fn is_served(head: &Head) -> bool
     head.form == 2
 }
 
-// Whether the parts have the devices of the root.
-fn have_rows(parts: &SpaceParts, u: &Uber) -> bool
+/// Whether the parts have the devices of the root.
+pub(crate) fn have_rows(parts: &SpaceParts, u: &Uber) -> bool
     requires { u.now.count ≤ 32 }
     ensures { IsTrue result → HasRows u.now parts.now.devs }
 {
@@ -72,36 +72,90 @@ fn space_of(alloc: Global, u: &Uber, root: &Root, saved: &[Dva]) -> Result<Space
         let rule = if saved.is_empty() { 7 } else { 8 };
         return Err(Fault::No(Refusal::BadRoot { rule }));
     };
-    if !space.is_in_service() {
-        return Err(Fault::No(Refusal::BadRoot { rule: 1 }));
-    }
     space.lawful();
     Ok(space)
 }
 
-/// The streams of the devices, four for each.
+// The streams of a device of this state, in their order.
+fn device_streams(state: DevState, own: &[Stream]) -> DeviceStreams
+    requires lawful { AllByRecursion IsStream own.now }
+    requires count { length own.now ≡ stream_count 2 state }
+    ensures lawful { AreStreams result }
+    ensures are { streams_in state result ≡ own.now }
+{
+    match state {
+        DevState::On => DeviceStreams {
+            held: own[0],
+            kept: own[1],
+            late1: own[2],
+            late2: own[3],
+            ..NO_STREAMS
+        },
+        DevState::Leaving => DeviceStreams {
+            held: own[0],
+            kept: own[1],
+            entries: own[2],
+            counts: own[3],
+            fresh: own[4],
+            late1: own[5],
+            late2: own[6],
+        },
+        DevState::Gone => DeviceStreams {
+            entries: own[0],
+            counts: own[1],
+            fresh: own[2],
+            ..NO_STREAMS
+        },
+    }
+}
+
+// How many streams a device of this state has.
+fn stream_count(state: DevState) -> usize
+    ensures { result ≡ stream_count 2 state }
+{
+    match state {
+        DevState::On => 4,
+        DevState::Leaving => 7,
+        DevState::Gone => 3,
+    }
+}
+
+/// The streams of a root: those of its devices, and those of what is condensed.
+#[derive(Drop)]
+pub(crate) struct Streams {
+    pub devices: Vec<DeviceStreams>,
+    pub cond: CondStreams,
+}
+
+// The streams of what is condensed, which are the last two, if there are any.
+fn cond_streams(rest: &[Stream]) -> CondStreams {
+    if rest.len() < 2 {
+        return NO_COND;
+    }
+    CondStreams {
+        entries: rest[0],
+        counts: rest[1],
+    }
+}
+
+/// The streams of devices with these rows, in the order of a head, and then those of what is condensed.
 pub(crate) fn streams_of(
     alloc: Global,
+    rows: &[DevRow],
     streams: &[Stream],
-    devices: u32,
-) -> Result<Vec<DeviceStreams>, AllocError>
-    requires lawful { AllByRecursion IsStream streams.now }
-    requires enough { 4 * devices ≤ length streams.now }
-    ensures count { IfOk result (λ all. length all.items ≡ devices) }
-    ensures lawful { IfOk result (λ all. All AreStreams all.items) }
-    ensures each { IfOk result (λ all. flat_map streams_in all.items ≡ take (4 * devices) streams.now) }
+) -> Result<Streams, AllocError>
 {
-    let mut all = Vec::new(alloc);
-    for index in 0..devices as usize {
-        let first = 4 * index;
-        all.push(DeviceStreams {
-            held: streams[first],
-            kept: streams[first + 1],
-            late1: streams[first + 2],
-            late2: streams[first + 3],
-        })?;
+    let mut rest = streams;
+    let mut devices = Vec::new(alloc);
+    for row in rows {
+        let (own, others) = rest.split_at(stream_count(row.state));
+        devices.push(device_streams(row.state, own))?;
+        rest = others;
     }
-    Ok(all)
+    Ok(Streams {
+        devices,
+        cond: cond_streams(rest),
+    })
 }
 
 /// The tree of the head of a root.
@@ -130,7 +184,6 @@ fn pool_of(
 ) -> Result<OpenPool, NoMemory>
     requires root { IsUber found.now.root }
     requires long { length found.now.slots ≡ 32 }
-    requires on { AreOn found.now.root }
     requires head { IsHead (rows_of found.now.root) head.now }
     requires served { IsServed head.now }
     requires space { IsSpaceOf found.now.root space }
@@ -142,10 +195,11 @@ fn pool_of(
     ensures same { IfOk result (λ pool. pool.space ≡ space) }
     ensures slots { IfOk result (λ pool. pool.table.slots ≡ found.now.slots) }
     ensures dir { IfOk result (λ pool. pool.dir ≡ head.now.dir) }
-    ensures streams { IfOk result (λ pool. flat_map streams_in pool.streams.items ≡ take (4 * length pool.streams.items) head.now.streams) }
+    ensures streams { IfOk result (λ pool. (head_of pool).streams ≡ head.now.streams) }
     ensures saved { IfOk result (λ pool. pool.saved ≡ checkpoint) }
 {
     let u = &found.root;
+    let streams = streams_of(alloc, &u.rows[..u.count as usize], head.streams.as_slice())?;
     Ok(OpenPool {
         name: u.name,
         guid: u.guid,
@@ -160,7 +214,9 @@ fn pool_of(
         cache: Cache::new(alloc, CACHED)?,
         dir: head.dir,
         head: head_tree(u),
-        streams: streams_of(alloc, head.streams.as_slice(), u.count)?,
+        streams: streams.devices,
+        cond: streams.cond,
+        turned: [UNTURNED; 32],
         saved: checkpoint,
         group: Group::new(alloc, u.txg + 1),
     })
@@ -179,7 +235,6 @@ pub(crate) fn open(
 ) -> Result<OpenPool, Fault>
     requires uber { IsUber found.now.root }
     requires long { length found.now.slots ≡ 32 }
-    requires on { AreOn found.now.root }
     requires head { IsHead (rows_of found.now.root) root.now.head }
     requires served { IsServed root.now.head }
     requires saved { root.now.parts.ckpt ≡ root.now.head.ckpt → IsSaved root.now.head.ckpt (saved_block checkpoint) }

@@ -21,15 +21,15 @@ ghost use Rattle.zr_open.specs.Roots.{FindsBeside, HasParts, HasSaved, IsKept, I
 ghost use Rattle.zr_open.specs.declared.saved.Beside.TheVariants.{Alone, Saved, NotServed};
 
 use crate::pool::{head_tree, is_served, open, streams_of};
-use crate::read::read_saved;
+use crate::read::{as_saved, read_saved};
 use std::alloc::Global;
-use zr_base::{Blob, Dva, NoMemory, Refusal};
-use zr_import::{Root, are_on, saved_uber};
+use zr_base::{Blob, DevState, Dva, NoMemory, Refusal};
+use zr_import::{Root, saved_uber};
 use zr_label::Uber;
 use zr_meta::Head;
 use zr_shelf::Shelf;
 use zr_slots::Found;
-use zr_sync::{Checkpoint, Fault, OpenPool};
+use zr_sync::{Checkpoint, DeviceStreams, Fault, OpenPool};
 
 /// The root that a checkpoint saved, with what stands in its trees.
 #[derive(Drop)]
@@ -45,7 +45,7 @@ pub(crate) enum Beside {
     Alone,
     /// The root that it saved, which is in order.
     Saved(SavedRoot),
-    /// A saved root whose devices are not all in service, or that has no late sets that count.
+    /// A saved root that has no late sets that count.
     NotServed,
 }
 
@@ -60,6 +60,32 @@ pub(crate) fn saved_meta(beside: &Beside) -> Option<&[Dva]>
         Beside::Saved(saved) => Some(saved.root.meta.as_slice()),
         Beside::NotServed => None,
     }
+}
+
+// The streams of the devices of a saved root.
+fn saved_streams(alloc: Global, saved: &SavedRoot) -> Result<Vec<DeviceStreams>, NoMemory>
+    requires { IsLawfulSaved saved.now }
+    ensures lawful { IfOk result (λ all. All AreStreams all.items) }
+    ensures are { IfOk result (λ all. (rest : List Stream) × (streams_of (rows_of saved.now.uber) all.items ++ rest ≡ saved.now.root.head.streams)) }
+{
+    let rows = &saved.uber.rows[..saved.uber.count as usize];
+    Ok(streams_of(alloc, rows, saved.root.head.streams.as_slice())?.devices)
+}
+
+/// The slots of the devices of a root that are there, and of no others.
+pub(crate) fn own_slots(slots: &[Option<u32>; 32], u: &Uber) -> [Option<u32>; 32]
+    requires { IsUber u.now }
+    requires long { length slots.now ≡ 32 }
+    ensures long { length result ≡ 32 }
+    ensures each { IsCut u.now slots.now result }
+{
+    let mut own = *slots;
+    for index in 0..32 {
+        if index >= u.count as usize || u.rows[index].state == DevState::Gone {
+            own[index] = None;
+        }
+    }
+    own
 }
 
 /// The checkpoint that a root holds, none where it holds none: the block of the saved root, and where its metadata lies. It
@@ -79,19 +105,9 @@ pub(crate) fn checkpoint_of(
         (Beside::Saved(saved), Some(block)) => Ok(Some(Checkpoint {
             block: Blob::copy_of(alloc, block.as_slice())?,
             head: head_tree(&saved.uber),
-            streams: streams_of(alloc, saved.root.head.streams.as_slice(), saved.uber.count)?,
+            streams: saved_streams(alloc, saved)?,
         })),
         _ => Ok(None),
-    }
-}
-
-// The fault of a root whose saved root is not in order.
-fn as_saved(fault: Fault) -> Fault
-    ensures { result ≡ as_saved fault }
-{
-    match fault {
-        Fault::No(Refusal::BadRoot { .. }) => Fault::No(Refusal::BadRoot { rule: 8 }),
-        other => other,
     }
 }
 
@@ -99,7 +115,6 @@ fn as_saved(fault: Fault) -> Fault
 fn open_saved(alloc: Global, found: &Found, saved: &Root) -> Result<OpenPool, Fault>
     requires uber { IsUber found.now.root }
     requires long { length found.now.slots ≡ 32 }
-    requires on { AreOn found.now.root }
     requires head { IsHead (rows_of found.now.root) saved.now.head }
     requires served { IsServed saved.now.head }
     requires clear { saved.now.parts.ckpt ≡ Clear }
@@ -143,12 +158,9 @@ pub(crate) fn read_beside<S: Shelf>(
     let Some(uber) = saved_uber(&found.root, current.parts.ckpt, block.as_slice()) else {
         return Err(Fault::No(Refusal::BadRoot { rule: 8 }));
     };
-    if !are_on(&uber) {
-        return Ok(Beside::NotServed);
-    }
     let place = Found {
         root: uber,
-        slots: found.slots,
+        slots: own_slots(&found.slots, &uber),
     };
     let root = read_saved(alloc, shelf, &place, current)?;
     if !is_served(&root.head) {

@@ -1,4 +1,4 @@
--- The rows of a root whose devices are all in service, and the spaces that have them.
+-- The rows of a root, and the spaces that have them.
 use Rattle.std.proofs.Common.{◌≡◌, inl, inr, ◌⊎◌, ℕ, zero, suc, ◌+◌, ◌-◌, ◌<◌, ◌≤◌, ◌^◌, List, [], ◌∷◌, ◌++◌, length, get_or, take, drop, Bool, true, false, Option, refl, sym, ◌∙◌, ap, subst, arith, length-append}
 use Rattle.std.specs.Prelude.{◌==◌, ◌&&◌, IsTrue, nat_le, nat_lt, if◌then◌else◌}
 use Rattle.std.specs.List.{list_all}
@@ -6,28 +6,21 @@ use Rattle.std.proofs.lemmas.Bool.{cases_eq, cases_lt, eqb-true}
 use Rattle.std.proofs.lemmas.Bool.Decides.{nat_tests}
 use Rattle.std.proofs.lemmas.List.{get_or-take, get_or-drop, length-take-le, length-drop}
 use Rattle.std.proofs.lemmas.List.Folds.{list_all_at}
-use Rattle.std.proofs.Math.ListN.{get_or-append, get_or-eq_default}
-use Rattle.std.proofs.Math.Seq.{get_or-append_seam}
-use Rattle.std.proofs.Math.Path.{fun_ext}
+use Rattle.std.proofs.Math.ListN.{get_or-eq_default}
 use Rattle.zr_base.specs.declared.space.DevPart.{DevPart}
 use Rattle.zr_base.specs.declared.space.DevRow.{DevRow}
 use Rattle.zr_base.specs.declared.space.DevState.{DevState}
 use Rattle.zr_base.specs.declared.space.DevState.TheVariants.{On, Leaving, Gone}
-use Rattle.zr_base.specs.declared.space.Entry.{Entry}
 use Rattle.zr_label.specs.Blocks.{IsUber, is_row, is_going, is_no_row, no_row, most_units}
 use Rattle.zr_label.specs.declared.root.Uber.{Uber}
-use Rattle.zr_rules.specs.Devices.{Devices}
 use Rattle.zr_rules.specs.Equation.{devices_in}
 use Rattle.zr_rules.specs.Places.{is_on, is_gone, no_part, part_of}
 use Rattle.zr_rules.specs.Space.{Space}
-use Rattle.zr_rules.specs.Steps.{AddsDevice}
 use Rattle.zr_image.specs.Current.{row_at}
-use Rattle.zr_image.specs.Reading.{bare_devices}
-use Rattle.zr_sync.specs.Pools.{AreRows}
 use Rattle.zr_vdev.specs.Mounts.{AreMounted}
 use Rattle.zr_view.specs.Runs.{HasDisk}
-use Rattle.zr_open.specs.Found.{HasItsDisks}
-use Rattle.zr_open.specs.Opened.{AreOn, HasRows}
+use Rattle.zr_roots.specs.Devices.{HasItsDisks}
+use Rattle.zr_roots.specs.Devices.{HasRows}
 
 true_or_false : (b : Bool) → (b ≡ true) ⊎ (b ≡ false)
 true_or_false true = inl refl
@@ -48,7 +41,7 @@ each_is p xs i d all lt = elim (true_or_false (p (get_or xs i d))) [
   | inr miss ↦ let none = list_all_at p xs i d lt miss in absurd cc
 ]
 
-list_all_of : {X : Type 0} (p q : X → Bool) → ((x : X) → IsTrue (p x) → IsTrue (q x)) → (xs : List X) → IsTrue (list_all p xs) → IsTrue (list_all q xs)
+pub list_all_of : {X : Type 0} (p q : X → Bool) → ((x : X) → IsTrue (p x) → IsTrue (q x)) → (xs : List X) → IsTrue (list_all p xs) → IsTrue (list_all q xs)
 list_all_of p q wider [] h = refl
 list_all_of p q wider (x ∷ xs) h = let two = both (p x) (list_all p xs) h in join (q x) (list_all q xs) (wider x two.0) (list_all_of p q wider xs two.1)
 
@@ -95,7 +88,7 @@ going_later Gone added gone txg h =
     let last : IsTrue (nat_le gone txg) = two.1 in
     join (nat_lt added gone) (nat_le gone (txg + 1)) two.0 (grind (arith, nat_tests, last))
 
-row_later : (version txg : ℕ) (r : DevRow) → IsTrue (is_row version txg r) → IsTrue (is_row version (txg + 1) r)
+pub row_later : (version txg : ℕ) (r : DevRow) → IsTrue (is_row version txg r) → IsTrue (is_row version (txg + 1) r)
 row_later version txg r h =
     let t = row_tests version txg r h in
     let past = t.past in
@@ -118,21 +111,6 @@ row_until version txg later r le h =
 -- so are those of a later group
 pub rows_until : (version txg later : ℕ) (rs : List DevRow) → txg ≤ later → IsTrue (list_all (is_row version txg) rs) → IsTrue (list_all (is_row version later) rs)
 rows_until version txg later rs le all = list_all_of (is_row version txg) (is_row version later) (λ r. row_until version txg later r le) rs all
-
-gone_is : (s : DevState) (added gone txg : ℕ) → IsTrue (is_on s) → IsTrue (is_going s added gone txg) → 0 ≡ gone
-gone_is On added gone txg on h = let z = eqb-true gone 0 h in sym z
-gone_is Leaving added gone txg on h = absurd cc
-gone_is Gone added gone txg on h = absurd cc
-
--- a row in service is told by its group and its units
-pub row_on : (version txg : ℕ) (r : DevRow) → IsTrue (is_row version txg r) → IsTrue (is_on r.state) → record { state = On; added = r.added; units = r.units; gone = 0 } ≡ r
-row_on version txg r is on =
-    let state = on_is r.state on in
-    let gone = gone_is r.state r.added r.gone txg on (row_tests version txg r is).going in
-    ap (λ (s : DevState). make s 0) state ∙ ap (λ (g : ℕ). make r.state g) gone
-  where
-    make : DevState → ℕ → DevRow
-    make s g = record { state = s; added = r.added; units = r.units; gone = g }
 
 no_row_is : (r : DevRow) → IsTrue (is_no_row r) → r ≡ no_row
 no_row_is r h =
@@ -169,9 +147,6 @@ module _ (u : Uber) (is : IsUber u) where
   pub some_row : (d : ℕ) → d < u.count → 1 ≤ (row_at u d).added
   some_row d lt = (row_tests u.version u.txg (row_at u d) (row_is d lt)).first
 
-  pub on_at : AreOn u → (d : ℕ) → d < u.count → IsTrue (is_on (row_at u d).state)
-  on_at on d lt = subst (λ (r : DevRow). IsTrue (is_on r.state)) (get_or-take u.count u.rows d no_row lt) (each_is (λ (r : DevRow). is_on r.state) (take u.count u.rows) d no_row on (let t = taken_is in omega (arith, t, lt)))
-
   pub past_rows : (d : ℕ) → u.count ≤ d → row_at u d ≡ no_row
   past_rows d ge = elim (cases_lt d 32) [
     | inl lt ↦
@@ -183,22 +158,23 @@ module _ (u : Uber) (is : IsUber u) where
     | inr ge32 ↦ let size = is.table.size in get_or-eq_default u.rows no_row (omega (arith, size, ge32))
   ]
 
-  pub rows_are : AreOn u → AreRows u.version (u.txg + 1) u.count u.rows
-  rows_are on = record { size = is.table.size; devices = list_all_of (is_row u.version u.txg) (is_row u.version (u.txg + 1)) (row_later u.version u.txg) (take u.count u.rows) is.table.devices; on = on; rest = is.table.rest }
+  -- the rows of the devices, by index
+  pub row_of : (d : ℕ) → get_or (take u.count u.rows) d no_row ≡ row_at u d
+  row_of d = elim (cases_lt d u.count) [
+    | inl lt ↦ get_or-take u.count u.rows d no_row lt
+    | inr ge ↦ let t = taken_is in get_or-eq_default (take u.count u.rows) no_row (omega (arith, t, ge)) ∙ sym (past_rows d ge)
+  ]
 
   pub row_units : (d : ℕ) → d < u.count → (row_at u d).units ≤ 2 ^ 26
   row_units d lt = let t = row_tests u.version u.txg (row_at u d) (row_is d lt) in let most = t.most in let small = most_small u.version in omega (arith, most, small)
 
-  small_row : (d : ℕ) → (row_at u d).units ≤ 2 ^ 40
+  pub small_row : (d : ℕ) → (row_at u d).units ≤ 2 ^ 40
   small_row d = elim (cases_lt d u.count) [
     | inl lt ↦ let few = row_units d lt in omega (arith, few)
     | inr ge ↦ let none = ap (λ (r : DevRow). r.units) (past_rows d ge) in omega (arith, none)
   ]
 
-  pub mounted_bare : (sizes : List ℕ) (slots : List (Option ℕ)) → HasItsDisks sizes slots u → AreMounted sizes slots (bare_devices u)
-  mounted_bare sizes slots h = record { few = is.head.devices; disks = h.disks; small = small_row; apart = h.apart }
-
-  -- .. and any space that has the rows of the root
+  -- a space that has the rows of the root is mounted where that has its disks
   pub mounted_rows : (sizes : List ℕ) (slots : List (Option ℕ)) (s : Space) → HasItsDisks sizes slots u → HasRows u s.parts.devs → AreMounted sizes slots (devices_in s)
   mounted_rows sizes slots s h rows = record {
     few = let n = rows.count in let few = is.head.devices in omega (arith, n, few);
@@ -212,59 +188,3 @@ module _ (u : Uber) (is : IsUber u) where
     ];
     apart = h.apart;
   }
-
--- ---- a space of which no unit is used
-
--- the first devices of the root were added
-pub record HasFirst (u : Uber) (i : ℕ) (devs : List DevPart) : Type 0 where
-  pub count : length devs ≡ i
-  pub each : (d : ℕ) → d < i → (part_of devs d).row ≡ row_at u d
-  pub entries : (d : ℕ) → (part_of devs d).entries ≡ []
-
-pub first_none : (u : Uber) → HasFirst u 0 []
-first_none u = record { count = refl; each = λ d lt. absurd (omega arith); entries = λ d. none d }
-  where
-    none : (d : ℕ) → (part_of [] d).entries ≡ []
-    none zero = refl
-    none (suc d) = refl
-
-pub first_more : (u : Uber) (i : ℕ) (old new : Space) (r : DevRow) → HasFirst u i old.parts.devs → AddsDevice old new r.units r.added → record { state = On; added = r.added; units = r.units; gone = 0 } ≡ row_at u i → HasFirst u (i + 1) new.parts.devs
-first_more u i old new r before adds is = subst (HasFirst u (i + 1)) (sym adds.devs) (record {
-  count = let c = before.count in let l = length-append old.parts.devs (part ∷ []) in omega (arith, c, l);
-  each = λ d lt. elim (cases_lt d i) [
-    | inl less ↦ ap (λ (p : DevPart). p.row) (get_or-append old.parts.devs (part ∷ []) no_part d (let c = before.count in omega (arith, c, less))) ∙ before.each d less
-    | inr more ↦ let same : d ≡ length old.parts.devs = (let c = before.count in omega (arith, c, lt, more)) in let at_i : i ≡ d = omega (arith, lt, more) in
-        ap (λ (k : ℕ). (part_of (old.parts.devs ++ part ∷ []) k).row) same ∙ (ap (λ (p : DevPart). p.row) (get_or-append_seam old.parts.devs part [] no_part) ∙ (is ∙ ap (λ (k : ℕ). row_at u k) at_i))
-  ];
-  entries = λ d. elim (cases_lt d (length old.parts.devs)) [
-    | inl less ↦ ap (λ (p : DevPart). p.entries) (get_or-append old.parts.devs (part ∷ []) no_part d less) ∙ before.entries d
-    | inr more ↦ elim (cases_eq d (length old.parts.devs)) [
-      | inl same ↦ ap (λ (k : ℕ). (part_of (old.parts.devs ++ part ∷ []) k).entries) same ∙ ap (λ (p : DevPart). p.entries) (get_or-append_seam old.parts.devs part [] no_part)
-      | inr other ↦ ap (λ (p : DevPart). p.entries) (get_or-eq_default (old.parts.devs ++ part ∷ []) no_part {n = d} (let l = length-append old.parts.devs (part ∷ []) in omega (arith, l, more, other)))
-    ]
-  ];
-})
-  where
-    part : DevPart
-    part = record { row = record { state = On; added = r.added; units = r.units; gone = 0 }; held = []; kept = []; entries = []; counts = []; fresh = []; late1 = []; late2 = [] }
-
--- all devices of the root were added
-pub all_added : (u : Uber) (n : ℕ) (s : Space) → IsUber u → n ≡ u.count → HasFirst u n s.parts.devs → devices_in s ≡ bare_devices u
-all_added u n s is n_is h =
-    ap (λ (k : ℕ). make k (devices_in s).row (devices_in s).entries) (h.count ∙ n_is)
-    ∙ (ap (λ (r : ℕ → DevRow). make u.count r (devices_in s).entries) (fun_ext rows)
-    ∙ ap (λ (e : ℕ → List Entry). make u.count (row_at u) e) (fun_ext h.entries))
-  where
-    make : ℕ → (ℕ → DevRow) → (ℕ → List Entry) → Devices
-    make count row entries = record { count = count; row = row; entries = entries }
-
-    rows : (d : ℕ) → (part_of s.parts.devs d).row ≡ row_at u d
-    rows d = elim (cases_lt d u.count) [
-      | inl lt ↦ h.each d (let e = n_is in omega (arith, e, lt))
-      | inr ge ↦
-          let c = h.count in let e = n_is in
-          ap (λ (p : DevPart). p.row) (get_or-eq_default s.parts.devs no_part {n = d} (omega (arith, c, e, ge))) ∙ sym (past_rows u is d ge)
-    ]
-
-pub mounted_space : (sizes : List ℕ) (slots : List (Option ℕ)) (u : Uber) (s : Space) → IsUber u → HasItsDisks sizes slots u → devices_in s ≡ bare_devices u → AreMounted sizes slots (devices_in s)
-mounted_space sizes slots u s is h same = subst (AreMounted sizes slots) (sym same) (mounted_bare u is sizes slots h)
