@@ -23,7 +23,9 @@ pub use checkpoints::{checkpoint, discard_some, give_up_checkpoint};
 pub use commits::{commit, commit_anew};
 pub use fault::Fault;
 pub use logs::Logs;
-pub use open::{Checkpoint, DeviceStreams, EMPTY, OpenPool, Table};
+pub use open::{
+    Checkpoint, CondStreams, DeviceStreams, EMPTY, NO_COND, NONE_TURNED, OpenPool, Table, Turned,
+};
 pub use stop::Stop;
 pub use stores::{give_streams, give_tree, put_group, put_head, put_log, put_words};
 pub use words::{Log, LogWords, anew_words, first_late_words, log_words, second_late_words};

@@ -25,7 +25,7 @@ returns-clause-pool g c =
     let old = c.args.pool.now.streams.items in
     let now = c.with_stream.result in
     step_open c.args.pool.now _ c.requires.pool c.put_log.ensures.continues refl (length-set old c.args.dev now)
-    (streams_set old c.args.dev now c.with_stream.ensures.lawful c.requires.pool.streams)
+    (streams_set old c.args.dev now c.with_stream.ensures.lawful c.requires.pool.streams) c.requires.pool.cond
 
 pub returns-clause-writes : goal.returns-clause-writes
 returns-clause-writes g c = λ s had held stored has last.
