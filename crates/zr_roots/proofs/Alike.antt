@@ -15,7 +15,7 @@ use Rattle.zr_rules.specs.Resolve.{is_there, resolve, resolved, resolved_units}
 use Rattle.zr_store.specs.Store.{Stored}
 use Rattle.zr_view.specs.Views.{View, address_bytes, place_bytes, slot_of, unit_bytes}
 
-with_bytes : (Bptr → List ℕ) → Stored
+abbrev with_bytes : (Bptr → List ℕ) → Stored
 with_bytes f = record { pointers = []; bytes = f }
 
 -- ---- devices of which the same are gone, with the same units and the same mappings

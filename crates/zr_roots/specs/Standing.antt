@@ -35,6 +35,16 @@ pub record IsBase (u : Uber) (m : Meta) (s : Space) : Type 0 where
   pub rows : HasRows u m.parts.devs
   pub opened : IsOpened m.parts m.at [] s
 
+-- The blocks of the directory and its objects are just what is held, by the mappings that the root records, and their leaves stand where they may.
+pub record StandBlocks (disks : List (List ℕ)) (slots : List (Option ℕ)) (txg : ℕ) (r : Root) : Type 0 where
+  pub held : MarksHeld txg r.parts r.meta (all_reach (blocks_of disks slots r) r.head.dir)
+  pub place : IsInPlace (blocks_of disks slots r) r.head.dir
+  pub older : (since : ℕ) → r.parts.ckpt ≡ Held since → HasOlder txg since r.parts r.meta (all_reach (blocks_of disks slots r) r.head.dir) r.older
+
+-- the root has this metadata
+abbrev pub IsRootOf : Meta → Root → Type 0
+IsRootOf m r = r ≡ record { head = m.head; parts = m.parts; meta = m.at; older = r.older }
+
 -- What stands in the trees of the root: its head, what the words of its streams record, and the addresses of these blocks, on the bare devices. By the mappings that these record, the blocks of the
 -- directory and its objects are just what is held, and their leaves stand where they may.
 pub record Stands (disks : List (List ℕ)) (slots : List (Option ℕ)) (u : Uber) (r : Root) : Type 0 where

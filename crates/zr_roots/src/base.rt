@@ -44,11 +44,7 @@ fn blank_of(alloc: Global, root: &Uber) -> Result<Space, NoMemory>
 }
 
 // The metadata of the root that was found.
-fn read_metadata<S: Shelf>(
-    alloc: Global,
-    shelf: &mut S,
-    found: &Found,
-) -> Result<Meta, ImportErr>
+fn read_metadata<S: Shelf>(alloc: Global, shelf: &mut S, found: &Found) -> Result<Meta, ImportErr>
     requires root { IsUber found.now.root }
     requires disks { HasItsDisks (S.sizes shelf.old) found.now.slots found.now.root }
     ensures sizes { S.sizes shelf.new ≡ S.sizes shelf.old }

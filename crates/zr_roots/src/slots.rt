@@ -7,7 +7,7 @@ use zr_label::Uber;
 
 // Whether a root has the device with this index, and it is not gone.
 fn is_there(u: &Uber, index: usize) -> bool
-    requires { u.now.count ≤ 32 }
+    requires few { u.now.count ≤ 32 }
     requires rows { length u.now.rows ≡ 32 }
     ensures { result ≡ is_there u.now index }
 {
