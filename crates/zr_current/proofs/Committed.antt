@@ -170,17 +170,17 @@ on_there On on = refl
 on_there Leaving on = cc
 on_there Gone on = cc
 
+serving_next : (r : DevRow) (rows : List DevRow) → (list_any (λ (x : DevRow). is_on x.state) rows ≡ true → IsServing rows) → list_any (λ (x : DevRow). is_on x.state) (r ∷ rows) ≡ true → (on : Bool) → is_on r.state ≡ on → IsServing (r ∷ rows)
+serving_next r rows later any true on = record { index = 0; inside = omega arith; there = on_there r.state on }
+serving_next r rows later any false off =
+    let more = list_any-append (λ (x : DevRow). is_on x.state) (r ∷ []) rows in
+    let rest = later (grind (arith, nat_tests, more, any, off)) in
+    let lt = rest.inside in
+    record { index = suc rest.index; inside = omega (arith, lt); there = rest.there }
+
 serving : (rows : List DevRow) → list_any (λ (r : DevRow). is_on r.state) rows ≡ true → IsServing rows
 serving [] any = absurd cc
-serving (r ∷ rows) any = by_first (is_on r.state) refl
-  where
-    by_first : (on : Bool) → is_on r.state ≡ on → IsServing (r ∷ rows)
-    by_first true on = record { index = 0; inside = omega arith; there = on_there r.state on }
-    by_first false off =
-        let more = list_any-append (λ (x : DevRow). is_on x.state) (r ∷ []) rows in
-        let rest = serving rows (grind (arith, nat_tests, more, any, off)) in
-        let lt = rest.inside in
-        record { index = suc rest.index; inside = omega (arith, lt); there = rest.there }
+serving (r ∷ rows) any = serving_next r rows (λ more. serving rows more) any (is_on r.state) refl
 
 same_root_for : (last u : Uber) (l : Label) → IsNextOf last u → IsRootFor l last → IsRootFor l u
 same_root_for last u l is h = record {
