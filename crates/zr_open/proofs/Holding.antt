@@ -41,7 +41,7 @@ use Rattle.zr_vdev.specs.Runs.{view_of}
 use Rattle.zr_vdev.specs.Stores.{HoldsBlocks, IsStoredAt, addresses_of}
 use Rattle.zr_vdev.specs.declared.kind.Kind.TheVariants.{Block}
 use Rattle.zr_view.specs.Views.{View}
-use Rattle.zr_open.proofs.Parts.{part_lawful}
+use Rattle.zr_roots.proofs.Parts.{part_lawful}
 
 -- ---- what is held
 
@@ -54,7 +54,7 @@ nothing_cached disks slots s c none e has =
 -- blocks that were marked one after another were freed so
 in_turn : (txg : ℕ) (old new : Space) (bs : List Bptr) → MarksAll SpendsBlock txg old new bs → FreesInTurn last_group old new (addresses_of bs)
 in_turn txg old new [] is = is
-in_turn txg old new (b ∷ bs) (birth, (mid, (one, rest))) = (mid, ((one.may, one.frees), in_turn txg mid new bs rest))
+in_turn txg old new (b ∷ bs) (birth, (mid, (one, rest))) = (mid, (one.may, one.frees), in_turn txg mid new bs rest)
 
 abbrev bare : DevPart → DevPart
 bare p = record p { late1 = []; late2 = [] }

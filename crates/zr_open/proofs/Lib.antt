@@ -1,9 +1,5 @@
 pub mod Slots
-pub mod Rows
-pub mod Units
-pub mod Parts
-pub mod Alike
-pub mod Blank
+pub mod Serving
 pub mod Streams
 pub mod Opening
 pub mod Views

@@ -22,7 +22,7 @@ use Rattle.zr_import.specs.Directories.{IsInPlace}
 use Rattle.zr_import.specs.Spending.{HasOlder, MarksHeld}
 use Rattle.zr_import.specs.Words.{ReadsMeta, meta_reach}
 use Rattle.zr_objset.specs.Records.{all_reach}
-use Rattle.zr_open.specs.Roots.{Stands, blocks_of, image_of}
+use Rattle.zr_roots.specs.Standing.{Stands, blocks_of, image_of}
 use Rattle.zr_import.specs.declared.roots.Root.{Root}
 
 -- ---- the same slots
@@ -54,14 +54,3 @@ stands_by disks slots these u r bare own has = record {
 pub stands_same : (disks : List (List ℕ)) (these slots : List (Option ℕ)) (u : Uber) (r : Root) → HasSlots these slots → Stands disks slots u r → Stands disks these u r
 stands_same disks these slots u r same has =
     stands_by disks slots these u r (store_same disks these slots (bare_devices u) same) (store_same disks these slots (devices_of r.parts.devs) same) has
-
--- ---- what a reader holds of an image, of which it has cached nothing
-
-pub holds_image : (slots : List (Option ℕ)) (tells : Type 0) (disks : List (List ℕ)) (space : Space) (cache : Cache) → entries cache ≡ [] → tells → HoldsRead slots tells disks space cache (store_of (view_of disks slots space))
-holds_image slots tells disks space cache none told = record {
-  told = told;
-  read = λ e has. absurd (let h = subst (λ (es : List Entry). Contains es e) none has in let lt = h.1 in omega (arith, lt));
-  alone = λ at. omega arith;
-  resolves = λ at some. absurd (omega (arith, some));
-  bytes = λ b. refl;
-}

@@ -7,4 +7,3 @@ pub mod Rewound
 pub mod Left
 pub mod Scanned
 pub mod Groups
-pub mod Bases

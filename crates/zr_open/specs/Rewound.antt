@@ -9,7 +9,7 @@ use Rattle.zr_moves.specs.Answers as moves
 use Rattle.zr_sync.specs.States.{HoldsState}
 use Rattle.zr_sync.specs.declared.open.OpenPool.{OpenPool}
 use Rattle.zr_meta.specs.declared.Head.{Head}
-use Rattle.zr_open.specs.Found.{IsCut}
+use Rattle.zr_roots.specs.Devices.{IsCut}
 use Rattle.zr_open.specs.Opened.{HasBlock, IsFresh, IsHeadOn}
 use Rattle.zr_open.specs.Shown.{Shows}
 

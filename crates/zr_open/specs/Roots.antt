@@ -1,5 +1,5 @@
 -- What the disks have of a root, and the pool that is opened from it.
-use Rattle.std.specs.Prelude.{◌≡◌, ℕ, ◌++◌, List, [], map, Option, Some, None, is_some}
+use Rattle.std.specs.Prelude.{◌≡◌, ℕ, ◌++◌, List, [], All, Option, Some, None, is_some}
 use Rattle.zr_base.specs.declared.space.CkptPart.TheVariants.{Clear, Held}
 use Rattle.zr_base.specs.declared.space.Dva.{Dva}
 use Rattle.zr_image.specs.Roots as image
@@ -21,30 +21,14 @@ use Rattle.zr_import.specs.Directories.{IsInPlace}
 use Rattle.zr_import.specs.Spending.{HasOlder, HaveHeld, MarksHeld}
 use Rattle.zr_import.specs.Words.{ReadsMeta, meta_reach}
 use Rattle.zr_import.specs.declared.roots.Root.{Root}
+use Rattle.zr_judge.specs.Parts.{HasMapping}
+use Rattle.zr_roots.specs.Standing.{Stands, blocks_of}
 use Rattle.zr_objset.specs.Records.{all_reach}
 use Rattle.zr_space.specs.Opens.{IsOpened}
 use Rattle.zr_store.specs.Store.{Stored}
-use Rattle.zr_meta.specs.declared.Stream.{Stream}
-use Rattle.zr_sync.specs.Heads.{head_of, streams_of}
+use Rattle.zr_sync.specs.Heads.{cond_streams, head_of, streams_of}
 use Rattle.zr_sync.specs.declared.open.Checkpoint.{Checkpoint}
 use Rattle.zr_sync.specs.declared.open.OpenPool.{OpenPool}
-
--- the disks as a store of blocks, by the devices of a root before any mapping is known, as its metadata is read
-abbrev pub image_of : List (List ℕ) → List (Option ℕ) → Uber → Stored
-image_of disks slots u = store_of (record { disks = disks; slots = slots; devices = bare_devices u })
-
--- the disks as a store of blocks, by the devices that a root records, with their mappings
-abbrev pub blocks_of : List (List ℕ) → List (Option ℕ) → Root → Stored
-blocks_of disks slots r = store_of (record { disks = disks; slots = slots; devices = devices_of r.parts.devs })
-
--- What stands in the trees of the root: its head, what the words of its streams record, and the addresses of these blocks, on the bare devices. By the mappings that these record, the blocks of the
--- directory and its objects are just what is held, and their leaves stand where they may.
-pub record Stands (disks : List (List ℕ)) (slots : List (Option ℕ)) (u : Uber) (r : Root) : Type 0 where
-  pub reads : ReadsMeta (image_of disks slots u) u r.head r.parts
-  pub meta : r.meta ≡ map (λ (b : Bptr). b.at) (meta_reach (image_of disks slots u) u r.head)
-  pub held : MarksHeld u.txg r.parts r.meta (all_reach (blocks_of disks slots r) r.head.dir)
-  pub place : IsInPlace (blocks_of disks slots r) r.head.dir
-  pub older : (since : ℕ) → r.parts.ckpt ≡ Held since → HasOlder u.txg since r.parts r.meta (all_reach (blocks_of disks slots r) r.head.dir) r.older
 
 -- the metadata of the root that is saved, if there is one
 abbrev pub meta_of : Option SavedRoot → List Dva
@@ -60,7 +44,7 @@ pub record HasParts (r : Root) (saved : List Dva) (pool : OpenPool) : Type 0 whe
 -- where the metadata of a saved root lies: its head, and the streams of its devices
 pub record HasTrees (s : SavedRoot) (c : Checkpoint) : Type 0 where
   pub head : c.head ≡ head_tree s.uber
-  pub streams : (rest : List Stream) × (streams_of (rows_of s.uber) c.streams.items ++ rest ≡ s.root.head.streams)
+  pub streams : streams_of (rows_of s.uber) c.streams.items ++ cond_streams s.root.head.cond c.cond ≡ s.root.head.streams
 
 -- what an open pool keeps of the root that is saved, if there is one
 abbrev pub IsKept : Option SavedRoot → Option Checkpoint → Type 0
@@ -88,6 +72,7 @@ told_root u r = record { uber = u; head = r.head; parts = r.parts; meta = []; li
 pub record IsSavedRoot (tells : Type 0) (disks : List (List ℕ)) (slots : List (Option ℕ)) (u : Uber) (r : Root) (block : List ℕ) (saved : SavedRoot) : Type 0 where
   pub is_saved : IsSavedUber (told_root u r) block saved.uber
   pub head : IsHead (rows_of saved.uber) saved.root.head
+  pub mapped : All HasMapping saved.root.parts.devs
   pub stands : tells → Stands disks slots saved.uber saved.root
   pub objects : tells → (os : Objects) × AreObjects (blocks_of disks slots saved.root) saved.root.head.dir os
   pub space : (s : Space) × IsOpened saved.root.parts saved.root.meta [] s × CoversOwed s

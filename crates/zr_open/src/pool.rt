@@ -1,33 +1,38 @@
 //! The open pool of a root that was read.
-ghost use Rattle.std.specs.Prelude.{◌≡◌, ◌↔◌, ℕ, ◌*◌, ◌+◌, ◌≤◌, ◌^◌, List, [], length, take, All, IsTrue, IfOk, IfSome, IsErrOf};
-ghost use Rattle.std.specs.List.{AllByRecursion, flat_map};
+ghost use Rattle.std.specs.Prelude.{◌≡◌, ◌↔◌, ℕ, ◌≤◌, ◌^◌, ◌+◌, ◌++◌, List, [], length, All, IsTrue, IfOk, IfSome, IsErrOf};
+ghost use Rattle.std.specs.List.{AllByRecursion};
 ghost use Rattle.zr_base.specs.declared.refusal.Refusal.{Refusal};
 ghost use Rattle.zr_bptr.specs.Spelling.{IsTree};
 ghost use Rattle.zr_image.specs.Roots.{head_tree, rows_of};
 ghost use Rattle.zr_label.specs.Blocks.{IsUber};
-ghost use Rattle.zr_meta.specs.Heads.{IsHead, IsSaved, IsStream};
+ghost use Rattle.zr_meta.specs.Heads.{IsHead, IsSaved, IsStream, cond_count, stream_count};
+ghost use Rattle.zr_roots.specs.Devices.{HasItsDisks};
 ghost use Rattle.zr_space.specs.Opens.{IsOpened};
-ghost use Rattle.zr_sync.specs.Pools.{AreStreams, IsCheckpoint, IsOpen, saved_block};
+ghost use Rattle.zr_sync.specs.Heads.{cond_at, cond_streams, head_of, streams_in, streams_of};
+ghost use Rattle.zr_sync.specs.Pools.{AreCondStreams, AreStreams, IsCheckpoint, IsOpen, saved_block};
 ghost use Rattle.zr_sync.specs.declared.fault.Fault.TheVariants.{No, Stops};
 ghost use Rattle.zr_sync.specs.declared.stop.Stop.TheVariants.{DiskFault};
-ghost use Rattle.zr_open.specs.Found.{HasItsDisks};
-ghost use Rattle.zr_open.specs.Opened.{AreOn, CoversOwed, HasRows, IsFresh, IsServed, IsSpaceOf, MayRefuse};
+ghost use Rattle.zr_open.specs.Opened.{CoversOwed, IsAsTold, IsFresh, IsServed, IsSpaceOf, MayRefuse};
 ghost use Rattle.zr_open.specs.Roots.{HasParts};
-ghost use Rattle.zr_sync.specs.Heads.{streams_in};
 
-use crate::read::CACHED;
 use crate::room::{has_groups, has_room};
 use std::alloc::{AllocError, Global};
-use zr_base::{DevRow, DevState, Dva, NoMemory, Refusal, SpaceParts};
+use zr_base::{CondPart, DevRow, DevState, Dva, NoMemory, Refusal};
 use zr_bptr::{Ptr, Tree};
 use zr_cache::Cache;
 use zr_import::Root;
 use zr_label::Uber;
-use zr_meta::{Head, Stream};
+use zr_meta::{CondAt, Head, Stream};
+use zr_roots::have_rows;
 use zr_slots::Found;
 use zr_space::Space;
-use zr_sync::{Checkpoint, CondStreams, DeviceStreams, Fault, NO_STREAMS, OpenPool, Table};
+use zr_sync::{
+    Checkpoint, CondStreams, DeviceStreams, EMPTY, Fault, NO_COND, NONE_TURNED, OpenPool, Table,
+};
 use zr_txg::Group;
+
+// How many blocks are cached.
+const CACHED: usize = 256;
 
 /// Whether the late sets of the head count.
 pub(crate) fn is_served(head: &Head) -> bool
@@ -36,21 +41,24 @@ pub(crate) fn is_served(head: &Head) -> bool
     head.form == 2
 }
 
-/// Whether the parts have the devices of the root.
-pub(crate) fn have_rows(parts: &SpaceParts, u: &Uber) -> bool
-    requires { u.now.count ≤ 32 }
-    ensures { IsTrue result → HasRows u.now parts.now.devs }
+// Where a condensing is, as a head tells it.
+fn cond_at(cond: &Option<CondPart>) -> Option<CondAt>
+    ensures { result ≡ cond_at cond.now }
 {
-    let devs = parts.devs.as_slice();
-    if devs.len() != u.count as usize {
-        return false;
+    match cond {
+        None => None,
+        Some(part) => Some(CondAt {
+            dev: part.dev,
+            at: part.at,
+        }),
     }
-    for index in 0..u.count as usize {
-        if devs[index].row != u.rows[index] {
-            return false;
-        }
-    }
-    true
+}
+
+// Whether what a root records stands as its head tells it.
+fn is_as_told(root: &Root) -> bool
+    ensures { IsTrue result → IsAsTold root.now }
+{
+    root.parts.ckpt == root.head.ckpt && cond_at(&root.parts.cond) == root.head.cond
 }
 
 // The space of a root, beside the metadata of the one that it saved.
@@ -59,13 +67,14 @@ fn space_of(alloc: Global, u: &Uber, root: &Root, saved: &[Dva]) -> Result<Space
     ensures space { IfOk result (IsSpaceOf u.now) }
     ensures opened { IfOk result (IsOpened root.now.parts root.now.meta saved.now) }
     ensures ckpt { IfOk result (λ s. s.parts.ckpt ≡ root.now.head.ckpt) }
+    ensures cond { IfOk result (λ s. cond_at s.parts.cond ≡ root.now.head.cond) }
     ensures refused { (r : Refusal) → IsErrOf result (No r) → MayRefuse saved.now r }
     ensures fault { IsErrOf result (Stops DiskFault) → ⊥ }
 {
     if root.parts.version != u.version || !have_rows(&root.parts, u) {
         return Err(Fault::No(Refusal::BadRoot { rule: 1 }));
     }
-    if root.parts.ckpt != root.head.ckpt {
+    if !is_as_told(root) {
         return Err(Fault::No(Refusal::BadRoot { rule: 1 }));
     }
     let Some(space) = Space::from_parts(alloc, &root.parts, root.meta.as_slice(), saved)? else {
@@ -87,9 +96,11 @@ fn device_streams(state: DevState, own: &[Stream]) -> DeviceStreams
         DevState::On => DeviceStreams {
             held: own[0],
             kept: own[1],
+            entries: EMPTY,
+            counts: EMPTY,
+            fresh: EMPTY,
             late1: own[2],
             late2: own[3],
-            ..NO_STREAMS
         },
         DevState::Leaving => DeviceStreams {
             held: own[0],
@@ -101,10 +112,13 @@ fn device_streams(state: DevState, own: &[Stream]) -> DeviceStreams
             late2: own[6],
         },
         DevState::Gone => DeviceStreams {
+            held: EMPTY,
+            kept: EMPTY,
             entries: own[0],
             counts: own[1],
             fresh: own[2],
-            ..NO_STREAMS
+            late1: EMPTY,
+            late2: EMPTY,
         },
     }
 }
@@ -127,25 +141,32 @@ pub(crate) struct Streams {
     pub cond: CondStreams,
 }
 
-// The streams of what is condensed, which are the last two, if there are any.
-fn cond_streams(rest: &[Stream]) -> CondStreams {
-    if rest.len() < 2 {
-        return NO_COND;
-    }
-    CondStreams {
-        entries: rest[0],
-        counts: rest[1],
+// The streams of what is condensed, if anything is.
+fn cond_streams(cond: &Option<CondAt>, rest: &[Stream]) -> CondStreams
+    requires lawful { AllByRecursion IsStream rest.now }
+    requires count { length rest.now ≡ cond_count cond.now }
+    ensures lawful { AreCondStreams result }
+    ensures are { cond_streams cond.now result ≡ rest.now }
+{
+    match cond {
+        None => NO_COND,
+        Some(_) => CondStreams {
+            entries: rest[0],
+            counts: rest[1],
+        },
     }
 }
 
-/// The streams of devices with these rows, in the order of a head, and then those of what is condensed.
-pub(crate) fn streams_of(
-    alloc: Global,
-    rows: &[DevRow],
-    streams: &[Stream],
-) -> Result<Streams, AllocError>
+/// The streams of a head of devices with these rows: those of each, and then those of what is condensed.
+pub(crate) fn streams_of(alloc: Global, rows: &[DevRow], head: &Head) -> Result<Streams, AllocError>
+    requires head { IsHead rows.now head.now }
+    requires served { IsServed head.now }
+    ensures count { IfOk result (λ all. length all.devices.items ≡ length rows.now) }
+    ensures lawful { IfOk result (λ all. All AreStreams all.devices.items) }
+    ensures cond { IfOk result (λ all. AreCondStreams all.cond) }
+    ensures are { IfOk result (λ all. streams_of rows.now all.devices.items ++ cond_streams head.now.cond all.cond ≡ head.now.streams) }
 {
-    let mut rest = streams;
+    let mut rest = head.streams.as_slice();
     let mut devices = Vec::new(alloc);
     for row in rows {
         let (own, others) = rest.split_at(stream_count(row.state));
@@ -154,7 +175,7 @@ pub(crate) fn streams_of(
     }
     Ok(Streams {
         devices,
-        cond: cond_streams(rest),
+        cond: cond_streams(&head.cond, rest),
     })
 }
 
@@ -187,6 +208,7 @@ fn pool_of(
     requires head { IsHead (rows_of found.now.root) head.now }
     requires served { IsServed head.now }
     requires space { IsSpaceOf found.now.root space }
+    requires cond { cond_at space.parts.cond ≡ head.now.cond }
     requires saved { IsSaved space.parts.ckpt (saved_block checkpoint) }
     requires checkpoint { IfSome checkpoint IsCheckpoint }
     requires groups { found.now.root.txg ≤ 2 ^ 63 }
@@ -199,7 +221,7 @@ fn pool_of(
     ensures saved { IfOk result (λ pool. pool.saved ≡ checkpoint) }
 {
     let u = &found.root;
-    let streams = streams_of(alloc, &u.rows[..u.count as usize], head.streams.as_slice())?;
+    let streams = streams_of(alloc, &u.rows[..u.count as usize], head)?;
     Ok(OpenPool {
         name: u.name,
         guid: u.guid,
@@ -216,7 +238,7 @@ fn pool_of(
         head: head_tree(u),
         streams: streams.devices,
         cond: streams.cond,
-        turned: [UNTURNED; 32],
+        turned: NONE_TURNED,
         saved: checkpoint,
         group: Group::new(alloc, u.txg + 1),
     })

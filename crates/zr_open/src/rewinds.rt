@@ -25,11 +25,12 @@ ghost use Rattle.zr_open.specs.Rewound.{HasNoSaved, HoldsSaved, IsRewound, IsSho
 
 use crate::look::look;
 use crate::pool::open;
-use crate::saved::{Beside, own_slots};
+use crate::saved::Beside;
 use std::alloc::Global;
 use zr_base::Refusal;
 use zr_label::Uber;
 use zr_shelf::Shelf;
+use zr_roots::own_slots;
 use zr_slots::{Found, publish, slots_in_both};
 use zr_sync::{Fault, OpenPool, Stop};
 

@@ -2,7 +2,8 @@
 ghost use Rattle.std.specs.Prelude.{◌≤◌, ◌^◌};
 ghost use Rattle.zr_base.specs.declared.refusal.Refusal.TheVariants.{BadRoot};
 ghost use Rattle.zr_image.specs.Checks.{Demands};
-ghost use Rattle.zr_open.specs.Opened.{CoversOwed, HasRows};
+ghost use Rattle.zr_roots.specs.Devices.{HasRows};
+ghost use Rattle.zr_open.specs.Opened.{CoversOwed};
 ghost use Rattle.zr_label.specs.Blocks.{IsUber};
 ghost use Rattle.zr_label.specs.declared.root.Uber.{Uber};
 

@@ -15,21 +15,22 @@ ghost use Rattle.zr_shelf.specs.Moments.{IsStill};
 ghost use Rattle.zr_sync.specs.Pools.{IsCheckpoint, IsOpen, saved_block};
 ghost use Rattle.zr_sync.specs.declared.fault.Fault.TheVariants.{No, Stops};
 ghost use Rattle.zr_sync.specs.declared.stop.Stop.TheVariants.{DiskFault};
-ghost use Rattle.zr_open.specs.Found.{HasItsDisks};
-ghost use Rattle.zr_open.specs.Opened.{AreOn, CoversOwed, IsFresh, IsRefusedRoot, IsServed, as_saved};
+ghost use Rattle.zr_roots.specs.Devices.{HasItsDisks};
+ghost use Rattle.zr_open.specs.Opened.{CoversOwed, IsFresh, IsRefusedRoot, IsServed, as_saved};
 ghost use Rattle.zr_open.specs.Roots.{FindsBeside, HasParts, HasSaved, IsKept, IsLawfulSaved, meta_of, saved_in};
 ghost use Rattle.zr_open.specs.declared.saved.Beside.TheVariants.{Alone, Saved, NotServed};
 
 use crate::pool::{head_tree, is_served, open, streams_of};
-use crate::read::{as_saved, read_saved};
+use crate::read::{as_saved, fault_of};
 use std::alloc::Global;
-use zr_base::{Blob, DevState, Dva, NoMemory, Refusal};
+use zr_base::{Blob, Dva, NoMemory, Refusal};
 use zr_import::{Root, saved_uber};
 use zr_label::Uber;
 use zr_meta::Head;
+use zr_roots::{own_slots, read_saved};
 use zr_shelf::Shelf;
 use zr_slots::Found;
-use zr_sync::{Checkpoint, DeviceStreams, Fault, OpenPool};
+use zr_sync::{Checkpoint, Fault, OpenPool};
 
 /// The root that a checkpoint saved, with what stands in its trees.
 #[derive(Drop)]
@@ -62,32 +63,6 @@ pub(crate) fn saved_meta(beside: &Beside) -> Option<&[Dva]>
     }
 }
 
-// The streams of the devices of a saved root.
-fn saved_streams(alloc: Global, saved: &SavedRoot) -> Result<Vec<DeviceStreams>, NoMemory>
-    requires { IsLawfulSaved saved.now }
-    ensures lawful { IfOk result (λ all. All AreStreams all.items) }
-    ensures are { IfOk result (λ all. (rest : List Stream) × (streams_of (rows_of saved.now.uber) all.items ++ rest ≡ saved.now.root.head.streams)) }
-{
-    let rows = &saved.uber.rows[..saved.uber.count as usize];
-    Ok(streams_of(alloc, rows, saved.root.head.streams.as_slice())?.devices)
-}
-
-/// The slots of the devices of a root that are there, and of no others.
-pub(crate) fn own_slots(slots: &[Option<u32>; 32], u: &Uber) -> [Option<u32>; 32]
-    requires { IsUber u.now }
-    requires long { length slots.now ≡ 32 }
-    ensures long { length result ≡ 32 }
-    ensures each { IsCut u.now slots.now result }
-{
-    let mut own = *slots;
-    for index in 0..32 {
-        if index >= u.count as usize || u.rows[index].state == DevState::Gone {
-            own[index] = None;
-        }
-    }
-    own
-}
-
 /// The checkpoint that a root holds, none where it holds none: the block of the saved root, and where its metadata lies. It
 /// goes over its streams.
 pub(crate) fn checkpoint_of(
@@ -102,11 +77,16 @@ pub(crate) fn checkpoint_of(
     ensures kept { IfOk result (IsKept (saved_in beside.now)) }
 {
     match (beside, &current.saved) {
-        (Beside::Saved(saved), Some(block)) => Ok(Some(Checkpoint {
-            block: Blob::copy_of(alloc, block.as_slice())?,
-            head: head_tree(&saved.uber),
-            streams: saved_streams(alloc, saved)?,
-        })),
+        (Beside::Saved(saved), Some(block)) => {
+            let rows = &saved.uber.rows[..saved.uber.count as usize];
+            let streams = streams_of(alloc, rows, &saved.root.head)?;
+            Ok(Some(Checkpoint {
+                block: Blob::copy_of(alloc, block.as_slice())?,
+                head: head_tree(&saved.uber),
+                streams: streams.devices,
+                cond: streams.cond,
+            }))
+        }
         _ => Ok(None),
     }
 }
@@ -162,7 +142,10 @@ pub(crate) fn read_beside<S: Shelf>(
         root: uber,
         slots: own_slots(&found.slots, &uber),
     };
-    let root = read_saved(alloc, shelf, &place, current)?;
+    let root = match read_saved(alloc, shelf, &place, current) {
+        Ok(root) => root,
+        Err(error) => return Err(fault_of(error)),
+    };
     if !is_served(&root.head) {
         return Ok(Beside::NotServed);
     }

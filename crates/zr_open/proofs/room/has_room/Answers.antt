@@ -1,6 +1,6 @@
 use Rattle.std.proofs.Common.{ap, arith}
 use Rattle.zr_base.specs.declared.space.Sizes.{Sizes}
-use Rattle.zr_open.proofs.Units.{few_ever}
+use Rattle.zr_roots.proofs.Units.{few_ever}
 use Rattle.zr_open.proofs.room.has_room.Goals as goal
 
 pub owed-requires : goal.owed-requires
