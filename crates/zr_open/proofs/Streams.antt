@@ -2,7 +2,10 @@
 use Rattle.std.proofs.Common.{◌≡◌, ℕ, zero, suc, ◌+◌, ◌-◌, ◌<◌, ◌≤◌, List, [], ◌∷◌, ◌++◌, length, take, drop, get_or, refl, sym, ◌∙◌, ap, subst, arith}
 use Rattle.std.specs.List.{AllByRecursion, sum_by}
 use Rattle.std.proofs.lemmas.List.{append_assoc, drop_more, length-take-le, take_more}
+use Rattle.std.proofs.lemmas.List.Elements.{All-cons, All-head, All-nil, All-tail}
 use Rattle.std.proofs.lemmas.List.Sums.{sum_by-cons}
+use Rattle.std.specs.Prelude.{All}
+use Rattle.zr_sync.specs.Pools.{AreStreams}
 use Rattle.zr_base.specs.declared.space.DevRow.{DevRow}
 use Rattle.zr_label.specs.Blocks.{no_row}
 use Rattle.zr_meta.specs.Heads.{IsHead, IsStream, cond_count, stream_count, stream_total}
@@ -46,3 +49,8 @@ step_each rows i all d own others rest streams lt count is split each =
     ∙ (ap (λ (xs : List Stream). xs ++ others) (one_more (take i rows) all (get_or rows i no_row) d (omega (arith, count, long)))
     ∙ (append_assoc front (streams_in (get_or rows i no_row).state d) others
     ∙ (ap (λ (xs : List Stream). front ++ (xs ++ others)) is ∙ (ap (λ (xs : List Stream). front ++ xs) split ∙ each))))
+
+-- the streams of one device more are lawful
+pub all_more : (all : List DeviceStreams) (d : DeviceStreams) → All AreStreams all → AreStreams d → All AreStreams (all ++ d ∷ [])
+all_more [] d each is = All-cons AreStreams d [] is (All-nil AreStreams)
+all_more (x ∷ all) d each is = All-cons AreStreams x (all ++ d ∷ []) (All-head AreStreams x all each) (all_more all d (All-tail AreStreams x all each) is)
