@@ -1,10 +1,11 @@
 -- What the slots show behind a commit.
-use Rattle.std.proofs.Common.{◌≡◌, ◌⊎◌, inl, inr, ℕ, ◌+◌, ◌-◌, ◌*◌, ◌<◌, ◌≤◌, Bool, true, false, List, [], length, map, get_or, Option, Some, None, Ok, refl, sym, ◌∙◌, ap, subst, arith, ⊎_elim}
+use Rattle.std.proofs.Common.{◌≡◌, ◌⊎◌, inl, inr, ℕ, suc, ◌+◌, ◌-◌, ◌*◌, ◌<◌, ◌≤◌, Bool, true, false, List, [], ◌∷◌, length, map, take, get_or, Option, Some, None, Ok, refl, sym, ◌∙◌, ap, subst, arith, ⊎_elim}
 use Rattle.std.specs.Prelude.{Contains, ◌==◌, ◌&&◌, slice_index, slice_index_or, if◌then◌else◌, unwrap_or}
-use Rattle.std.specs.List.{position}
+use Rattle.std.specs.List.{list_any, position}
 use Rattle.std.proofs.lemmas.Bool.{cases_lt, eqb-true}
 use Rattle.std.proofs.lemmas.Bool.Decides.{nat_tests}
-use Rattle.std.proofs.lemmas.List.{length-map}
+use Rattle.std.proofs.lemmas.List.{get_or-take, length-map, length-take-le}
+use Rattle.std.proofs.lemmas.List.Folds.{list_any-append}
 use Rattle.std.proofs.lemmas.List.FromFn.{get_or-map-range_with_len}
 use Rattle.std.proofs.lemmas.List.Quantifiers.{position-Some}
 use Rattle.std.proofs.Math.ListN.{get_or-map}
@@ -15,7 +16,9 @@ use Rattle.zr_label.specs.Geometry.{label_at, label_block_at, ring_slot_at, unit
 use Rattle.zr_label.specs.declared.root.Label.{Label}
 use Rattle.zr_label.specs.declared.root.Seen.{Seen}
 use Rattle.zr_label.specs.declared.root.Uber.{Uber}
-use Rattle.zr_rules.specs.Places.{in_address, is_gone, units_of_dev}
+use Rattle.zr_base.specs.declared.space.DevState.{DevState}
+use Rattle.zr_base.specs.declared.space.DevState.TheVariants.{On, Leaving, Gone}
+use Rattle.zr_rules.specs.Places.{in_address, is_gone, is_on, units_of_dev}
 use Rattle.zr_rules.specs.Space.{Space, has_place, role_at}
 use Rattle.zr_scan.specs.Scan.{IsRootFor, block_of, ring_block}
 use Rattle.zr_shelf.specs.Disks.{Stand, PendingWrite, Meets, disk, part}
@@ -128,19 +131,19 @@ count_of a b are = sym (length-map b length) ∙ (ap (λ (ns : List ℕ). length
 
 -- ---- a label of a device of the root
 
-device_label : (last : Uber) (o : Option Label) → 0 < last.count → is_gone (row_at last 0).state ≡ false → is_device last 0 o ≡ true → (l : Label) × (o ≡ Some l) × IsRootFor l last
-device_label last None some there is = absurd cc
-device_label last (Some l) some there is =
+device_label : (last : Uber) (d : ℕ) (o : Option Label) → d < last.count → is_gone (row_at last d).state ≡ false → is_device last d o ≡ true → (l : Label) × (o ≡ Some l) × IsRootFor l last
+device_label last d None some there is = absurd cc
+device_label last d (Some l) some there is =
     let guid = and_both (l.guid == last.guid) _ is in
-    let index = and_both (l.index == 0) _ guid.1 in
-    let added = and_both (l.added == (row_at last 0).added) _ index.1 in
-    let zero_is : l.index ≡ 0 = eqb-true l.index 0 index.0 in (
+    let index = and_both (l.index == d) _ guid.1 in
+    let added = and_both (l.added == (row_at last d).added) _ index.1 in
+    let zero_is : l.index ≡ d = eqb-true l.index d index.0 in (
       l,
       refl,
       record {
         pool = sym (eqb-true l.guid last.guid guid.0);
         index = omega (arith, zero_is, some);
-        added = ap (λ (i : ℕ). (row_at last i).added) zero_is ∙ sym (eqb-true l.added (row_at last 0).added added.0);
+        added = ap (λ (i : ℕ). (row_at last i).added) zero_is ∙ sym (eqb-true l.added (row_at last d).added added.0);
         concrete = ap (λ (i : ℕ). is_gone (row_at last i).state) zero_is ∙ there;
       },
     )
@@ -149,12 +152,35 @@ device_label last (Some l) some there is =
     and_both true b h = (refl, h)
     and_both false b h = absurd cc
 
-shown_place : (last : Uber) (seen : List Seen) (slot : ℕ) → slot_of_device last seen 0 ≡ Some slot → (slot < length seen) × (is_device last 0 (seen_at seen slot).label ≡ true)
-shown_place last seen slot is = by_state (is_gone (row_at last 0).state) is
+shown_place : (last : Uber) (d : ℕ) (seen : List Seen) (slot : ℕ) → slot_of_device last seen d ≡ Some slot → (slot < length seen) × (is_device last d (seen_at seen slot).label ≡ true)
+shown_place last d seen slot is = by_state (is_gone (row_at last d).state) is
   where
-    by_state : (gone : Bool) → (if gone then None else position (λ (s : Seen). is_device last 0 s.label) seen) ≡ Some slot → (slot < length seen) × (is_device last 0 (seen_at seen slot).label ≡ true)
+    by_state : (gone : Bool) → (if gone then None else position (λ (s : Seen). is_device last d s.label) seen) ≡ Some slot → (slot < length seen) × (is_device last d (seen_at seen slot).label ≡ true)
     by_state true h = absurd cc
-    by_state false h = let at = position-Some (λ (s : Seen). is_device last 0 s.label) seen slot (record { label = None; ubers = []; newer = None }) h in (at.0, at.1)
+    by_state false h = let at = position-Some (λ (s : Seen). is_device last d s.label) seen slot (record { label = None; ubers = []; newer = None }) h in (at.0, at.1)
+
+-- a row in service of some rows
+record IsServing (rows : List DevRow) : Type 0 where
+  pub index : ℕ
+  pub inside : index < length rows
+  pub there : is_gone (slice_index_or rows index no_row).state ≡ false
+
+on_there : (state : DevState) → is_on state ≡ true → is_gone state ≡ false
+on_there On on = refl
+on_there Leaving on = cc
+on_there Gone on = cc
+
+serving_next : (r : DevRow) (rows : List DevRow) → (list_any (λ (x : DevRow). is_on x.state) rows ≡ true → IsServing rows) → list_any (λ (x : DevRow). is_on x.state) (r ∷ rows) ≡ true → (on : Bool) → is_on r.state ≡ on → IsServing (r ∷ rows)
+serving_next r rows later any true on = record { index = 0; inside = omega arith; there = on_there r.state on }
+serving_next r rows later any false off =
+    let more = list_any-append (λ (x : DevRow). is_on x.state) (r ∷ []) rows in
+    let rest = later (grind (arith, nat_tests, more, any, off)) in
+    let lt = rest.inside in
+    record { index = suc rest.index; inside = omega (arith, lt); there = rest.there }
+
+serving : (rows : List DevRow) → list_any (λ (r : DevRow). is_on r.state) rows ≡ true → IsServing rows
+serving [] any = absurd cc
+serving (r ∷ rows) any = serving_next r rows (λ more. serving rows more) any (is_on r.state) refl
 
 same_root_for : (last u : Uber) (l : Label) → IsNextOf last u → IsRootFor l last → IsRootFor l u
 same_root_for last u l is h = record {
@@ -215,34 +241,46 @@ module _ (sizes : List ℕ) (pool : OpenPool) (reset : Bool) (last u : Uber) (be
         ⊎_elim (λ same. inl (same ∙ ring_kept sl n k few low)) (λ own. inr own) put;
   }
 
-  -- the slot of the first device
-  first_disk : HasDisk sizes pool.table.slots 0 (units_of_dev pool.space.parts.devs 0)
-  first_disk = ready.mounted.disks 0 (let some = ready.some in let many = ready.devices in omega (arith, some, many)) (ready.service.there 0)
+  -- a device in service
+  on_row : IsServing (take pool.table.count pool.table.rows)
+  on_row = serving (take pool.table.count pool.table.rows) (ready.table.on ready.some)
 
-  first_there : is_gone (row_at last 0).state ≡ false
-  first_there =
-      let some = ready.some in
-      ap (λ (rs : List DevRow). is_gone (slice_index_or rs 0 no_row).state) (sym from.rows)
-      ∙ (ap (λ (r : DevRow). is_gone r.state) (sym (ready.rows 0 (omega (arith, some)))) ∙ ready.service.there 0)
+  abbrev dev : ℕ
+  dev = on_row.index
 
-  some_device : 0 < last.count
-  some_device = let some = ready.some in let count = from.count in omega (arith, some, count)
+  dev_known : dev < pool.table.count
+  dev_known =
+      let inside = on_row.inside in let size = ready.table.size in let few = ready.few in
+      let long = length-take-le pool.table.count pool.table.rows (omega (arith, size, few)) in
+      omega (arith, inside, long)
+
+  dev_stays : is_gone (slice_index_or pool.table.rows dev no_row).state ≡ false
+  dev_stays = sym (ap (λ (r : DevRow). is_gone r.state) (get_or-take pool.table.count pool.table.rows dev no_row dev_known)) ∙ on_row.there
+
+  first_disk : HasDisk sizes pool.table.slots dev (units_of_dev pool.space.parts.devs dev)
+  first_disk = ready.mounted.disks dev (let lt = dev_known in let many = ready.devices in omega (arith, lt, many)) (ap (λ (r : DevRow). is_gone r.state) (ready.rows dev dev_known) ∙ dev_stays)
+
+  first_there : is_gone (row_at last dev).state ≡ false
+  first_there = ap (λ (rs : List DevRow). is_gone (slice_index_or rs dev no_row).state) (sym from.rows) ∙ dev_stays
+
+  some_device : dev < last.count
+  some_device = let lt = dev_known in let count = from.count in omega (arith, lt, count)
 
   first_in : Contains shown_from.all first_disk.slot
   first_in =
-      let gone : is_gone (row_at u 0).state ≡ false = ap (λ (rs : List DevRow). is_gone (slice_index_or rs 0 no_row).state) is_next.rows ∙ first_there in
-      let some : 0 < u.count = let e = is_next.count in let lt = some_device in omega (arith, e, lt) in
-      let concrete : is_concrete_in u 0 ≡ true = grind (arith, nat_tests, gone, some) in
-      shown_from.all_all first_disk.slot (record { index = 0; known = omega arith; at_index = record { in_last = concrete; in_root = concrete; here = first_disk.is } })
+      let gone : is_gone (row_at u dev).state ≡ false = ap (λ (rs : List DevRow). is_gone (slice_index_or rs dev no_row).state) is_next.rows ∙ first_there in
+      let some : dev < u.count = let e = is_next.count in let lt = some_device in omega (arith, e, lt) in
+      let concrete : is_concrete_in u dev ≡ true = grind (arith, nat_tests, gone, some) in
+      shown_from.all_all first_disk.slot (record { index = dev; known = (let lt = dev_known in let few = ready.few in omega (arith, lt, few)); at_index = record { in_last = concrete; in_root = concrete; here = first_disk.is } })
 
   module _ (seen next : List Seen) (shown : ShowsAll before.now.seen seen) (current : FindsCurrent seen (Ok last)) (same : HasSlots (slots_of last seen) pool.table.slots) (later : ShowsAll now.now.seen next) where
-    device_at : slot_of_device last seen 0 ≡ Some first_disk.slot
-    device_at = sym (get_or-map-range_with_len (slot_of_device last seen) 0 last.count 0 0 None some_device (omega arith)) ∙ (sym (same 0) ∙ first_disk.is)
+    device_at : slot_of_device last seen dev ≡ Some first_disk.slot
+    device_at = sym (get_or-map-range_with_len (slot_of_device last seen) 0 last.count dev dev None some_device (omega arith)) ∙ (sym (same dev) ∙ first_disk.is)
 
     somewhere : StandsSomewhere now.now.seen seen u
     somewhere =
-        let place = shown_place last seen first_disk.slot device_at in
-        let label = device_label last (seen_at seen first_disk.slot).label some_device first_there place.1 in
+        let place = shown_place last dev seen first_disk.slot device_at in
+        let label = device_label last dev (seen_at seen first_disk.slot).label some_device first_there place.1 in
         record {
           slot = first_disk.slot;
           known = place.0;

@@ -5,7 +5,6 @@ use Rattle.std.proofs.lemmas.Bool.Decides.{nat_tests}
 use Rattle.zr_sync.specs.declared.open.OpenPool.{OpenPool}
 use Rattle.zr_slots.proofs.Window.{found_shown}
 use Rattle.zr_base.specs.declared.refusal.Refusal.{Refusal}
-use Rattle.zr_base.specs.declared.refusal.Refusal.TheVariants.{BadRoot}
 use Rattle.zr_image.specs.Current.{IsGroup, IsInWindow, slots_of}
 use Rattle.zr_label.specs.Blocks.{IsUber}
 use Rattle.zr_label.specs.declared.root.Seen.{Seen}
@@ -14,7 +13,8 @@ use Rattle.zr_slots.specs.Kept.{KeepsGroup}
 use Rattle.zr_slots.specs.declared.pool.Found.{Found}
 use Rattle.zr_view.specs.Views.{slot_of}
 use Rattle.zr_current.specs.Current.{HasSlots}
-use Rattle.zr_open.specs.Found.{FindsOn, HasItsDisks}
+use Rattle.zr_roots.specs.Devices.{HasItsDisks}
+use Rattle.zr_open.specs.Found.{FindsOn}
 use Rattle.zr_open.specs.Groups.{HoldsGroup, HoldsRoot, IsBack, IsBackRefusal, IsNotServedBack}
 use Rattle.zr_open.specs.Looked.{IsLookedAt}
 use Rattle.zr_open.specs.Opened.{IsFresh, IsNotServed, IsRefusedRoot, IsRefusedSaved, MayRefuse}
@@ -80,14 +80,13 @@ module _ (t0 : Type 0) (disks0 : List (List ℕ)) (sizes : List ℕ) (s : Scanne
       then_unserved none = (s.found.root, at, inr (root, group, none_moved t1 t0 disks1 disks0 later same_disks (slots_of root s.seen) s.found.slots place_slots root none))
 
     -- the root that was looked at is refused when it is opened again
-    again_refused : (t1 : Type 0) (disks1 : List (List ℕ)) (l : Looked) → IsLookedAt sizes t1 disks1 l → (r : Refusal) → (r ≡ BadRoot 5) ⊎ MayRefuse (meta_of (saved_in l.beside)) r → IsRefusedRoot r ⊎ IsRefusedSaved t1 disks1 l.found.slots l.found.root r
-    again_refused t1 disks1 l looked r (inl five) = inl (inl (5, inl (inr (inr (inl refl))), five))
-    again_refused t1 disks1 l looked r (inr (inl own)) = inl own
-    again_refused t1 disks1 l looked r (inr (inr (eight, some))) =
+    again_refused : (t1 : Type 0) (disks1 : List (List ℕ)) (l : Looked) → IsLookedAt sizes t1 disks1 l → (r : Refusal) → MayRefuse (meta_of (saved_in l.beside)) r → IsRefusedRoot r ⊎ IsRefusedSaved t1 disks1 l.found.slots l.found.root r
+    again_refused t1 disks1 l looked r (inl own) = inl own
+    again_refused t1 disks1 l looked r (inr (eight, some)) =
         let block = has_block t1 disks1 l.found.slots l.found.root l.root l.beside (meta_of (saved_in l.beside)) refl some looked.beside in
         inr (eight, (block.0, (l.root.head, head_on t1 disks1 l.found.slots l.found.root l.root looked.head looked.stands, block.1)))
 
-    pub reset_refused : (t1 : Type 0) (disks1 : List (List ℕ)) → (t0 → t1) → (t0 → disks1 ≡ disks0) → (l : Looked) → l.found ≡ place → IsLookedAt sizes t1 disks1 l → (r : Refusal) → (r ≡ BadRoot 5) ⊎ MayRefuse (meta_of (saved_in l.beside)) r → Refuses txg r
+    pub reset_refused : (t1 : Type 0) (disks1 : List (List ℕ)) → (t0 → t1) → (t0 → disks1 ≡ disks0) → (l : Looked) → l.found ≡ place → IsLookedAt sizes t1 disks1 l → (r : Refusal) → MayRefuse (meta_of (saved_in l.beside)) r → Refuses txg r
     reset_refused t1 disks1 later same_disks l is_place looked r why =
         then_refused t1 disks1 later same_disks r (subst (λ (f : Found). IsRefusedRoot r ⊎ IsRefusedSaved t1 disks1 f.slots f.root r) is_place (again_refused t1 disks1 l looked r why))
 

@@ -1,6 +1,6 @@
 -- A root that was looked at, as the current one.
 use Rattle.std.proofs.Common.{◌≡◌, inl, inr, ℕ, ◌<◌, ◌≤◌, false, List, map, length, Option, Some, Ok, refl, sym, ◌∙◌, ap, subst, arith}
-use Rattle.std.specs.Prelude.{slice_index, slice_index_or}
+use Rattle.std.specs.Prelude.{All, slice_index, slice_index_or}
 use Rattle.std.proofs.lemmas.Bool.{cases_lt}
 use Rattle.zr_base.specs.declared.space.CkptPart.{CkptPart}
 use Rattle.zr_base.specs.declared.space.DevRow.{DevRow}
@@ -22,16 +22,18 @@ use Rattle.zr_sync.specs.States.{HasCheckpoint}
 use Rattle.zr_sync.specs.declared.open.OpenPool.{OpenPool}
 use Rattle.zr_view.specs.Runs.{HasDisk}
 use Rattle.zr_current.specs.Current.{HasSlots}
-use Rattle.zr_open.specs.Found.{HasItsDisks}
+use Rattle.zr_roots.specs.Devices.{HasItsDisks}
 use Rattle.zr_open.specs.Groups.{HoldsGroup, HoldsRoot}
 use Rattle.zr_open.specs.Looked.{IsLookedAt}
 use Rattle.zr_open.specs.Opened.{IsFresh}
 use Rattle.zr_open.specs.Rewound.{rewound}
-use Rattle.zr_open.specs.Roots.{HasParts, Stands, image_of, meta_of, saved_in, told_root}
+use Rattle.zr_roots.specs.Standing.{Stands, image_of}
+use Rattle.zr_open.specs.Roots.{HasParts, meta_of, saved_in, told_root}
 use Rattle.zr_open.specs.declared.look.Looked.{Looked}
 use Rattle.zr_open.proofs.Beside.{beside_moved, is_beside}
-use Rattle.zr_open.proofs.Rewinding.{same_devices, stands_rewound}
-use Rattle.zr_open.proofs.Rows.{past_rows, some_row}
+use Rattle.zr_judge.specs.Parts.{HasMapping}
+use Rattle.zr_open.proofs.Rewinding.{mapped_bare, same_devices, stands_rewound}
+use Rattle.zr_roots.proofs.Rows.{past_rows, some_row}
 use Rattle.zr_open.proofs.Showing.{ShowsSaved, are, checkpoint_of, counted_ckpt, holds, objects, shows_saved}
 use Rattle.zr_open.proofs.Views.{stands_same, store_same}
 
@@ -80,12 +82,12 @@ module _ (tells : Type 0) (told : tells) (disks : List (List ℕ)) (sizes : List
   as_looked =
       let u = l.found.root in
       let meta = meta_of (saved_in l.beside) in
-      let stands = subst (λ (slots : List (Option ℕ)). Stands (image_of disks slots u) u l.root) (sym h.same) (h.stands told) in
+      let stands = subst (λ (slots : List (Option ℕ)). Stands disks slots u l.root) (sym h.same) (h.stands told) in
       record {
-        objects = objects tells told disks sizes sized u l.pool l.root meta h.uber h.ready h.fresh h.parts stands;
-        are = subst (λ (slots : List (Option ℕ)). AreObjects (store_of (record { disks = disks; slots = slots; devices = devices_of l.root.parts.devs })) l.root.head.dir (objects tells told disks sizes sized u l.pool l.root meta h.uber h.ready h.fresh h.parts stands)) h.same
-            (are tells told disks sizes sized u l.pool l.root meta h.uber h.ready h.fresh h.parts stands);
-        holds = holds tells told disks sizes sized u l.pool l.root meta h.uber h.ready h.fresh h.parts stands;
+        objects = objects tells told disks sizes sized u l.pool l.root meta h.uber h.ready h.fresh h.parts h.mapped stands;
+        are = subst (λ (slots : List (Option ℕ)). AreObjects (store_of (record { disks = disks; slots = slots; devices = devices_of l.root.parts.devs })) l.root.head.dir (objects tells told disks sizes sized u l.pool l.root meta h.uber h.ready h.fresh h.parts h.mapped stands)) h.same
+            (are tells told disks sizes sized u l.pool l.root meta h.uber h.ready h.fresh h.parts h.mapped stands);
+        holds = holds tells told disks sizes sized u l.pool l.root meta h.uber h.ready h.fresh h.parts h.mapped stands;
         ckpt = ap (λ (ps : SpaceParts). ps.ckpt) h.parts.space.parts_are ∙ ckpt_is tells told disks sizes l h;
       }
 
@@ -95,21 +97,24 @@ module _ (tells : Type 0) (told : tells) (disks : List (List ℕ)) (sizes : List
     abbrev back : Root
     back = record l.root { parts = without_late l.root.parts }
 
-    stands_back : Stands (image_of disks pool.table.slots (rewound l.found.root txg)) (rewound l.found.root txg) back
+    stands_back : Stands disks pool.table.slots (rewound l.found.root txg) back
     stands_back =
-        subst (λ (ss : List (Option ℕ)). Stands (image_of disks ss (rewound l.found.root txg)) (rewound l.found.root txg) back) (sym slots)
-        (stands_rewound (image_of disks l.found.slots l.found.root) l.found.root txg l.root le (h.stands told))
+        subst (λ (ss : List (Option ℕ)). Stands disks ss (rewound l.found.root txg) back) (sym slots)
+        (stands_rewound disks l.found.slots l.found.root txg l.root le (h.stands told))
+
+    mapped_back : All HasMapping back.parts.devs
+    mapped_back = mapped_bare l.root.parts.devs h.mapped
 
     pub as_reset : HoldsRoot disks tells disks l pool
     as_reset =
         let u = rewound l.found.root txg in
         let meta = meta_of (saved_in l.beside) in
         record {
-          objects = objects tells told disks sizes sized u pool back meta is ready fresh parts stands_back;
-          are = subst (λ (ss : List (Option ℕ)). AreObjects (store_of (record { disks = disks; slots = ss; devices = devices_of l.root.parts.devs })) l.root.head.dir (objects tells told disks sizes sized u pool back meta is ready fresh parts stands_back)) slots
-              (subst (λ (ds : Devices). AreObjects (store_of (record { disks = disks; slots = pool.table.slots; devices = ds })) l.root.head.dir (objects tells told disks sizes sized u pool back meta is ready fresh parts stands_back)) (same_devices l.root.parts.devs)
-              (are tells told disks sizes sized u pool back meta is ready fresh parts stands_back));
-          holds = holds tells told disks sizes sized u pool back meta is ready fresh parts stands_back;
+          objects = objects tells told disks sizes sized u pool back meta is ready fresh parts mapped_back stands_back;
+          are = subst (λ (ss : List (Option ℕ)). AreObjects (store_of (record { disks = disks; slots = ss; devices = devices_of l.root.parts.devs })) l.root.head.dir (objects tells told disks sizes sized u pool back meta is ready fresh parts mapped_back stands_back)) slots
+              (subst (λ (ds : Devices). AreObjects (store_of (record { disks = disks; slots = pool.table.slots; devices = ds })) l.root.head.dir (objects tells told disks sizes sized u pool back meta is ready fresh parts mapped_back stands_back)) (same_devices l.root.parts.devs)
+              (are tells told disks sizes sized u pool back meta is ready fresh parts mapped_back stands_back));
+          holds = holds tells told disks sizes sized u pool back meta is ready fresh parts mapped_back stands_back;
           ckpt = ap (λ (ps : SpaceParts). ps.ckpt) parts.space.parts_are ∙ ckpt_is tells told disks sizes l h;
         }
 

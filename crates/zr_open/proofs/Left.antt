@@ -39,13 +39,13 @@ use Rattle.zr_sync.specs.declared.open.OpenPool.{OpenPool}
 use Rattle.zr_vdev.specs.Runs.{view_of}
 use Rattle.zr_vdev.specs.Stores.{IsStoredAt}
 use Rattle.zr_vdev.specs.declared.kind.Kind.TheVariants.{Block}
-use Rattle.zr_open.proofs.Holding.{same_store}
-use Rattle.zr_open.proofs.Rows.{past_rows, taken_is}
+use Rattle.zr_open.proofs.Serving.{same_store}
+use Rattle.zr_roots.proofs.Rows.{past_rows, taken_is}
 use Rattle.zr_open.proofs.Showing.{counted_ckpt, checkpoint_of}
 use Rattle.zr_open.proofs.Views.{store_same}
 use Rattle.zr_current.specs.Current.{GoesOnFrom}
 use Rattle.zr_open.specs.Left.{LeavesRoot, root_left}
-use Rattle.zr_open.specs.Roots.{image_of}
+use Rattle.zr_roots.specs.Standing.{image_of}
 use Rattle.zr_open.specs.Shown.{Shows}
 
 -- ---- the objects that are held
@@ -58,7 +58,7 @@ objects_meant tells disks pool objects empty h =
 
 -- ---- the devices of a root
 
-module _ (sizes : List ℕ) (u : Uber) (pool : OpenPool) (ready : IsOpen sizes pool) (from : GoesOnFrom u pool) where
+module _ (sizes : List ℕ) (u : Uber) (pool : OpenPool) (ready : IsOpen sizes pool) (on : AreInService (devices_in pool.space)) (from : GoesOnFrom u pool) where
   is_uber : IsUber u
   is_uber = (subst (λ (o : Option Uber). IsAfter o pool.group.txg) from.last ready.after).0
 
@@ -72,12 +72,12 @@ module _ (sizes : List ℕ) (u : Uber) (pool : OpenPool) (ready : IsOpen sizes p
 
   -- the disks as the space of the pool sees them, and as the root does before any part is read
   pub own_image : (disks : List (List ℕ)) → store_of (view_of disks pool.table.slots pool.space) ≡ image_of disks pool.table.slots u
-  own_image disks = same_store disks pool.table.slots (devices_in pool.space) (bare_devices u) (ready.devices ∙ from.count) row_is ready.service
+  own_image disks = same_store disks pool.table.slots (devices_in pool.space) (bare_devices u) (ready.devices ∙ from.count) row_is on
 
   bare_service : AreInService (bare_devices u)
   bare_service = record {
-    there = λ d. sym (ap (λ (r : DevRow). is_gone r.state) (row_is d)) ∙ ready.service.there d;
-    stays = λ d. sym (ap (λ (r : DevRow). is_leaving r.state) (row_is d)) ∙ ready.service.stays d;
+    there = λ d. sym (ap (λ (r : DevRow). is_gone r.state) (row_is d)) ∙ on.there d;
+    stays = λ d. sym (ap (λ (r : DevRow). is_leaving r.state) (row_is d)) ∙ on.stays d;
   }
 
   -- ---- the head
@@ -128,9 +128,9 @@ counted_rows false parts = refl
 row_of : (devs : List DevPart) (rows : List DevRow) (d : ℕ) → rows_in devs ≡ rows → (part_of devs d).row ≡ get_or rows d no_row
 row_of devs rows d are = sym (get_or-map (λ (p : DevPart). p.row) devs d no_part) ∙ ap (λ (rs : List DevRow). get_or rs d no_row) are
 
-module _ (sizes : List ℕ) (u : Uber) (pool : OpenPool) (ready : IsOpen sizes pool) (from : GoesOnFrom u pool) (devs : List DevPart) (are : rows_in devs ≡ rows_of u) where
+module _ (sizes : List ℕ) (u : Uber) (pool : OpenPool) (ready : IsOpen sizes pool) (on : AreInService (devices_in pool.space)) (from : GoesOnFrom u pool) (devs : List DevPart) (are : rows_in devs ≡ rows_of u) where
   uber_is : IsUber u
-  uber_is = is_uber sizes u pool ready from
+  uber_is = is_uber sizes u pool ready on from
 
   many : length devs ≡ u.count
   many = sym (length-map devs (λ (p : DevPart). p.row)) ∙ ap (λ (rs : List DevRow). length rs) are ∙ taken_is u uber_is
@@ -143,11 +143,11 @@ module _ (sizes : List ℕ) (u : Uber) (pool : OpenPool) (ready : IsOpen sizes p
 
   -- the disks by the parts that were read are those by the pool's space
   pub read_image : (disks : List (List ℕ)) → store_of (view_of disks pool.table.slots pool.space) ≡ store_of (record { disks = disks; slots = pool.table.slots; devices = devices_of devs })
-  read_image disks = own_image sizes u pool ready from disks ∙ same_store disks pool.table.slots (bare_devices u) (devices_of devs) (sym many) row_read (bare_service sizes u pool ready from)
+  read_image disks = own_image sizes u pool ready on from disks ∙ same_store disks pool.table.slots (bare_devices u) (devices_of devs) (sym many) row_read (bare_service sizes u pool ready on from)
 
 -- ---- the pool that is shown
 
-module _ (tells : Type 0) (paths disks : List (List ℕ)) (sizes : List ℕ) (u : Uber) (pool : OpenPool) (objects : Objects) (ready : IsOpen sizes pool) (left : LeavesRoot paths disks u pool) (held : HoldsObjects tells disks pool objects) where
+module _ (tells : Type 0) (paths disks : List (List ℕ)) (sizes : List ℕ) (u : Uber) (pool : OpenPool) (objects : Objects) (ready : IsOpen sizes pool) (on : AreInService (devices_in pool.space)) (left : LeavesRoot paths disks u pool) (held : HoldsObjects tells disks pool objects) where
   abbrev slots : List (Option ℕ)
   slots = slots_of u left.slots.seen
 
@@ -162,7 +162,7 @@ module _ (tells : Type 0) (paths disks : List (List ℕ)) (sizes : List ℕ) (u 
   objects_are : AreObjects (store_of (record { disks = disks; slots = slots; devices = devices_of counted.devs })) pool.dir objects
   objects_are =
       subst (λ (s : Stored). AreObjects s pool.dir objects)
-      (read_image sizes u pool ready left.from counted.devs rows_are disks ∙ store_same disks slots pool.table.slots (devices_of counted.devs) left.slots.slots)
+      (read_image sizes u pool ready on left.from counted.devs rows_are disks ∙ store_same disks slots pool.table.slots (devices_of counted.devs) left.slots.slots)
       (objects_meant tells disks pool objects left.empty held)
 
   abbrev state : PoolState
@@ -178,9 +178,9 @@ module _ (tells : Type 0) (paths disks : List (List ℕ)) (sizes : List ℕ) (u 
     root = root_left u pool left.records.parts;
     current = left.slots.current;
     stands = record {
-      head = (head_read sizes u pool ready left.from disks left.head).0;
+      head = (head_read sizes u pool ready on left.from disks left.head).0;
       reads = record {
-        head = subst (λ (s : Stored). HasBytes s (head_tree u) (head_bytes (head_of pool))) here (head_read sizes u pool ready left.from disks left.head).1;
+        head = subst (λ (s : Stored). HasBytes s (head_tree u) (head_bytes (head_of pool))) here (head_read sizes u pool ready on left.from disks left.head).1;
         words = left.records.words;
         streams = subst (λ (s : Stored). HaveWords s (head_of pool).streams left.records.words) here left.records.streams;
         parts = left.records.parts;
@@ -197,7 +197,7 @@ module _ (tells : Type 0) (paths disks : List (List ℕ)) (sizes : List ℕ) (u 
   checkpoint =
       let told : counted.ckpt ≡ pool.space.parts.ckpt = counted_ckpt (reset_of u == u.txg) left.records.parts ∙ left.records.spelled.ckpt_is in
       subst (λ (k : CkptPart). HasCheckpoint pool.space.parts.ckpt state.saved (is_discarding k)) (sym told)
-      (checkpoint_of paths disks slots (root_left u pool left.records.parts) (head_of pool).ckpt (head_of pool).saved left.saved left.state (head_read sizes u pool ready left.from disks left.head).0.saved left.beside left.means)
+      (checkpoint_of paths disks slots (root_left u pool left.records.parts) (head_of pool).ckpt (head_of pool).saved left.saved left.state (head_read sizes u pool ready on left.from disks left.head).0.saved left.beside left.means)
 
   pub left_is_shown : (p : PoolState) × Shows paths disks p × HoldsState tells disks pool p × (p.objects ≡ objects)
   left_is_shown = (state, shows, record { objects = held; checkpoint = checkpoint }, refl)

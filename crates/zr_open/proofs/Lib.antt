@@ -1,9 +1,8 @@
 pub mod Slots
-pub mod Rows
-pub mod Units
+pub mod Serving
+pub mod Streams
 pub mod Opening
 pub mod Views
-pub mod Marked
 pub mod Holding
 pub mod Showing
 pub mod Meant

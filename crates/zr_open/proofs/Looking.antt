@@ -10,7 +10,7 @@ use Rattle.zr_current.specs.Current.{HasSlots}
 use Rattle.zr_open.specs.Found.{FindsOn}
 use Rattle.zr_open.specs.Looked.{IsLooked, IsLookedAt}
 use Rattle.zr_open.specs.Opened.{HasBlock, IsNotServed, IsRefusedRoot, IsRefusedSaved}
-use Rattle.zr_open.specs.Roots.{Stands, image_of}
+use Rattle.zr_roots.specs.Standing.{Stands, image_of}
 use Rattle.zr_open.specs.declared.look.Looked.{Looked}
 use Rattle.zr_open.proofs.Beside.{beside_moved, head_moved, not_served_moved}
 
@@ -20,9 +20,9 @@ module _ (t1 t2 : Type 0) (disks1 disks2 : List (List ℕ)) (later : t2 → t1) 
     uber = h.uber;
     long = h.long;
     mounted = h.mounted;
-    on = h.on;
     head = h.head;
-    stands = λ t. subst (λ (ds : List (List ℕ)). Stands (image_of ds l.found.slots l.found.root) l.found.root l.root) (same_disks t) (h.stands (later t));
+    mapped = h.mapped;
+    stands = λ t. subst (λ (ds : List (List ℕ)). Stands ds l.found.slots l.found.root l.root) (same_disks t) (h.stands (later t));
     form = h.form;
     beside = beside_moved t1 t2 disks1 disks2 l.found.slots l.found.slots later same_disks (λ d. refl) l.found.root l.root l.beside h.beside;
     served = h.served;

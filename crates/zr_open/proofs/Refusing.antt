@@ -3,7 +3,7 @@ use Rattle.std.proofs.Common.{◌≡◌, ◌⊎◌, inl, inr, ℕ, ◌≤◌, Li
 use Rattle.zr_base.specs.declared.refusal.Refusal.{Refusal}
 use Rattle.zr_base.specs.declared.refusal.Refusal.TheVariants.{BadRoot, Damaged, GroupNotKept, NoCheckpoint, NoPoolOnDevices}
 use Rattle.zr_image.specs.Current.{AreTwoCopies, AreTwoPools, AreTwoRoots, ExcludesPair, ExcludesSlot, FindsCurrent, IsOldest, IsOnePool, slots_of}
-use Rattle.zr_import.specs.Causes.{HasCause, HasSavedCause, IsRule}
+use Rattle.zr_roots.specs.Causes.{IsSavedUnread, IsUnread}
 use Rattle.zr_import.specs.declared.errors.ImportErr.{ImportErr}
 use Rattle.zr_import.specs.declared.errors.ImportErr.TheVariants as error
 use Rattle.zr_label.specs.declared.root.Seen.{Seen}
@@ -12,7 +12,6 @@ use Rattle.zr_open.specs.Found.{FindsOn}
 use Rattle.zr_open.specs.Groups.{IsBackRefusal, ShowsNotKept}
 use Rattle.zr_open.specs.Rewound.{HasNoSaved}
 use Rattle.zr_open.specs.Opened.{IsImportRefusal, IsRefusedRoot, IsRefusedSaved, fault_of}
-use Rattle.zr_store.specs.Causes.{Account}
 use Rattle.zr_sync.specs.declared.fault.Fault.{Fault}
 use Rattle.zr_sync.specs.declared.fault.Fault.TheVariants.{No}
 
@@ -46,29 +45,22 @@ shown_refusal seen r result was (inl (k, known, inl (u, current, inl (one, pool,
 shown_refusal seen r result was (inl (k, known, inl (u, current, inl (one, pool, inl (there, devices, gives))))) = absurd cc
 
 -- what a root is not read for is what it may be refused for
-pub unread_root : {T : Type 0} (before now : Account) (e : ImportErr) (f : Fault) → HasCause {T = T} before now (Err e) → f ≡ fault_of e → (r : Refusal) → f ≡ No r → IsRefusedRoot r
-unread_root before now (error.Rule n) f cause is r given = let same : r ≡ BadRoot n = cc in inl (n, inl (cause.rule n refl), same)
-unread_root before now (error.Damaged at expected found) f cause is r given = let same : r ≡ Damaged at expected found = cc in inr (at, expected, found, cause.damaged at expected found refl, same)
-unread_root before now error.Failed f cause is r given = absurd cc
-unread_root before now error.NoMemory f cause is r given = absurd cc
+pub unread_root : {T : Type 0} (e : ImportErr) (f : Fault) → IsUnread {T = T} (Err e) → f ≡ fault_of e → (r : Refusal) → f ≡ No r → IsRefusedRoot r
+unread_root (error.Rule n) f cause is r given = let same : r ≡ BadRoot n = cc in inl (n, cause.rule n refl, same)
+unread_root (error.Damaged at expected found) f cause is r given = let same : r ≡ Damaged at expected found = cc in inr (at, expected, found, cause.damaged at expected found refl, same)
+unread_root error.Failed f cause is r given = absurd cc
+unread_root error.NoMemory f cause is r given = absurd cc
 
 -- and so is a saved root, by a rule of its own
-pub unread_saved : {T : Type 0} (before now : Account) (e : ImportErr) (f : Fault) → HasSavedCause {T = T} before now (Err e) → f ≡ fault_of e → (r : Refusal) → f ≡ No r → IsRefusedRoot r ⊎ (r ≡ BadRoot 8)
-unread_saved before now (error.Rule n) f cause is r given = let own : n ≡ 8 = cause.rule n refl in let same : r ≡ BadRoot 8 = cc in inr same
-unread_saved before now (error.Damaged at expected found) f cause is r given = let same : r ≡ Damaged at expected found = cc in inl (inr (at, expected, found, cause.damaged at expected found refl, same))
-unread_saved before now error.Failed f cause is r given = absurd cc
-unread_saved before now error.NoMemory f cause is r given = absurd cc
+pub unread_saved : {T : Type 0} (e : ImportErr) (f : Fault) → IsSavedUnread {T = T} (Err e) → f ≡ fault_of e → (r : Refusal) → f ≡ No r → IsRefusedRoot r ⊎ (r ≡ BadRoot 8)
+unread_saved (error.Rule n) f cause is r given = let own : n ≡ 8 = cause.rule n refl in let same : r ≡ BadRoot 8 = cc in inr same
+unread_saved (error.Damaged at expected found) f cause is r given = let same : r ≡ Damaged at expected found = cc in inl (inr (at, expected, found, cause.damaged at expected found refl, same))
+unread_saved error.Failed f cause is r given = absurd cc
+unread_saved error.NoMemory f cause is r given = absurd cc
 
 -- the root is what it may be refused for
 pub root_refusal : (r : Refusal) → IsRefusedRoot r → IsImportRefusal r
-root_refusal r (inl h) = named r (BadRoot h.0) h.2 (within h.0 h.1)
-  where
-    within : (n : ℕ) → IsRule n ⊎ (n ≡ 9) → (1 ≤ n) × (n ≤ 9)
-    within n (inr is) = (omega (arith, is), omega (arith, is))
-    within n (inl (inl is)) = (omega (arith, is), omega (arith, is))
-    within n (inl (inr (inl is))) = (omega (arith, is), omega (arith, is))
-    within n (inl (inr (inr (inl is)))) = (omega (arith, is), omega (arith, is))
-    within n (inl (inr (inr (inr is)))) = (omega (arith, is), omega (arith, is))
+root_refusal r (inl h) = named r (BadRoot h.0) h.2 (h.1.0, h.1.1)
 root_refusal r (inr h) = named r (Damaged h.0 h.1 h.2) h.4 h.3
 
 -- so is the one that it saved

@@ -26,6 +26,8 @@ use Rattle.zr_model.specs.Objects.{Objects}
 use Rattle.zr_model.specs.State.{PoolState}
 use Rattle.zr_root.specs.Streams.{HasBytes}
 use Rattle.zr_rules.specs.Devices.{devices_of}
+use Rattle.zr_rules.specs.Equation.{devices_in}
+use Rattle.zr_space.specs.Paths.{AreInService}
 use Rattle.zr_store.specs.Store.{Stored}
 use Rattle.zr_sync.specs.Heads.{HasHead, head_of}
 use Rattle.zr_sync.specs.Objects.{HoldsObjects}
@@ -36,7 +38,7 @@ use Rattle.zr_vdev.specs.Runs.{view_of}
 use Rattle.zr_open.proofs.Left.{counted_rows, head_read, objects_meant, parts_rows, read_image, rows_in}
 use Rattle.zr_open.proofs.Views.{store_same}
 use Rattle.zr_current.specs.Current.{GoesOnFrom, IsCurrentOn}
-use Rattle.zr_open.specs.Roots.{image_of}
+use Rattle.zr_roots.specs.Standing.{image_of}
 use Rattle.zr_open.specs.Shown.{Shows}
 
 -- ---- one head
@@ -94,7 +96,7 @@ module _ (s : Stored) (t : Tree) (table other : List DevRow) (h k : Head) (lawfu
 
 -- ---- what is shown
 
-module _ (paths disks : List (List ℕ)) (sizes : List ℕ) (u : Uber) (pool : OpenPool) (objects : Objects) (p : PoolState) (ready : IsOpen sizes pool) (from : GoesOnFrom u pool) (empty : pool.group.objects ≡ [])
+module _ (paths disks : List (List ℕ)) (sizes : List ℕ) (u : Uber) (pool : OpenPool) (objects : Objects) (p : PoolState) (ready : IsOpen sizes pool) (on : AreInService (devices_in pool.space)) (from : GoesOnFrom u pool) (empty : pool.group.objects ≡ [])
     (only : IsCurrentOn disks u pool) (head : HasHead disks pool u.root u.len) (held : HoldsObjects (Unit {0}) disks pool objects) (shows : Shows paths disks p) where
   abbrev root : image.Root
   root = shows.root
@@ -119,7 +121,7 @@ module _ (paths disks : List (List ℕ)) (sizes : List ℕ) (u : Uber) (pool : O
 
   same_dir : root.head.dir ≡ pool.dir
   same_dir =
-      let own = head_read sizes u pool ready from disks head in
+      let own = head_read sizes u pool ready on from disks head in
       one_directory (image_of disks pool.table.slots u) (head_tree u) (rows_of u) (rows_of u) root.head (head_of pool) read_head own.0
       (subst (λ (s : Stored). HasBytes s (head_tree u) (head_bytes root.head)) (sym here) reads.head) own.1
 
@@ -132,7 +134,7 @@ module _ (paths disks : List (List ℕ)) (sizes : List ℕ) (u : Uber) (pool : O
   shown_objects =
       subst (λ (t : Tree). AreObjects (store_of (view_of disks pool.table.slots pool.space)) t p.objects) same_dir
       (subst (λ (s : Stored). AreObjects s root.head.dir p.objects)
-      (sym (read_image sizes u pool ready from root.parts.devs rows_are disks ∙ store_same disks these pool.table.slots (devices_of root.parts.devs) (only.slots shows.seen shows.shown))) objects_are)
+      (sym (read_image sizes u pool ready on from root.parts.devs rows_are disks ∙ store_same disks these pool.table.slots (devices_of root.parts.devs) (only.slots shows.seen shows.shown))) objects_are)
 
   pub shown_is_held : p.objects ≡ objects
   shown_is_held = one_meaning (store_of (view_of disks pool.table.slots pool.space)) pool.dir p.objects objects shown_objects (objects_meant (Unit {0}) disks pool objects empty held)

@@ -1,6 +1,6 @@
 -- The pool that the disks show, and that the opened one holds.
 use Rattle.std.proofs.Common.{◌≡◌, ◌==◌, inl, inr, ℕ, Bool, true, false, if◌then◌else◌, List, map, length, Option, Some, None, Ok, refl, sym, ◌∙◌, ap, subst, arith}
-use Rattle.std.specs.Prelude.{slice_index_or}
+use Rattle.std.specs.Prelude.{All, slice_index_or}
 use Rattle.std.proofs.lemmas.Bool.{cases_lt}
 use Rattle.std.proofs.Math.ListN.{get_or-eq_default}
 use Rattle.zr_base.specs.declared.space.CkptPart.{CkptPart}
@@ -10,12 +10,14 @@ use Rattle.zr_base.specs.declared.space.DevPart.{DevPart}
 use Rattle.zr_base.specs.declared.space.DevRow.{DevRow}
 use Rattle.zr_base.specs.declared.space.SpaceParts.{SpaceParts}
 use Rattle.zr_image.specs.Current.{FindsCurrent, ShowsAll, reset_of, row_at, slots_of}
-use Rattle.zr_image.specs.Reading.{bare_devices, store_of}
+use Rattle.zr_image.specs.Reading.{store_of}
+use Rattle.zr_roots.specs.Devices.{HasRows}
 use Rattle.zr_image.specs.Roots as image
 use Rattle.zr_image.specs.Roots.{rows_of}
 use Rattle.zr_image.specs.StateOf.{AreObjects, IsSaved, devices_at, is_discarding}
 use Rattle.zr_import.specs.Directories.{IsInPlace}
-use Rattle.zr_import.specs.Units.{MarksHeld}
+use Rattle.zr_import.specs.Spending.{MarksHeld}
+use Rattle.zr_judge.specs.Parts.{HasMapping}
 use Rattle.zr_import.specs.declared.roots.Root.{Root}
 use Rattle.zr_label.specs.Blocks.{IsUber, name_of, no_row}
 use Rattle.zr_label.specs.declared.root.Seen.{Seen}
@@ -27,7 +29,6 @@ use Rattle.zr_model.specs.State as model
 use Rattle.zr_model.specs.State.{PoolState}
 use Rattle.zr_objset.specs.Records.{all_reach}
 use Rattle.zr_rules.specs.Devices.{devices_of}
-use Rattle.zr_rules.specs.Equation.{devices_in}
 use Rattle.zr_rules.specs.Places.{no_part, part_of}
 use Rattle.zr_store.specs.Store.{Stored}
 use Rattle.zr_sync.specs.Objects.{HoldsObjects}
@@ -35,20 +36,21 @@ use Rattle.zr_sync.specs.Pools.{IsOpen}
 use Rattle.zr_sync.specs.States.{HasCheckpoint, HoldsState}
 use Rattle.zr_sync.specs.declared.open.OpenPool.{OpenPool}
 use Rattle.zr_vdev.specs.Runs.{view_of}
-use Rattle.zr_open.proofs.Holding.{same_store, objects_held, objects_are, found}
-use Rattle.zr_open.proofs.Rows.{past_rows}
+use Rattle.zr_open.proofs.Holding.{objects_held, objects_are, found}
+use Rattle.zr_roots.proofs.Rows.{past_rows}
 use Rattle.zr_open.proofs.Views.{stands_same, store_same}
 use Rattle.zr_current.specs.Current.{HasSlots}
 use Rattle.zr_open.specs.Opened.{IsFresh}
-use Rattle.zr_open.specs.Roots.{HasParts, IsBeside, IsSavedRoot, Stands, image_of, told_root}
+use Rattle.zr_roots.specs.Standing.{Stands, blocks_of}
+use Rattle.zr_open.specs.Roots.{HasParts, IsBeside, IsSavedRoot, told_root}
 use Rattle.zr_open.specs.Shown.{IsShownBeside, Shows}
 use Rattle.zr_open.specs.declared.saved.SavedRoot.{SavedRoot}
 
 -- ---- a pool holds the objects of its root
 
 module _ (tells : Type 0) (told : tells) (disks : List (List ℕ)) (sizes : List ℕ) (sized : map length disks ≡ sizes) (u : Uber) (pool : OpenPool) (root : Root) (meta : List Dva) (is : IsUber u) (ready : IsOpen sizes pool)
-    (fresh : IsFresh u pool) (parts : HasParts root meta pool) (stands : Stands (image_of disks pool.table.slots u) u root) where
-  rows : (d : ℕ) → (part_of pool.space.parts.devs d).row ≡ row_at u d
+    (fresh : IsFresh u pool) (parts : HasParts root meta pool) (mapped : All HasMapping root.parts.devs) (stands : Stands disks pool.table.slots u root) where
+  pub rows : (d : ℕ) → (part_of pool.space.parts.devs d).row ≡ row_at u d
   rows d = elim (cases_lt d u.count) [
     | inl lt ↦ ready.rows d (let n = fresh.count in omega (arith, n, lt)) ∙ ap (λ (rs : List DevRow). slice_index_or rs d no_row) fresh.rows
     | inr ge ↦
@@ -56,24 +58,28 @@ module _ (tells : Type 0) (told : tells) (disks : List (List ℕ)) (sizes : List
         ap (λ (p : DevPart). p.row) (get_or-eq_default pool.space.parts.devs no_part {n = d} (omega (arith, n, m, ge))) ∙ sym (past_rows u is d ge)
   ]
 
-  image_is : store_of (view_of disks pool.table.slots pool.space) ≡ image_of disks pool.table.slots u
-  image_is = same_store disks pool.table.slots (devices_in pool.space) (bare_devices u) (ready.devices ∙ fresh.count) rows ready.service
+  -- the parts have the rows of the root
+  pub own_rows : HasRows u root.parts.devs
+  own_rows = subst (λ (ps : SpaceParts). HasRows u ps.devs) parts.space.parts_are (record { count = ready.devices ∙ fresh.count; each = λ d lt. rows d })
 
-  pub held : MarksHeld u.txg root.parts.devs (all_reach (store_of (view_of disks pool.table.slots pool.space)) root.head.dir)
-  held = subst (λ (s : Stored). MarksHeld u.txg root.parts.devs (all_reach s root.head.dir)) (sym image_is) stands.held
+  image_is : store_of (view_of disks pool.table.slots pool.space) ≡ blocks_of disks pool.table.slots root
+  image_is = ap (λ (ps : SpaceParts). store_of (record { disks = disks; slots = pool.table.slots; devices = devices_of ps.devs })) parts.space.parts_are
+
+  pub held : MarksHeld u.txg root.parts root.meta (all_reach (store_of (view_of disks pool.table.slots pool.space)) root.head.dir)
+  held = subst (λ (s : Stored). MarksHeld u.txg root.parts root.meta (all_reach s root.head.dir)) (sym image_is) stands.held
 
   pub place : IsInPlace (store_of (view_of disks pool.table.slots pool.space)) root.head.dir
   place = subst (λ (s : Stored). IsInPlace s root.head.dir) (sym image_is) stands.place
 
   abbrev pub objects : Objects
-  objects = (found tells told disks sizes sized pool root meta u.txg ready parts.space parts.dir fresh.empty fresh.cache held place).objects
+  objects = (found tells told disks sizes sized pool root meta u.txg ready parts.space parts.dir fresh.empty fresh.cache mapped held place).objects
 
   pub holds : HoldsObjects tells disks pool objects
-  holds = objects_held tells told disks sizes sized pool root meta u.txg ready parts.space parts.dir fresh.empty fresh.cache held place
+  holds = objects_held tells told disks sizes sized pool root meta u.txg ready parts.space parts.dir fresh.empty fresh.cache mapped held place
 
   pub are : AreObjects (store_of (record { disks = disks; slots = pool.table.slots; devices = devices_of root.parts.devs })) root.head.dir objects
   are = subst (λ (ps : SpaceParts). AreObjects (store_of (record { disks = disks; slots = pool.table.slots; devices = devices_of ps.devs })) root.head.dir objects) parts.space.parts_are
-      (objects_are tells told disks sizes sized pool root meta u.txg ready parts.space parts.dir fresh.empty fresh.cache held place)
+      (objects_are tells told disks sizes sized pool root meta u.txg ready parts.space parts.dir fresh.empty fresh.cache mapped held place)
 
 -- ---- the saved root
 
@@ -129,14 +135,14 @@ checkpoint_of paths disks slots whole Discarding (Some block) r s is beside save
 module _ (tells : Type 0) (told : tells) (paths disks : List (List ℕ)) (sizes : List ℕ) (sized : map length disks ≡ sizes) (u : Uber) (pool : OpenPool) (root : Root) (seen : List Seen)
     (shown : ShowsAll disks seen) (current : FindsCurrent seen (Ok u)) (slots : HasSlots (slots_of u seen) pool.table.slots) (is : IsUber u) (head : IsHead (rows_of u) root.head) (meta : List Dva)
     (saved : ShowsSaved paths disks (slots_of u seen) (told_root u root)) (ready : IsOpen sizes pool) (fresh : IsFresh u pool) (parts : HasParts root meta pool)
-    (stands : Stands (image_of disks pool.table.slots u) u root) where
+    (mapped : All HasMapping root.parts.devs) (stands : Stands disks pool.table.slots u root) where
   abbrev own : Objects
-  own = objects tells told disks sizes sized u pool root meta is ready fresh parts stands
+  own = objects tells told disks sizes sized u pool root meta is ready fresh parts mapped stands
 
   own_are : AreObjects (store_of (record { disks = disks; slots = slots_of u seen; devices = devices_of root.parts.devs })) root.head.dir own
   own_are =
       subst (λ (s : Stored). AreObjects s root.head.dir own) (store_same disks (slots_of u seen) pool.table.slots (devices_of root.parts.devs) slots)
-      (are tells told disks sizes sized u pool root meta is ready fresh parts stands)
+      (are tells told disks sizes sized u pool root meta is ready fresh parts mapped stands)
 
   abbrev pub state : PoolState
   state = record { guid = u.guid; name = name_of u.name; objects = own; saved = saved.state; devs = devices_at paths (slots_of u seen) u; discarding = is_discarding root.parts.ckpt }
@@ -154,7 +160,7 @@ module _ (tells : Type 0) (told : tells) (paths disks : List (List ℕ)) (sizes 
   }
 
   pub shows : (p : PoolState) × Shows paths disks p × HoldsObjects tells disks pool p.objects
-  shows = (state, shows_it, holds tells told disks sizes sized u pool root meta is ready fresh parts stands)
+  shows = (state, shows_it, holds tells told disks sizes sized u pool root meta is ready fresh parts mapped stands)
 
   -- how the checkpoint stands
   pub checkpoint : HasCheckpoint pool.space.parts.ckpt state.saved state.discarding
@@ -166,4 +172,4 @@ module _ (tells : Type 0) (told : tells) (paths disks : List (List ℕ)) (sizes 
       (checkpoint_of paths disks (slots_of u seen) (told_root u root) root.head.ckpt root.head.saved saved.root saved.state head.saved saved.shown saved.is))
 
   pub shows_state : (p : PoolState) × Shows paths disks p × HoldsState tells disks pool p
-  shows_state = (state, shows_it, record { objects = holds tells told disks sizes sized u pool root meta is ready fresh parts stands; checkpoint = checkpoint })
+  shows_state = (state, shows_it, record { objects = holds tells told disks sizes sized u pool root meta is ready fresh parts mapped stands; checkpoint = checkpoint })

@@ -20,7 +20,7 @@ use Rattle.zr_view.specs.Views.{slot_of}
 use Rattle.zr_sync.specs.declared.fault.Fault.{Fault}
 use Rattle.zr_sync.specs.declared.fault.Fault.TheVariants.{No}
 use Rattle.zr_current.specs.Current.{HasSlots}
-use Rattle.zr_open.specs.Found.{HasItsDisks}
+use Rattle.zr_roots.specs.Devices.{HasItsDisks}
 
 true_or_false : (b : Bool) → (b ≡ true) ⊎ (b ≡ false)
 true_or_false true = inl refl

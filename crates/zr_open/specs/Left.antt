@@ -21,7 +21,7 @@ use Rattle.zr_sync.specs.Heads.{HasHead, head_of}
 use Rattle.zr_sync.specs.declared.open.DeviceStreams.{DeviceStreams}
 use Rattle.zr_sync.specs.declared.open.OpenPool.{OpenPool}
 use Rattle.zr_current.specs.Current.{GoesOnFrom, IsShownFor}
-use Rattle.zr_open.specs.Roots.{image_of}
+use Rattle.zr_roots.specs.Standing.{image_of}
 use Rattle.zr_open.specs.Shown.{IsShownBeside}
 
 -- The device is in service. The words of its streams stand in the store, and record this part of a space.

@@ -1,61 +1,53 @@
 -- A pool as it is opened, and why a root is not.
-use Rattle.std.specs.Prelude.{◌≡◌, ◌≢◌, ◌⊎◌, ℕ, ◌+◌, ◌<◌, ◌≤◌, List, [], length, Option, Some, IsTrue}
-use Rattle.std.specs.List.{list_all}
-use Rattle.zr_base.specs.declared.space.DevPart.{DevPart}
+use Rattle.std.specs.Prelude.{◌≡◌, ◌≢◌, ◌⊎◌, ℕ, ◌+◌, ◌≤◌, List, [], Option, Some}
 use Rattle.zr_base.specs.declared.refusal.Refusal.{Refusal}
 use Rattle.zr_base.specs.declared.refusal.Refusal.TheVariants.{BadRoot, Damaged, MissingDevice, NoPoolOnDevices, TwoPools, UnknownVersion}
 use Rattle.zr_base.specs.declared.space.Dva.{Dva}
 use Rattle.zr_label.specs.Blocks.{SpellsUber}
 use Rattle.zr_label.specs.declared.root.Uber.{Uber}
 use Rattle.zr_cache.specs.Entries.{entries}
-use Rattle.zr_image.specs.Current.{row_at}
 use Rattle.zr_image.specs.Reading.{bare_devices, store_of}
 use Rattle.zr_image.specs.Roots.{head_tree, rows_of}
-use Rattle.zr_import.specs.Causes.{IsRule}
 use Rattle.zr_import.specs.declared.errors.ImportErr.{ImportErr}
+use Rattle.zr_import.specs.declared.roots.Root.{Root}
+use Rattle.zr_roots.specs.Causes.{IsRootRule}
+use Rattle.zr_roots.specs.Devices.{HasRows}
+use Rattle.zr_sync.specs.Heads.{cond_at}
 use Rattle.zr_import.specs.declared.errors.ImportErr.TheVariants as error
 use Rattle.zr_meta.specs.Heads.{IsHead, head_bytes}
 use Rattle.zr_meta.specs.declared.Head.{Head}
 use Rattle.zr_rules.specs.Columns.{free_units, sizes}
 use Rattle.zr_rules.specs.Owed.{owed}
 use Rattle.zr_root.specs.Streams.{HasBytes}
-use Rattle.zr_rules.specs.Equation.{devices_in}
-use Rattle.zr_rules.specs.Places.{is_on, part_of}
 use Rattle.zr_rules.specs.Space.{Space, IsLawful}
-use Rattle.zr_space.specs.Paths.{AreInService}
 use Rattle.zr_sync.specs.declared.fault.Fault.{Fault}
 use Rattle.zr_sync.specs.declared.fault.Fault.TheVariants.{No, Stops}
 use Rattle.zr_sync.specs.declared.open.OpenPool.{OpenPool}
 use Rattle.zr_sync.specs.declared.stop.Stop.TheVariants as stop
 
--- there are as many parts as devices of the root, each with its row
-pub record HasRows (u : Uber) (devs : List DevPart) : Type 0 where
-  pub count : length devs ≡ u.count
-  pub each : (d : ℕ) → d < u.count → (part_of devs d).row ≡ row_at u d
-
--- all devices of the root are in service
-abbrev pub AreOn : Uber → Type 0
-AreOn u = IsTrue (list_all (λ r. is_on r.state) (rows_of u))
-
--- a lawful space of the devices of the root, which are in service
+-- a lawful space of the devices of the root
 pub record IsSpaceOf (u : Uber) (s : Space) : Type 0 where
   pub version : s.parts.version ≡ u.version
   pub rows : HasRows u s.parts.devs
   pub lawful : IsLawful s
-  pub service : AreInService (devices_in s)
 
 -- the head stands in the tree of the root
 pub record IsHeadOn (disks : List (List ℕ)) (slots : List (Option ℕ)) (u : Uber) (h : Head) : Type 0 where
   pub lawful : IsHead (rows_of u) h
   pub stands : HasBytes (store_of (record { disks = disks; slots = slots; devices = bare_devices u })) (head_tree u) (head_bytes h)
 
+-- what the root records of the checkpoint and of the condensing is what its head tells
+pub record IsAsTold (r : Root) : Type 0 where
+  pub ckpt : r.parts.ckpt ≡ r.head.ckpt
+  pub cond : cond_at r.parts.cond ≡ r.head.cond
+
 -- the late sets of the head count
 abbrev pub IsServed : Head → Type 0
 IsServed h = h.form ≡ 2
 
--- a device of the root is leaving or gone, or the head that stands there is not served
+-- the head that stands there is not served
 abbrev pub IsNotServedRoot : Type 0 → List (List ℕ) → List (Option ℕ) → Uber → Type 0
-IsNotServedRoot tells disks slots u = (¬ AreOn u) ⊎ ((h : Head) × (tells → IsHeadOn disks slots u h) × ¬ IsServed h)
+IsNotServedRoot tells disks slots u = (h : Head) × (tells → IsHeadOn disks slots u h) × ¬ IsServed h
 
 -- the head that stands there has this block of a saved root
 abbrev pub HasBlock : Type 0 → List (List ℕ) → List (Option ℕ) → Uber → List ℕ → Type 0
@@ -84,7 +76,7 @@ pub record IsFresh (u : Uber) (pool : OpenPool) : Type 0 where
 
 -- a root is refused for a rule that it breaks, or for a block whose bytes have another sum than its pointer says
 abbrev pub IsRefusedRoot : Refusal → Type 0
-IsRefusedRoot r = ((n : ℕ) × (IsRule n ⊎ (n ≡ 9)) × (r ≡ BadRoot n)) ⊎ ((at : Dva) × (expected : List ℕ) × (found : List ℕ) × (expected ≢ found) × (r ≡ Damaged at expected found))
+IsRefusedRoot r = ((n : ℕ) × IsRootRule n × (r ≡ BadRoot n)) ⊎ ((at : Dva) × (expected : List ℕ) × (found : List ℕ) × (expected ≢ found) × (r ≡ Damaged at expected found))
 
 -- a root beside this metadata of a saved one is refused for itself, or where there is such metadata, for the saved one
 abbrev pub MayRefuse : List Dva → Refusal → Type 0

@@ -1,6 +1,5 @@
 -- The root of a checkpoint that is gone back to.
-use Rattle.std.specs.Prelude.{◌≡◌, ℕ, ◌+◌, nat_lt, List, Option, Some, None, if◌then◌else◌}
-use Rattle.zr_view.specs.Views.{slot_of}
+use Rattle.std.specs.Prelude.{◌≡◌, ℕ, ◌+◌, List, Option, Some, None}
 use Rattle.zr_label.specs.declared.root.Uber.{Uber}
 use Rattle.zr_label.specs.Blocks.{SpellsUber}
 use Rattle.zr_model.specs.State.{PoolState, Saved}
@@ -10,6 +9,7 @@ use Rattle.zr_moves.specs.Answers as moves
 use Rattle.zr_sync.specs.States.{HoldsState}
 use Rattle.zr_sync.specs.declared.open.OpenPool.{OpenPool}
 use Rattle.zr_meta.specs.declared.Head.{Head}
+use Rattle.zr_roots.specs.Devices.{IsCut}
 use Rattle.zr_open.specs.Opened.{HasBlock, IsFresh, IsHeadOn}
 use Rattle.zr_open.specs.Shown.{Shows}
 
@@ -33,14 +33,14 @@ pub record IsShownBehind (sizes : List ℕ) (last : Uber) (pool : OpenPool) (bef
   pub still : IsStill before read
   pub shown : IsShownFrom sizes (record pool { last = Some last }) root read now
 
--- The pool is that of the root which the head of the current one has saved, one group above that, as a reset. It has no slot of a device that was added since.
+-- The pool is that of the root which the head of the current one has saved, one group above that, as a reset. It has no slot of a device that was added since, or that had gone then.
 pub record IsRewound (tells : Type 0) (disks : List (List ℕ)) (slots : List (Option ℕ)) (u : Uber) (pool : OpenPool) : Type 0 where
   pub block : List ℕ
   pub has : HasBlock tells disks slots u block
   pub saved : Uber
   pub spelled : SpellsUber block saved
   pub fresh : IsFresh (rewound saved (u.txg + 1)) pool
-  pub first : (d : ℕ) → slot_of pool.table.slots d ≡ (if nat_lt d saved.count then slot_of slots d else None)
+  pub own : IsCut saved slots pool.table.slots
 
 -- what the disks show holds no checkpoint
 abbrev pub ShowsNoSaved : List (List ℕ) → List (List ℕ) → Type 0

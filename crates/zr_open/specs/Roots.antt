@@ -1,5 +1,5 @@
 -- What the disks have of a root, and the pool that is opened from it.
-use Rattle.std.specs.Prelude.{◌≡◌, ℕ, ◌*◌, List, [], length, map, take, Option, Some, None, is_some}
+use Rattle.std.specs.Prelude.{◌≡◌, ℕ, ◌++◌, List, [], All, Option, Some, None, is_some}
 use Rattle.zr_base.specs.declared.space.CkptPart.TheVariants.{Clear, Held}
 use Rattle.zr_base.specs.declared.space.Dva.{Dva}
 use Rattle.zr_image.specs.Roots as image
@@ -8,39 +8,27 @@ use Rattle.zr_image.specs.StateOf.{AreObjects}
 use Rattle.zr_label.specs.Blocks.{IsUber, SpellsUber}
 use Rattle.zr_meta.specs.Heads.{IsHead}
 use Rattle.zr_model.specs.Objects.{Objects}
-use Rattle.zr_open.specs.Opened.{AreOn, CoversOwed, IsNotServedRoot, IsServed}
+use Rattle.zr_open.specs.Opened.{CoversOwed, IsNotServedRoot, IsServed}
 use Rattle.zr_open.specs.declared.saved.SavedRoot.{SavedRoot}
 use Rattle.zr_open.specs.declared.saved.Beside.{Beside}
 use Rattle.zr_open.specs.declared.saved.Beside.TheVariants.{Alone, Saved, NotServed}
 use Rattle.zr_rules.specs.Devices.{devices_of}
 use Rattle.zr_rules.specs.Space.{Space}
-use Rattle.std.specs.List.{flat_map}
 use Rattle.zr_bptr.specs.declared.Bptr.{Bptr}
 use Rattle.zr_label.specs.declared.root.Uber.{Uber}
 use Rattle.zr_image.specs.Reading.{bare_devices, store_of}
 use Rattle.zr_import.specs.Directories.{IsInPlace}
-use Rattle.zr_import.specs.Units.{HasOlder, HaveHeld, MarksHeld}
+use Rattle.zr_import.specs.Spending.{HasOlder, HaveHeld, MarksHeld}
 use Rattle.zr_import.specs.Words.{ReadsMeta, meta_reach}
 use Rattle.zr_import.specs.declared.roots.Root.{Root}
+use Rattle.zr_judge.specs.Parts.{HasMapping}
+use Rattle.zr_roots.specs.Standing.{Stands, blocks_of}
 use Rattle.zr_objset.specs.Records.{all_reach}
 use Rattle.zr_space.specs.Opens.{IsOpened}
 use Rattle.zr_store.specs.Store.{Stored}
-use Rattle.zr_sync.specs.Heads.{streams_in}
+use Rattle.zr_sync.specs.Heads.{cond_streams, head_of, streams_of}
 use Rattle.zr_sync.specs.declared.open.Checkpoint.{Checkpoint}
 use Rattle.zr_sync.specs.declared.open.OpenPool.{OpenPool}
-
--- the disks as a store of blocks, by the devices of a root, which have no mappings
-abbrev pub image_of : List (List ℕ) → List (Option ℕ) → Uber → Stored
-image_of disks slots u = store_of (record { disks = disks; slots = slots; devices = bare_devices u })
-
--- What stands in the trees of the root: its head, what the words of its streams record, and the addresses of these blocks. The held units are just those to which the
--- directory and its objects lead, and their leaves stand where they may.
-pub record Stands (s : Stored) (u : Uber) (r : Root) : Type 0 where
-  pub reads : ReadsMeta s u r.head r.parts
-  pub meta : r.meta ≡ map (λ (b : Bptr). b.at) (meta_reach s u r.head)
-  pub held : MarksHeld u.txg r.parts.devs (all_reach s r.head.dir)
-  pub place : IsInPlace s r.head.dir
-  pub older : (since : ℕ) → r.parts.ckpt ≡ Held since → HasOlder u.txg since r.parts.devs (all_reach s r.head.dir) r.older
 
 -- the metadata of the root that is saved, if there is one
 abbrev pub meta_of : Option SavedRoot → List Dva
@@ -50,13 +38,13 @@ meta_of (Some saved) = saved.root.meta
 -- the pool has the directory, the streams and the space that the root records, beside this metadata of the saved one, and nothing is opened
 pub record HasParts (r : Root) (saved : List Dva) (pool : OpenPool) : Type 0 where
   pub dir : pool.dir ≡ r.head.dir
-  pub streams : flat_map streams_in pool.streams.items ≡ take (4 * length pool.streams.items) r.head.streams
+  pub streams : (head_of pool).streams ≡ r.head.streams
   pub space : IsOpened r.parts r.meta saved pool.space
 
 -- where the metadata of a saved root lies: its head, and the streams of its devices
 pub record HasTrees (s : SavedRoot) (c : Checkpoint) : Type 0 where
   pub head : c.head ≡ head_tree s.uber
-  pub streams : flat_map streams_in c.streams.items ≡ take (4 * s.uber.count) s.root.head.streams
+  pub streams : streams_of (rows_of s.uber) c.streams.items ++ cond_streams s.root.head.cond c.cond ≡ s.root.head.streams
 
 -- what an open pool keeps of the root that is saved, if there is one
 abbrev pub IsKept : Option SavedRoot → Option Checkpoint → Type 0
@@ -69,10 +57,9 @@ IsKept (Some s) (Some c) = HasTrees s c
 abbrev pub HasSaved : Option (List ℕ) → Option SavedRoot → Type 0
 HasSaved block saved = is_some block ≡ is_some saved
 
--- a saved root whose devices are all in service, with a head that may be served
+-- a saved root with a head that may be served
 pub record IsLawfulSaved (s : SavedRoot) : Type 0 where
   pub uber : IsUber s.uber
-  pub on : AreOn s.uber
   pub head : IsHead (rows_of s.uber) s.root.head
   pub served : IsServed s.root.head
 
@@ -81,17 +68,16 @@ abbrev pub told_root : Uber → Root → image.Root
 told_root u r = record { uber = u; head = r.head; parts = r.parts; meta = []; live = [] }
 
 -- The root in the block of a held checkpoint, as it stands on the disks. It is an older root of the pool, whose devices are still there; by itself it could be opened,
--- and its disks mean some objects. It holds no checkpoint and condenses nothing, and has just the held units that no block of the current root has which was born later.
+-- and its disks mean some objects. It holds no checkpoint, and has just the held units that no block of the current root has which was born later.
 pub record IsSavedRoot (tells : Type 0) (disks : List (List ℕ)) (slots : List (Option ℕ)) (u : Uber) (r : Root) (block : List ℕ) (saved : SavedRoot) : Type 0 where
   pub is_saved : IsSavedUber (told_root u r) block saved.uber
-  pub on : AreOn saved.uber
   pub head : IsHead (rows_of saved.uber) saved.root.head
-  pub stands : tells → Stands (image_of disks slots saved.uber) saved.uber saved.root
-  pub objects : tells → (os : Objects) × AreObjects (store_of (record { disks = disks; slots = slots; devices = devices_of saved.root.parts.devs })) saved.root.head.dir os
+  pub mapped : All HasMapping saved.root.parts.devs
+  pub stands : tells → Stands disks slots saved.uber saved.root
+  pub objects : tells → (os : Objects) × AreObjects (blocks_of disks slots saved.root) saved.root.head.dir os
   pub space : (s : Space) × IsOpened saved.root.parts saved.root.meta [] s × CoversOwed s
   pub served : IsServed saved.root.head
   pub clear : saved.root.parts.ckpt ≡ Clear
-  pub quiet : saved.root.parts.cond ≡ None
   pub fits : HaveHeld r.older saved.root.parts.devs
 
 -- there is a saved root exactly where the head has a block of one
@@ -117,7 +103,7 @@ saved_in NotServed = None
 pub record IsOfRoot (tells : Type 0) (disks : List (List ℕ)) (slots : List (Option ℕ)) (u : Uber) (pool : OpenPool) : Type 0 where
   pub last : pool.last ≡ Some u
   pub root : Root
-  pub stands : tells → Stands (image_of disks slots u) u root
+  pub stands : tells → Stands disks slots u root
   pub saved : Option SavedRoot
   pub beside : IsBeside tells disks slots u root root.head.saved saved
   pub parts : HasParts root (meta_of saved) pool

@@ -4,7 +4,8 @@ use Rattle.zr_image.specs.Current.{FindsCurrent, slots_of}
 use Rattle.zr_label.specs.Blocks.{IsUber}
 use Rattle.zr_slots.specs.Checks.{AreLawful}
 use Rattle.zr_current.specs.Current.{HasSlots}
-use Rattle.zr_open.specs.Found.{HasItsDisks, IsSeen}
+use Rattle.zr_roots.specs.Devices.{HasItsDisks}
+use Rattle.zr_open.specs.Found.{IsSeen}
 use Rattle.zr_open.specs.declared.find.Scanned.{Scanned}
 
 -- Each slot shows what its disk can show, and by that a root is current, each of whose devices has its disk.

@@ -8,7 +8,7 @@ use Rattle.zr_label.specs.declared.root.Uber.{Uber}
 use Rattle.zr_image.specs.Roots.{Root, rows_of, IsSavedUber}
 use Rattle.zr_image.specs.StateOf.{Means}
 use Rattle.zr_import.specs.Words.{ReadsMeta}
-use Rattle.zr_open.specs.Roots.{image_of}
+use Rattle.zr_roots.specs.Standing.{image_of}
 
 -- In the trees of the root stand its head and the words of its parts.
 pub record IsShownRoot (disks : List (List ℕ)) (slots : List (Option ℕ)) (root : Root) : Type 0 where

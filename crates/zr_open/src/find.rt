@@ -12,7 +12,8 @@ ghost use Rattle.zr_shelf.specs.Moments.{IsStill};
 ghost use Rattle.zr_sync.specs.declared.fault.Fault.TheVariants.{No, Stops};
 ghost use Rattle.zr_sync.specs.declared.stop.Stop.TheVariants.{DiskFault};
 ghost use Rattle.zr_current.specs.Current.{HasSlots};
-ghost use Rattle.zr_open.specs.Found.{FindsOn, HasItsDisks};
+ghost use Rattle.zr_roots.specs.Devices.{HasItsDisks};
+ghost use Rattle.zr_open.specs.Found.{FindsOn};
 ghost use Rattle.zr_open.specs.Scanned.{IsScanned};
 
 use std::alloc::Global;

@@ -6,8 +6,6 @@
 ghost use Rattle.std.specs.Prelude.{◌≡◌, ◌⊎◌, ◌+◌, ◌≤◌, ◌^◌, length, None, Ok, Err, Some, IfOk, IfSome, IfNone, IsErrOf};
 ghost use Rattle.zr_base.specs.Counts.{HasRisen};
 ghost use Rattle.zr_base.specs.declared.refusal.Refusal.{Refusal};
-ghost use Rattle.zr_base.specs.declared.refusal.Refusal.TheVariants.{BadRoot};
-ghost use Rattle.zr_image.specs.Checks.{Demands};
 ghost use Rattle.zr_image.specs.Current.{IsGroup, slots_of};
 ghost use Rattle.zr_label.specs.declared.root.Uber.{Uber};
 ghost use Rattle.zr_shelf.specs.Counts.{NoneFell};
@@ -29,22 +27,10 @@ use crate::pool::open;
 use crate::rewinds::{rewound, show};
 use crate::saved::{checkpoint_of, saved_meta};
 use std::alloc::Global;
-use zr_base::Refusal;
-use zr_import::Root;
 use zr_label::Uber;
 use zr_shelf::Shelf;
 use zr_slots::{Found, kept_root};
 use zr_sync::{Fault, OpenPool};
-
-// Refuses a root that condenses a mapping, since no device of it is gone.
-fn is_quiet(root: &Root) -> Result<(), Refusal>
-    ensures { Demands (root.now.parts.cond ≡ None) (BadRoot 5) result }
-{
-    if root.parts.cond.is_some() {
-        return Err(Refusal::BadRoot { rule: 5 });
-    }
-    Ok(())
-}
 
 // Opens a root that was looked at as the current one: one group above that, and as a reset.
 fn reset<S: Shelf>(
@@ -68,9 +54,8 @@ fn reset<S: Shelf>(
     ensures objects { S.tells shelf.old → IsLookedAt (S.sizes shelf.old) (Unit {0}) (S.world shelf.old).now.seen then.old → IfOk result (HoldsRoot (S.world shelf.old).now.seen (S.tells shelf.new) (S.world shelf.new).now.seen then.old) }
     ensures room { IfOk result (λ pool. CoversOwed pool.space) }
     ensures groups { IfOk result (λ pool. pool.group.txg ≤ 2 ^ 63 + 1) }
-    ensures refused { (r : Refusal) → IsErrOf result (No r) → (r ≡ BadRoot 5) ⊎ MayRefuse (meta_of (saved_in then.old.beside)) r }
+    ensures refused { (r : Refusal) → IsErrOf result (No r) → MayRefuse (meta_of (saved_in then.old.beside)) r }
 {
-    is_quiet(&then.root)?;
     let Some(saved) = saved_meta(&then.beside) else {
         unreachable!()
     };

@@ -21,8 +21,8 @@ use std::alloc::Global;
 use zr_shelf::Shelf;
 use zr_sync::{Fault, OpenPool};
 
-/// Opens the pool that the slots show. The answer is None where the devices of its root, or of the one that a checkpoint
-/// saved, are not all in service, and where one of the two has no late sets that count.
+/// Opens the pool that the slots show. The answer is None where its root, or the one that a checkpoint saved, has no late
+/// sets that count.
 ///
 /// It makes a call on a disk for each ring and each run of a block that it reads, and its time and memory are linear in
 /// what it reads; the slots are compared in pairs.

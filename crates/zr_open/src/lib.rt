@@ -5,8 +5,8 @@
 //! becomes an open pool. What the root has recorded may have been written by anyone, so nothing of it is believed
 //! before it was looked at.
 //!
-//! While a checkpoint is held, the root that it saved is read beside the current one. A pool is opened here while all devices
-//! of both are in service.
+//! While a checkpoint is held, the root that it saved is read beside the current one, over the devices and the mappings that it
+//! had.
 //!
 //! The laws say what this means for the pool that was there before: behind a commit the slots show its root, and by its head
 //! the very objects that the pool held.

@@ -9,16 +9,18 @@ ghost use Rattle.zr_shelf.specs.Counts.{NoneFell};
 ghost use Rattle.zr_shelf.specs.Moments.{IsStill};
 ghost use Rattle.zr_sync.specs.declared.fault.Fault.TheVariants.{No, Stops};
 ghost use Rattle.zr_sync.specs.declared.stop.Stop.TheVariants.{DiskFault};
-ghost use Rattle.zr_open.specs.Found.{FindsOn, HasItsDisks};
+ghost use Rattle.zr_roots.specs.Devices.{HasItsDisks};
+ghost use Rattle.zr_open.specs.Found.{FindsOn};
 ghost use Rattle.zr_open.specs.Looked.{IsLooked, IsLookedAt};
 ghost use Rattle.zr_open.specs.Opened.{IsNotServed, IsRefusedRoot, IsRefusedSaved};
 
 use crate::find::find;
 use crate::pool::{is_served, open};
-use crate::read::read;
+use crate::read::fault_of;
 use crate::saved::{Beside, checkpoint_of, read_beside, saved_meta};
 use std::alloc::Global;
-use zr_import::{Root, are_on};
+use zr_import::Root;
+use zr_roots::read;
 use zr_shelf::Shelf;
 use zr_slots::Found;
 use zr_sync::{Fault, OpenPool};
@@ -41,8 +43,7 @@ impl Looked {
     }
 }
 
-/// Looks at the pool by a root. The answer is None where the devices of the root, or of the one that it saved, are not all in
-/// service, and where one of the two has no late sets that count.
+/// Looks at the pool by a root. The answer is None where the root, or the one that it saved, has no late sets that count.
 pub(crate) fn look_at<S: Shelf>(
     alloc: Global,
     shelf: &mut S,
@@ -61,10 +62,10 @@ pub(crate) fn look_at<S: Shelf>(
     ensures refused { (r : Refusal) → IsErrOf result (No r) → IsRefusedRoot r ⊎ IsRefusedSaved (S.tells shelf.old) (S.world shelf.old).now.seen found.now.slots found.now.root r }
     ensures none { IfOk result (λ o. IfNone o (IsNotServed (S.tells shelf.old) (S.world shelf.old).now.seen found.now.slots found.now.root)) }
 {
-    if !are_on(&found.root) {
-        return Ok(None);
-    }
-    let root = read(alloc, shelf, found)?;
+    let root = match read(alloc, shelf, found) {
+        Ok(root) => root,
+        Err(error) => return Err(fault_of(error)),
+    };
     if !is_served(&root.head) {
         return Ok(None);
     }

@@ -1,33 +1,38 @@
 //! The open pool of a root that was read.
-ghost use Rattle.std.specs.Prelude.{◌≡◌, ◌↔◌, ℕ, ◌*◌, ◌+◌, ◌≤◌, ◌^◌, List, [], length, take, All, IsTrue, IfOk, IfSome, IsErrOf};
-ghost use Rattle.std.specs.List.{AllByRecursion, flat_map};
+ghost use Rattle.std.specs.Prelude.{◌≡◌, ◌↔◌, ℕ, ◌≤◌, ◌^◌, ◌+◌, ◌++◌, List, [], length, All, IsTrue, IfOk, IfSome, IsErrOf};
+ghost use Rattle.std.specs.List.{AllByRecursion};
 ghost use Rattle.zr_base.specs.declared.refusal.Refusal.{Refusal};
 ghost use Rattle.zr_bptr.specs.Spelling.{IsTree};
 ghost use Rattle.zr_image.specs.Roots.{head_tree, rows_of};
 ghost use Rattle.zr_label.specs.Blocks.{IsUber};
-ghost use Rattle.zr_meta.specs.Heads.{IsHead, IsSaved, IsStream};
+ghost use Rattle.zr_meta.specs.Heads.{IsHead, IsSaved, IsStream, cond_count, stream_count};
+ghost use Rattle.zr_roots.specs.Devices.{HasItsDisks};
 ghost use Rattle.zr_space.specs.Opens.{IsOpened};
-ghost use Rattle.zr_sync.specs.Pools.{AreStreams, IsCheckpoint, IsOpen, saved_block};
+ghost use Rattle.zr_sync.specs.Heads.{cond_at, cond_streams, head_of, streams_in, streams_of};
+ghost use Rattle.zr_sync.specs.Pools.{AreCondStreams, AreStreams, IsCheckpoint, IsOpen, saved_block};
 ghost use Rattle.zr_sync.specs.declared.fault.Fault.TheVariants.{No, Stops};
 ghost use Rattle.zr_sync.specs.declared.stop.Stop.TheVariants.{DiskFault};
-ghost use Rattle.zr_open.specs.Found.{HasItsDisks};
-ghost use Rattle.zr_open.specs.Opened.{AreOn, CoversOwed, HasRows, IsFresh, IsServed, IsSpaceOf, MayRefuse};
+ghost use Rattle.zr_open.specs.Opened.{CoversOwed, IsAsTold, IsFresh, IsServed, IsSpaceOf, MayRefuse};
 ghost use Rattle.zr_open.specs.Roots.{HasParts};
-ghost use Rattle.zr_sync.specs.Heads.{streams_in};
 
-use crate::read::CACHED;
 use crate::room::{has_groups, has_room};
 use std::alloc::{AllocError, Global};
-use zr_base::{Dva, NoMemory, Refusal, SpaceParts};
+use zr_base::{CondPart, DevRow, DevState, Dva, NoMemory, Refusal};
 use zr_bptr::{Ptr, Tree};
 use zr_cache::Cache;
 use zr_import::Root;
 use zr_label::Uber;
-use zr_meta::{Head, Stream};
+use zr_meta::{CondAt, Head, Stream};
+use zr_roots::have_rows;
 use zr_slots::Found;
 use zr_space::Space;
-use zr_sync::{Checkpoint, DeviceStreams, Fault, OpenPool, Table};
+use zr_sync::{
+    Checkpoint, CondStreams, DeviceStreams, EMPTY, Fault, NO_COND, NONE_TURNED, OpenPool, Table,
+};
 use zr_txg::Group;
+
+// How many blocks are cached.
+const CACHED: usize = 256;
 
 /// Whether the late sets of the head count.
 pub(crate) fn is_served(head: &Head) -> bool
@@ -36,21 +41,24 @@ pub(crate) fn is_served(head: &Head) -> bool
     head.form == 2
 }
 
-// Whether the parts have the devices of the root.
-fn have_rows(parts: &SpaceParts, u: &Uber) -> bool
-    requires { u.now.count ≤ 32 }
-    ensures { IsTrue result → HasRows u.now parts.now.devs }
+// Where a condensing is, as a head tells it.
+fn cond_at(cond: &Option<CondPart>) -> Option<CondAt>
+    ensures { result ≡ cond_at cond.now }
 {
-    let devs = parts.devs.as_slice();
-    if devs.len() != u.count as usize {
-        return false;
+    match cond {
+        None => None,
+        Some(part) => Some(CondAt {
+            dev: part.dev,
+            at: part.at,
+        }),
     }
-    for index in 0..u.count as usize {
-        if devs[index].row != u.rows[index] {
-            return false;
-        }
-    }
-    true
+}
+
+// Whether what a root records stands as its head tells it.
+fn is_as_told(root: &Root) -> bool
+    ensures { IsTrue result → IsAsTold root.now }
+{
+    root.parts.ckpt == root.head.ckpt && cond_at(&root.parts.cond) == root.head.cond
 }
 
 // The space of a root, beside the metadata of the one that it saved.
@@ -59,49 +67,116 @@ fn space_of(alloc: Global, u: &Uber, root: &Root, saved: &[Dva]) -> Result<Space
     ensures space { IfOk result (IsSpaceOf u.now) }
     ensures opened { IfOk result (IsOpened root.now.parts root.now.meta saved.now) }
     ensures ckpt { IfOk result (λ s. s.parts.ckpt ≡ root.now.head.ckpt) }
+    ensures cond { IfOk result (λ s. cond_at s.parts.cond ≡ root.now.head.cond) }
     ensures refused { (r : Refusal) → IsErrOf result (No r) → MayRefuse saved.now r }
     ensures fault { IsErrOf result (Stops DiskFault) → ⊥ }
 {
     if root.parts.version != u.version || !have_rows(&root.parts, u) {
         return Err(Fault::No(Refusal::BadRoot { rule: 1 }));
     }
-    if root.parts.ckpt != root.head.ckpt {
+    if !is_as_told(root) {
         return Err(Fault::No(Refusal::BadRoot { rule: 1 }));
     }
     let Some(space) = Space::from_parts(alloc, &root.parts, root.meta.as_slice(), saved)? else {
         let rule = if saved.is_empty() { 7 } else { 8 };
         return Err(Fault::No(Refusal::BadRoot { rule }));
     };
-    if !space.is_in_service() {
-        return Err(Fault::No(Refusal::BadRoot { rule: 1 }));
-    }
     space.lawful();
     Ok(space)
 }
 
-/// The streams of the devices, four for each.
-pub(crate) fn streams_of(
-    alloc: Global,
-    streams: &[Stream],
-    devices: u32,
-) -> Result<Vec<DeviceStreams>, AllocError>
-    requires lawful { AllByRecursion IsStream streams.now }
-    requires enough { 4 * devices ≤ length streams.now }
-    ensures count { IfOk result (λ all. length all.items ≡ devices) }
-    ensures lawful { IfOk result (λ all. All AreStreams all.items) }
-    ensures each { IfOk result (λ all. flat_map streams_in all.items ≡ take (4 * devices) streams.now) }
+// The streams of a device of this state, in their order.
+fn device_streams(state: DevState, own: &[Stream]) -> DeviceStreams
+    requires lawful { AllByRecursion IsStream own.now }
+    requires count { length own.now ≡ stream_count 2 state }
+    ensures lawful { AreStreams result }
+    ensures are { streams_in state result ≡ own.now }
 {
-    let mut all = Vec::new(alloc);
-    for index in 0..devices as usize {
-        let first = 4 * index;
-        all.push(DeviceStreams {
-            held: streams[first],
-            kept: streams[first + 1],
-            late1: streams[first + 2],
-            late2: streams[first + 3],
-        })?;
+    match state {
+        DevState::On => DeviceStreams {
+            held: own[0],
+            kept: own[1],
+            entries: EMPTY,
+            counts: EMPTY,
+            fresh: EMPTY,
+            late1: own[2],
+            late2: own[3],
+        },
+        DevState::Leaving => DeviceStreams {
+            held: own[0],
+            kept: own[1],
+            entries: own[2],
+            counts: own[3],
+            fresh: own[4],
+            late1: own[5],
+            late2: own[6],
+        },
+        DevState::Gone => DeviceStreams {
+            held: EMPTY,
+            kept: EMPTY,
+            entries: own[0],
+            counts: own[1],
+            fresh: own[2],
+            late1: EMPTY,
+            late2: EMPTY,
+        },
     }
-    Ok(all)
+}
+
+// How many streams a device of this state has.
+fn stream_count(state: DevState) -> usize
+    ensures { result ≡ stream_count 2 state }
+{
+    match state {
+        DevState::On => 4,
+        DevState::Leaving => 7,
+        DevState::Gone => 3,
+    }
+}
+
+/// The streams of a root: those of its devices, and those of what is condensed.
+#[derive(Drop)]
+pub(crate) struct Streams {
+    pub devices: Vec<DeviceStreams>,
+    pub cond: CondStreams,
+}
+
+// The streams of what is condensed, if anything is.
+fn cond_streams(cond: &Option<CondAt>, rest: &[Stream]) -> CondStreams
+    requires lawful { AllByRecursion IsStream rest.now }
+    requires count { length rest.now ≡ cond_count cond.now }
+    ensures lawful { AreCondStreams result }
+    ensures are { cond_streams cond.now result ≡ rest.now }
+{
+    match cond {
+        None => NO_COND,
+        Some(_) => CondStreams {
+            entries: rest[0],
+            counts: rest[1],
+        },
+    }
+}
+
+/// The streams of a head of devices with these rows: those of each, and then those of what is condensed.
+pub(crate) fn streams_of(alloc: Global, rows: &[DevRow], head: &Head) -> Result<Streams, AllocError>
+    requires head { IsHead rows.now head.now }
+    requires served { IsServed head.now }
+    ensures count { IfOk result (λ all. length all.devices.items ≡ length rows.now) }
+    ensures lawful { IfOk result (λ all. All AreStreams all.devices.items) }
+    ensures cond { IfOk result (λ all. AreCondStreams all.cond) }
+    ensures are { IfOk result (λ all. streams_of rows.now all.devices.items ++ cond_streams head.now.cond all.cond ≡ head.now.streams) }
+{
+    let mut rest = head.streams.as_slice();
+    let mut devices = Vec::new(alloc);
+    for row in rows {
+        let (own, others) = rest.split_at(stream_count(row.state));
+        devices.push(device_streams(row.state, own))?;
+        rest = others;
+    }
+    Ok(Streams {
+        devices,
+        cond: cond_streams(&head.cond, rest),
+    })
 }
 
 /// The tree of the head of a root.
@@ -130,10 +205,10 @@ fn pool_of(
 ) -> Result<OpenPool, NoMemory>
     requires root { IsUber found.now.root }
     requires long { length found.now.slots ≡ 32 }
-    requires on { AreOn found.now.root }
     requires head { IsHead (rows_of found.now.root) head.now }
     requires served { IsServed head.now }
     requires space { IsSpaceOf found.now.root space }
+    requires cond { cond_at space.parts.cond ≡ head.now.cond }
     requires saved { IsSaved space.parts.ckpt (saved_block checkpoint) }
     requires checkpoint { IfSome checkpoint IsCheckpoint }
     requires groups { found.now.root.txg ≤ 2 ^ 63 }
@@ -142,10 +217,11 @@ fn pool_of(
     ensures same { IfOk result (λ pool. pool.space ≡ space) }
     ensures slots { IfOk result (λ pool. pool.table.slots ≡ found.now.slots) }
     ensures dir { IfOk result (λ pool. pool.dir ≡ head.now.dir) }
-    ensures streams { IfOk result (λ pool. flat_map streams_in pool.streams.items ≡ take (4 * length pool.streams.items) head.now.streams) }
+    ensures streams { IfOk result (λ pool. (head_of pool).streams ≡ head.now.streams) }
     ensures saved { IfOk result (λ pool. pool.saved ≡ checkpoint) }
 {
     let u = &found.root;
+    let streams = streams_of(alloc, &u.rows[..u.count as usize], head)?;
     Ok(OpenPool {
         name: u.name,
         guid: u.guid,
@@ -160,7 +236,9 @@ fn pool_of(
         cache: Cache::new(alloc, CACHED)?,
         dir: head.dir,
         head: head_tree(u),
-        streams: streams_of(alloc, head.streams.as_slice(), u.count)?,
+        streams: streams.devices,
+        cond: streams.cond,
+        turned: NONE_TURNED,
         saved: checkpoint,
         group: Group::new(alloc, u.txg + 1),
     })
@@ -179,7 +257,6 @@ pub(crate) fn open(
 ) -> Result<OpenPool, Fault>
     requires uber { IsUber found.now.root }
     requires long { length found.now.slots ≡ 32 }
-    requires on { AreOn found.now.root }
     requires head { IsHead (rows_of found.now.root) root.now.head }
     requires served { IsServed root.now.head }
     requires saved { root.now.parts.ckpt ≡ root.now.head.ckpt → IsSaved root.now.head.ckpt (saved_block checkpoint) }

@@ -2,7 +2,7 @@
 //!
 //! The root that a checkpoint saved is written once more, as the current one: in the group behind, and as a reset. So what was
 //! allocated since is free, and what was freed since is not. Nothing else is written. A device that was added since is no
-//! device of the pool any more.
+//! device of the pool any more, and one that had gone by then is gone.
 ghost use Rattle.std.specs.Prelude.{◌≡◌, ◌⊎◌, ◌+◌, ◌≤◌, ◌<◌, ◌^◌, ℕ, List, length, nat_lt, Some, None, Ok, Err, IfOk, IfSome, IfNone, OnOk, IsErrOf, if◌then◌else◌};
 ghost use Rattle.zr_base.specs.Counts.{HasRisen};
 ghost use Rattle.zr_base.specs.declared.refusal.Refusal.{Refusal};
@@ -30,6 +30,7 @@ use std::alloc::Global;
 use zr_base::Refusal;
 use zr_label::Uber;
 use zr_shelf::Shelf;
+use zr_roots::own_slots;
 use zr_slots::{Found, publish, slots_in_both};
 use zr_sync::{Fault, OpenPool, Stop};
 
@@ -44,20 +45,6 @@ pub(crate) fn rewound(saved: &Uber, txg: u64) -> Uber
     root.txg = txg;
     root.reset = txg;
     root
-}
-
-// The slots of the first devices alone.
-fn first_slots(slots: &[Option<u32>; 32], count: u32) -> [Option<u32>; 32]
-    requires few { count ≤ 32 }
-    requires long { length slots.now ≡ 32 }
-    ensures long { length result ≡ 32 }
-    ensures each { (d : ℕ) → slot_of result d ≡ (if nat_lt d count then slot_of slots.now d else None) }
-{
-    let mut first = *slots;
-    for index in count as usize..32 {
-        first[index] = None;
-    }
-    first
 }
 
 // Publishes the root of a pool in the slots of its devices, first where the current root's devices are too.
@@ -117,7 +104,7 @@ pub fn rewind<S: Shelf>(alloc: Global, shelf: &mut S) -> Result<Option<OpenPool>
     let root = rewound(&saved.uber, found.root.txg + 1);
     let place = Found {
         root,
-        slots: first_slots(&found.slots, root.count),
+        slots: own_slots(&found.slots, &root),
     };
     saved.root.reset(alloc)?;
     let pool = open(alloc, &place, &saved.root, &[], None)?;

@@ -2,10 +2,9 @@
 ghost use Rattle.std.specs.Prelude.{◌≤◌, ◌^◌};
 ghost use Rattle.zr_base.specs.declared.refusal.Refusal.TheVariants.{BadRoot};
 ghost use Rattle.zr_image.specs.Checks.{Demands};
-ghost use Rattle.zr_open.specs.Opened.{CoversOwed, HasRows};
+ghost use Rattle.zr_roots.specs.Devices.{HasRows};
+ghost use Rattle.zr_open.specs.Opened.{CoversOwed};
 ghost use Rattle.zr_label.specs.Blocks.{IsUber};
-ghost use Rattle.zr_rules.specs.Equation.{devices_in};
-ghost use Rattle.zr_space.specs.Paths.{AreInService};
 ghost use Rattle.zr_label.specs.declared.root.Uber.{Uber};
 
 use zr_base::Refusal;
@@ -19,7 +18,6 @@ const RULE: u8 = 9;
 /// Refuses a space in which less is free than the commits to come may take.
 pub(crate) fn has_room(space: &Space) -> Result<(), Refusal>
     requires rows { (u : Uber) × IsUber u × HasRows u space.now.parts.devs }
-    requires service { AreInService (devices_in space.now) }
     ensures { Demands (CoversOwed space.now) (BadRoot 9) result }
 {
     if owed(&space.sizes()) > space.free_units() {

@@ -15,18 +15,19 @@ ghost use Rattle.zr_shelf.specs.Moments.{IsStill};
 ghost use Rattle.zr_sync.specs.Pools.{IsCheckpoint, IsOpen, saved_block};
 ghost use Rattle.zr_sync.specs.declared.fault.Fault.TheVariants.{No, Stops};
 ghost use Rattle.zr_sync.specs.declared.stop.Stop.TheVariants.{DiskFault};
-ghost use Rattle.zr_open.specs.Found.{HasItsDisks};
-ghost use Rattle.zr_open.specs.Opened.{AreOn, CoversOwed, IsFresh, IsRefusedRoot, IsServed, as_saved};
+ghost use Rattle.zr_roots.specs.Devices.{HasItsDisks};
+ghost use Rattle.zr_open.specs.Opened.{CoversOwed, IsFresh, IsRefusedRoot, IsServed, as_saved};
 ghost use Rattle.zr_open.specs.Roots.{FindsBeside, HasParts, HasSaved, IsKept, IsLawfulSaved, meta_of, saved_in};
 ghost use Rattle.zr_open.specs.declared.saved.Beside.TheVariants.{Alone, Saved, NotServed};
 
 use crate::pool::{head_tree, is_served, open, streams_of};
-use crate::read::read_saved;
+use crate::read::{as_saved, fault_of};
 use std::alloc::Global;
 use zr_base::{Blob, Dva, NoMemory, Refusal};
-use zr_import::{Root, are_on, saved_uber};
+use zr_import::{Root, saved_uber};
 use zr_label::Uber;
 use zr_meta::Head;
+use zr_roots::{own_slots, read_saved};
 use zr_shelf::Shelf;
 use zr_slots::Found;
 use zr_sync::{Checkpoint, Fault, OpenPool};
@@ -45,7 +46,7 @@ pub(crate) enum Beside {
     Alone,
     /// The root that it saved, which is in order.
     Saved(SavedRoot),
-    /// A saved root whose devices are not all in service, or that has no late sets that count.
+    /// A saved root that has no late sets that count.
     NotServed,
 }
 
@@ -76,22 +77,17 @@ pub(crate) fn checkpoint_of(
     ensures kept { IfOk result (IsKept (saved_in beside.now)) }
 {
     match (beside, &current.saved) {
-        (Beside::Saved(saved), Some(block)) => Ok(Some(Checkpoint {
-            block: Blob::copy_of(alloc, block.as_slice())?,
-            head: head_tree(&saved.uber),
-            streams: streams_of(alloc, saved.root.head.streams.as_slice(), saved.uber.count)?,
-        })),
+        (Beside::Saved(saved), Some(block)) => {
+            let rows = &saved.uber.rows[..saved.uber.count as usize];
+            let streams = streams_of(alloc, rows, &saved.root.head)?;
+            Ok(Some(Checkpoint {
+                block: Blob::copy_of(alloc, block.as_slice())?,
+                head: head_tree(&saved.uber),
+                streams: streams.devices,
+                cond: streams.cond,
+            }))
+        }
         _ => Ok(None),
-    }
-}
-
-// The fault of a root whose saved root is not in order.
-fn as_saved(fault: Fault) -> Fault
-    ensures { result ≡ as_saved fault }
-{
-    match fault {
-        Fault::No(Refusal::BadRoot { .. }) => Fault::No(Refusal::BadRoot { rule: 8 }),
-        other => other,
     }
 }
 
@@ -99,7 +95,6 @@ fn as_saved(fault: Fault) -> Fault
 fn open_saved(alloc: Global, found: &Found, saved: &Root) -> Result<OpenPool, Fault>
     requires uber { IsUber found.now.root }
     requires long { length found.now.slots ≡ 32 }
-    requires on { AreOn found.now.root }
     requires head { IsHead (rows_of found.now.root) saved.now.head }
     requires served { IsServed saved.now.head }
     requires clear { saved.now.parts.ckpt ≡ Clear }
@@ -143,14 +138,14 @@ pub(crate) fn read_beside<S: Shelf>(
     let Some(uber) = saved_uber(&found.root, current.parts.ckpt, block.as_slice()) else {
         return Err(Fault::No(Refusal::BadRoot { rule: 8 }));
     };
-    if !are_on(&uber) {
-        return Ok(Beside::NotServed);
-    }
     let place = Found {
         root: uber,
-        slots: found.slots,
+        slots: own_slots(&found.slots, &uber),
     };
-    let root = read_saved(alloc, shelf, &place, current)?;
+    let root = match read_saved(alloc, shelf, &place, current) {
+        Ok(root) => root,
+        Err(error) => return Err(fault_of(error)),
+    };
     if !is_served(&root.head) {
         return Ok(Beside::NotServed);
     }

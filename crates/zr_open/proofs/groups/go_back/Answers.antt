@@ -9,7 +9,7 @@ use Rattle.zr_sync.specs.declared.fault.Fault.TheVariants.{No, Stops}
 use Rattle.zr_sync.specs.declared.stop.Stop.TheVariants.{DiskFault}
 use Rattle.zr_sync.proofs.Disks.{works_more, works_still}
 use Rattle.zr_sync.proofs.Pools.{risen_later}
-use Rattle.zr_open.specs.Found.{HasItsDisks}
+use Rattle.zr_roots.specs.Devices.{HasItsDisks}
 use Rattle.zr_open.specs.Groups.{HoldsGroup, HoldsRoot}
 use Rattle.zr_open.specs.Looked.{IsLookedAt, WasLookedAt}
 use Rattle.zr_open.specs.Opened.{IsFresh}

@@ -1,4 +1,4 @@
-use Rattle.std.proofs.Common.{rules, ◌≡◌, ◌+◌, ℕ, List, [], inr, Err, refl, sym, ◌∙◌, ap, subst, arith}
+use Rattle.std.proofs.Common.{rules, ◌≡◌, ◌+◌, ℕ, List, [], Err, refl, sym, ◌∙◌, ap, subst, arith}
 use Rattle.zr_base.specs.declared.space.Dva.{Dva}
 use Rattle.zr_import.specs.declared.roots.Root.{Root}
 use Rattle.zr_label.specs.Blocks.{IsUber}
@@ -20,7 +20,7 @@ returns-in_err-pool-clause-refused g c = λ r is.
     let e : c.from_residual-in_err-pool.result ≡ Err told = search rules in
     let both = sym e ∙ is in
     let same : told ≡ No r = cc in
-    inr (subst (λ (meta : List Dva). MayRefuse meta r) c.in-Some.ensures.meta (c.in_err-pool.ensures.refused r (ap Err same)))
+    subst (λ (meta : List Dva). MayRefuse meta r) c.in-Some.ensures.meta (c.in_err-pool.ensures.refused r (ap Err same))
 
 pub show-requires-clause-pool : goal.show-requires-clause-pool
 show-requires-clause-pool g c =

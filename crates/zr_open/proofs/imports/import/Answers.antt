@@ -7,7 +7,8 @@ use Rattle.std.specs.Prelude.{IfSome}
 use Rattle.zr_current.specs.Current.{HasSlots}
 use Rattle.zr_open.specs.Looked.{IsLooked}
 use Rattle.zr_open.specs.declared.look.Looked.{Looked}
-use Rattle.zr_open.specs.Roots.{Stands, image_of, meta_of, saved_in}
+use Rattle.zr_roots.specs.Standing.{Stands}
+use Rattle.zr_open.specs.Roots.{meta_of, saved_in}
 use Rattle.zr_open.specs.Shown.{Shows}
 use Rattle.zr_open.proofs.Beside.{beside_moved, is_beside}
 use Rattle.zr_open.proofs.Showing.{shows_state, shows_saved}
@@ -46,9 +47,9 @@ returns-clause-objects g c = λ t.
     let these = slots_of u h.finds.seen in
     let sound = g.S.Shelf.sound c.args.shelf.now t in
     let still = c.in_ok-looked.ensures.still t in
-    let stands = subst (λ (slots : List (Option ℕ)). Stands (image_of disks slots u) u l.root) (sym h.at.same) (h.at.stands t) in
+    let stands = subst (λ (slots : List (Option ℕ)). Stands disks slots u l.root) (sym h.at.same) (h.at.stands t) in
     let slots = subst (HasSlots these) (sym h.at.same) h.slots in
     let beside = is_beside tells disks these u l.root l.beside h.at.served (beside_moved tells tells disks disks these l.found.slots (λ s. s) (λ s. refl) h.slots u l.root l.beside h.at.beside) in
     subst (λ (s : Stand). (p : PoolState) × Shows w.now.paths disks p × HoldsState (g.S.Shelf.tells c.look.new.shelf) s.seen l.pool p) (sym still.now)
     (shows_state (g.S.Shelf.tells c.look.new.shelf) (c.in_ok-looked.ensures.told t) w.now.paths disks (g.S.Shelf.sizes c.args.shelf.now) sound.sized u l.pool l.root h.finds.seen (h.finds.shown.shows t) h.finds.finds slots h.at.uber h.at.head
-    (meta_of (saved_in l.beside)) (shows_saved tells t w.now.paths disks these u l.root (saved_in l.beside) beside) h.at.ready h.at.fresh h.at.parts stands)
+    (meta_of (saved_in l.beside)) (shows_saved tells t w.now.paths disks these u l.root (saved_in l.beside) beside) h.at.ready h.at.fresh h.at.parts h.at.mapped stands)

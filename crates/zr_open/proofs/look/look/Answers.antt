@@ -2,7 +2,7 @@ use Rattle.std.proofs.Common.{inr, ℕ, List, ap, sym, subst}
 use Rattle.std.specs.Prelude.{IfOk, IfSome}
 use Rattle.zr_shelf.specs.Disks.{Stand}
 use Rattle.zr_shelf.proofs.Runs.{still_trans}
-use Rattle.zr_open.specs.Found.{HasItsDisks}
+use Rattle.zr_roots.specs.Devices.{HasItsDisks}
 use Rattle.zr_open.specs.Looked.{IsLookedAt}
 use Rattle.zr_open.proofs.Looking.{looked_by, none_by, refused_by}
 use Rattle.zr_open.proofs.look.look.Goals as goal

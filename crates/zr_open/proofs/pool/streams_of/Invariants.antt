@@ -1,13 +1,17 @@
-use Rattle.std.proofs.Common.{◌≡◌, ◌*◌, length, take}
-use Rattle.std.specs.List.{flat_map}
+use Rattle.std.proofs.Common.{◌≡◌, ◌++◌, length, take, drop}
+use Rattle.std.specs.List.{AllByRecursion}
 use Rattle.std.specs.Prelude.{All}
+use Rattle.zr_meta.specs.Heads.{IsStream}
+use Rattle.zr_sync.specs.Heads.{streams_of}
 use Rattle.zr_sync.specs.Pools.{AreStreams}
-use Rattle.zr_sync.specs.Heads.{streams_in}
+use Rattle.zr_open.proofs.Streams.{left_total}
 use Rattle.zr_open.proofs.pool.streams_of.Given as goal
 
-abbrev pub invariant-loop-index : goal.invariant-loop-index
-invariant-loop-index l = record {
-  count : length l.all.items ≡ l.index;
-  lawful : All AreStreams l.all.items;
-  each : flat_map streams_in l.all.items ≡ take (4 * l.index) l.streams;
+abbrev pub invariant-loop-row : goal.invariant-loop-row
+invariant-loop-row l = record {
+  count : length l.devices.items ≡ l.row-index;
+  lawful : All AreStreams l.devices.items;
+  left : AllByRecursion IsStream l.rest;
+  total : length l.rest ≡ left_total (drop l.row-index l.rows) l.head;
+  each : streams_of (take l.row-index l.rows) l.devices.items ++ l.rest ≡ l.head.streams;
 }

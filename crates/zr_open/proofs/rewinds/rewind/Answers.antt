@@ -21,18 +21,19 @@ use Rattle.zr_base.specs.declared.space.CkptPart.{CkptPart}
 use Rattle.zr_base.specs.declared.space.SpaceParts.{SpaceParts}
 use Rattle.zr_sync.specs.States.{HasCheckpoint}
 use Rattle.zr_current.specs.Current.{HasSlots}
-use Rattle.zr_open.specs.Found.{HasItsDisks}
+use Rattle.zr_roots.specs.Devices.{HasItsDisks, IsCut, is_there}
 use Rattle.zr_open.specs.Looked.{IsLooked}
 use Rattle.zr_open.specs.Opened.{IsFresh}
 use Rattle.zr_open.specs.Shown.{IsShownBeside}
 use Rattle.zr_open.proofs.Refusing.{looked_refusal, root_refusal}
 use Rattle.zr_open.specs.Rewound.{rewound}
-use Rattle.zr_open.specs.Roots.{FindsBeside, HasParts, IsSavedRoot, Stands, image_of, meta_of, saved_in, told_root}
+use Rattle.zr_roots.specs.Standing.{Stands}
+use Rattle.zr_open.specs.Roots.{FindsBeside, HasParts, IsSavedRoot, meta_of, saved_in, told_root}
 use Rattle.zr_open.specs.declared.look.Looked.{Looked}
 use Rattle.zr_open.specs.declared.saved.SavedRoot.{SavedRoot}
 use Rattle.zr_open.specs.declared.saved.Beside.TheVariants.{Saved}
 use Rattle.zr_open.proofs.Beside.{head_at, no_block, saved_disks, saved_moved}
-use Rattle.zr_open.proofs.Rewinding.{IsCut, cut_disks, saved_are, saved_held, saved_objects}
+use Rattle.zr_open.proofs.Rewinding.{rewound_disks, saved_are, saved_held, saved_objects}
 use Rattle.zr_open.proofs.Showing.{ShowsSaved, saved_with, shows_it, state}
 use Rattle.zr_open.proofs.Views.{store_same}
 use Rattle.zr_open.proofs.rewinds.rewind.Goals as goal
@@ -90,10 +91,10 @@ returns-in_default-into_beside-clause-unsaved g c = λ t is.
     let sound = g.S.Shelf.sound c.args.shelf.now t in
     let none = no_block tells disks l.found.slots u l.root l.beside (λ s same. (let other = c.in_default-into_beside.not-Saved in let own = c.into_beside.ensures ∙ same in search (rules, other, own))) h.at.served h.at.beside in
     let shown : ShowsSaved w.now.paths disks these (told_root u l.root) = record { root = None; shown = subst (λ (x : Option (List ℕ)). IsShownBeside disks these (told_root u l.root) x None) (sym none) tt; state = None; is = refl } in
-    let stands = subst (λ (ss : List (Option ℕ)). Stands (image_of disks ss u) u l.root) (sym h.at.same) (h.at.stands t) in
+    let stands = subst (λ (ss : List (Option ℕ)). Stands disks ss u l.root) (sym h.at.same) (h.at.stands t) in
     let same = subst (HasSlots these) (sym h.at.same) h.slots in (
-      state tells t w.now.paths disks sizes sound.sized u l.pool l.root h.finds.seen (h.finds.shown.shows t) h.finds.finds same h.at.uber h.at.head (meta_of (saved_in l.beside)) shown h.at.ready h.at.fresh h.at.parts stands,
-      shows_it tells t w.now.paths disks sizes sound.sized u l.pool l.root h.finds.seen (h.finds.shown.shows t) h.finds.finds same h.at.uber h.at.head (meta_of (saved_in l.beside)) shown h.at.ready h.at.fresh h.at.parts stands,
+      state tells t w.now.paths disks sizes sound.sized u l.pool l.root h.finds.seen (h.finds.shown.shows t) h.finds.finds same h.at.uber h.at.head (meta_of (saved_in l.beside)) shown h.at.ready h.at.fresh h.at.parts h.at.mapped stands,
+      shows_it tells t w.now.paths disks sizes sound.sized u l.pool l.root h.finds.seen (h.finds.shown.shows t) h.finds.finds same h.at.uber h.at.head (meta_of (saved_in l.beside)) shown h.at.ready h.at.fresh h.at.parts h.at.mapped stands,
       refl,
     )
 
@@ -132,7 +133,7 @@ record Back (sizes : List ℕ) (tells : Type 0) (disks : List (List ℕ)) (l : L
   block : List ℕ
   has : l.root.head.saved ≡ Some block
   saved : IsSavedRoot tells disks l.found.slots l.found.root l.root block s
-  disks_are : HasItsDisks sizes l.found.slots s.uber
+  disks_are : (cut : List (Option ℕ)) → IsCut s.uber l.found.slots cut → HasItsDisks sizes cut s.uber
   past : s.uber.txg ≤ l.found.root.txg + 1
 
 back_of : (sizes : List ℕ) (tells : Type 0) (disks : List (List ℕ)) (l : Looked) (s : SavedRoot) → IsLooked sizes tells disks l → FindsBeside tells disks l.found.slots l.found.root l.root (Saved s) → Back sizes tells disks l s
@@ -140,20 +141,24 @@ back_of sizes tells disks l s h (block, has, saved) = record {
   block = block;
   has = has;
   saved = saved;
-  disks_are = saved_disks l.found.root s.uber h.at.uber saved.is_saved.spelled.lawful saved.on saved.is_saved.rows sizes l.found.slots h.at.mounted;
+  disks_are = λ cut own. saved_disks l.found.root s.uber h.at.uber saved.is_saved.spelled.lawful saved.is_saved.rows sizes l.found.slots cut own h.at.mounted;
   past = let p = saved.is_saved.past in omega (arith, p);
 }
 
 back_is : (sizes : List ℕ) (tells : Type 0) (disks : List (List ℕ)) (l : Looked) (s : SavedRoot) → IsLooked sizes tells disks l → l.beside ≡ Saved s → Back sizes tells disks l s
 back_is sizes tells disks l s h is = back_of sizes tells disks l s h (subst (FindsBeside tells disks l.found.slots l.found.root l.root) is h.at.beside)
 
--- the cut slots have their disks
-place_disks : (sizes : List ℕ) (slots cut : List (Option ℕ)) (saved next : Uber) (txg : ℕ) → next ≡ rewound saved txg → IsCut next.count slots cut → HasItsDisks sizes slots saved → HasItsDisks sizes cut next
-place_disks sizes slots cut saved next txg is each h = subst (HasItsDisks sizes cut) (sym is) (cut_disks sizes slots cut saved txg (subst (λ (x : Uber). IsCut x.count slots cut) is each) h)
+-- the cut slots are those of the devices of the saved root
+own_cut : (slots cut : List (Option ℕ)) (saved next : Uber) (txg : ℕ) → next ≡ rewound saved txg → IsCut next slots cut → IsCut saved slots cut
+own_cut slots cut saved next txg is own = subst (λ (x : Uber). IsCut x slots cut) is own
+
+-- they have their disks
+place_disks : (sizes : List ℕ) (slots cut : List (Option ℕ)) (saved next : Uber) (txg : ℕ) → next ≡ rewound saved txg → IsCut next slots cut → ((ss : List (Option ℕ)) → IsCut saved slots ss → HasItsDisks sizes ss saved) → HasItsDisks sizes cut next
+place_disks sizes slots cut saved next txg is own h = subst (HasItsDisks sizes cut) (sym is) (rewound_disks sizes cut saved txg (h cut (own_cut slots cut saved next txg is own)))
 
 -- so are they by the slots that were found
-first_same : (slots these cut : List (Option ℕ)) (count : ℕ) → IsCut count slots cut → HasSlots these slots → (d : ℕ) → slot_of cut d ≡ (if nat_lt d count then slot_of these d else None)
-first_same slots these cut count is same d = is d ∙ ap (λ (o : Option ℕ). if nat_lt d count then o else None) (same d)
+first_same : (slots these cut : List (Option ℕ)) (u : Uber) → IsCut u slots cut → HasSlots these slots → IsCut u these cut
+first_same slots these cut u own same d = own d ∙ ap (λ (o : Option ℕ). if is_there u d then o else None) (same d)
 
 pub show-requires-clause-pool : goal.show-requires-clause-pool
 show-requires-clause-pool g c =
@@ -164,7 +169,7 @@ show-requires-clause-pool g c =
     let s = c.in-Saved.saved in
     let h = looked_is sizes tells disks _ l c.in-Some.is c.in_ok-looked.ensures.looked in
     let b = back_is sizes tells disks l s h (sym c.into_beside.ensures ∙ c.in-Saved.is) in
-    let place = place_disks sizes l.found.slots c.first_slots.result s.uber c.rewound-root.result (l.found.root.txg + 1) c.rewound-root.ensures.is c.first_slots.ensures.each b.disks_are in
+    let place = place_disks sizes l.found.slots c.own_slots.result s.uber c.rewound-root.result (l.found.root.txg + 1) c.rewound-root.ensures.is c.own_slots.ensures.own b.disks_are in
     subst (λ (ns : List ℕ). IsOpen ns c.in_ok-pool.pool) (sym c.in_ok-looked.ensures.sizes) (c.in_ok-pool.ensures.open sizes place)
 
 pub returns-in_err-show-clause-disks : goal.returns-in_err-show-clause-disks
@@ -186,7 +191,7 @@ returns-clause-pool g c =
     let s = c.in-Saved.saved in
     let h = looked_is sizes tells disks _ l c.in-Some.is c.in_ok-looked.ensures.looked in
     let b = back_is sizes tells disks l s h (sym c.into_beside.ensures ∙ c.in-Saved.is) in
-    let place = place_disks sizes l.found.slots c.first_slots.result s.uber c.rewound-root.result (l.found.root.txg + 1) c.rewound-root.ensures.is c.first_slots.ensures.each b.disks_are in
+    let place = place_disks sizes l.found.slots c.own_slots.result s.uber c.rewound-root.result (l.found.root.txg + 1) c.rewound-root.ensures.is c.own_slots.ensures.own b.disks_are in
     subst (λ (ns : List ℕ). IsOpen ns c.in_ok-pool.pool) (sym (c.in_ok-show.ensures.sizes ∙ c.in_ok-looked.ensures.sizes)) (c.in_ok-pool.ensures.open sizes place)
 
 pub returns-clause-rewound : goal.returns-clause-rewound
@@ -207,7 +212,7 @@ returns-clause-rewound g c =
         saved = s.uber;
         spelled = b.saved.is_saved.spelled;
         fresh = subst (λ (x : Uber). IsFresh x c.in_ok-pool.pool) c.rewound-root.ensures.is c.in_ok-pool.ensures.fresh;
-        first = first_same l.found.slots (slots_of u h.finds.seen) c.in_ok-pool.pool.table.slots s.uber.count (subst (IsCut s.uber.count l.found.slots) (sym c.in_ok-pool.ensures.slots) (subst (λ (x : Uber). IsCut x.count l.found.slots c.first_slots.result) c.rewound-root.ensures.is c.first_slots.ensures.each)) h.slots;
+        own = first_same l.found.slots (slots_of u h.finds.seen) c.in_ok-pool.pool.table.slots s.uber (subst (IsCut s.uber l.found.slots) (sym c.in_ok-pool.ensures.slots) (own_cut l.found.slots c.own_slots.result s.uber c.rewound-root.result (l.found.root.txg + 1) c.rewound-root.ensures.is c.own_slots.ensures.own)) h.slots;
       },
     )
 
@@ -252,11 +257,11 @@ returns-clause-objects g c = λ t.
     let told = c.in_ok-looked.ensures.told t in
     let still = c.in_ok-looked.ensures.still t in
     let sound = g.S.Shelf.sound c.args.shelf.now t in
-    let place = place_disks sizes slots c.first_slots.result s.uber next txg c.rewound-root.ensures.is c.first_slots.ensures.each b.disks_are in
+    let place = place_disks sizes slots c.own_slots.result s.uber next txg c.rewound-root.ensures.is c.own_slots.ensures.own b.disks_are in
     let ready = own.open sizes place in
     let saved = saved_moved tells later disks disks slots slots (λ x. t) (λ x. refl) (λ d. refl) u l.root b.block s b.saved in
-    let cut_first = subst (λ (x : Uber). IsCut x.count slots c.first_slots.result) c.rewound-root.ensures.is c.first_slots.ensures.each in
-    let cut = subst (IsCut s.uber.count slots) (sym own.slots) cut_first in
+    let cut_first = own_cut slots c.own_slots.result s.uber next txg c.rewound-root.ensures.is c.own_slots.ensures.own in
+    let cut = subst (IsCut s.uber slots) (sym own.slots) cut_first in
     let is = subst IsUber c.rewound-root.ensures.is c.rewound-root.ensures.lawful in
     let fresh = subst (λ (x : Uber). IsFresh x pool) c.rewound-root.ensures.is own.fresh in
     let parts = subst (λ (r : Root). HasParts r [] pool) c.in_ok-reset.ensures own.parts in
@@ -267,11 +272,11 @@ returns-clause-objects g c = λ t.
     let saved_here = saved_moved tells tells disks disks these slots (λ x. x) (λ x. refl) h.slots u l.root b.block s b.saved in
     let part = saved_with tells t w.now.paths disks these u l.root b.block s b.has saved_here objects are_here in
     let shown : ShowsSaved w.now.paths disks these (told_root u l.root) = record { root = Some (told_root s.uber s.root); shown = part.0; state = Some (record { objects = objects; devs = devices_at w.now.paths these s.uber }); is = part.1 } in
-    let stands = subst (λ (ss : List (Option ℕ)). Stands (image_of disks ss u) u l.root) (sym h.at.same) (h.at.stands t) in
+    let stands = subst (λ (ss : List (Option ℕ)). Stands disks ss u l.root) (sym h.at.same) (h.at.stands t) in
     let same = subst (HasSlots these) (sym h.at.same) h.slots in
     record {
-      state = state tells t w.now.paths disks sizes sound.sized u l.pool l.root h.finds.seen (h.finds.shown.shows t) h.finds.finds same h.at.uber h.at.head (meta_of (saved_in l.beside)) shown h.at.ready h.at.fresh h.at.parts stands;
-      shown = shows_it tells t w.now.paths disks sizes sound.sized u l.pool l.root h.finds.seen (h.finds.shown.shows t) h.finds.finds same h.at.uber h.at.head (meta_of (saved_in l.beside)) shown h.at.ready h.at.fresh h.at.parts stands;
+      state = state tells t w.now.paths disks sizes sound.sized u l.pool l.root h.finds.seen (h.finds.shown.shows t) h.finds.finds same h.at.uber h.at.head (meta_of (saved_in l.beside)) shown h.at.ready h.at.fresh h.at.parts h.at.mapped stands;
+      shown = shows_it tells t w.now.paths disks sizes sound.sized u l.pool l.root h.finds.seen (h.finds.shown.shows t) h.finds.finds same h.at.uber h.at.head (meta_of (saved_in l.beside)) shown h.at.ready h.at.fresh h.at.parts h.at.mapped stands;
       saved = record { objects = objects; devs = devices_at w.now.paths these s.uber };
       saved_is = refl;
       holds = record {

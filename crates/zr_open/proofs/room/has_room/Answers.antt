@@ -1,14 +1,13 @@
 use Rattle.std.proofs.Common.{ap, arith}
 use Rattle.zr_base.specs.declared.space.Sizes.{Sizes}
-use Rattle.zr_open.proofs.Units.{few_units}
+use Rattle.zr_roots.proofs.Units.{few_ever}
 use Rattle.zr_open.proofs.room.has_room.Goals as goal
 
 pub owed-requires : goal.owed-requires
 owed-requires c =
-    let few = few_units c.requires.rows.0 c.args.space.now c.requires.rows.1 c.requires.rows.2 in
+    let few = few_ever c.requires.rows.0 c.args.space.now c.requires.rows.1 c.requires.rows.2 in
     let blocks = ap (λ (z : Sizes). z.blocks) c.sizes.ensures.sizes in
     let objects = ap (λ (z : Sizes). z.objects) c.sizes.ensures.sizes in
-    let all = c.sizes.ensures.service c.requires.service in
     let words = c.sizes.ensures.words in
     let streams = c.sizes.ensures.streams in
     let gone = c.sizes.ensures.gone in
@@ -18,10 +17,10 @@ owed-requires c =
     record {
       blocks = omega (arith, blocks);
       objects = omega (arith, objects);
-      words = omega (arith, words, few, all);
+      words = omega (arith, words, few);
       streams = omega (arith, streams);
       gone = omega (arith, gone);
-      uncopied = omega (arith, uncopied, few, all);
+      uncopied = omega (arith, uncopied, few);
       turning = omega (arith, turning);
-      past = omega (arith, past, few, all);
+      past = omega (arith, past, few);
     }

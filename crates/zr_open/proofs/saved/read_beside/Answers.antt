@@ -1,21 +1,14 @@
-use Rattle.std.proofs.Common.{rules, ℕ, List, [], Option, inl, inr, refl, sym, subst}
-use Rattle.zr_image.specs.Reading.{store_of}
+use Rattle.std.proofs.Common.{◌≡◌, ℕ, List, [], Option, inl, inr, refl, sym, subst}
 use Rattle.zr_image.specs.Roots.{IsSavedUber}
 use Rattle.zr_image.specs.StateOf.{AreObjects}
-use Rattle.zr_rules.specs.Devices.{devices_of}
-use Rattle.zr_open.specs.Opened.{AreOn}
-use Rattle.zr_open.specs.Roots.{Stands, image_of, told_root}
-use Rattle.zr_open.proofs.Beside.{saved_disks}
-use Rattle.zr_open.proofs.Showing.{are, objects}
+use Rattle.zr_store.specs.Store.{Stored}
+use Rattle.zr_sync.specs.declared.fault.Fault.TheVariants.{No}
+use Rattle.zr_roots.specs.Standing.{Stands, blocks_of}
+use Rattle.zr_open.specs.Roots.{told_root}
+use Rattle.zr_open.proofs.Beside.{cut_blocks, cut_stands, head_cut, saved_disks}
+use Rattle.zr_open.proofs.Refusing.{unread_saved}
+use Rattle.zr_open.proofs.Showing.{are, objects, own_rows}
 use Rattle.zr_open.proofs.saved.read_beside.Goals as goal
-
-pub are_on-requires : goal.are_on-requires
-are_on-requires g c = (c.in-Some-saved_uber.ensures (told_root c.args.found.now.root c.args.current.now) refl refl).spelled.lawful
-
-pub returns-then-not-are_on-clause-beside : goal.returns-then-not-are_on-clause-beside
-returns-then-not-are_on-clause-beside g c =
-    let is = subst (λ (b : List ℕ). IsSavedUber (told_root c.args.found.now.root c.args.current.now) b c.in-Some-saved_uber.uber) c.as_slice.ensures (c.in-Some-saved_uber.ensures (told_root c.args.found.now.root c.args.current.now) refl refl) in
-    (c.in-Some.block, c.in-Some.is, (c.in-Some-saved_uber.uber, is.spelled, inl (λ on. (let e = c.are_on.ensures in let no = c.if-not-are_on.true in cc))))
 
 pub read_saved-requires-clause-root : goal.read_saved-requires-clause-root
 read_saved-requires-clause-root g c = (c.in-Some-saved_uber.ensures (told_root c.args.found.now.root c.args.current.now) refl refl).spelled.lawful
@@ -23,8 +16,12 @@ read_saved-requires-clause-root g c = (c.in-Some-saved_uber.ensures (told_root c
 pub read_saved-requires-clause-disks : goal.read_saved-requires-clause-disks
 read_saved-requires-clause-disks g c =
     let is = c.in-Some-saved_uber.ensures (told_root c.args.found.now.root c.args.current.now) refl refl in
-    let on : AreOn c.in-Some-saved_uber.uber = search rules in
-    saved_disks c.args.found.now.root c.in-Some-saved_uber.uber c.requires.root is.spelled.lawful on is.rows (g.S.Shelf.sizes c.args.shelf.now) c.args.found.now.slots c.requires.disks
+    saved_disks c.args.found.now.root c.in-Some-saved_uber.uber c.requires.root is.spelled.lawful is.rows (g.S.Shelf.sizes c.args.shelf.now) c.args.found.now.slots c.own_slots.result c.own_slots.ensures.own c.requires.disks
+
+pub returns-in-Err-clause-refused : goal.returns-in-Err-clause-refused
+returns-in-Err-clause-refused g c = λ r is.
+    let given : c.fault_of.result ≡ No r = cc in
+    elim (unread_saved c.in-Err.error c.fault_of.result c.in-Err.ensures.unread c.fault_of.ensures r given) [ inl own ↦ inl own | inr eight ↦ inr (eight, (c.in-Some.block, c.in-Some.is)) ]
 
 pub returns-then-not-is_served-clause-beside : goal.returns-then-not-is_served-clause-beside
 returns-then-not-is_served-clause-beside g c =
@@ -34,9 +31,9 @@ returns-then-not-is_served-clause-beside g c =
       (
         c.in-Some-saved_uber.uber,
         is.spelled,
-        inr (
-          c.in_ok-root.root.head,
-          λ t. record { lawful = c.in_ok-root.ensures.head; stands = (c.in_ok-root.ensures.stands t).reads.head },
+        (
+          c.in-Ok.root.head,
+          head_cut _ _ c.args.found.now.slots c.own_slots.result c.in-Some-saved_uber.uber c.in-Ok.root c.own_slots.ensures.own c.in-Ok.ensures.head c.in-Ok.ensures.stands,
           λ served. (let yes = c.is_served.ensures.1 served in let no = c.if-not-is_served.true in cc),
         ),
       ),
@@ -49,32 +46,40 @@ pub returns-clause-beside : goal.returns-clause-beside
 returns-clause-beside g c =
     let is = subst (λ (b : List ℕ). IsSavedUber (told_root c.args.found.now.root c.args.current.now) b c.in-Some-saved_uber.uber) c.as_slice.ensures (c.in-Some-saved_uber.ensures (told_root c.args.found.now.root c.args.current.now) refl refl) in
     let u = c.in-Some-saved_uber.uber in
-    let on : AreOn u = search rules in
-    let root = c.in_ok-root.root in
+    let root = c.in-Ok.root in
     let own = c.in_ok-open_saved.ensures in
     let pool = c.in_ok-open_saved.field-0 in
     let sizes = g.S.Shelf.sizes c.args.shelf.now in
     let disks = (g.S.Shelf.world c.args.shelf.now).now.seen in
     let tells = g.S.Shelf.tells c.args.shelf.now in
-    let ready = own.open sizes (saved_disks c.args.found.now.root u c.requires.root is.spelled.lawful on is.rows sizes c.args.found.now.slots c.requires.disks) in (
+    let slots = c.args.found.now.slots in
+    let cut = c.own_slots.result in
+    let ready = own.open sizes (saved_disks c.args.found.now.root u c.requires.root is.spelled.lawful is.rows sizes slots cut c.own_slots.ensures.own c.requires.disks) in
+    let mapped = c.in-Ok.ensures.mapped in
+    (
       c.in-Some.block,
       c.in-Some.is,
       record {
         is_saved = is;
-        on = on;
-        head = c.in_ok-root.ensures.head;
-        stands = c.in_ok-root.ensures.stands;
+        head = c.in-Ok.ensures.head;
+        mapped = mapped;
+        stands = λ t.
+            let sound = g.S.Shelf.sound c.args.shelf.now t in
+            let stands = subst (λ (ss : List (Option ℕ)). Stands disks ss u root) (sym own.slots) (c.in-Ok.ensures.stands t) in
+            cut_stands disks slots cut u root (own_rows tells t disks sizes sound.sized u pool root [] is.spelled.lawful ready own.fresh own.parts mapped stands) c.own_slots.ensures.own (c.in-Ok.ensures.stands t);
         objects = λ t.
             let sound = g.S.Shelf.sound c.args.shelf.now t in
-            let stands = subst (λ (slots : List (Option ℕ)). Stands (image_of disks slots u) u root) (sym own.slots) (c.in_ok-root.ensures.stands t) in (
-              objects tells t disks sizes sound.sized u pool root [] is.spelled.lawful ready own.fresh own.parts stands,
-              subst (λ (slots : List (Option ℕ)). AreObjects (store_of (record { disks = disks; slots = slots; devices = devices_of root.parts.devs })) root.head.dir (objects tells t disks sizes sound.sized u pool root [] is.spelled.lawful ready own.fresh own.parts stands)) own.slots
-                  (are tells t disks sizes sound.sized u pool root [] is.spelled.lawful ready own.fresh own.parts stands),
+            let stands = subst (λ (ss : List (Option ℕ)). Stands disks ss u root) (sym own.slots) (c.in-Ok.ensures.stands t) in
+            let rows = own_rows tells t disks sizes sound.sized u pool root [] is.spelled.lawful ready own.fresh own.parts mapped stands in
+            let os = objects tells t disks sizes sound.sized u pool root [] is.spelled.lawful ready own.fresh own.parts mapped stands in (
+              os,
+              subst (λ (s : Stored). AreObjects s root.head.dir os) (cut_blocks disks slots cut u root rows c.own_slots.ensures.own)
+                  (subst (λ (ss : List (Option ℕ)). AreObjects (blocks_of disks ss root) root.head.dir os) own.slots
+                  (are tells t disks sizes sound.sized u pool root [] is.spelled.lawful ready own.fresh own.parts mapped stands)),
             );
         space = (pool.space, own.parts.space, own.room);
         served = c.is_served.ensures.0 c.if-not-is_served.false;
-        clear = c.in_ok-root.ensures.clear;
-        quiet = c.in_ok-root.ensures.quiet;
-        fits = c.in_ok-root.ensures.fits;
+        clear = c.in-Ok.ensures.clear;
+        fits = c.in-Ok.ensures.fits;
       },
     )

@@ -1,0 +1,3 @@
+pub mod Causes
+pub mod Devices
+pub mod Standing
