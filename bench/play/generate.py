@@ -74,7 +74,98 @@ def short_runs(s):
     return [dev], L
 
 
+def removals(seed, n=70):
+    """A script in which devices are given up, with frees, checkpoints, ends of the program and upgrades beside."""
+    r = random.Random(seed)
+    ndev = r.choice([2, 2, 3, 3, 4])
+    names = ['a', 'b', 'c', 'd'][:ndev]
+    size = {x: r.choice([8388608, 8388608, 8392704, 9437184, 12582912, 16777216]) for x in names}
+    words = ['%s:%d' % (x, size[x]) for x in names]
+    if seed % 5 == 0: words = ['--auto', str(r.choice([1, 2, 3]))] + words
+    first = names[:r.randint(1, ndev)]
+    old = seed % 7 == 3
+    L = ['create %sp%d %d %s' % ('-1 ' if old else '', seed, seed, ' '.join(first))]
+    rest = [x for x in names if x not in first]
+    full = seed % 3 == 0        # blocks of several units, up to refusals for room
+    ids = {}
+    for i in range(1, r.randint(2, 4)):
+        un = r.choice([8, 16, 32, 4]) if full else r.choice([1, 1, 2, 4, 8])
+        L.append('make %d %d' % (i, un)); ids[i] = un
+        for k in range(r.randint(1, 4)):
+            u = un * 4096
+            L.append('fill %d %d %d %d' % (i, r.choice([0, 1, 5, 33]) * u, r.choice([u, 3 * u, 20 * u, 60 * u]), r.randrange(1, 256)))
+    if seed % 4 == 1:           # many short extents, so many entries
+        L += ['make 9 1', 'fill 9 0 262144 3', 'fill 9 262144 262144 4', 'fill 9 524288 262144 5']
+        L += ['punch 9 %d 4096' % (k * 8192) for k in range(r.choice([20, 60, 90]))]
+        ids[9] = 1
+    if r.random() < .7: L.append('sync')
+
+    def change():
+        i = r.choice(sorted(ids)); un = ids[i]; u = un * 4096
+        off = r.choice([0, 0, 1, 2, 5, 20, 31, 33, 40]) * u + r.choice([0, 0, 0, 1, 4094])
+        k = r.randrange(100)
+        if k < 35: L.append('punch %d %d %d' % (i, off, r.choice([1, u, 3 * u, 20 * u, 60 * u])))
+        elif k < 70: L.append('fill %d %d %d %d' % (i, off, r.choice([1, u, u, 3 * u, 20 * u, 60 * u]), r.randrange(0, 256)))
+        elif k < 78: L.append('write %d %d %s' % (i, off, bytes(r.randrange(256) for _ in range(5)).hex()))
+        elif k < 84: L.append('sum %d' % i)
+        elif k < 90: L.append('read %d %d %d' % (i, off, r.choice([1, 30, 64])))
+        elif k < 94:
+            L.append('drop %d' % i)
+            if r.random() < .5: L.append('make %d %d' % (i, un))
+            elif len(ids) > 1: ids.pop(i)
+        else: L.append('sync')
+    for _ in range(n):
+        k = r.randrange(100)
+        if k < 38: change()
+        elif k < 47:
+            L.append('remove ' + r.choice(names))
+            if r.random() < .7: L += ['step evac'] * r.choice([1, 2, 3, 8, 140 if seed % 4 == 1 else 12])
+        elif k < 67: L += ['step evac'] * r.choice([1, 1, 2])
+        elif k < 68: L += ['step evac'] * (120 if seed % 4 == 1 else 10)
+        elif k < 70: L.append('remove -s')
+        elif k < 72: L.append('remove -n ' + r.choice(names))
+        elif k < 76:
+            if seed % 4 == 1 and 9 in ids: L.append('punch 9 %d %d' % (r.choice([0, 65536, 262144]), r.choice([40960, 131072, 262144])))
+            L += ['step condense'] * r.choice([1, 2, 4])
+        elif k < 79: L += ['export', r.choice(['import', 'import', 'import', 'import rewind', 'import txg %d' % r.randint(1, 12)]), 'import']
+        elif k < 82 and rest: L.append('add ' + rest.pop())
+        elif k < 84: L.append('checkpoint')
+        elif k < 86: L.append('checkpoint -d')
+        elif k < 88: L += ['step discard'] * r.choice([1, 2])
+        elif k < 89: L.append('upgrade')
+        elif k < 92: L.append('map %d' % r.randrange(4))
+        elif k < 94: L.append('list')
+        elif k < 96: L.append('status')
+        elif k < 98: L.append('audit')
+        else: L.append('sync')
+    if r.random() < .5: L += ['step evac'] * 12
+    L += ['list', 'status', 'audit'] + ['sum %d' % i for i in sorted(ids)] + ['map 0', 'map 1'] + (['export', 'import', 'list', 'audit'] if r.random() < .7 else [])
+    return words, L
+
+
+def condensing(s):
+    """A script whose mappings have many entries, of which many become obsolete, over one removal or two."""
+    r = random.Random(s)
+    words = ['a:8388608', 'b:%d' % r.choice([8388608, 16777216]), 'c:16777216']
+    L = ['create k%d %d a' % (s, s), 'make 9 1'] + ['fill 9 %d 262144 %d' % (k * 262144, k + 1) for k in range(5)]
+    L += ['punch 9 %d 4096' % (k * 8192) for k in range(r.choice([70, 100, 150]))] + ['sync', 'add b', 'remove a', 'status']
+    L += ['step evac'] * r.choice([60, 200]) + ['punch 9 0 40960'] * (s % 2) + ['step evac'] * 140 + ['map 0', 'status']
+    for k in range(r.choice([4, 7])):
+        L += ['punch 9 %d %d' % (k * 131072, r.choice([65536, 131072])), 'step condense', 'status']
+        if r.random() < .5: L += [r.choice(['sync', 'export']), 'import', 'step condense']
+    L += ['step condense'] * 4 + ['map 0', 'list', 'audit', 'sum 9', 'add c', 'remove b'] + ['step evac'] * 12
+    L += ['map 0', 'map 1', 'fill 9 0 262144 7', 'drop 9', 'sync'] + ['step condense'] * 6 + ['map 0', 'map 1', 'list', 'status', 'audit', 'export', 'import', 'audit']
+    return words, L
+
+
 if __name__ == '__main__':
+    if sys.argv[1:] == ['removals']:
+        for s in range(1001, 1301):
+            words, lines = removals(s) if s % 25 else condensing(s)
+            print(' '.join(words))
+            print('\n'.join(lines))
+            print('====')
+        sys.exit(0)
     for s in list(range(1, 201)) + [201, 202, 204]:
         words, lines = script(s, 40) if s <= 200 else short_runs(s)
         print(' '.join(words))

@@ -1,5 +1,5 @@
 -- A pool without blocks: its objects, its checkpoint and its devices.
-use Rattle.std.specs.Prelude.{ℕ, Bool, true, false, List, map, Option, None}
+use Rattle.std.specs.Prelude.{◌≡◌, ℕ, Bool, true, false, List, map, Option, None}
 use Rattle.std.specs.FinMap as map
 use Rattle.zr_base.specs.declared.refusal.Refusal.{Refusal}
 use Rattle.zr_model.specs.Objects.{Objects}
@@ -30,17 +30,36 @@ pub data ShelfPart : Type 0 where
   Refused : Refusal → ShelfPart
   Is : PoolState → ShelfPart
 
--- what the shelf has, and whether it is open
+-- which actors have work on the devices of an open pool, of which its objects tell nothing
+pub record Work : Type 0 where
+  pub evac : Bool
+  pub discard : Bool
+  pub condense : Bool
+
+abbrev pub no_work : Work
+no_work = record { evac = false; discard = false; condense = false }
+
+-- what the shelf has, whether it is open, and what work is left then
 pub record State : Type 0 where
   pub is_open : Bool
   pub shelf : ShelfPart
+  pub work : Work
 
 -- no pool at all
 abbrev pub no_pool : State
-no_pool = record { is_open = false; shelf = Empty }
+no_pool = record { is_open = false; shelf = Empty; work = no_work }
 
 abbrev pub opened : PoolState → State
-opened p = record { is_open = true; shelf = Is p }
+opened p = record { is_open = true; shelf = Is p; work = no_work }
+
+-- a pool is open, of whose objects nothing is told
+abbrev pub untold : Work → State
+untold work = record { is_open = true; shelf = Empty; work = work }
+
+-- a pool is open, and is this one
+pub record IsOpened (p : PoolState) (s : State) : Type 0 where
+  pub is_open : s.is_open ≡ true
+  pub shelf : s.shelf ≡ Is p
 
 abbrev pub with_objects : PoolState → Objects → PoolState
 with_objects p objects = record { guid = p.guid; name = p.name; objects = objects; saved = p.saved; devs = p.devs; discarding = p.discarding }

@@ -11,7 +11,7 @@ use Rattle.zr_script.specs.declared.reply.Reply.TheVariants as reply
 use Rattle.zr_label.specs.declared.root.Uber.{Uber}
 use Rattle.zr_label.specs.declared.root.Seen.{Seen}
 use Rattle.zr_model.specs.Objects.{Object, blank, bytes_at, with_bytes, reads_lost, changes_lost, has_lost, object_sum}
-use Rattle.zr_model.specs.State.{Device, InService, Leaving, Removed, Saved, PoolState, ShelfPart, Empty, Refused, Is, State, opened, created, with_objects}
+use Rattle.zr_model.specs.State.{Device, InService, Leaving, Removed, Saved, PoolState, ShelfPart, Empty, Refused, Is, State, no_work, opened, created, with_objects}
 use Rattle.zr_model.specs.Runs.{Shelf}
 use Rattle.zr_image.specs.Current.{ShowsAll, IsCurrent}
 use Rattle.zr_image.specs.StateOf.{StateAt}
@@ -120,7 +120,7 @@ ActsOrRefuses p command answer new =
 
 -- an open pool: where a block that is needed is lost, that is told and nothing changes
 abbrev pub AnswersOpen : PoolState → Command → Reply → State → Type 0
-AnswersOpen p cmd.Export reply.Done new = new ≡ record { is_open = false; shelf = Is p }
+AnswersOpen p cmd.Export reply.Done new = new ≡ record { is_open = false; shelf = Is p; work = no_work }
 AnswersOpen p cmd.Export answer new = ⊥
 AnswersOpen p command answer new = MatchBool (needs_lost p command) (IsDamage answer × (new ≡ opened p)) (ActsOrRefuses p command answer new)
 

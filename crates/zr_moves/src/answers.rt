@@ -6,7 +6,7 @@ ghost use Rattle.zr_script.specs.declared.command.Command.{Command};
 ghost use Rattle.zr_script.specs.declared.command.Command.TheVariants as cmd;
 ghost use Rattle.zr_script.specs.declared.reply.Reply.TheVariants as reply;
 ghost use Rattle.zr_model.specs.Objects.{Object, reads_lost, changes_lost};
-ghost use Rattle.zr_model.specs.State.{Leaving, Saved, PoolState, ShelfPart, Empty, Is, State, opened};
+ghost use Rattle.zr_model.specs.State.{Leaving, Saved, PoolState, ShelfPart, Empty, Is, State, no_work, opened};
 ghost use Rattle.zr_model.specs.Runs.{Shelf};
 ghost use Rattle.zr_moves.specs.Refusals.{Slots, AdmitsOpen, AdmitsClosed};
 ghost use Rattle.zr_moves.specs.Answers.{Answers, needs_lost};
@@ -41,6 +41,6 @@ pub fn a_lost_block_is_not_read()
 
 /// The way back leads to the objects and devices of the checkpoint, and there is no checkpoint then.
 pub fn a_rewind_is_exact()
-    ensures { (s : Shelf) (p : PoolState) (saved : Saved) (new : State) → p.saved ≡ Some saved → Answers s (record { is_open = false; shelf = Is p }) cmd.ImportRewind reply.Done new
+    ensures { (s : Shelf) (p : PoolState) (saved : Saved) (new : State) → p.saved ≡ Some saved → Answers s (record { is_open = false; shelf = Is p; work = no_work }) cmd.ImportRewind reply.Done new
         → (q : PoolState) × (new ≡ opened q) × (q.objects ≡ saved.objects) × (q.devs ≡ saved.devs) × (q.saved ≡ None) × (q.name ≡ p.name) × (q.guid ≡ p.guid) }
 {}

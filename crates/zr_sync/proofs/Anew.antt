@@ -1,5 +1,5 @@
 -- Logs that are written anew, one device after the other.
-use Rattle.std.proofs.Common.{◌≡◌, ◌≢◌, ◌∙◌, ⊎_elim, ℕ, ◌+◌, ◌<◌, ◌==◌, Bool, true, false, List, length, get_or, refl, sym, ap, subst, arith}
+use Rattle.std.proofs.Common.{◌≡◌, ◌≢◌, ◌∙◌, ⊎_elim, ℕ, ◌+◌, ◌<◌, List, length, refl, sym, ap, subst, arith}
 use Rattle.std.specs.Prelude.{slice_index_or, slice_set}
 use Rattle.std.proofs.Math.ListN.{length-set}
 use Rattle.std.proofs.lemmas.List.{get_or-set_same, get_or-set_other}
@@ -9,14 +9,16 @@ use Rattle.zr_rules.specs.Space.{Space}
 use Rattle.zr_vdev.specs.Stores.{KeepsOthers}
 use Rattle.zr_vdev.specs.declared.kind.Kind.TheVariants.{Block, Meta}
 use Rattle.zr_vdev.proofs.Follows.{others_more}
-use Rattle.zr_sync.specs.Anew.{anew_count, AreAnew, HasCountOf, RenewsLog, RenewsBoth, IsRenewed, AreRenewed, RenewsLogs, KeepsCounts}
+use Rattle.zr_sync.specs.Anew.{anew_count, AreAnew, HasCountOf, RenewsEach, IsRenewed, AreRenewed, RenewsLogs, KeepsCounts}
 use Rattle.zr_sync.specs.Checkpoints.{no_streams}
+use Rattle.zr_sync.specs.Mappings.{with_mapping}
 use Rattle.zr_sync.specs.Streams.{log_stream, streams_at, with_log, HasNoLates}
+use Rattle.zr_sync.specs.declared.mappings.MappingStream.TheVariants.{Entries, Counts}
 use Rattle.zr_sync.specs.declared.open.DeviceStreams.{DeviceStreams}
 use Rattle.zr_sync.specs.declared.open.OpenPool.{OpenPool}
 use Rattle.zr_sync.specs.declared.open.Table.{Table}
 use Rattle.zr_sync.specs.declared.words.Log.{Log}
-use Rattle.zr_sync.specs.declared.words.Log.TheVariants.{Held, Kept}
+use Rattle.zr_sync.specs.declared.words.Log.TheVariants.{Held, Kept, Fresh}
 use Rattle.zr_sync.specs.declared.words.LogWords.{LogWords}
 use Rattle.zr_sync.specs.declared.words.LogWords.TheVariants.{Stays, Grows, Anew}
 
@@ -34,44 +36,85 @@ set_here xs dev x lt = get_or-set_same xs dev x no_streams lt
 set_there : (xs : List DeviceStreams) (dev other : ℕ) (x : DeviceStreams) → other ≢ dev → slice_index_or (slice_set xs dev x) other no_streams ≡ slice_index_or xs other no_streams
 set_there xs dev other x ne = get_or-set_other xs dev other x no_streams ne
 
-module _ (x z : OpenPool) (d : ℕ) (there : d < length x.streams.items) (b : RenewsBoth x z d) where
-  mid_length : length b.mid.streams.items ≡ length x.streams.items
-  mid_length = ap length b.held.streams ∙ length-set x.streams.items d _
+module _ (x y : OpenPool) (d : ℕ) (t : DeviceStreams) (step : y.streams.items ≡ slice_set x.streams.items d t) where
+  step_length : length y.streams.items ≡ length x.streams.items
+  step_length = ap length step ∙ length-set x.streams.items d t
 
-  mid_here : streams_at b.mid d ≡ with_log Held (streams_at x d) b.held.stream
-  mid_here = ap (λ (xs : List DeviceStreams). slice_index_or xs d no_streams) b.held.streams ∙ set_here x.streams.items d _ there
+  step_here : d < length x.streams.items → streams_at y d ≡ t
+  step_here there = ap (λ (xs : List DeviceStreams). slice_index_or xs d no_streams) step ∙ set_here x.streams.items d t there
 
-  last_here : streams_at z d ≡ with_log Kept (streams_at b.mid d) b.kept.stream
-  last_here = let n = mid_length in ap (λ (xs : List DeviceStreams). slice_index_or xs d no_streams) b.kept.streams ∙ set_here b.mid.streams.items d _ (omega (arith, n, there))
+  step_there : (e : ℕ) → e ≢ d → streams_at y e ≡ streams_at x e
+  step_there e ne = ap (λ (xs : List DeviceStreams). slice_index_or xs e no_streams) step ∙ set_there x.streams.items d e t ne
 
-  last_there : (e : ℕ) → e ≢ d → streams_at z e ≡ streams_at x e
-  last_there e ne =
-      ap (λ (xs : List DeviceStreams). slice_index_or xs e no_streams) b.kept.streams
-      ∙ (set_there b.mid.streams.items d e _ ne
-      ∙ (ap (λ (xs : List DeviceStreams). slice_index_or xs e no_streams) b.held.streams ∙ set_there x.streams.items d e _ ne))
+module _ (x z : OpenPool) (d : ℕ) (there : d < length x.streams.items) (b : RenewsEach x z d) where
+  first_there : d < length b.first.streams.items
+  first_there = let n = step_length x b.first d _ b.held.streams in omega (arith, n, there)
+
+  second_there : d < length b.second.streams.items
+  second_there = let n = step_length b.first b.second d _ b.kept.streams in let m = first_there in omega (arith, n, m)
+
+  third_there : d < length b.third.streams.items
+  third_there = let n = step_length b.second b.third d _ b.entries.streams in let m = second_there in omega (arith, n, m)
+
+  last_there : d < length b.last.streams.items
+  last_there = let n = step_length b.third b.last d _ b.counts.streams in let m = third_there in omega (arith, n, m)
+
+  first_here : streams_at b.first d ≡ with_log Held (streams_at x d) b.held.stream
+  first_here = step_here x b.first d _ b.held.streams there
+
+  second_here : streams_at b.second d ≡ with_log Kept (streams_at b.first d) b.kept.stream
+  second_here = step_here b.first b.second d _ b.kept.streams first_there
+
+  third_here : streams_at b.third d ≡ with_mapping Entries (streams_at b.second d) b.entries.stream
+  third_here = step_here b.second b.third d _ b.entries.streams second_there
+
+  fourth_here : streams_at b.last d ≡ with_mapping Counts (streams_at b.third d) b.counts.stream
+  fourth_here = step_here b.third b.last d _ b.counts.streams third_there
+
+  now_here : streams_at z d ≡ with_log Fresh (streams_at b.last d) b.fresh.stream
+  now_here = step_here b.last z d _ b.fresh.streams last_there
+
+  now_there : (e : ℕ) → e ≢ d → streams_at z e ≡ streams_at x e
+  now_there e ne =
+      step_there b.last z d _ b.fresh.streams e ne
+      ∙ (step_there b.third b.last d _ b.counts.streams e ne
+      ∙ (step_there b.second b.third d _ b.entries.streams e ne
+      ∙ (step_there b.first b.second d _ b.kept.streams e ne ∙ step_there x b.first d _ b.held.streams e ne)))
+
+  now_held : (streams_at z d).held ≡ b.held.stream
+  now_held =
+      ap (λ (t : DeviceStreams). t.held) now_here
+      ∙ (ap (λ (t : DeviceStreams). t.held) fourth_here
+      ∙ (ap (λ (t : DeviceStreams). t.held) third_here ∙ (ap (λ (t : DeviceStreams). t.held) second_here ∙ ap (λ (t : DeviceStreams). t.held) first_here)))
+
+  now_kept : (streams_at z d).kept ≡ b.kept.stream
+  now_kept = ap (λ (t : DeviceStreams). t.kept) now_here ∙ (ap (λ (t : DeviceStreams). t.kept) fourth_here ∙ (ap (λ (t : DeviceStreams). t.kept) third_here ∙ ap (λ (t : DeviceStreams). t.kept) second_here))
 
   pub renewed_here : (version : ℕ) (from : Space) → x.version ≡ version → KeepsOthers Meta from x.space → (log : Log) → IsRenewed version from z.streams.items d log
   renewed_here version from same others Held = record {
     space = x.space;
     metadata = others;
-    words =
-        ap (λ (t : DeviceStreams). t.held.words) (last_here ∙ ap (λ (t : DeviceStreams). with_log Kept t b.kept.stream) mid_here)
-        ∙ (b.held.words ∙ ap (λ (v : ℕ). anew_count v x.space d Held) same);
+    words = ap (λ (s : Stream). s.words) now_held ∙ (b.held.words ∙ ap (λ (v : ℕ). anew_count v x.space d Held) same);
   }
   renewed_here version from same others Kept = record {
-    space = b.mid.space;
-    metadata = others_more Meta from x.space b.mid.space others b.metadata;
-    words = ap (λ (t : DeviceStreams). t.kept.words) last_here ∙ (b.kept.words ∙ ap (λ (v : ℕ). anew_count v b.mid.space d Kept) (b.version ∙ same));
+    space = b.first.space;
+    metadata = others_more Meta from x.space b.first.space others b.to_first;
+    words = ap (λ (s : Stream). s.words) now_kept ∙ (b.kept.words ∙ ap (λ (v : ℕ). anew_count v b.first.space d Kept) (b.first_version ∙ same));
+  }
+  renewed_here version from same others Fresh = record {
+    space = b.last.space;
+    metadata = others_more Meta from x.space b.last.space others b.to_last;
+    words = ap (λ (t : DeviceStreams). t.fresh.words) now_here ∙ (b.fresh.words ∙ ap (λ (v : ℕ). anew_count v b.last.space d Fresh) (b.last_version ∙ same));
   }
 
-pub renewed_next : (version : ℕ) (from : Space) (x z : OpenPool) (d : ℕ) → d < length x.streams.items → x.version ≡ version → KeepsOthers Meta from x.space → RenewsBoth x z d
+pub renewed_next : (version : ℕ) (from : Space) (x z : OpenPool) (d : ℕ) → d < length x.streams.items → x.version ≡ version → KeepsOthers Meta from x.space → RenewsEach x z d
     → AreRenewed version from x.streams.items d → AreRenewed version from z.streams.items (d + 1)
 renewed_next version from x z d there same others b before e log lt =
     ⊎_elim
     (λ is. subst (λ (k : ℕ). IsRenewed version from z.streams.items k log) (sym is) (renewed_here x z d there b version from same others log))
     (λ ne.
     let w = before e log (omega (arith, lt, ne)) in
-    record { space = w.space; metadata = w.metadata; words = ap (λ (t : DeviceStreams). (log_stream log t).words) (last_there x z d there b e ne) ∙ w.words })
+    record { space = w.space; metadata = w.metadata; words = ap (λ (t : DeviceStreams). (log_stream log t).words) (now_there x z d there b e ne) ∙ w.words })
     (cases_eq e d)
 
 -- ---- what leaves the logs alone
@@ -82,6 +125,7 @@ same_counts x dev log = refl
 late_counts : (log : Log) (t : DeviceStreams) (a b : Stream) → (log_stream log (record t { late1 = a; late2 = b })).words ≡ (log_stream log t).words
 late_counts Held t a b = refl
 late_counts Kept t a b = refl
+late_counts Fresh t a b = refl
 
 pub no_lates_counts : (x y z : OpenPool) (d : ℕ) → d < length y.streams.items → KeepsCounts x y → HasNoLates y z d → KeepsCounts x z
 no_lates_counts x y z d there kept none dev log =

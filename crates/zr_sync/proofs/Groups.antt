@@ -13,16 +13,16 @@ use Rattle.zr_lookup.specs.Groups.{IsChangeOf, IsLawfulGroup}
 use Rattle.zr_meta.specs.Heads.{IsSaved}
 use Rattle.zr_rules.specs.Devices.{Devices}
 use Rattle.zr_rules.specs.Equation.{devices_in}
+use Rattle.zr_rules.specs.Places.{part_of}
 use Rattle.zr_rules.specs.Space.{Space}
 use Rattle.zr_rules.specs.Steps.{Commits}
-use Rattle.zr_space.specs.Paths.{AreInService}
 use Rattle.zr_txg.specs.Changes.{Changes, ObjectChange, block_count}
 use Rattle.zr_vdev.specs.Mounts.{AreMounted}
 use Rattle.zr_commit.proofs.Roots.{meta_tree}
 use Rattle.zr_shelf.specs.Counts.{Counts}
 use Rattle.zr_shelf.specs.Moments.{World}
 use Rattle.zr_shelf.proofs.Runs.{still}
-use Rattle.zr_sync.specs.Commits.{IsNextRoot, IsShownFrom, IsShownInPart, PublishesRoot, WritesRoot}
+use Rattle.zr_sync.specs.Commits.{EndsGroup, IsNextRoot, IsShownFrom, IsShownInPart, PublishesRoot, WritesRoot}
 use Rattle.zr_sync.specs.Pools.{IsOpen, IsInLimits, AreRows, saved_block}
 use Rattle.zr_sync.specs.Writes.{WritesAll}
 use Rattle.zr_sync.specs.declared.open.OpenPool.{OpenPool}
@@ -49,8 +49,8 @@ empty_limits g none = record {
 }
 
 pub ended : (sizes : List ℕ) (reset : Bool) (x y : OpenPool) (u : Uber) (height : ℕ) → IsOpen sizes x → IsNextRoot x reset u → IsUber u → IsHeight (div_ceil u.len 4096) height → Commits reset x.space y.space
-    → y.group.txg ≡ x.group.txg + 1 → y.group.objects ≡ [] → y ≡ record x { space = y.space; head = record { root = u.root; height = height }; last = Some u; group = y.group } → IsOpen sizes y
-ended sizes reset x y u height o next lawful tall commits txg none rest =
+    → y.group.txg ≡ x.group.txg + 1 → y.group.objects ≡ [] → y ≡ record x { space = y.space; head = record { root = u.root; height = height }; last = Some u; group = y.group; turned = y.turned } → length y.turned ≡ 32 → IsOpen sizes y
+ended sizes reset x y u height o next lawful tall commits txg none rest turned =
     let devices = commits_devices reset x.space y.space commits in
     let first = o.first in
     subst (IsOpen sizes) (sym rest) (record {
@@ -69,6 +69,8 @@ ended sizes reset x y u height o next lawful tall commits txg none rest =
       head = meta_tree u.len height u.root lawful.root tall;
       streams = o.streams;
       count = o.count;
+      cond = o.cond;
+      turned = turned;
       saved = subst (λ (k : CkptPart). IsSaved k (saved_block x.saved)) (sym commits.ckpt) o.saved;
       checkpoint = o.checkpoint;
       spelled = commits.version ∙ o.spelled;
@@ -76,27 +78,30 @@ ended sizes reset x y u height o next lawful tall commits txg none rest =
       rows = λ d lt. commits.rows d ∙ o.rows d lt;
       lawful = commits.lawful o.lawful;
       mounted = subst (λ (ds : Devices). AreMounted sizes x.table.slots ds) (sym devices) o.mounted;
-      service = subst AreInService (sym devices) o.service;
       disks = o.disks;
     })
+
+-- the rows of the devices stay
+pub ends_row : (reset : Bool) (old new : Space) → EndsGroup reset old new → (d : ℕ) → (part_of new.parts.devs d).row ≡ (part_of old.parts.devs d).row
+ends_row reset old new h d = h.ended.rows d ∙ ((h.metadata.rows.each d).row ∙ (h.blocks.rows.each d).row)
 
 -- ---- the pool before its blocks were written
 
 pub shown_before : {n1 n2 : List ℕ} {c1 c2 : Counts} {t1 t2 : Type 0} {w1 w2 : World} {x y : OpenPool} → WritesAll n1 n2 c1 c2 t1 t2 w1 w2 x y → (u : Uber) (a b : World) → IsShownFrom n2 y u a b → IsShownFrom n1 x u a b
 shown_before {n1 = n1} {n2 = n2} {x = x} {y = y} p u a b h =
-    let is : IsShownFrom n1 (record x { space = y.space; cache = y.cache; dir = y.dir; streams = y.streams }) u a b =
+    let is : IsShownFrom n1 (record x { space = y.space; cache = y.cache; dir = y.dir; streams = y.streams; cond = y.cond }) u a b =
     subst (λ (o : OpenPool). IsShownFrom n1 o u a b) p.rest (subst (λ (n : List ℕ). IsShownFrom n y u a b) p.sizes h) in
     record { both = is.both; all = is.all; in_both = is.in_both; all_both = is.all_both; in_all = is.in_all; all_all = is.all_all; published = is.published }
 
 -- the root that follows is the next one of the pool whose blocks were written
 pub next_before : {n1 n2 : List ℕ} {c1 c2 : Counts} {t1 t2 : Type 0} {w1 w2 : World} {x y : OpenPool} → WritesAll n1 n2 c1 c2 t1 t2 w1 w2 x y → (reset : Bool) (u : Uber) → IsNextRoot y reset u → IsNextRoot x reset u
 next_before {x = x} {y = y} p reset u h =
-    let is : IsNextRoot (record x { space = y.space; cache = y.cache; dir = y.dir; streams = y.streams }) reset u = subst (λ (o : OpenPool). IsNextRoot o reset u) p.rest h in
+    let is : IsNextRoot (record x { space = y.space; cache = y.cache; dir = y.dir; streams = y.streams; cond = y.cond }) reset u = subst (λ (o : OpenPool). IsNextRoot o reset u) p.rest h in
     record { txg = is.txg; version = is.version; guid = is.guid; name = is.name; count = is.count; rows = is.rows; reset_is = is.reset_is }
 
 part_before : {n1 n2 : List ℕ} {c1 c2 : Counts} {t1 t2 : Type 0} {w1 w2 : World} {x y : OpenPool} → WritesAll n1 n2 c1 c2 t1 t2 w1 w2 x y → (u : Uber) (a b : World) → IsShownInPart n2 y u a b → IsShownInPart n1 x u a b
 part_before {n1 = n1} {n2 = n2} {x = x} {y = y} p u a b h =
-    let is : IsShownInPart n1 (record x { space = y.space; cache = y.cache; dir = y.dir; streams = y.streams }) u a b =
+    let is : IsShownInPart n1 (record x { space = y.space; cache = y.cache; dir = y.dir; streams = y.streams; cond = y.cond }) u a b =
     subst (λ (o : OpenPool). IsShownInPart n1 o u a b) p.rest (subst (λ (n : List ℕ). IsShownInPart n y u a b) p.sizes h) in
     record { both = is.both; all = is.all; in_both = is.in_both; all_both = is.all_both; in_all = is.in_all; all_all = is.all_all; published = is.published }
 

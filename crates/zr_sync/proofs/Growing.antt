@@ -17,7 +17,7 @@ use Rattle.zr_smap.proofs.Replaying.{anew_replays}
 use Rattle.zr_units.specs.Differences.{Replays}
 use Rattle.zr_sync.specs.Words.{AddsCut, ReplaysAs, log_has, log_set}
 use Rattle.zr_sync.specs.declared.words.Log.{Log}
-use Rattle.zr_sync.specs.declared.words.Log.TheVariants.{Held, Kept}
+use Rattle.zr_sync.specs.declared.words.Log.TheVariants.{Held, Kept, Fresh}
 
 -- ---- changes behind others
 
@@ -184,6 +184,7 @@ module _ (version dev : ℕ) (had added : List ℕ) (es now : List Extent) (chan
 pub has_now : (log : Log) (s : Space) (d u : ℕ) → has_unit (log_set log (part_of s.parts.devs d)) u ≡ log_has log s d u
 has_now Held s d u = refl
 has_now Kept s d u = refl
+has_now Fresh s d u = refl
 
 -- a log that is not written anew is not much longer than its set
 pub still_few : (b : Bool) (words added anew : ℕ) → b ≡ is_long words added anew → b ≡ false → words + added ≤ 2 * anew + 512

@@ -1,6 +1,6 @@
 -- What the disks hold of the objects, through the steps of a commit.
-use Rattle.std.proofs.Common.{◌≡◌, ◌∙◌, ℕ, ◌<◌, ◌≤◌, Bool, List, [], Option, None, Result, Ok, Err, sym, ap, subst, arith}
-use Rattle.std.specs.Prelude.{OnOk, slice_index}
+use Rattle.std.proofs.Common.{◌≡◌, ◌∙◌, ℕ, ◌<◌, ◌≤◌, Bool, true, false, List, [], ◌∷◌, length, Option, None, Result, Ok, Err, sym, ap, subst, arith}
+use Rattle.std.specs.Prelude.{OnOk, slice_index, if◌then◌else◌}
 use Rattle.zr_base.specs.declared.space.DevRow.{DevRow}
 use Rattle.zr_base.specs.declared.space.Dva.{Dva}
 use Rattle.zr_bptr.specs.declared.Tree.{Tree}
@@ -9,23 +9,26 @@ use Rattle.zr_label.specs.Blocks.{IsUber}
 use Rattle.zr_label.specs.Geometry.{label_at, unit_at}
 use Rattle.zr_label.specs.declared.root.Uber.{Uber}
 use Rattle.zr_rules.specs.Devices.{Devices}
-use Rattle.zr_rules.specs.Equation.{devices_in}
-use Rattle.zr_rules.specs.Space.{Space}
+use Rattle.zr_rules.specs.Equation.{devices_in, live_hits}
+use Rattle.zr_rules.specs.Frees.{MarksNothing}
+use Rattle.zr_rules.specs.Places.{part_of}
+use Rattle.zr_rules.specs.Resolve.{is_resolved, leads_to, resolve_hits}
+use Rattle.zr_rules.specs.Roles.{Role, aged, cleared, is_live_role}
+use Rattle.zr_rules.specs.Space.{Space, role_at}
 use Rattle.zr_rules.specs.Steps.{Commits}
 use Rattle.zr_scan.specs.declared.error.ScanErr.{ScanErr}
 use Rattle.zr_shelf.specs.Counts.{Counts}
 use Rattle.zr_shelf.specs.Moments.{World}
 use Rattle.zr_slots.specs.Phases.{Publishes}
-use Rattle.zr_space.specs.Live.{IsLive}
-use Rattle.zr_space.specs.Paths.{AreInService}
-use Rattle.zr_space.proofs.Freeables.{freeable_live, live_freeable}
+use Rattle.zr_space.specs.Live.{IsFreeable}
 use Rattle.zr_store.specs.Store.{Stored, Swaps, Now}
 use Rattle.zr_vdev.specs.Runs.{view_of}
-use Rattle.zr_vdev.specs.Stores.{HoldsBlocks}
+use Rattle.zr_vdev.specs.Stores.{HoldsBlocks, addresses_of}
 use Rattle.zr_vdev.specs.declared.kind.Kind.TheVariants.{Block}
-use Rattle.zr_vdev.proofs.Frames.{held_over}
+use Rattle.zr_vdev.proofs.Back.{spends_same}
+use Rattle.zr_vdev.proofs.Frames.{held_beside}
 use Rattle.zr_vdev.proofs.Held.{read_same}
-use Rattle.zr_vdev.proofs.Moves.{held_anew}
+use Rattle.zr_vdev.proofs.Moves.{held_again}
 use Rattle.zr_view.specs.Views.{address_bytes}
 use Rattle.zr_commit.specs.Objects.{WritesGroup}
 use Rattle.zr_sync.specs.Holds.{HasBlocks, HasWritten, AreTreesStored}
@@ -46,7 +49,7 @@ pub metadata_holds : (n1 n2 : List ℕ) (c1 c2 : Counts) (t1 t2 : Type 0) (w1 w2
 metadata_holds n1 n2 c1 c2 t1 t2 w1 w2 x y s o wrote held =
     let slots : y.table.slots ≡ x.table.slots = ap (λ (p : OpenPool). p.table.slots) wrote.rest in
     subst (λ (ss : List (Option ℕ)). Now (HoldsBlocks Block ss t2 w2.now.seen y.space None y.cache) (λ n. Swaps s n [] [])) (sym slots)
-    (held_over Block x.table.slots n1 n2 c1 c2 t1 t2 w1 w2 x.space y.space None x.cache y.cache s o.service o.mounted.apart wrote.goes held)
+    (held_beside Block x.table.slots n1 n2 c1 c2 t1 t2 w1 w2 x.space y.space None x.cache y.cache s o.mounted.apart wrote.goes held)
 
 -- so a group that was written before is written behind
 pub metadata_written : (n1 n2 : List ℕ) (c1 c2 : Counts) (t1 t2 : Type 0) (w1 w2 : World) (x y z : OpenPool) (s : Stored) → IsOpen n1 y → WritesMetadata n1 n2 c1 c2 t1 t2 w1 w2 y z
@@ -95,28 +98,67 @@ published_holds sizes both all u r a b pool t1 t2 s o lawful published told held
 
 -- ---- the end of a group
 
--- where the devices and what is live stay, the blocks of objects do
-pub live_holds : (t : Type 0) (disks : List (List ℕ)) (x y : OpenPool) (s : Stored) → AreInService (devices_in x.space) → devices_in y.space ≡ devices_in x.space → y.table ≡ x.table → y.cache ≡ x.cache → ((a : Dva) → IsLive x.space a → IsLive y.space a)
-    → HasBlocks t disks x s → Now (HasBlocks t disks y) (λ n. Swaps s n [] [])
-live_holds t disks x y s on devices table cache live held =
+-- The devices and their mappings stay, nothing is marked, and what is in use by blocks stays so.
+pub record StaysLive (old new : Space) : Type 0 where
+  pub devices : devices_in new ≡ devices_in old
+  pub counts : (d : ℕ) → (part_of new.parts.devs d).counts ≡ (part_of old.parts.devs d).counts
+  pub fresh : MarksNothing old new
+  pub live : (d u : ℕ) → is_live_role (role_at old d u) ≡ true → is_live_role (role_at new d u) ≡ true
+
+-- what may be given back still may
+still_freeable : (old new : Space) (a : Dva) → StaysLive old new → IsFreeable old a → IsFreeable new a
+still_freeable old new a stays h =
+    let known = h.known in
+    let count : length new.parts.devs ≡ length old.parts.devs = ap (λ (ds : Devices). ds.count) stays.devices in
+    record {
+      known = omega (arith, known, count);
+      some = h.some;
+      resolves = subst (λ (ds : Devices). is_resolved ds a ≡ true) (sym stays.devices) h.resolves;
+      once = λ d u. subst (λ (ds : Devices). resolve_hits ds a d u ≤ 1) (sym stays.devices) (h.once d u);
+      used = λ d u leads. stays.live d u (h.used d u (subst (λ (ds : Devices). leads_to ds a d u ≡ true) stays.devices leads));
+      spends = spends_same old new (a ∷ []) stays.devices stays.counts stays.fresh h.spends;
+    }
+
+-- so the blocks of objects stay
+pub live_holds : (t : Type 0) (disks : List (List ℕ)) (x y : OpenPool) (s : Stored) → StaysLive x.space y.space → y.table ≡ x.table → y.cache ≡ x.cache → HasBlocks t disks x s → Now (HasBlocks t disks y) (λ n. Swaps s n [] [])
+live_holds t disks x y s stays table cache held =
     subst (λ (w : Table). Now (HoldsBlocks Block w.slots t disks y.space None y.cache) (λ n. Swaps s n [] [])) (sym table)
     (subst (λ (k : Cache). Now (HoldsBlocks Block x.table.slots t disks y.space None k) (λ n. Swaps s n [] [])) (sym cache)
-    (held_anew Block x.table.slots t t disks disks x.space y.space None x.cache x.cache s (subst AreInService (sym devices) on) held.told (read_same disks x.table.slots x.space y.space x.cache devices held.read)
-    (λ a h. record { used = live_freeable y.space a (subst AreInService (sym devices) on) (live a (freeable_live x.space a on h.used)); whole = tt })
-    (λ a h. ap (λ (ds : Devices). address_bytes (record { disks = disks; slots = x.table.slots; devices = ds }) a) devices)
+    (held_again Block x.table.slots t t disks disks x.space y.space None x.cache x.cache s held.told (read_same disks x.table.slots x.space y.space x.cache stays.devices held.read)
+    (λ a h. record { used = still_freeable x.space y.space a stays h.used; whole = tt })
+    (λ a h. ap (λ (ds : Devices). address_bytes (record { disks = disks; slots = x.table.slots; devices = ds }) a) stays.devices)
+    (λ d u. subst (λ (ds : Devices). live_hits ds (addresses_of s.pointers) d u ≤ 1) (sym stays.devices) (held.once d u))
+    (spends_same x.space y.space (addresses_of s.pointers) stays.devices stays.counts stays.fresh held.back)
     held))
 
+aged_live : (r : Role) → is_live_role r ≡ true → is_live_role (aged r) ≡ true
+aged_live r is = grind (arith, is)
+
+cleared_live : (r : Role) → is_live_role r ≡ true → is_live_role (cleared r) ≡ true
+cleared_live r is = grind (arith, is)
+
+ended_role : (reset : Bool) (r q : Role) → q ≡ (if reset then cleared r else aged r) → is_live_role r ≡ true → is_live_role q ≡ true
+ended_role true r q is live = ap is_live_role is ∙ cleared_live r live
+ended_role false r q is live = ap is_live_role is ∙ aged_live r live
+
+ended_live : (reset : Bool) (old new : Space) → Commits reset old new → StaysLive old new
+ended_live reset old new h = record {
+  devices = commits_devices reset old new h;
+  counts = h.counts;
+  fresh = h.fresh;
+  live = λ d u live. ended_role reset (role_at old d u) (role_at new d u) (h.roles d u) live;
+}
+
 -- a group that ends leaves the blocks of objects
-ended_holds : (reset : Bool) (t : Type 0) (disks : List (List ℕ)) (x y : OpenPool) (s : Stored) → AreInService (devices_in x.space) → y.table ≡ x.table → y.cache ≡ x.cache → ((a : Dva) → IsLive x.space a → IsLive y.space a) → Commits reset x.space y.space
-    → HasBlocks t disks x s → Now (HasBlocks t disks y) (λ n. Swaps s n [] [])
-ended_holds reset t disks x y s on table cache live commits held = live_holds t disks x y s on (commits_devices reset x.space y.space commits) table cache live held
+ended_holds : (reset : Bool) (t : Type 0) (disks : List (List ℕ)) (x y : OpenPool) (s : Stored) → y.table ≡ x.table → y.cache ≡ x.cache → Commits reset x.space y.space → HasBlocks t disks x s → Now (HasBlocks t disks y) (λ n. Swaps s n [] [])
+ended_holds reset t disks x y s table cache commits held = live_holds t disks x y s (ended_live reset x.space y.space commits) table cache held
 
 -- so a group that was written is written once it ended
-pub ended_written : (reset : Bool) (t0 t : Type 0) (disks0 disks : List (List ℕ)) (x y z : OpenPool) (s : Stored) → AreInService (devices_in y.space) → z.table ≡ y.table → z.cache ≡ y.cache → z.dir ≡ y.dir → ((a : Dva) → IsLive y.space a → IsLive z.space a) → Commits reset y.space z.space
+pub ended_written : (reset : Bool) (t0 t : Type 0) (disks0 disks : List (List ℕ)) (x y z : OpenPool) (s : Stored) → z.table ≡ y.table → z.cache ≡ y.cache → z.dir ≡ y.dir → Commits reset y.space z.space
     → HasBlocks t0 disks0 x s → AreTreesStored x s → HasWritten t disks x y s → HasWritten t disks x z s
-ended_written reset t0 t disks0 disks x y z s on table cache dir live commits held stored written =
+ended_written reset t0 t disks0 disks x y z s table cache dir commits held stored written =
     subst (λ (d : Tree). Now (HasBlocks t disks z) (λ n. WritesGroup s n x.group x.dir d)) (sym dir)
-    (now_still (HasBlocks t disks y) (HasBlocks t disks z) s x.group x.dir y.dir held.alone stored (λ m h. ended_holds reset t disks y z m on table cache live commits h) written)
+    (now_still (HasBlocks t disks y) (HasBlocks t disks z) s x.group x.dir y.dir held.alone stored (λ m h. ended_holds reset t disks y z m table cache commits h) written)
 
 -- what holds in any case holds where the answer is Ok
 pub on_ok_of : {T E : Type 0} (r : Result T E) {P : Type 0} → P → OnOk r P

@@ -14,3 +14,6 @@ pub mod SavedRoots
 pub mod Streams
 pub mod Growing
 pub mod Anew
+pub mod MappingWords
+pub mod Moving
+pub mod SetsFrom

@@ -1,14 +1,13 @@
 -- An open pool through the steps of a commit.
 use Rattle.std.proofs.Common.{◌≡◌, ℕ, ◌≤◌, ◌<◌, ◌^◌, true, List, length, get_or, Option, Some, refl, sym, ◌∙◌, ap, subst, arith}
-use Rattle.std.specs.Prelude.{IsTrue, slice_index, slice_index_or, slice_set, All}
+use Rattle.std.specs.Prelude.{slice_index, slice_index_or, slice_set, All}
 use Rattle.std.proofs.lemmas.List.Elements.{All-set}
-use Rattle.std.proofs.lemmas.Bool.Decides.{nat_tests}
 use Rattle.zr_base.specs.Counts.{HasRisen}
 use Rattle.zr_base.specs.declared.space.CkptPart.{CkptPart}
+use Rattle.zr_base.specs.declared.space.DevRow.{DevRow}
 use Rattle.zr_label.specs.Blocks.{no_row}
-use Rattle.zr_label.specs.Geometry.{is_disk_size, units_of_size, unit_at}
+use Rattle.zr_label.specs.Geometry.{units_of_size}
 use Rattle.zr_meta.specs.Heads.{IsSaved}
-use Rattle.zr_rules.specs.Equation.{devices_in}
 use Rattle.zr_rules.specs.Places.{units_of_dev}
 use Rattle.zr_rules.specs.Roles.{Role}
 use Rattle.zr_rules.specs.Space.{role_at}
@@ -16,18 +15,17 @@ use Rattle.zr_shelf.specs.Counts.{Counts, NoneFell}
 use Rattle.zr_shelf.specs.Doings.{WritesOnly}
 use Rattle.zr_shelf.specs.Moments.{World}
 use Rattle.zr_shelf.proofs.Doings.{writes_more}
-use Rattle.zr_view.specs.Runs.{HasDisk}
 use Rattle.zr_vdev.specs.Puts.{IsWriteOf}
 use Rattle.zr_vdev.specs.Stores.{Continues, IsWriteInto, KeepsOthers, may_write}
 use Rattle.zr_vdev.specs.declared.kind.Kind.TheVariants.{Block, Meta}
 use Rattle.zr_vdev.proofs.Follows.{continues_itself, continues_more, narrower, others_itself, widen}
-use Rattle.zr_vdev.proofs.Frames.{continues_mounted, continues_service}
+use Rattle.zr_vdev.proofs.Frames.{continues_mounted}
 use Rattle.zr_sync.specs.declared.open.DeviceStreams.{DeviceStreams}
 use Rattle.zr_sync.specs.declared.open.OpenPool.{OpenPool}
 use Rattle.zr_lookup.specs.Groups.{IsLawfulGroup}
-use Rattle.zr_sync.specs.Pools.{AreStreams, IsOpen, IsInLimits, AreRows, IsAfter, IsDirectory, saved_block}
+use Rattle.zr_sync.specs.Pools.{AreCondStreams, AreStreams, IsOpen, IsInLimits, AreRows, IsAfter, IsDirectory, saved_block}
 use Rattle.zr_sync.specs.Writes.{WritesMetadata, WritesTrees, WritesBlocks, WritesAll}
-use Rattle.zr_sync.proofs.Sizes.{disk_used}
+use Rattle.zr_sync.proofs.Rows.{row_few}
 use Rattle.zr_sync.proofs.Disks.{works_more, works_trees, works_metadata}
 
 -- ---- faults
@@ -58,13 +56,13 @@ metadata_more n1 n2 n3 c1 c2 c3 t1 t2 t3 w1 w2 w3 x y z p q =
     record {
       goes = continues_more Meta x.table.slots n1 n2 n3 c1 c2 c3 t1 t2 t3 w1 w2 w3 x.space y.space z.space x.cache y.cache z.cache p.goes
           (subst (λ (slots : List (Option ℕ)). Continues Meta slots n2 n3 c2 c3 t2 t3 w2 w3 y.space z.space y.cache z.cache) same q.goes);
-      rest = q.rest ∙ ap (λ (o : OpenPool). record o { space = z.space; cache = z.cache; streams = z.streams }) p.rest;
+      rest = q.rest ∙ ap (λ (o : OpenPool). record o { space = z.space; cache = z.cache; streams = z.streams; cond = z.cond }) p.rest;
       count = q.count ∙ p.count;
     }
 
 pub metadata_open : (n1 n2 : List ℕ) (c1 c2 : Counts) (t1 t2 : Type 0) (w1 w2 : World) (x y : OpenPool)
-    → IsOpen n1 x → WritesMetadata n1 n2 c1 c2 t1 t2 w1 w2 x y → All AreStreams y.streams.items → IsOpen n2 y
-metadata_open n1 n2 c1 c2 t1 t2 w1 w2 x y o p streams =
+    → IsOpen n1 x → WritesMetadata n1 n2 c1 c2 t1 t2 w1 w2 x y → All AreStreams y.streams.items → AreCondStreams y.cond → IsOpen n2 y
+metadata_open n1 n2 c1 c2 t1 t2 w1 w2 x y o p streams cond =
     let rows = p.goes.space.rows in
     subst (IsOpen n2) (sym p.rest) (record {
       version = o.version;
@@ -82,6 +80,8 @@ metadata_open n1 n2 c1 c2 t1 t2 w1 w2 x y o p streams =
       head = o.head;
       streams = streams;
       count = p.count ∙ o.count;
+      cond = cond;
+      turned = o.turned;
       saved = subst (λ (k : CkptPart). IsSaved k (saved_block x.saved)) (sym rows.ckpt) o.saved;
       checkpoint = o.checkpoint;
       spelled = rows.version ∙ o.spelled;
@@ -89,16 +89,15 @@ metadata_open n1 n2 c1 c2 t1 t2 w1 w2 x y o p streams =
       rows = λ d lt. (rows.each d).row ∙ o.rows d lt;
       lawful = rows.lawful o.lawful;
       mounted = continues_mounted x.space y.space p.goes o.mounted;
-      service = continues_service x.space y.space p.goes o.service;
       disks = λ d slot lt is. subst (λ (n : List ℕ). units_of_size (slice_index n slot) 2 ≡ Some (slice_index_or x.table.rows d no_row).units) (sym p.goes.sizes) (o.disks d slot lt is);
     })
 
 -- a step that leaves all but the space, the cache and the streams
 pub step_open : {n1 n2 : List ℕ} {c1 c2 : Counts} {t1 t2 : Type 0} {w1 w2 : World} (x y : OpenPool)
-    → IsOpen n1 x → Continues Meta x.table.slots n1 n2 c1 c2 t1 t2 w1 w2 x.space y.space x.cache y.cache → y ≡ record x { space = y.space; cache = y.cache; streams = y.streams } → length y.streams.items ≡ length x.streams.items
-    → All AreStreams y.streams.items → IsOpen n2 y
-step_open {n1} {n2} {c1} {c2} {t1} {t2} {w1} {w2} x y o goes rest count streams =
-    metadata_open n1 n2 c1 c2 t1 t2 w1 w2 x y o (record { goes = goes; rest = rest; count = count }) streams
+    → IsOpen n1 x → Continues Meta x.table.slots n1 n2 c1 c2 t1 t2 w1 w2 x.space y.space x.cache y.cache → y ≡ record x { space = y.space; cache = y.cache; streams = y.streams; cond = y.cond } → length y.streams.items ≡ length x.streams.items
+    → All AreStreams y.streams.items → AreCondStreams y.cond → IsOpen n2 y
+step_open {n1} {n2} {c1} {c2} {t1} {t2} {w1} {w2} x y o goes rest count streams cond =
+    metadata_open n1 n2 c1 c2 t1 t2 w1 w2 x y o (record { goes = goes; rest = rest; count = count }) streams cond
 
 -- a step that leaves all but the streams
 pub streams_step : (n : List ℕ) (c : Counts) (t : Type 0) (w : World) (x y : OpenPool) → y ≡ record x { streams = y.streams } → length y.streams.items ≡ length x.streams.items → WritesMetadata n n c c t t w w x y
@@ -106,7 +105,7 @@ streams_step n c t w x y rest count =
     subst (WritesMetadata n n c c t t w w x) (sym rest) (record { goes = continues_itself Meta x.table.slots n c t w x.space x.cache; rest = refl; count = count })
 
 pub streams_open : (n : List ℕ) (c : Counts) (t : Type 0) (w : World) (x y : OpenPool) → IsOpen n x → y ≡ record x { streams = y.streams } → length y.streams.items ≡ length x.streams.items → All AreStreams y.streams.items → IsOpen n y
-streams_open n c t w x y o rest count streams = metadata_open n n c c t t w w x y o (streams_step n c t w x y rest count) streams
+streams_open n c t w x y o rest count streams = metadata_open n n c c t t w w x y o (streams_step n c t w x y rest count) streams (subst AreCondStreams (sym (ap (λ (p : OpenPool). p.cond) rest)) o.cond)
 
 -- the streams of a device
 pub streams_at : (xs : List DeviceStreams) (i : ℕ) (a : DeviceStreams) → i < length xs → a ≡ get_or xs i a → All AreStreams xs → AreStreams a
@@ -136,6 +135,8 @@ blocks_open n1 n2 c1 c2 t1 t2 w1 w2 x y o p lawful limits =
       head = o.head;
       streams = o.streams;
       count = o.count;
+      cond = o.cond;
+      turned = o.turned;
       saved = subst (λ (k : CkptPart). IsSaved k (saved_block x.saved)) (sym rows.ckpt) o.saved;
       checkpoint = o.checkpoint;
       spelled = rows.version ∙ o.spelled;
@@ -143,7 +144,6 @@ blocks_open n1 n2 c1 c2 t1 t2 w1 w2 x y o p lawful limits =
       rows = λ d lt. (rows.each d).row ∙ o.rows d lt;
       lawful = rows.lawful o.lawful;
       mounted = continues_mounted x.space y.space p.goes o.mounted;
-      service = continues_service x.space y.space p.goes o.service;
       disks = λ d slot lt is. subst (λ (n : List ℕ). units_of_size (slice_index n slot) 2 ≡ Some (slice_index_or x.table.rows d no_row).units) (sym p.goes.sizes) (o.disks d slot lt is);
     })
 
@@ -167,6 +167,8 @@ trees_open n1 n2 c1 c2 t1 t2 w1 w2 x y o p dir =
       head = o.head;
       streams = o.streams;
       count = o.count;
+      cond = o.cond;
+      turned = o.turned;
       saved = subst (λ (k : CkptPart). IsSaved k (saved_block x.saved)) (sym rows.ckpt) o.saved;
       checkpoint = o.checkpoint;
       spelled = rows.version ∙ o.spelled;
@@ -174,7 +176,6 @@ trees_open n1 n2 c1 c2 t1 t2 w1 w2 x y o p dir =
       rows = λ d lt. (rows.each d).row ∙ o.rows d lt;
       lawful = rows.lawful o.lawful;
       mounted = continues_mounted x.space y.space p.goes o.mounted;
-      service = continues_service x.space y.space p.goes o.service;
       disks = λ d slot lt is. subst (λ (n : List ℕ). units_of_size (slice_index n slot) 2 ≡ Some (slice_index_or x.table.rows d no_row).units) (sym p.goes.sizes) (o.disks d slot lt is);
     })
 
@@ -213,8 +214,8 @@ all_written {n1} {n2} {n3} {c1} {c2} {c3} {t1} {t2} {t3} {w1} {w2} {w3} {x} {y} 
   metadata = q.goes.space;
   rest =
       q.rest
-      ∙ (ap (λ (o : OpenPool). record o { space = z.space; cache = z.cache; streams = z.streams }) p.rest
-      ∙ ap (λ (o : OpenPool). record x { space = z.space; cache = z.cache; dir = o.dir; streams = z.streams }) (sym q.rest));
+      ∙ (ap (λ (o : OpenPool). record o { space = z.space; cache = z.cache; streams = z.streams; cond = z.cond }) p.rest
+      ∙ ap (λ (o : OpenPool). record x { space = z.space; cache = z.cache; dir = o.dir; streams = z.streams; cond = z.cond }) (sym q.rest));
 }
 
 pub trees_written : {n1 n2 : List ℕ} {c1 c2 : Counts} {t1 t2 : Type 0} {w1 w2 : World} {x y : OpenPool}
@@ -228,15 +229,13 @@ trees_written {n1} {n2} {c1} {c2} {t1} {t2} {w1} {w2} {x} {y} p = record {
   mid = y.space;
   blocks = p.goes.space;
   metadata = others_itself Meta y.space;
-  rest = p.rest ∙ ap (λ (o : OpenPool). record x { space = y.space; cache = y.cache; dir = y.dir; streams = o.streams }) (sym p.rest);
+  rest = p.rest ∙ ap (λ (o : OpenPool). record x { space = y.space; cache = y.cache; dir = y.dir; streams = o.streams; cond = o.cond }) (sym p.rest);
 }
 
 -- ---- devices
 
-size_bound : (size units : ℕ) → IsTrue (is_disk_size 2 size) → unit_at units ≤ size → units ≤ 2 ^ 26
-size_bound size units is fits = grind (arith, nat_tests, is, fits)
-
 pub small_device : (n : List ℕ) (x : OpenPool) (d : ℕ) → IsOpen n x → d < x.table.count → units_of_dev x.space.parts.devs d ≤ 2 ^ 26
 small_device n x d o lt =
-    let has : HasDisk n x.table.slots d ((devices_in x.space).row d).units = o.mounted.disks d (omega (arith, lt, o.devices)) (o.service.there d) in
-    size_bound (slice_index n has.slot) (units_of_dev x.space.parts.devs d) (disk_used (slice_index n has.slot) _ (o.disks d has.slot lt has.is)) has.fits
+    let few = row_few x.version x.group.txg x.table.count x.table.rows d o.few lt o.table in
+    let same : units_of_dev x.space.parts.devs d ≡ (slice_index_or x.table.rows d no_row).units = ap (λ (r : DevRow). r.units) (o.rows d lt) in
+    omega (arith, few, same)

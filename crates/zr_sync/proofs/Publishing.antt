@@ -1,13 +1,14 @@
 -- The root of a commit, and the slots in which it stands.
-use Rattle.std.proofs.Common.{◌≡◌, ℕ, ◌+◌, ◌%◌, ◌≤◌, ◌<◌, ◌^◌, ◌⊎◌, Bool, true, false, List, length, Option, Some, None, inl, inr, sym, subst, arith}
-use Rattle.std.specs.Prelude.{◌&&◌, not, nat_lt, ◌==◌, if◌then◌else◌, slice_index, Contains, unwrap_or}
+use Rattle.std.proofs.Common.{◌≡◌, ℕ, ◌+◌, ◌%◌, ◌≤◌, ◌<◌, ◌^◌, ◌⊎◌, Bool, true, false, List, length, Option, Some, None, inl, inr, ◌∙◌, ap, sym, subst, arith}
+use Rattle.std.specs.Prelude.{◌&&◌, not, nat_lt, ◌==◌, if◌then◌else◌, slice_index, slice_index_or, Contains, unwrap_or}
 use Rattle.std.proofs.lemmas.Bool.Decides.{nat_tests}
 use Rattle.std.proofs.lemmas.List.Elements.{Contains-get_or}
 use Rattle.zr_base.specs.declared.space.DevRow.{DevRow}
-use Rattle.zr_label.specs.Blocks.{IsMetaRoot, IsUber, IsTable, IsName}
+use Rattle.zr_label.specs.Blocks.{IsMetaRoot, IsUber, IsTable, IsName, no_row}
 use Rattle.zr_label.specs.declared.root.Uber.{Uber}
 use Rattle.zr_rules.specs.Equation.{devices_in}
-use Rattle.zr_rules.specs.Places.{is_gone}
+use Rattle.zr_rules.specs.Devices.{state_at}
+use Rattle.zr_rules.specs.Places.{is_gone, part_of}
 use Rattle.zr_image.specs.Current.{row_at}
 use Rattle.zr_shelf.specs.Moments.{World}
 use Rattle.zr_slots.specs.Phases.{AreDisks, IsPublished, IsPublishedInPart}
@@ -65,7 +66,7 @@ next_lawful sizes pool reset u o next meta whole least short txg_fits guid_fits 
         guid_fits = guid_fits;
       };
       root = meta;
-      table = subst (λ (v : ℕ). IsTable v u.txg u.count u.rows) (sym next.version) (subst (λ (t : ℕ). IsTable pool.version t u.count u.rows) (sym next.txg) (subst (λ (n : ℕ). IsTable pool.version pool.group.txg n u.rows) (sym next.count) (subst (λ (rs : List DevRow). IsTable pool.version pool.group.txg pool.table.count rs) (sym next.rows) (rows_table pool.version pool.group.txg pool.table.count pool.table.rows o.some o.few o.table))));
+      table = subst (λ (v : ℕ). IsTable v u.txg u.count u.rows) (sym next.version) (subst (λ (t : ℕ). IsTable pool.version t u.count u.rows) (sym next.txg) (subst (λ (n : ℕ). IsTable pool.version pool.group.txg n u.rows) (sym next.count) (subst (λ (rs : List DevRow). IsTable pool.version pool.group.txg pool.table.count rs) (sym next.rows) (rows_table pool.version pool.group.txg pool.table.count pool.table.rows o.some o.table))));
       name = subst IsName (sym next.name) o.name;
     }
 
@@ -81,15 +82,24 @@ index_below u index is = below index u.count (not (is_gone (row_at u index).stat
     below : (i n : ℕ) (b : Bool) → (nat_lt i n && b) ≡ true → i < n
     below i n b h = grind (arith, nat_tests, h)
 
+-- a device that is in service or leaving is not gone
+row_there : (u : Uber) (index : ℕ) → is_concrete_in u index ≡ true → is_gone (row_at u index).state ≡ false
+row_there u index is = other (nat_lt index u.count) (is_gone (row_at u index).state) is
+  where
+    other : (a b : Bool) → (a && not b) ≡ true → b ≡ false
+    other a b h = grind (arith, nat_tests, h)
+
 same_slot : (o : Option ℕ) (a b : ℕ) → o ≡ Some a → o ≡ Some b → a ≡ b
 same_slot o a b p q = cc
 
 -- the slots of a root's devices are those of disks of its pool
-pub slots_disks : (sizes : List ℕ) (pool : OpenPool) (last u : Uber) (found : List ℕ) → IsOpen sizes pool → u.count ≡ pool.table.count → ((slot : ℕ) → Contains found slot → IsSlotInBoth last u pool.table.slots slot) → AreDisks sizes found
-slots_disks sizes pool last u found o count each = λ k lt.
+pub slots_disks : (sizes : List ℕ) (pool : OpenPool) (last u : Uber) (found : List ℕ) → IsOpen sizes pool → u.count ≡ pool.table.count → u.rows ≡ pool.table.rows → ((slot : ℕ) → Contains found slot → IsSlotInBoth last u pool.table.slots slot) → AreDisks sizes found
+slots_disks sizes pool last u found o count rows each = λ k lt.
     let is = each (slice_index found k) (Contains-get_or found k 0 lt) in
     let below : is.index < pool.table.count = let h = index_below u is.index is.at_index.in_root in omega (arith, h, count) in
-    let has : HasDisk sizes pool.table.slots is.index ((devices_in pool.space).row is.index).units = o.mounted.disks is.index (let n = o.devices in omega (arith, below, n)) (o.service.there is.index) in
+    let row : row_at u is.index ≡ (part_of pool.space.parts.devs is.index).row = ap (λ (rs : List DevRow). slice_index_or rs is.index no_row) rows ∙ sym (o.rows is.index below) in
+    let there : is_gone (state_at (devices_in pool.space) is.index) ≡ false = ap (λ (r : DevRow). is_gone r.state) (sym row) ∙ row_there u is.index is.at_index.in_root in
+    let has : HasDisk sizes pool.table.slots is.index ((devices_in pool.space).row is.index).units = o.mounted.disks is.index (let n = o.devices in omega (arith, below, n)) there in
     (subst (λ (s : ℕ). s < length sizes) (same_slot _ has.slot (slice_index found k) has.is is.at_index.here) has.exists, disk_used (slice_index sizes (slice_index found k)) _ (o.disks is.index (slice_index found k) below is.at_index.here))
 
 -- a root that is published in the slots that were found is shown

@@ -20,12 +20,12 @@ use Rattle.zr_units.specs.Uses.{Freed}
 use Rattle.zr_units.specs.Differences.{runs_of}
 use Rattle.zr_units.proofs.SetWords.{words_at_most}
 use Rattle.zr_space.specs.Views as views
-use Rattle.zr_space.specs.Records.{GainsHeld, GainsKept}
+use Rattle.zr_space.specs.Records.{GainsFresh, GainsHeld, GainsKept}
 use Rattle.zr_space.proofs.Sums.{late_hits_are, some_in, extent_hits}
 use Rattle.zr_space.proofs.Counts.{count_within}
 use Rattle.zr_sync.specs.Words.{IsRun, AreFreed, log_set}
 use Rattle.zr_sync.specs.declared.words.Log.{Log}
-use Rattle.zr_sync.specs.declared.words.Log.TheVariants.{Held, Kept}
+use Rattle.zr_sync.specs.declared.words.Log.TheVariants.{Held, Kept, Fresh}
 
 -- ---- changes
 
@@ -74,6 +74,13 @@ kept_runs s d changes l small g =
     let sets = l.sets d in
     let came = set_runs (units_of_dev s.parts.devs d) (opened_of s d).kept.came sets.kept_came small in
     let went = set_runs (units_of_dev s.parts.devs d) (opened_of s d).kept.went sets.kept_went small in
+    both_kinds changes (subst (AllByRecursion IsRun) (sym g.merged.came_is) came) (subst (AllByRecursion IsRun) (sym g.merged.went_is) went)
+
+pub fresh_runs : (s : Space) (d : ℕ) (changes : List Change) → IsLawful s → units_of_dev s.parts.devs d ≤ 2 ^ 26 → GainsFresh s d changes → AllByRecursion (λ (c : Change). IsRun c.at) changes
+fresh_runs s d changes l small g =
+    let sets = l.sets d in
+    let came = set_runs (units_of_dev s.parts.devs d) (opened_of s d).fresh.came sets.fresh_came small in
+    let went = set_runs (units_of_dev s.parts.devs d) (opened_of s d).fresh.went sets.fresh_went small in
     both_kinds changes (subst (AllByRecursion IsRun) (sym g.merged.came_is) came) (subst (AllByRecursion IsRun) (sym g.merged.went_is) went)
 
 -- ---- sets
@@ -159,6 +166,7 @@ late_freed s d f l small are = record {
 pub log_is_set : (s : Space) (d : ℕ) (log : Log) → IsLawful s → IsSet (units_of_dev s.parts.devs d) (log_set log (part_of s.parts.devs d))
 log_is_set s d Held l = let sets = l.sets d in sets.held
 log_is_set s d Kept l = let sets = l.sets d in sets.kept
+log_is_set s d Fresh l = let sets = l.sets d in sets.fresh
 
 log_within : (s : Space) (d : ℕ) (log : Log) (es : List Extent) → IsLawful s → units_of_dev s.parts.devs d ≤ 2 ^ 26 → es ≡ log_set log (part_of s.parts.devs d) → IsWithin es (2 ^ 26)
 log_within s d log es l small is =

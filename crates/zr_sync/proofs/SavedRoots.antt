@@ -18,31 +18,28 @@ use Rattle.zr_model.specs.Objects.{Objects}
 use Rattle.zr_rules.specs.Devices.{Devices}
 use Rattle.zr_rules.specs.Equation.{devices_in}
 use Rattle.zr_rules.specs.Frees.{in_any}
-use Rattle.zr_rules.specs.Places.{in_address, part_of, units_of_dev}
-use Rattle.zr_rules.specs.Resolve.{leads_to}
+use Rattle.zr_rules.specs.Places.{in_address, part_of}
 use Rattle.zr_rules.specs.Roles.{Role, discarded, dropped, saved, is_live_role}
 use Rattle.zr_rules.specs.Roles.Role.{DeferredMeta, SavedMeta}
 use Rattle.zr_rules.specs.Space.{Space, role_at, IsLawful}
 use Rattle.zr_rules.specs.Steps.{HoldsCheckpoint, Discards, DiscardsSome, is_among, kept_extents, with_ckpt}
 use Rattle.zr_shelf.specs.Counts.{Counts}
 use Rattle.zr_shelf.specs.Moments.{World}
-use Rattle.zr_space.specs.Live.{IsLive}
-use Rattle.zr_space.specs.Paths.{AreInService}
 use Rattle.zr_space.specs.Saved.{GivesSaved, saved_left}
 use Rattle.zr_vdev.specs.Mounts.{AreMounted}
 use Rattle.zr_vdev.specs.Stores.{KeepsOthers}
 use Rattle.zr_vdev.specs.declared.kind.Kind.TheVariants.{Block, Meta}
 use Rattle.zr_vdev.proofs.Follows.{gives_others, others_itself, others_more, rows_devices, space_step}
-use Rattle.zr_vdev.proofs.Frames.{held_over}
+use Rattle.zr_vdev.proofs.Frames.{held_beside}
 use Rattle.zr_vdev.proofs.Held.{read_same}
-use Rattle.zr_sync.specs.Checkpoints.{GivesSavedMeta, SavesRoot, DropsRoot, no_streams}
+use Rattle.zr_sync.specs.Checkpoints.{GivesSavedMeta, SavesRoot, DropsRoot, no_cond, no_streams}
 use Rattle.zr_sync.specs.Heads.{IsSeen}
 use Rattle.zr_sync.specs.Objects.{HoldsObjects}
-use Rattle.zr_sync.specs.Pools.{AreStreams, IsCheckpoint, IsOpen, IsSameIdentity, IsSamePool, saved_block}
+use Rattle.zr_sync.specs.Pools.{AreCondStreams, AreStreams, IsCheckpoint, IsOpen, IsSameIdentity, IsSamePool, saved_block}
 use Rattle.zr_sync.specs.declared.open.Checkpoint.{Checkpoint}
 use Rattle.zr_sync.specs.declared.open.DeviceStreams.{DeviceStreams}
 use Rattle.zr_sync.specs.declared.open.OpenPool.{OpenPool}
-use Rattle.zr_sync.proofs.Holding.{live_holds}
+use Rattle.zr_sync.proofs.Holding.{StaysLive, live_holds}
 use Rattle.zr_sync.proofs.Standing.{seen_devices}
 use Rattle.zr_sync.proofs.Stays.{objects_stay}
 
@@ -128,28 +125,20 @@ held_devices txg old new h =
 saved_live : (r : Role) → is_live_role (saved r) ≡ is_live_role r
 saved_live r = grind (arith)
 
-held_live : (txg : ℕ) (old new : Space) → HoldsCheckpoint old new txg → (a : Dva) → IsLive old a → IsLive new a
-held_live txg old new h a l =
-    let known = l.known in
-    let within = l.within in
-    let count = h.devices in
-    let units : units_of_dev new.parts.devs a.dev ≡ units_of_dev old.parts.devs a.dev = ap (λ (r : DevRow). r.units) (h.each a.dev).row in
-    record {
-      known = omega (arith, known, count);
-      some = l.some;
-      within = omega (arith, within, units);
-      used = λ d u leads.
-          ap is_live_role (h.roles d u)
-          ∙ (saved_live (role_at old d u)
-          ∙ l.used d u (subst (λ (ds : Devices). leads_to ds a d u ≡ true) (held_devices txg old new h) leads));
-    }
+held_live : (txg : ℕ) (old new : Space) → HoldsCheckpoint old new txg → StaysLive old new
+held_live txg old new h = record {
+  devices = held_devices txg old new h;
+  counts = λ d. (h.each d).counts;
+  fresh = h.fresh;
+  live = λ d u live. ap is_live_role (h.roles d u) ∙ (saved_live (role_at old d u) ∙ live);
+}
 
 ckpt_role : (s : Space) (c : CkptPart) (d u : ℕ) → role_at (with_ckpt s c) d u ≡ role_at s d u
 unfolding role_at
 ckpt_role s c d u = refl
 
-pub ckpt_live : (s : Space) (c : CkptPart) (a : Dva) → IsLive s a → IsLive (with_ckpt s c) a
-ckpt_live s c a l = record { known = l.known; some = l.some; within = l.within; used = λ d u leads. ap is_live_role (ckpt_role s c d u) ∙ l.used d u leads }
+pub ckpt_live : (s : Space) (c : CkptPart) → StaysLive s (with_ckpt s c)
+ckpt_live s c = record { devices = refl; counts = λ d. refl; fresh = λ d u. refl; live = λ d u live. ap is_live_role (ckpt_role s c d u) ∙ live }
 
 pub ckpt_lawful : (s : Space) (c : CkptPart) → IsLawful s → IsLawful (with_ckpt s c)
 ckpt_lawful s c l = record { devices = l.devices; sets = l.sets; once = l.once; copies = l.copies; born = l.born }
@@ -157,18 +146,17 @@ ckpt_lawful s c l = record { devices = l.devices; sets = l.sets; once = l.once; 
 -- ---- objects
 
 -- they stay where metadata is given back
-given_objects : (n : List ℕ) (c : Counts) (t : Type 0) (w : World) (x : OpenPool) (given : Space) (objects : Objects) → AreInService (devices_in x.space) → AreMounted n x.table.slots (devices_in x.space) → KeepsOthers Meta x.space given
+given_objects : (n : List ℕ) (c : Counts) (t : Type 0) (w : World) (x : OpenPool) (given : Space) (objects : Objects) → AreMounted n x.table.slots (devices_in x.space) → KeepsOthers Meta x.space given
     → HoldsObjects t w.now.seen x objects → HoldsObjects t w.now.seen (record x { space = given }) objects
-given_objects n c t w x given objects on mounted others h =
+given_objects n c t w x given objects mounted others h =
     objects_stay x (record x { space = given }) objects refl refl h
-    (held_over Block x.table.slots n n c c t t w w x.space given None x.cache x.cache h.stored on mounted.apart
+    (held_beside Block x.table.slots n n c c t t w w x.space given None x.cache x.cache h.stored mounted.apart
     (space_step Meta x.table.slots n c t w x.space given x.cache x.cache others (λ disks read. read_same disks x.table.slots x.space given x.cache (rows_devices x.space given others.rows) read) refl)
     h.held)
 
 -- and where the devices and what is live do
-pub live_objects : (t : Type 0) (disks : List (List ℕ)) (x y : OpenPool) (objects : Objects) → AreInService (devices_in x.space) → devices_in y.space ≡ devices_in x.space → ((a : Dva) → IsLive x.space a → IsLive y.space a)
-    → y.table ≡ x.table → y.cache ≡ x.cache → y.dir ≡ x.dir → y.group ≡ x.group → HoldsObjects t disks x objects → HoldsObjects t disks y objects
-live_objects t disks x y objects on devices live table cache dir group h = objects_stay x y objects dir group h (live_holds t disks x y h.stored on devices table cache live h.held)
+pub live_objects : (t : Type 0) (disks : List (List ℕ)) (x y : OpenPool) (objects : Objects) → StaysLive x.space y.space → y.table ≡ x.table → y.cache ≡ x.cache → y.dir ≡ x.dir → y.group ≡ x.group → HoldsObjects t disks x objects → HoldsObjects t disks y objects
+live_objects t disks x y objects stays table cache dir group h = objects_stay x y objects dir group h (live_holds t disks x y h.stored stays table cache h.held)
 
 -- ---- a root that is saved
 
@@ -184,12 +172,12 @@ module _ (x y : OpenPool) (s : SavesRoot x y) where
 
   pub saves_objects : (n : List ℕ) (c : Counts) (t : Type 0) (w : World) (objects : Objects) → IsOpen n x → HoldsObjects t w.now.seen x objects → HoldsObjects t w.now.seen y objects
   saves_objects n c t w objects o h =
-      live_objects t w.now.seen (record x { space = s.given }) y objects (subst AreInService (sym given_devices) o.service) (held_devices s.root.txg s.given y.space s.holds) (held_live s.root.txg s.given y.space s.holds)
+      live_objects t w.now.seen (record x { space = s.given }) y objects (held_live s.root.txg s.given y.space s.holds)
       (ap (λ (p : OpenPool). p.table) s.rest) (ap (λ (p : OpenPool). p.cache) s.rest) (ap (λ (p : OpenPool). p.dir) s.rest) (ap (λ (p : OpenPool). p.group) s.rest)
-      (given_objects n c t w x s.given objects o.service o.mounted s.gives.others h)
+      (given_objects n c t w x s.given objects o.mounted s.gives.others h)
 
 no_streams_lawful : (d : DeviceStreams) → d ≡ no_streams → AreStreams d
-no_streams_lawful d is = subst AreStreams (sym is) (record { held = (refl, refl); kept = (refl, refl); late1 = (refl, refl); late2 = (refl, refl) })
+no_streams_lawful d is = subst AreStreams (sym is) (record { held = (refl, refl); kept = (refl, refl); entries = (refl, refl); counts = (refl, refl); fresh = (refl, refl); late1 = (refl, refl); late2 = (refl, refl) })
 
 no_tree_lawful : (t : Tree) → t ≡ no_streams.held.tree → IsTree t
 no_tree_lawful t is = subst IsTree (sym is) (record { lawful = tt; level = tt; low = omega arith })
@@ -202,8 +190,8 @@ held_lawful c o is lawful = subst (λ (b : Option Checkpoint). IfSome b IsCheckp
 
 -- the pool is open as before
 pub saves_open : (sizes : List ℕ) (x y : OpenPool) (given : Space) (c : Checkpoint) (txg : ℕ) → IsOpen sizes x → GivesSavedMeta x.space given → HoldsCheckpoint given y.space txg → txg < 2 ^ 64 → length c.block ≡ 4096 → c.head ≡ x.head → c.streams ≡ x.streams → y.saved ≡ Some c
-    → All (λ (d : DeviceStreams). d ≡ no_streams) y.streams.items → length y.streams.items ≡ length x.streams.items → y.head ≡ no_streams.held.tree → y ≡ record x { space = y.space; saved = y.saved; head = y.head; streams = y.streams } → IsOpen sizes y
-saves_open sizes x y given c txg o gives holds small long c_head c_streams saved streams count head rest =
+    → All (λ (d : DeviceStreams). d ≡ no_streams) y.streams.items → length y.streams.items ≡ length x.streams.items → y.head ≡ no_streams.held.tree → c.cond ≡ x.cond → y.cond ≡ no_cond → y ≡ record x { space = y.space; saved = y.saved; head = y.head; streams = y.streams; cond = y.cond } → IsOpen sizes y
+saves_open sizes x y given c txg o gives holds small long c_head c_streams saved streams count head c_cond cond rest =
     let rows = gives.others.rows in
     let devices : devices_in y.space ≡ devices_in x.space = held_devices txg given y.space holds ∙ rows_devices x.space given rows in
     subst (IsOpen sizes) (sym rest) (record {
@@ -222,14 +210,15 @@ saves_open sizes x y given c txg o gives holds small long c_head c_streams saved
       head = no_tree_lawful y.head head;
       streams = λ i d lt. no_streams_lawful _ (streams i d lt);
       count = count ∙ o.count;
+      cond = subst AreCondStreams (sym cond) (record { entries = (refl, refl); counts = (refl, refl) });
+      turned = o.turned;
       saved = held_saved txg y.space.parts.ckpt c y.saved holds.ckpt_is saved long small;
-      checkpoint = held_lawful c y.saved saved (record { head = subst IsTree (sym c_head) o.head; streams = subst (λ (v : Vec DeviceStreams Global). All AreStreams v.items) (sym c_streams) o.streams });
+      checkpoint = held_lawful c y.saved saved (record { head = subst IsTree (sym c_head) o.head; streams = subst (λ (v : Vec DeviceStreams Global). All AreStreams v.items) (sym c_streams) o.streams; cond = subst AreCondStreams (sym c_cond) o.cond });
       spelled = holds.version ∙ (rows.version ∙ o.spelled);
       devices = holds.devices ∙ (rows.devices ∙ o.devices);
       rows = λ d lt. (holds.each d).row ∙ ((rows.each d).row ∙ o.rows d lt);
       lawful = holds.lawful (rows.lawful o.lawful);
       mounted = subst (λ (ds : Devices). AreMounted sizes x.table.slots ds) (sym devices) o.mounted;
-      service = subst AreInService (sym devices) o.service;
       disks = o.disks;
     })
 
@@ -246,8 +235,8 @@ module _ (x y : OpenPool) (r : DropsRoot x y) where
   drops_objects n c t w objects o h =
       let mid : OpenPool = record x { space = with_ckpt x.space Discarding; saved = None } in
       subst (λ (p : OpenPool). HoldsObjects t w.now.seen p objects) (sym r.rest)
-      (given_objects n c t w mid y.space objects o.service o.mounted r.gives.others
-      (live_objects t w.now.seen x mid objects o.service refl (ckpt_live x.space Discarding) refl refl refl refl h))
+      (given_objects n c t w mid y.space objects o.mounted r.gives.others
+      (live_objects t w.now.seen x mid objects (ckpt_live x.space Discarding) refl refl refl refl h))
 
 pub drops_open : (sizes : List ℕ) (x y : OpenPool) → IsOpen sizes x → GivesSavedMeta (with_ckpt x.space Discarding) y.space → y ≡ record x { space = y.space; saved = None } → IsOpen sizes y
 drops_open sizes x y o gives rest =
@@ -269,6 +258,8 @@ drops_open sizes x y o gives rest =
       head = o.head;
       streams = o.streams;
       count = o.count;
+      cond = o.cond;
+      turned = o.turned;
       saved = subst (λ (k : CkptPart). IsSaved k None) (sym rows.ckpt) tt;
       checkpoint = tt;
       spelled = rows.version ∙ o.spelled;
@@ -276,7 +267,6 @@ drops_open sizes x y o gives rest =
       rows = λ d lt. (rows.each d).row ∙ o.rows d lt;
       lawful = rows.lawful (ckpt_lawful x.space Discarding o.lawful);
       mounted = subst (λ (ds : Devices). AreMounted sizes x.table.slots ds) (sym devices) o.mounted;
-      service = subst AreInService (sym devices) o.service;
       disks = o.disks;
     })
 
@@ -311,25 +301,17 @@ discarded_live : (b : Bool) (r : Role) → is_live_role r ≡ true → is_live_r
 discarded_live true r is = grind (arith, is)
 discarded_live false r is = is
 
-discards_live : (old new : Space) (es : List (ℕ × Extent)) → Discards old new es → (a : Dva) → IsLive old a → IsLive new a
-discards_live old new es g a l =
-    let known = l.known in
-    let within = l.within in
-    let count = g.frame.devices in
-    let units : units_of_dev new.parts.devs a.dev ≡ units_of_dev old.parts.devs a.dev = ap (λ (r : DevRow). r.units) (g.frame.each a.dev).row in
-    record {
-      known = omega (arith, known, count);
-      some = l.some;
-      within = omega (arith, within, units);
-      used = λ d u leads.
-          ap is_live_role (g.roles d u)
-          ∙ discarded_live (is_among es d u) (role_at old d u) (l.used d u (subst (λ (ds : Devices). leads_to ds a d u ≡ true) (discards_devices old new es g) leads));
-    }
+discards_live : (old new : Space) (es : List (ℕ × Extent)) → Discards old new es → StaysLive old new
+discards_live old new es g = record {
+  devices = discards_devices old new es g;
+  counts = λ d. (g.frame.each d).counts;
+  fresh = g.fresh;
+  live = λ d u live. ap is_live_role (g.roles d u) ∙ discarded_live (is_among es d u) (role_at old d u) live;
+}
 
 -- a step of discarding leaves the devices, what is live and what makes a pool open
 pub record KeepsLive (old new : Space) : Type 0 where
-  pub devices : devices_in new ≡ devices_in old
-  pub live : (a : Dva) → IsLive old a → IsLive new a
+  pub live : StaysLive old new
   pub version : new.parts.version ≡ old.parts.version
   pub count : length new.parts.devs ≡ length old.parts.devs
   pub rows : (d : ℕ) → (part_of new.parts.devs d).row ≡ (part_of old.parts.devs d).row
@@ -339,9 +321,8 @@ pub some_live : (old new : Space) (units : ℕ) → DiscardsSome old units new �
 some_live old new units d = by_cases (length (take 64 (kept_extents old)) == 0) d.1
   where
     by_cases : (b : Bool) → MatchBool b (new ≡ with_ckpt old Clear) (Discards old new (take 64 (kept_extents old))) → KeepsLive old new
-    by_cases true is = subst (KeepsLive old) (sym is) (record { devices = refl; live = ckpt_live old Clear; version = refl; count = refl; rows = λ d. refl; lawful = ckpt_lawful old Clear })
+    by_cases true is = subst (KeepsLive old) (sym is) (record { live = ckpt_live old Clear; version = refl; count = refl; rows = λ d. refl; lawful = ckpt_lawful old Clear })
     by_cases false g = record {
-      devices = discards_devices old new (take 64 (kept_extents old)) g;
       live = discards_live old new (take 64 (kept_extents old)) g;
       version = g.frame.version;
       count = g.frame.devices;
@@ -349,9 +330,9 @@ some_live old new units d = by_cases (length (take 64 (kept_extents old)) == 0) 
       lawful = g.frame.lawful;
     }
 
-pub discards_objects : (t : Type 0) (disks : List (List ℕ)) (x y : OpenPool) (objects : Objects) → AreInService (devices_in x.space) → KeepsLive x.space y.space → y ≡ record x { space = y.space } → HoldsObjects t disks x objects → HoldsObjects t disks y objects
-discards_objects t disks x y objects on k rest h =
-    live_objects t disks x y objects on k.devices k.live (ap (λ (p : OpenPool). p.table) rest) (ap (λ (p : OpenPool). p.cache) rest) (ap (λ (p : OpenPool). p.dir) rest) (ap (λ (p : OpenPool). p.group) rest) h
+pub discards_objects : (t : Type 0) (disks : List (List ℕ)) (x y : OpenPool) (objects : Objects) → KeepsLive x.space y.space → y ≡ record x { space = y.space } → HoldsObjects t disks x objects → HoldsObjects t disks y objects
+discards_objects t disks x y objects k rest h =
+    live_objects t disks x y objects k.live (ap (λ (p : OpenPool). p.table) rest) (ap (λ (p : OpenPool). p.cache) rest) (ap (λ (p : OpenPool). p.dir) rest) (ap (λ (p : OpenPool). p.group) rest) h
 
 unsaved : (b : Bool) (part : CkptPart) (o : Option Checkpoint) → part ≡ (if b then Clear else Discarding) → IsSaved Discarding (saved_block o) → IsSaved part (saved_block o)
 unsaved true part None is saved = subst (λ (k : CkptPart). IsSaved k None) (sym is) tt
@@ -376,14 +357,15 @@ discards_open sizes x y b o k was ckpt rest =
       head = o.head;
       streams = o.streams;
       count = o.count;
+      cond = o.cond;
+      turned = o.turned;
       saved = unsaved b y.space.parts.ckpt x.saved ckpt (subst (λ (c : CkptPart). IsSaved c (saved_block x.saved)) was o.saved);
       checkpoint = o.checkpoint;
       spelled = k.version ∙ o.spelled;
       devices = k.count ∙ o.devices;
       rows = λ d lt. k.rows d ∙ o.rows d lt;
       lawful = k.lawful o.lawful;
-      mounted = subst (λ (ds : Devices). AreMounted sizes x.table.slots ds) (sym k.devices) o.mounted;
-      service = subst AreInService (sym k.devices) o.service;
+      mounted = subst (λ (ds : Devices). AreMounted sizes x.table.slots ds) (sym k.live.devices) o.mounted;
       disks = o.disks;
     })
 

@@ -16,7 +16,6 @@ use Rattle.zr_rules.specs.Space.{Space}
 use Rattle.zr_rules.specs.Steps.{Commits}
 use Rattle.zr_shelf.specs.Counts.{Counts}
 use Rattle.zr_shelf.specs.Moments.{World}
-use Rattle.zr_space.specs.Paths.{AreInService}
 use Rattle.zr_store.specs.Store.{Stored, one_at}
 use Rattle.zr_store.proofs.Meeting.{at_each}
 use Rattle.zr_vdev.specs.Caches.{AreRead}
@@ -25,7 +24,7 @@ use Rattle.zr_vdev.specs.Stores.{HoldsBlocks, IsStoredAt}
 use Rattle.zr_vdev.specs.declared.kind.Kind.{Kind}
 use Rattle.zr_vdev.specs.declared.kind.Kind.TheVariants.{Meta}
 use Rattle.zr_vdev.proofs.Held.{read_same}
-use Rattle.zr_vdev.proofs.Moves.{holds_these, bytes_now}
+use Rattle.zr_vdev.proofs.Moves.{holds_all, bytes_now}
 use Rattle.zr_view.specs.Views.{View, address_bytes}
 use Rattle.zr_sync.specs.Heads.{IsSeen, StandsHead, HasHead, head_of}
 use Rattle.zr_sync.specs.Writes.{WritesMetadata, WritesTrees}
@@ -52,10 +51,10 @@ head_stands kind slots tells disks space lost cache table s n h root len held w 
 none_some : (at : Dva) → None ≡ Some at → ⊥
 none_some at e = cc
 
-pub empty_holds : (slots : List (Option ℕ)) (tells : Type 0) (disks : List (List ℕ)) (space : Space) (cache : Cache) → AreInService (devices_in space) → tells → AreRead disks slots space cache
+pub empty_holds : (slots : List (Option ℕ)) (tells : Type 0) (disks : List (List ℕ)) (space : Space) (cache : Cache) → tells → AreRead disks slots space cache
     → HoldsBlocks Meta slots tells disks space None cache (record { pointers = []; bytes = bytes_now Meta slots disks space None })
-empty_holds slots tells disks space cache on told read =
-    holds_these Meta slots tells disks space None cache on [] told read (λ at e. absurd (none_some at e)) (λ i d lt. absurd (omega (arith, lt))) (λ d u. omega arith)
+empty_holds slots tells disks space cache told read =
+    holds_all Meta slots tells disks space None cache [] told read (λ at e. absurd (none_some at e)) (λ i d lt. absurd (omega (arith, lt))) (λ d u. omega arith) tt
 
 -- ---- what is told through the steps
 
@@ -94,9 +93,10 @@ head_same table v w h root len same has = record {
 }
 
 -- a group that ends leaves the head
-pub ended_head : (reset : Bool) (disks : List (List ℕ)) (x y : OpenPool) (root : Ptr) (len : ℕ) → y.table ≡ x.table → y.dir ≡ x.dir → y.streams ≡ x.streams → y.saved ≡ x.saved → Commits reset x.space y.space → HasHead disks x root len → HasHead disks y root len
-ended_head reset disks x y root len table dir streams saved commits has =
+pub ended_head : (reset : Bool) (disks : List (List ℕ)) (x y : OpenPool) (root : Ptr) (len : ℕ) → y.table ≡ x.table → y.dir ≡ x.dir → y.streams ≡ x.streams → y.cond ≡ x.cond → y.saved ≡ x.saved → Commits reset x.space y.space → HasHead disks x root len → HasHead disks y root len
+ended_head reset disks x y root len table dir streams cond saved commits has =
     let ckpt = commits.ckpt in
+    let part = commits.cond in
     let devices = commits_devices reset x.space y.space commits in
     let heads : head_of y ≡ head_of x = cc in
     let rows : take y.table.count y.table.rows ≡ take x.table.count x.table.rows = ap (λ (t : Table). take t.count t.rows) table in

@@ -7,14 +7,16 @@ use Rattle.zr_rules.specs.Space.{Space}
 use Rattle.zr_vdev.specs.Stores.{KeepsOthers}
 use Rattle.zr_vdev.specs.declared.kind.Kind.TheVariants.{Block, Meta}
 use Rattle.zr_sync.specs.Checkpoints.{no_streams}
+use Rattle.zr_sync.specs.Mappings.{TurnsMapping}
 use Rattle.zr_sync.specs.Streams.{log_stream, streams_at, with_log}
 use Rattle.zr_sync.specs.Words.{log_set}
+use Rattle.zr_sync.specs.declared.mappings.MappingStream.TheVariants.{Entries, Counts}
 use Rattle.zr_sync.specs.declared.open.DeviceStreams.{DeviceStreams}
 use Rattle.zr_sync.specs.declared.open.OpenPool.{OpenPool}
 use Rattle.zr_sync.specs.declared.words.Log.{Log}
-use Rattle.zr_sync.specs.declared.words.Log.TheVariants.{Held, Kept}
+use Rattle.zr_sync.specs.declared.words.Log.TheVariants.{Held, Kept, Fresh}
 use Rattle.zr_sync.specs.declared.words.LogWords.{LogWords}
-use Rattle.zr_sync.specs.declared.words.LogWords.TheVariants.{Stays, Grows, Anew}
+use Rattle.zr_sync.specs.declared.words.LogWords.TheVariants.{Anew}
 
 -- how many words the set of a log takes where it is written anew
 abbrev pub anew_count : ℕ → Space → ℕ → Log → ℕ
@@ -36,13 +38,21 @@ pub record RenewsLog (was now : OpenPool) (dev : ℕ) (log : Log) : Type 0 where
   pub words : stream.words ≡ anew_count was.version was.space dev log
   pub streams : now.streams.items ≡ slice_set was.streams.items dev (with_log log (streams_at was dev) stream)
 
--- both logs of the device were, one after the other
-pub record RenewsBoth (was now : OpenPool) (dev : ℕ) : Type 0 where
-  pub mid : OpenPool
-  pub held : RenewsLog was mid dev Held
-  pub metadata : KeepsOthers Meta was.space mid.space
-  pub version : mid.version ≡ was.version
-  pub kept : RenewsLog mid now dev Kept
+-- each log of the device was, one after the other, and its mapping was written before the last
+pub record RenewsEach (was now : OpenPool) (dev : ℕ) : Type 0 where
+  pub first : OpenPool
+  pub held : RenewsLog was first dev Held
+  pub to_first : KeepsOthers Meta was.space first.space
+  pub first_version : first.version ≡ was.version
+  pub second : OpenPool
+  pub kept : RenewsLog first second dev Kept
+  pub third : OpenPool
+  pub entries : TurnsMapping second third dev Entries
+  pub last : OpenPool
+  pub counts : TurnsMapping third last dev Counts
+  pub to_last : KeepsOthers Meta was.space last.space
+  pub last_version : last.version ≡ was.version
+  pub fresh : RenewsLog last now dev Fresh
 
 -- The stream of a log has as many words as its set took where it was written anew, behind steps on metadata alone.
 pub record IsRenewed (version : ℕ) (from : Space) (streams : List DeviceStreams) (dev : ℕ) (log : Log) : Type 0 where

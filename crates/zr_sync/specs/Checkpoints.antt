@@ -12,6 +12,7 @@ use Rattle.zr_shelf.specs.Moments.{World}
 use Rattle.zr_vdev.specs.Stores.{KeepsOthers}
 use Rattle.zr_vdev.specs.declared.kind.Kind.TheVariants.{Meta}
 use Rattle.zr_sync.specs.Commits.{EndsGroup, IsNextRoot, IsShownFrom}
+use Rattle.zr_sync.specs.declared.open.CondStreams.{CondStreams}
 use Rattle.zr_sync.specs.declared.open.DeviceStreams.{DeviceStreams}
 use Rattle.zr_sync.specs.declared.open.OpenPool.{OpenPool}
 
@@ -20,7 +21,11 @@ no_stream = record { words = 0; tree = record { root = Hole; height = 0 } }
 
 -- streams of no words
 abbrev pub no_streams : DeviceStreams
-no_streams = record { held = no_stream; kept = no_stream; late1 = no_stream; late2 = no_stream }
+no_streams = record { held = no_stream; kept = no_stream; entries = no_stream; counts = no_stream; fresh = no_stream; late1 = no_stream; late2 = no_stream }
+
+-- those of no condensing
+abbrev pub no_cond : CondStreams
+no_cond = record { entries = no_stream; counts = no_stream }
 
 -- metadata of the saved root is given back, and nothing else is changed: where there is none, nothing at all
 pub record GivesSavedMeta (old new : Space) : Type 0 where
@@ -34,14 +39,15 @@ pub record SavesRoot (old new : OpenPool) : Type 0 where
   pub last : old.last ≡ Some root
   pub block : List ℕ
   pub spelled : SpellsUber block root
-  pub saved : new.saved ≡ Some (record { block = block; head = old.head; streams = old.streams })
+  pub saved : new.saved ≡ Some (record { block = block; head = old.head; streams = old.streams; cond = old.cond })
   pub given : Space
   pub gives : GivesSavedMeta old.space given
   pub holds : HoldsCheckpoint given new.space root.txg
   pub streams : All (λ (s : DeviceStreams). s ≡ no_streams) new.streams.items
   pub count : length new.streams.items ≡ length old.streams.items
+  pub cond : new.cond ≡ no_cond
   pub head : new.head ≡ no_stream.tree
-  pub rest : new ≡ record old { space = new.space; saved = new.saved; head = new.head; streams = new.streams }
+  pub rest : new ≡ record old { space = new.space; saved = new.saved; head = new.head; streams = new.streams; cond = new.cond }
 
 -- No root is saved any more: its metadata is given back, and what is kept waits to be.
 pub record DropsRoot (old new : OpenPool) : Type 0 where

@@ -1,9 +1,12 @@
 -- The head of an open pool, as it stands on the disks.
-use Rattle.std.specs.Prelude.{◌≡◌, ℕ, List, [], ◌∷◌, length, take, None}
-use Rattle.std.specs.List.{flat_map}
+use Rattle.std.specs.Prelude.{◌≡◌, ℕ, List, [], ◌∷◌, ◌++◌, length, take, Option, Some, None}
+use Rattle.zr_base.specs.declared.space.CondPart.{CondPart}
 use Rattle.zr_base.specs.declared.space.DevRow.{DevRow}
+use Rattle.zr_base.specs.declared.space.DevState.{DevState}
+use Rattle.zr_base.specs.declared.space.DevState.TheVariants.{On, Leaving, Gone}
 use Rattle.zr_bptr.specs.declared.Ptr.{Ptr}
 use Rattle.zr_bptr.specs.declared.Tree.{Tree}
+use Rattle.zr_meta.specs.declared.CondAt.{CondAt}
 use Rattle.zr_meta.specs.declared.Head.{Head}
 use Rattle.zr_meta.specs.declared.Stream.{Stream}
 use Rattle.zr_meta.specs.Heads.{IsHead, head_bytes}
@@ -13,16 +16,34 @@ use Rattle.zr_view.specs.Views.{View}
 use Rattle.zr_vdev.specs.Caches.{AreRead}
 use Rattle.zr_vdev.specs.Runs.{view_of}
 use Rattle.zr_sync.specs.Pools.{saved_block}
+use Rattle.zr_sync.specs.declared.open.CondStreams.{CondStreams}
 use Rattle.zr_sync.specs.declared.open.DeviceStreams.{DeviceStreams}
 use Rattle.zr_sync.specs.declared.open.OpenPool.{OpenPool}
 
--- the streams of a device in the order of the head
-abbrev pub streams_in : DeviceStreams → List Stream
-streams_in d = d.held ∷ d.kept ∷ d.late1 ∷ d.late2 ∷ []
+-- the streams that a device of this state has, in the order of the head
+abbrev pub streams_in : DevState → DeviceStreams → List Stream
+streams_in On d = d.held ∷ d.kept ∷ d.late1 ∷ d.late2 ∷ []
+streams_in Leaving d = d.held ∷ d.kept ∷ d.entries ∷ d.counts ∷ d.fresh ∷ d.late1 ∷ d.late2 ∷ []
+streams_in Gone d = d.entries ∷ d.counts ∷ d.fresh ∷ []
 
--- the head of an open pool: its directory, its streams and its checkpoint
+-- those of all devices, which have these rows
+abbrev pub streams_of : List DevRow → List DeviceStreams → List Stream
+streams_of [] devices = []
+streams_of (r ∷ rows) [] = []
+streams_of (r ∷ rows) (d ∷ devices) = streams_in r.state d ++ streams_of rows devices
+
+-- the condensing that goes on, as the head tells it, and the streams that it has
+abbrev pub cond_at : Option CondPart → Option CondAt
+cond_at None = None
+cond_at (Some c) = Some (record { dev = c.dev; at = c.at })
+
+abbrev pub cond_streams : Option CondAt → CondStreams → List Stream
+cond_streams None s = []
+cond_streams (Some c) s = s.entries ∷ s.counts ∷ []
+
+-- the head of an open pool: its directory, its streams, its checkpoint and its condensing
 abbrev pub head_of : OpenPool → Head
-head_of pool = record { form = 2; dir = pool.dir; saved = saved_block pool.saved; ckpt = pool.space.parts.ckpt; cond = None; streams = flat_map streams_in pool.streams.items }
+head_of pool = record { form = 2; dir = pool.dir; saved = saved_block pool.saved; ckpt = pool.space.parts.ckpt; cond = cond_at pool.space.parts.cond; streams = streams_of (take pool.table.count pool.table.rows) pool.streams.items ++ cond_streams (cond_at pool.space.parts.cond) pool.cond }
 
 -- what the disks have is told as they read, and what is cached is what stands there
 pub record IsSeen (tells : Type 0) (disks : List (List ℕ)) (pool : OpenPool) : Type 0 where

@@ -10,3 +10,4 @@ pub mod Checkpoints
 pub mod States
 pub mod Streams
 pub mod Anew
+pub mod Mappings

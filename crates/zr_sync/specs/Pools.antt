@@ -1,6 +1,6 @@
 -- An open pool, as each call needs it and leaves it.
-use Rattle.std.specs.Prelude.{◌≡◌, ℕ, ◌+◌, ◌≤◌, ◌<◌, ◌⊎◌, List, All, length, take, drop, slice_index, slice_index_or, IsTrue, Option, Some, None, IfSome}
-use Rattle.std.specs.List.{list_all}
+use Rattle.std.specs.Prelude.{◌≡◌, ℕ, false, replicate, ◌+◌, ◌≤◌, ◌<◌, ◌⊎◌, List, All, length, take, drop, slice_index, slice_index_or, IsTrue, Option, Some, None, IfSome}
+use Rattle.std.specs.List.{list_all, list_any}
 use Rattle.zr_bptr.specs.declared.Tree.{Tree}
 use Rattle.zr_bptr.specs.Spelling.{IsTree}
 use Rattle.zr_base.specs.declared.space.DevRow.{DevRow}
@@ -13,23 +13,32 @@ use Rattle.zr_rules.specs.Equation.{devices_in}
 use Rattle.zr_rules.specs.Places.{is_on, part_of}
 use Rattle.zr_rules.specs.Space.{IsLawful}
 use Rattle.zr_txg.specs.Changes.{Changes, block_count}
-use Rattle.zr_space.specs.Paths.{AreInService}
 use Rattle.zr_view.specs.Views.{slot_of}
 use Rattle.zr_vdev.specs.Mounts.{AreMounted}
 use Rattle.zr_sync.specs.declared.open.Checkpoint.{Checkpoint}
+use Rattle.zr_sync.specs.declared.open.CondStreams.{CondStreams}
 use Rattle.zr_sync.specs.declared.open.DeviceStreams.{DeviceStreams}
 use Rattle.zr_sync.specs.declared.open.OpenPool.{OpenPool}
+use Rattle.zr_sync.specs.declared.open.Turned.{Turned}
 
 pub record AreStreams (s : DeviceStreams) : Type 0 where
   pub held : IsStream s.held
   pub kept : IsStream s.kept
+  pub entries : IsStream s.entries
+  pub counts : IsStream s.counts
+  pub fresh : IsStream s.fresh
   pub late1 : IsStream s.late1
   pub late2 : IsStream s.late2
+
+pub record AreCondStreams (s : CondStreams) : Type 0 where
+  pub entries : IsStream s.entries
+  pub counts : IsStream s.counts
 
 -- the trees of the metadata of the root that a checkpoint holds are lawful
 pub record IsCheckpoint (c : Checkpoint) : Type 0 where
   pub head : IsTree c.head
   pub streams : All AreStreams c.streams.items
+  pub cond : AreCondStreams c.cond
 
 -- the block of that root
 abbrev pub saved_block : Option Checkpoint → Option (List ℕ)
@@ -47,11 +56,11 @@ pub record IsDirectory (t : Tree) : Type 0 where
   pub low : t.height ≤ 3
   pub unit : IsRootOf t.height t.root
 
--- The rows of so many devices, all in service, and then rows of zeros: what a root of this version and group may have as its table.
+-- The rows of so many devices, of which one at least is in service if there is any, and then rows of zeros: what a root of this version and group may have as its table.
 pub record AreRows (version txg count : ℕ) (rows : List DevRow) : Type 0 where
   pub size : length rows ≡ 32
   pub devices : IsTrue (list_all (is_row version txg) (take count rows))
-  pub on : IsTrue (list_all (λ r. is_on r.state) (take count rows))
+  pub on : 1 ≤ count → IsTrue (list_any (λ r. is_on r.state) (take count rows))
   pub rest : IsTrue (list_all is_no_row (drop count rows))
 
 -- the open group has at most 64 changed blocks and 64 changed objects
@@ -59,7 +68,11 @@ pub record IsInLimits (g : Changes) : Type 0 where
   pub blocks : block_count g.objects ≤ 64
   pub objects : length g.objects ≤ 64
 
--- A pool of so many devices at least and of 32 at most, all in service, whose disks have these sizes. Each device has the units of its disk, so none lies in a label. A root is saved exactly while a checkpoint is held.
+-- mappings that changed at their end alone
+abbrev pub none_turned : List Turned
+none_turned = replicate 32 (record { entries = false; counts = false })
+
+-- A pool of so many devices at least and of 32 at most, whose disks have these sizes. Each device that is there has a disk of its own with all its units, so none lies in a label; one that is gone may have one or none. A root is saved exactly while a checkpoint is held.
 pub record IsPool (least : ℕ) (sizes : List ℕ) (pool : OpenPool) : Type 0 where
   pub version : (pool.version ≡ 1) ⊎ (pool.version ≡ 2)
   pub guid : 0 < pool.guid
@@ -76,6 +89,8 @@ pub record IsPool (least : ℕ) (sizes : List ℕ) (pool : OpenPool) : Type 0 wh
   pub head : IsTree pool.head
   pub streams : All AreStreams pool.streams.items
   pub count : length pool.streams.items ≡ pool.table.count
+  pub cond : AreCondStreams pool.cond
+  pub turned : length pool.turned ≡ 32
   pub saved : IsSaved pool.space.parts.ckpt (saved_block pool.saved)
   pub checkpoint : IfSome pool.saved IsCheckpoint
   pub spelled : pool.space.parts.version ≡ pool.version
@@ -83,7 +98,6 @@ pub record IsPool (least : ℕ) (sizes : List ℕ) (pool : OpenPool) : Type 0 wh
   pub rows : (d : ℕ) → d < pool.table.count → (part_of pool.space.parts.devs d).row ≡ slice_index_or pool.table.rows d no_row
   pub lawful : IsLawful pool.space
   pub mounted : AreMounted sizes pool.table.slots (devices_in pool.space)
-  pub service : AreInService (devices_in pool.space)
   pub disks : (d slot : ℕ) → d < pool.table.count → slot_of pool.table.slots d ≡ Some slot → units_of_size (slice_index sizes slot) 2 ≡ Some (slice_index_or pool.table.rows d no_row).units
 
 -- a pool that is open on disks of these sizes

@@ -15,7 +15,7 @@ use Rattle.zr_sync.specs.Words.{IsLogNow}
 use Rattle.zr_sync.specs.declared.open.DeviceStreams.{DeviceStreams}
 use Rattle.zr_sync.specs.declared.open.OpenPool.{OpenPool}
 use Rattle.zr_sync.specs.declared.words.Log.{Log}
-use Rattle.zr_sync.specs.declared.words.Log.TheVariants.{Held, Kept}
+use Rattle.zr_sync.specs.declared.words.Log.TheVariants.{Held, Kept, Fresh}
 
 -- the disks, which are told as they read, hold these blocks of metadata
 abbrev pub HasMeta : Type 0 → List (List ℕ) → OpenPool → Stored → Type 0
@@ -29,10 +29,12 @@ streams_at pool dev = slice_index_or pool.streams.items dev no_streams
 abbrev pub log_stream : Log → DeviceStreams → Stream
 log_stream Held t = t.held
 log_stream Kept t = t.kept
+log_stream Fresh t = t.fresh
 
 abbrev pub with_log : Log → DeviceStreams → Stream → DeviceStreams
 with_log Held t now = record t { held = now }
 with_log Kept t now = record t { kept = now }
+with_log Fresh t now = record t { fresh = now }
 
 -- the streams of the late sets
 abbrev pub late_streams : DeviceStreams → List Stream

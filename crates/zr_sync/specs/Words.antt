@@ -6,12 +6,12 @@ use Rattle.zr_base.specs.declared.space.Extent.{Extent}
 use Rattle.zr_base.specs.Extents.{has_unit}
 use Rattle.zr_meta.specs.declared.Stream.{Stream}
 use Rattle.zr_rules.specs.Logs.{IsInTurn, IsLog, taken_after}
-use Rattle.zr_rules.specs.Places.{is_held, is_kept, part_of}
-use Rattle.zr_rules.specs.Space.{Space, was_held, was_kept}
+use Rattle.zr_rules.specs.Places.{is_fresh, is_held, is_kept, part_of}
+use Rattle.zr_rules.specs.Space.{Space, was_fresh, was_held, was_kept}
 use Rattle.zr_units.specs.Apart.{IsWithin}
 use Rattle.zr_units.specs.Uses.{Freed}
 use Rattle.zr_sync.specs.declared.words.Log.{Log}
-use Rattle.zr_sync.specs.declared.words.Log.TheVariants.{Held, Kept}
+use Rattle.zr_sync.specs.declared.words.Log.TheVariants.{Held, Kept, Fresh}
 use Rattle.zr_sync.specs.declared.words.LogWords.{LogWords}
 use Rattle.zr_sync.specs.declared.words.LogWords.TheVariants.{Stays, Grows, Anew}
 
@@ -19,15 +19,18 @@ use Rattle.zr_sync.specs.declared.words.LogWords.TheVariants.{Stays, Grows, Anew
 abbrev pub log_set : Log → DevPart → List Extent
 log_set Held p = p.held
 log_set Kept p = p.kept
+log_set Fresh p = p.fresh
 
 -- the units of that set at the last root, and those that are in it now
 abbrev pub log_was : Log → Space → ℕ → ℕ → Bool
 log_was Held s d = was_held s d
 log_was Kept s d = was_kept s d
+log_was Fresh s d = was_fresh s d
 
 abbrev pub log_has : Log → Space → ℕ → ℕ → Bool
 log_has Held s d = is_held s.parts.devs d
 log_has Kept s d = is_kept s.parts.devs d
+log_has Fresh s d = is_fresh s.parts.devs d
 
 -- these changes take and give back the same units as the others, and in turn where those are
 pub record ReplaysAs (changes others : List Change) : Type 0 where

@@ -11,7 +11,7 @@ use Rattle.zr_sync.specs.declared.open.OpenPool.{OpenPool}
 -- Metadata was written and given back: the space, the cache and the streams changed, and all else of the pool is the same.
 pub record WritesMetadata (sizes_old sizes_new : List ℕ) (counts_old counts_new : Counts) (told_old told_new : Type 0) (before now : World) (old new : OpenPool) : Type 0 where
   pub goes : Continues Meta old.table.slots sizes_old sizes_new counts_old counts_new told_old told_new before now old.space new.space old.cache new.cache
-  pub rest : new ≡ record old { space = new.space; cache = new.cache; streams = new.streams }
+  pub rest : new ≡ record old { space = new.space; cache = new.cache; streams = new.streams; cond = new.cond }
   pub count : length new.streams.items ≡ length old.streams.items
 
 -- The trees were written: the space, the cache and the directory changed, and all else of the pool is the same.
@@ -44,4 +44,4 @@ pub record WritesAll (sizes_old sizes_new : List ℕ) (counts_old counts_new : C
   pub mid : Space
   pub blocks : KeepsOthers Block old.space mid
   pub metadata : KeepsOthers Meta mid new.space
-  pub rest : new ≡ record old { space = new.space; cache = new.cache; dir = new.dir; streams = new.streams }
+  pub rest : new ≡ record old { space = new.space; cache = new.cache; dir = new.dir; streams = new.streams; cond = new.cond }

@@ -4,15 +4,14 @@
 //! committed, and then a second one beside it, which stores the first one's uberblock and has metadata of its own. When
 //! the checkpoint is given up, the next root stores none, and the saved root's metadata is free behind it. The blocks
 //! that were kept for it are given back by steps, since there may be many.
-ghost use Rattle.std.specs.Prelude.{◌≡◌, ◌+◌, ◌<◌, ◌==◌, if◌then◌else◌, ℕ, List, [], All, Some, None, length, IfSome, IsErrOf, IfOk, OnOk};
+ghost use Rattle.std.specs.Prelude.{◌≡◌, ◌+◌, ◌<◌, ◌==◌, if◌then◌else◌, false, ℕ, List, [], All, Some, None, length, IfSome, IsErrOf, IfOk, OnOk};
 ghost use Rattle.zr_base.specs.Counts.{HasRisen};
 ghost use Rattle.zr_base.specs.declared.space.CkptPart.TheVariants.{Clear, Held, Discarding};
 ghost use Rattle.zr_label.specs.Blocks.{IsUber};
 ghost use Rattle.zr_model.specs.Objects.{Objects};
-ghost use Rattle.zr_rules.specs.Equation.{devices_in};
+ghost use Rattle.zr_rules.specs.Places.{is_leaving, state_of_dev};
 ghost use Rattle.zr_rules.specs.Steps.{DiscardsSome};
 ghost use Rattle.zr_shelf.specs.Counts.{NoneFell};
-ghost use Rattle.zr_space.specs.Paths.{AreInService};
 ghost use Rattle.zr_sync.specs.Checkpoints.{DropsRoot, GivesSavedMeta, GivesUpCheckpoint, SavesRoot, TakesCheckpoint, no_streams};
 ghost use Rattle.zr_sync.specs.Heads.{HasHead, IsSeen};
 ghost use Rattle.zr_sync.specs.Objects.{HoldsObjects};
@@ -22,7 +21,7 @@ ghost use Rattle.zr_sync.specs.declared.open.DeviceStreams.{DeviceStreams};
 ghost use Rattle.zr_sync.specs.declared.stop.Stop.TheVariants.{DiskFault};
 
 use crate::commits::{commit, commit_anew};
-use crate::open::{Checkpoint, DeviceStreams, EMPTY, NO_STREAMS, OpenPool};
+use crate::open::{Checkpoint, DeviceStreams, EMPTY, NO_COND, NO_STREAMS, OpenPool};
 use crate::stop::Stop;
 use std::alloc::Global;
 use std::mem;
@@ -34,7 +33,6 @@ use zr_vdev::Place;
 
 // Gives back all metadata of the saved root.
 fn give_saved(space: &mut Space) -> Result<(), NoMemory>
-    requires service { AreInService (devices_in space.old) }
     ensures gives { OnOk result (GivesSavedMeta space.old space.new) }
     ensures none { OnOk result (space.new.saved_meta ≡ []) }
 {
@@ -71,6 +69,7 @@ fn cleared(alloc: Global, devices: usize) -> Result<Vec<DeviceStreams>, NoMemory
 fn save_root(alloc: Global, pool: &mut OpenPool) -> Result<(), NoMemory>
     requires pool { (sizes : List ℕ) × IsOpen sizes pool.old }
     requires some { 1 < pool.old.group.txg }
+    requires stays { (d : ℕ) → is_leaving (state_of_dev pool.old.space.parts.devs d) ≡ false }
     ensures saves { OnOk result (SavesRoot pool.old pool.new) }
     ensures pool { (sizes : List ℕ) → IsOpen sizes pool.old → OnOk result (IsOpen sizes pool.new) }
 {
@@ -84,14 +83,17 @@ fn save_root(alloc: Global, pool: &mut OpenPool) -> Result<(), NoMemory>
         block,
         head: pool.head,
         streams,
+        cond: pool.cond,
     });
     pool.head = EMPTY.tree;
+    pool.cond = NO_COND;
     Ok(())
 }
 
 // Saves no root any more.
 fn drop_root(pool: &mut OpenPool) -> Result<(), NoMemory>
     requires pool { (sizes : List ℕ) × IsOpen sizes pool.old }
+    requires stays { (d : ℕ) → is_leaving (state_of_dev pool.old.space.parts.devs d) ≡ false }
     ensures drops { OnOk result (DropsRoot pool.old pool.new) }
     ensures pool { (sizes : List ℕ) → IsOpen sizes pool.old → OnOk result (IsOpen sizes pool.new) }
 {
@@ -101,7 +103,7 @@ fn drop_root(pool: &mut OpenPool) -> Result<(), NoMemory>
     Ok(())
 }
 
-/// Takes a checkpoint of a pool that has none: ends the open group, saves the root that it leaves, and commits a root
+/// Takes a checkpoint of a pool that has none, and of which no device is leaving: ends the open group, saves the root that it leaves, and commits a root
 /// that tells so, with all its metadata written anew. Errors are those of two commits.
 pub fn checkpoint<S: Shelf, P: Place>(
     alloc: Global,
@@ -111,6 +113,7 @@ pub fn checkpoint<S: Shelf, P: Place>(
 ) -> Result<(), Stop>
     requires pool { IsOpen (S.sizes shelf.old) pool.old }
     requires clear { pool.old.space.parts.ckpt ≡ Clear }
+    requires stays { (d : ℕ) → is_leaving (state_of_dev pool.old.space.parts.devs d) ≡ false }
     ensures sizes { S.sizes shelf.new ≡ S.sizes shelf.old }
     ensures none_fell { NoneFell (S.counts shelf.old) (S.counts shelf.new) }
     ensures told { S.tells shelf.old → S.tells shelf.new }
@@ -132,7 +135,7 @@ pub fn checkpoint<S: Shelf, P: Place>(
     Ok(())
 }
 
-/// Gives up the checkpoint: the next root saves none, and the saved root's metadata is free behind it. What is kept is
+/// Gives up the checkpoint, while no device is leaving: the next root saves none, and the saved root's metadata is free behind it. What is kept is
 /// given back by steps from then on. Errors are those of a commit.
 pub fn give_up_checkpoint<S: Shelf, P: Place>(
     alloc: Global,
@@ -141,6 +144,7 @@ pub fn give_up_checkpoint<S: Shelf, P: Place>(
     pick: &P,
 ) -> Result<(), Stop>
     requires pool { IsOpen (S.sizes shelf.old) pool.old }
+    requires stays { (d : ℕ) → is_leaving (state_of_dev pool.old.space.parts.devs d) ≡ false }
     ensures sizes { S.sizes shelf.new ≡ S.sizes shelf.old }
     ensures none_fell { NoneFell (S.counts shelf.old) (S.counts shelf.new) }
     ensures told { S.tells shelf.old → S.tells shelf.new }

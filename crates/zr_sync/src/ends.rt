@@ -5,9 +5,9 @@ ghost use Rattle.zr_label.specs.Blocks.{IsUber};
 ghost use Rattle.zr_rules.specs.Steps.{Commits};
 ghost use Rattle.zr_space.specs.Live.{IsLive};
 ghost use Rattle.zr_sync.specs.Commits.{IsNextRoot};
-ghost use Rattle.zr_sync.specs.Pools.{IsOpen, IsSamePool};
+ghost use Rattle.zr_sync.specs.Pools.{IsOpen, IsSamePool, none_turned};
 
-use crate::open::OpenPool;
+use crate::open::{NONE_TURNED, OpenPool};
 use std::alloc::Global;
 use zr_bptr::Tree;
 use zr_label::Uber;
@@ -27,6 +27,8 @@ pub fn end_group(alloc: Global, pool: &mut OpenPool, root: Uber, reset: bool)
     ensures cache { pool.new.cache ≡ pool.old.cache }
     ensures dir { pool.new.dir ≡ pool.old.dir }
     ensures streams { pool.new.streams ≡ pool.old.streams }
+    ensures cond { pool.new.cond ≡ pool.old.cond }
+    ensures turned { pool.new.turned ≡ none_turned }
     ensures saved { pool.new.saved ≡ pool.old.saved }
     ensures live { (a : Dva) → IsLive pool.old.space a → IsLive pool.new.space a }
     ensures space { Commits reset pool.old.space pool.new.space }
@@ -41,4 +43,5 @@ pub fn end_group(alloc: Global, pool: &mut OpenPool, root: Uber, reset: bool)
     };
     pool.last = Some(root);
     pool.group = Group::new(alloc, txg + 1);
+    pool.turned = NONE_TURNED;
 }

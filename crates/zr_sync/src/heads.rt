@@ -1,36 +1,80 @@
 //! The head of the next root in a commit.
-ghost use Rattle.std.specs.Prelude.{ℕ, List, ◌≡◌, ◌++◌, ◌<◌, ◌≤◌, ◌+◌, ◌*◌, ◌%◌, length, take, IsErrOf, IfOk, OnOk};
+ghost use Rattle.std.specs.Prelude.{ℕ, List, ◌≡◌, ◌++◌, ◌≤◌, ◌*◌, ◌%◌, [], ◌∷◌, take, IsErrOf, IfOk, OnOk};
 ghost use Rattle.std.specs.List.{AllByRecursion};
 ghost use Rattle.zr_base.specs.Counts.{HasRisen};
 ghost use Rattle.zr_label.specs.Blocks.{IsMetaRoot};
-ghost use Rattle.zr_meta.specs.Heads.{IsHead, IsStream, head_words};
-ghost use Rattle.zr_sync.specs.Heads.{HasHead, IsSeen, head_of, streams_in};
-ghost use Rattle.zr_sync.specs.Pools.{AreStreams, IsOpen, saved_block};
+ghost use Rattle.zr_meta.specs.Heads.{IsCond, IsHead, IsStream};
+ghost use Rattle.zr_sync.specs.Heads.{HasHead, IsSeen, cond_at, cond_streams, head_of, streams_in};
+ghost use Rattle.zr_sync.specs.Pools.{AreCondStreams, AreStreams, IsOpen, saved_block};
 ghost use Rattle.zr_sync.specs.Writes.{WritesMetadata};
 ghost use Rattle.zr_sync.specs.declared.stop.Stop.TheVariants.{DiskFault};
 
-use crate::open::{Checkpoint, DeviceStreams, OpenPool};
+use crate::open::{Checkpoint, CondStreams, DeviceStreams, OpenPool};
 use crate::stop::Stop;
 use crate::stores::put_head;
 use std::alloc::Global;
-use zr_base::{Blob, Items, NoMemory};
+use zr_base::{Blob, DevState, Items, NoMemory};
 use zr_bptr::Ptr;
-use zr_meta::{Head, Stream};
+use zr_meta::{CondAt, Head, Stream};
 use zr_shelf::Shelf;
+use zr_space::Space;
 use zr_vdev::{Kind, Mount, Place};
 
-// Adds the streams of a device in their order.
-fn add_streams(streams: &mut Items<Stream>, device: &DeviceStreams) -> Result<(), NoMemory>
+// Adds the logs of a device that is there.
+fn add_logs(streams: &mut Items<Stream>, device: &DeviceStreams) -> Result<(), NoMemory>
     requires lawful { AllByRecursion IsStream streams.old }
     requires device { AreStreams device.now }
     ensures lawful { OnOk result (AllByRecursion IsStream streams.new) }
-    ensures count { OnOk result (length streams.new ≡ length streams.old + 4) }
-    ensures added { OnOk result (streams.new ≡ streams.old ++ streams_in device.now) }
+    ensures added { OnOk result (streams.new ≡ streams.old ++ device.now.held ∷ device.now.kept ∷ []) }
 {
     streams.push(device.held)?;
-    streams.push(device.kept)?;
+    streams.push(device.kept)
+}
+
+// Adds the mapping of a device that is leaving or gone.
+fn add_mapping(streams: &mut Items<Stream>, device: &DeviceStreams) -> Result<(), NoMemory>
+    requires lawful { AllByRecursion IsStream streams.old }
+    requires device { AreStreams device.now }
+    ensures lawful { OnOk result (AllByRecursion IsStream streams.new) }
+    ensures added { OnOk result (streams.new ≡ streams.old ++ device.now.entries ∷ device.now.counts ∷ device.now.fresh ∷ []) }
+{
+    streams.push(device.entries)?;
+    streams.push(device.counts)?;
+    streams.push(device.fresh)
+}
+
+// Adds the late sets of a device that is there.
+fn add_lates(streams: &mut Items<Stream>, device: &DeviceStreams) -> Result<(), NoMemory>
+    requires lawful { AllByRecursion IsStream streams.old }
+    requires device { AreStreams device.now }
+    ensures lawful { OnOk result (AllByRecursion IsStream streams.new) }
+    ensures added { OnOk result (streams.new ≡ streams.old ++ device.now.late1 ∷ device.now.late2 ∷ []) }
+{
     streams.push(device.late1)?;
     streams.push(device.late2)
+}
+
+// Adds the streams of a device of this state in their order.
+fn add_streams(
+    streams: &mut Items<Stream>,
+    state: DevState,
+    device: &DeviceStreams,
+) -> Result<(), NoMemory>
+    requires lawful { AllByRecursion IsStream streams.old }
+    requires device { AreStreams device.now }
+    ensures lawful { OnOk result (AllByRecursion IsStream streams.new) }
+    ensures added { OnOk result (streams.new ≡ streams.old ++ streams_in state device.now) }
+{
+    if state != DevState::Gone {
+        add_logs(streams, device)?;
+    }
+    if state != DevState::On {
+        add_mapping(streams, device)?;
+    }
+    if state != DevState::Gone {
+        add_lates(streams, device)?;
+    }
+    Ok(())
 }
 
 // A copy of the block of the root that a checkpoint holds.
@@ -43,6 +87,38 @@ fn block_of(alloc: Global, saved: &Option<Checkpoint>) -> Result<Option<Blob>, N
     }
 }
 
+// The condensing that goes on, as a head tells it.
+fn cond_at(space: &Space) -> Option<CondAt>
+    ensures at { result ≡ cond_at space.now.parts.cond }
+    ensures fits { IsCond result }
+{
+    let cond = space.condensing()?;
+    Some(CondAt {
+        dev: cond.dev(),
+        at: cond.at(),
+    })
+}
+
+// Adds the streams of the condensing that goes on, if one does.
+fn add_condensing(
+    streams: &mut Items<Stream>,
+    at: Option<CondAt>,
+    cond: &CondStreams,
+) -> Result<(), NoMemory>
+    requires lawful { AllByRecursion IsStream streams.old }
+    requires cond { AreCondStreams cond.now }
+    ensures lawful { OnOk result (AllByRecursion IsStream streams.new) }
+    ensures added { OnOk result (streams.new ≡ streams.old ++ cond_streams at cond.now) }
+{
+    match at {
+        None => Ok(()),
+        Some(_) => {
+            streams.push(cond.entries)?;
+            streams.push(cond.counts)
+        }
+    }
+}
+
 // The head of the next root.
 fn head_of(alloc: Global, pool: &OpenPool) -> Result<Head, NoMemory>
     requires { (sizes : List ℕ) × IsOpen sizes pool.now }
@@ -50,16 +126,18 @@ fn head_of(alloc: Global, pool: &OpenPool) -> Result<Head, NoMemory>
     ensures head { IfOk result (λ head. head ≡ head_of pool.now) }
 {
     let mut streams = Items::new(alloc);
-    for device in pool.streams.as_slice() {
-        add_streams(&mut streams, device)?;
+    for dev in 0..pool.table.count as usize {
+        add_streams(&mut streams, pool.table.rows[dev].state, &pool.streams[dev])?;
     }
+    let cond = cond_at(&pool.space);
+    add_condensing(&mut streams, cond, &pool.cond)?;
     let saved = block_of(alloc, &pool.saved)?;
     Ok(Head {
         form: 2,
         dir: pool.dir,
         saved,
         ckpt: pool.space.ckpt(),
-        cond: None,
+        cond,
         streams,
     })
 }

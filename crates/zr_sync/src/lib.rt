@@ -7,11 +7,13 @@
 
 mod checkpoints;
 mod commits;
+mod device_streams;
 mod ends;
 mod fault;
 mod heads;
 mod late;
 mod logs;
+mod mappings;
 mod open;
 mod roots;
 mod stop;
@@ -20,10 +22,13 @@ mod trees;
 mod words;
 
 pub use checkpoints::{checkpoint, discard_some, give_up_checkpoint};
-pub use commits::{commit, commit_anew};
+pub use commits::{commit, commit_anew, commit_moving};
 pub use fault::Fault;
 pub use logs::Logs;
-pub use open::{Checkpoint, DeviceStreams, EMPTY, OpenPool, Table};
+pub use mappings::{MappingStream, cond_grows, mapping_grows};
+pub use open::{
+    Checkpoint, CondStreams, DeviceStreams, EMPTY, NO_COND, NONE_TURNED, OpenPool, Table, Turned,
+};
 pub use stop::Stop;
 pub use stores::{give_streams, give_tree, put_group, put_head, put_log, put_words};
 pub use words::{Log, LogWords, anew_words, first_late_words, log_words, second_late_words};

@@ -1,15 +1,15 @@
 //! The logs of the devices in a commit.
 //!
-//! A device in service has two: that of its held units, and that of those which only the checkpoint has. Each is appended
-//! to where its set changed, and now and then written anew. Where the streams of the last root are to stay as they are,
-//! the next root gets logs of its own.
+//! There is one for its held units, one for those which only the checkpoint has, and one for obsolete units that its mapping
+//! does not count yet. Each is appended to where its set changed, and now and then written anew. Where the streams of the
+//! last root are to stay as they are, the next root gets logs of its own.
 ghost use Rattle.std.specs.Prelude.{◌≡◌, ◌<◌, ◌+◌, ◌^◌, ℕ, List, length, IsErrOf, IfOk, OnOk};
 ghost use Rattle.zr_base.specs.Counts.{HasRisen};
 ghost use Rattle.zr_meta.specs.Heads.{IsStream};
 ghost use Rattle.zr_root.specs.Streams.{HasWords};
 ghost use Rattle.zr_store.specs.Store.{AreStored, Now, Stored};
 ghost use Rattle.zr_tree.specs.Trees.{tree_reach};
-ghost use Rattle.zr_sync.specs.Anew.{AreAnew, AreRenewed, RenewsBoth, RenewsLog};
+ghost use Rattle.zr_sync.specs.Anew.{AreAnew, RenewsLog};
 ghost use Rattle.zr_sync.specs.Pools.{AreStreams, IsOpen};
 ghost use Rattle.zr_sync.specs.Streams.{HasMeta, WritesLog, log_stream, streams_at, with_log};
 ghost use Rattle.zr_sync.specs.Words.{HasRoomFor, IsLastLog, IsLogNow, words_then};
@@ -26,10 +26,11 @@ use zr_meta::Stream;
 use zr_shelf::Shelf;
 use zr_vdev::{Kind, Mount, Place};
 
-/// How a commit writes the logs.
+/// How a commit writes the streams.
 #[derive(Clone, Copy, PartialEq, Eq, Debug)]
 pub enum Logs {
-    /// What was added is appended, and a log that grew long is written anew. One that gains nothing stays.
+    /// What was added is appended. A log that grew long and a mapping that changed otherwise are written anew, and a stream
+    /// that gains nothing stays.
     Grow,
     /// Each is written anew.
     Anew,
@@ -66,6 +67,7 @@ fn stream_of(streams: &DeviceStreams, log: Log) -> Stream
     match log {
         Log::Held => streams.held,
         Log::Kept => streams.kept,
+        Log::Fresh => streams.fresh,
     }
 }
 
@@ -85,11 +87,15 @@ fn with_stream(streams: DeviceStreams, log: Log, stream: Stream) -> DeviceStream
             kept: stream,
             ..streams
         },
+        Log::Fresh => DeviceStreams {
+            fresh: stream,
+            ..streams
+        },
     }
 }
 
-// Writes a log of a device.
-fn write_log<S: Shelf, P: Place>(
+/// Writes a log of a device.
+pub fn write_log<S: Shelf, P: Place>(
     alloc: Global,
     pool: &mut OpenPool,
     shelf: &mut S,
@@ -127,45 +133,5 @@ fn write_log<S: Shelf, P: Place>(
         &words,
     )?;
     pool.streams[index] = with_stream(streams, log, stream);
-    Ok(())
-}
-
-// Writes both logs of a device.
-fn write_both<S: Shelf, P: Place>(
-    alloc: Global,
-    pool: &mut OpenPool,
-    shelf: &mut S,
-    pick: &P,
-    dev: u32,
-    logs: Logs,
-) -> Result<(), Stop>
-    requires pool { IsOpen (S.sizes shelf.old) pool.old }
-    requires dev { dev < pool.old.table.count }
-    ensures wrote { WritesMetadata (S.sizes shelf.old) (S.sizes shelf.new) (S.counts shelf.old) (S.counts shelf.new) (S.tells shelf.old) (S.tells shelf.new) (S.world shelf.old) (S.world shelf.new) pool.old pool.new }
-    ensures pool { OnOk result (IsOpen (S.sizes shelf.new) pool.new) }
-    ensures fault { IsErrOf result DiskFault → HasRisen (S.counts shelf.old).disk (S.counts shelf.new).disk }
-    ensures anew { logs ≡ Logs.Anew → OnOk result (RenewsBoth pool.old pool.new dev) }
-{
-    write_log(alloc, pool, shelf, pick, dev, Log::Held, logs)?;
-    write_log(alloc, pool, shelf, pick, dev, Log::Kept, logs)
-}
-
-/// Writes the logs of each device.
-pub fn write_logs<S: Shelf, P: Place>(
-    alloc: Global,
-    pool: &mut OpenPool,
-    shelf: &mut S,
-    pick: &P,
-    logs: Logs,
-) -> Result<(), Stop>
-    requires pool { IsOpen (S.sizes shelf.old) pool.old }
-    ensures wrote { WritesMetadata (S.sizes shelf.old) (S.sizes shelf.new) (S.counts shelf.old) (S.counts shelf.new) (S.tells shelf.old) (S.tells shelf.new) (S.world shelf.old) (S.world shelf.new) pool.old pool.new }
-    ensures pool { OnOk result (IsOpen (S.sizes shelf.new) pool.new) }
-    ensures fault { IsErrOf result DiskFault → HasRisen (S.counts shelf.old).disk (S.counts shelf.new).disk }
-    ensures anew { logs ≡ Logs.Anew → OnOk result (AreRenewed pool.old.version pool.old.space pool.new.streams.items pool.old.table.count) }
-{
-    for dev in 0..pool.table.count {
-        write_both(alloc, pool, shelf, pick, dev, logs)?;
-    }
     Ok(())
 }

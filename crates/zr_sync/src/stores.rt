@@ -11,7 +11,6 @@ ghost use Rattle.zr_lookup.specs.Groups.{IsLawfulGroup};
 ghost use Rattle.zr_meta.specs.Heads.{IsStream, IsHead, head_words};
 ghost use Rattle.zr_root.specs.Streams.{HasWords, StoresWords};
 ghost use Rattle.zr_rules.specs.Equation.{devices_in};
-ghost use Rattle.zr_space.specs.Paths.{AreInService};
 ghost use Rattle.zr_store.specs.Store.{AreStored, Now, Stored, Swaps};
 ghost use Rattle.zr_store.specs.declared.StoreErr.TheVariants.{Failed};
 ghost use Rattle.zr_tree.specs.Trees.{tree_reach};
@@ -49,7 +48,6 @@ pub fn put_group<S: Shelf, P: Place>(
     changed: &Group,
 ) -> Result<Tree, Stop>
     requires mounted { AreMounted (S.sizes shelf.old) mount.slots.now (devices_in space.old) }
-    requires service { AreInService (devices_in space.old) }
     requires group { 1 ≤ mount.txg }
     requires dir { IsTree dir.now }
     requires low { dir.now.height ≤ 3 }
@@ -97,7 +95,6 @@ pub fn put_log<S: Shelf, P: Place>(
     words: &LogWords,
 ) -> Result<Stream, Stop>
     requires mounted { AreMounted (S.sizes shelf.old) mount.slots.now (devices_in space.old) }
-    requires service { AreInService (devices_in space.old) }
     requires group { 1 ≤ mount.txg }
     requires stream { IsStream old.now }
     requires room { HasRoomFor old.now words.now }
@@ -121,7 +118,6 @@ pub fn put_words<S: Shelf, P: Place>(
     words: &[u64],
 ) -> Result<Stream, Stop>
     requires mounted { AreMounted (S.sizes shelf.old) mount.slots.now (devices_in space.old) }
-    requires service { AreInService (devices_in space.old) }
     requires group { 1 ≤ mount.txg }
     requires words { length words.now ≤ 2 ^ 34 }
     ensures continues { Continues mount.entry.kind mount.entry.slots.now (S.sizes shelf.old) (S.sizes shelf.new) (S.counts shelf.old) (S.counts shelf.new) (S.tells shelf.old) (S.tells shelf.new) (S.world shelf.old) (S.world shelf.new) space.old space.new cache.old cache.new }
@@ -153,7 +149,6 @@ pub fn give_tree<S: Shelf, P: Place>(
     t: &Tree,
 ) -> Result<(), Stop>
     requires mounted { AreMounted (S.sizes shelf.old) mount.slots.now (devices_in space.old) }
-    requires service { AreInService (devices_in space.old) }
     requires group { 1 ≤ mount.txg }
     requires tree { IsTree t.now }
     ensures continues { Continues mount.entry.kind mount.entry.slots.now (S.sizes shelf.old) (S.sizes shelf.new) (S.counts shelf.old) (S.counts shelf.new) (S.tells shelf.old) (S.tells shelf.new) (S.world shelf.old) (S.world shelf.new) space.old space.new cache.old cache.new }
@@ -184,7 +179,6 @@ pub fn give_streams<S: Shelf, P: Place>(
     streams: &[Stream],
 ) -> Result<(), Stop>
     requires mounted { AreMounted (S.sizes shelf.old) mount.slots.now (devices_in space.old) }
-    requires service { AreInService (devices_in space.old) }
     requires group { 1 ≤ mount.txg }
     requires streams { All IsStream streams.now }
     ensures continues { Continues mount.entry.kind mount.entry.slots.now (S.sizes shelf.old) (S.sizes shelf.new) (S.counts shelf.old) (S.counts shelf.new) (S.tells shelf.old) (S.tells shelf.new) (S.world shelf.old) (S.world shelf.new) space.old space.new cache.old cache.new }
@@ -206,7 +200,6 @@ pub fn put_head<S: Shelf, P: Place>(
     rows: &[DevRow],
 ) -> Result<(Ptr, u64), Stop>
     requires mounted { AreMounted (S.sizes shelf.old) mount.slots.now (devices_in space.old) }
-    requires service { AreInService (devices_in space.old) }
     requires group { 1 ≤ mount.txg }
     requires head { IsHead rows.now head.now }
     requires rows { length rows.now ≤ 32 }

@@ -8,12 +8,12 @@ ghost use Rattle.zr_commit.specs.Logs.{is_long};
 ghost use Rattle.zr_meta.specs.Heads.{IsStream};
 ghost use Rattle.zr_meta.specs.Streams.{late_list};
 ghost use Rattle.zr_meta.specs.declared.Stream.{Stream};
+ghost use Rattle.zr_base.specs.Extents.{IsMaximal};
 ghost use Rattle.zr_base.specs.declared.space.Change.{Change};
-ghost use Rattle.zr_rules.specs.Logs.{IsChange, IsLate, longest_run};
+ghost use Rattle.zr_rules.specs.Logs.{IsAnew, IsChange, IsLate, longest_run};
 ghost use Rattle.zr_rules.specs.Owed.{set_words};
 ghost use Rattle.zr_rules.specs.Places.{part_of, units_of_dev};
 ghost use Rattle.zr_rules.specs.Space.{IsLawful, opened_of};
-ghost use Rattle.zr_smap.specs.Cuts.{IsInReach};
 ghost use Rattle.zr_units.specs.Differences.{Replays};
 ghost use Rattle.zr_sync.specs.Anew.{AreAnew};
 ghost use Rattle.zr_sync.specs.Words.{AddsCut, HasRoomFor, IsLastLog, IsLogNow, IsRun, AreFreed, ReplaysAs, log_has, log_set, log_was, words_then};
@@ -25,11 +25,13 @@ use zr_ranges::RangeSet;
 use zr_smap::{condensed, words_of};
 use zr_space::{FreedSets, SetKind, Space};
 
-/// The logs of a device in service: that of its held units, and that of those which only the checkpoint has.
+/// The logs of a device: that of its held units, that of those which only the checkpoint has, and that of the obsolete
+/// units which are not counted in its mapping yet. A set that the device has not is empty.
 #[derive(Clone, Copy, PartialEq, Eq, Debug)]
 pub enum Log {
     Held,
     Kept,
+    Fresh,
 }
 
 /// What becomes of a log.
@@ -97,18 +99,52 @@ fn is_long(words: u64, added: usize, anew: usize) -> bool
     2 * anew as u64 + 512 < words + added as u64
 }
 
-// The set of a log.
-fn set_of(space: &Space, dev: u32, log: Log) -> &RangeSet
+// The set of these extents.
+fn set_from(alloc: Global, extents: &[Extent]) -> Result<RangeSet, NoMemory>
+    requires { IsMaximal extents.now }
+    ensures { IfOk result (λ set. set.extents ≡ extents.now) }
+{
+    let mut set = RangeSet::new(alloc);
+    for e in extents {
+        set.add(*e)?;
+    }
+    Ok(set)
+}
+
+// The obsolete units of a device that are not counted yet.
+fn fresh_set(alloc: Global, space: &Space, dev: u32) -> Result<RangeSet, NoMemory>
     requires dev { dev < length space.now.parts.devs }
     requires lawful { IsLawful space.now }
+    ensures { IfOk result (λ set. set.extents ≡ (part_of space.now.parts.devs dev).fresh) }
+{
+    let extents = space.moves(dev).fresh(alloc)?;
+    set_from(alloc, extents.as_slice())
+}
+
+// The words of the set of a log, were it written anew. It goes over the set.
+fn anew_of(
+    alloc: Global,
+    space: &Space,
+    dev: u32,
+    log: Log,
+    version: u64,
+) -> Result<Vec<u64>, NoMemory>
+    requires dev { dev < length space.now.parts.devs }
+    requires few { length space.now.parts.devs ≤ 32 }
+    requires version { (version ≡ 1) ⊎ (version ≡ 2) }
+    requires lawful { IsLawful space.now }
     requires small { units_of_dev space.now.parts.devs dev ≤ 2 ^ 26 }
-    ensures set { result.now.extents ≡ log_set log (part_of space.now.parts.devs dev) }
-    ensures reach { (version : ℕ) → (version ≡ 1) ⊎ (version ≡ 2) → IsInReach version result.now.extents }
-    ensures few { (version : ℕ) → set_words version result.now.extents ≤ 2 ^ 26 }
+    ensures anew { IfOk result (λ words. IsAnew version dev (log_set log (part_of space.now.parts.devs dev)) words.items) }
+    ensures words { IfOk result (λ words. length words.items ≡ set_words version (log_set log (part_of space.now.parts.devs dev))) }
+    ensures few { IfOk result (λ words. length words.items ≤ 2 ^ 26) }
 {
     match log {
-        Log::Held => space.held(dev),
-        Log::Kept => space.kept(dev),
+        Log::Held => condensed(alloc, space.held(dev), version, dev),
+        Log::Kept => condensed(alloc, space.kept(dev), version, dev),
+        Log::Fresh => {
+            let fresh = fresh_set(alloc, space, dev)?;
+            condensed(alloc, &fresh, version, dev)
+        }
     }
 }
 
@@ -123,6 +159,7 @@ fn changes_of(space: &Space, dev: u32, log: Log) -> Result<Vec<Change>, NoMemory
     match log {
         Log::Held => space.changes(dev, SetKind::Held),
         Log::Kept => space.changes(dev, SetKind::Kept),
+        Log::Fresh => space.changes(dev, SetKind::Fresh),
     }
 }
 
@@ -150,7 +187,7 @@ pub fn log_words(
     if added.is_empty() {
         return Ok(LogWords::Stays);
     }
-    let anew = condensed(alloc, set_of(space, dev, log), version, dev)?;
+    let anew = anew_of(alloc, space, dev, log, version)?;
     if is_long(old.words, added.len(), anew.len()) {
         return Ok(LogWords::Anew(anew));
     }
@@ -174,7 +211,7 @@ pub fn anew_words(
     ensures log { (had : List ℕ) → IfOk result (λ words. IsLogNow version space.now dev log (words_then had words)) }
     ensures anew { IfOk result (AreAnew version space.now dev log) }
 {
-    let anew = condensed(alloc, set_of(space, dev, log), version, dev)?;
+    let anew = anew_of(alloc, space, dev, log, version)?;
     Ok(LogWords::Anew(anew))
 }
 

@@ -1,16 +1,22 @@
 use Rattle.std.proofs.Common.{ℕ, List, Option, false, ◌∙◌, ap, subst, arith}
 use Rattle.std.specs.Prelude.{IfSome}
 use Rattle.zr_base.specs.declared.space.CkptPart.TheVariants.{Held}
+use Rattle.zr_base.specs.declared.space.DevRow.{DevRow}
 use Rattle.zr_label.specs.declared.root.Uber.{Uber}
+use Rattle.zr_rules.specs.Places.{is_leaving}
 use Rattle.zr_shelf.specs.Moments.{World}
 use Rattle.zr_sync.specs.Commits.{IsNextRoot, IsShownFrom}
 use Rattle.zr_sync.specs.declared.open.OpenPool.{OpenPool}
 use Rattle.zr_sync.proofs.Disks.{works_more}
+use Rattle.zr_sync.proofs.Groups.{ends_row}
 use Rattle.zr_sync.proofs.SavedRoots.{saves_seen, saves_objects, saves_same}
 use Rattle.zr_sync.proofs.checkpoints.checkpoint.Goals as goal
 
 pub save_root-requires-clause-some : goal.save_root-requires-clause-some
 save_root-requires-clause-some g c = let first = c.requires.pool.first in let txg = c.in_ok-commit.ensures.txg in omega (arith, first, txg)
+
+pub save_root-requires-clause-stays : goal.save_root-requires-clause-stays
+save_root-requires-clause-stays g c = λ d. ap (λ (r : DevRow). is_leaving r.state) (ends_row false c.args.pool.now.space c.commit.new.pool.space c.in_ok-commit.ensures.ends d) ∙ c.requires.stays d
 
 pub commit_anew-requires : goal.commit_anew-requires
 commit_anew-requires g c = record { pool = c.in_ok-save_root.ensures.pool (g.S.Shelf.sizes c.commit.new.shelf) c.in_ok-commit.ensures.pool }

@@ -10,4 +10,4 @@ returns-clause-stays c = λ disks objects h.
     let x = c.args.pool.now in
     let y : OpenPool = record x { space = c.discard_step.new.self } in
     ok_with c.discard_step.result (λ units. DiscardsSome x.space units y.space) (HoldsObjects (Unit {0}) disks y objects) c.discard_step.ensures.ok
-    (λ units d. discards_objects (Unit {0}) disks x y objects c.requires.pool.1.service (some_live x.space y.space units d) refl h)
+    (λ units d. discards_objects (Unit {0}) disks x y objects (some_live x.space y.space units d) refl h)

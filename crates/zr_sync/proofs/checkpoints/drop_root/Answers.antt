@@ -4,9 +4,6 @@ use Rattle.zr_sync.specs.Checkpoints.{GivesSavedMeta}
 use Rattle.zr_sync.proofs.SavedRoots.{drops_open}
 use Rattle.zr_sync.proofs.checkpoints.drop_root.Goals as goal
 
-pub discard-requires : goal.discard-requires
-discard-requires c = record { stays = c.requires.pool.1.service.stays }
-
 pub returns-clause-drops : goal.returns-clause-drops
 returns-clause-drops c = record {
   none = refl;

@@ -60,7 +60,7 @@ returns-clause-objects g c = λ s held stored.
     let first = c.args.shelf.now in
     let last = c.publish_root.new.shelf in
     ended_written c.args.reset (g.S.Shelf.tells first) (g.S.Shelf.tells last) (g.S.Shelf.world first).now.seen (g.S.Shelf.world last).now.seen c.args.pool.now c.write_all.new.pool c.end_group.new.pool s
-    c.in_ok-root.ensures.pool.service c.end_group.ensures.table c.end_group.ensures.cache c.end_group.ensures.dir c.end_group.ensures.live c.end_group.ensures.space held stored
+    c.end_group.ensures.table c.end_group.ensures.cache c.end_group.ensures.dir c.end_group.ensures.space held stored
     (now_held (λ m h. c.publish_root.ensures.blocks m h) (c.in_ok-root.ensures.objects s held stored))
 
 pub returns-clause-stays : goal.returns-clause-stays
@@ -71,7 +71,7 @@ returns-clause-stays g c = λ objects h.
     let stored = trees_stored x objects (block_count x.group.objects) c.is_in_order.ensures c.requires.pool.group h in
     objects_written x c.end_group.new.pool objects (block_count x.group.objects) c.is_in_order.ensures c.requires.pool.group c.end_group.ensures.empty h
     (ended_written c.args.reset (g.S.Shelf.tells first) (g.S.Shelf.tells last) (g.S.Shelf.world first).now.seen (g.S.Shelf.world last).now.seen x c.write_all.new.pool c.end_group.new.pool h.stored
-    c.in_ok-root.ensures.pool.service c.end_group.ensures.table c.end_group.ensures.cache c.end_group.ensures.dir c.end_group.ensures.live c.end_group.ensures.space h.held stored
+    c.end_group.ensures.table c.end_group.ensures.cache c.end_group.ensures.dir c.end_group.ensures.space h.held stored
     (now_held (λ m held. c.publish_root.ensures.blocks m held) (c.in_ok-root.ensures.objects h.stored h.held stored)))
 
 pub returns-clause-stands : goal.returns-clause-stands
@@ -85,7 +85,7 @@ returns-clause-stands g c = λ seen.
     subst (λ (r : Ptr). HasHead before pool r len) (sym c.next_root-next.ensures.root_is) (subst (λ (n : ℕ). HasHead before pool c.in_ok-root.root n) (sym c.next_root-next.ensures.len_is) (c.in_ok-root.ensures.stands seen)) in
     let published = head_same (take pool.table.count pool.table.rows) (view_of before pool.table.slots pool.space) (view_of now pool.table.slots pool.space) (head_of pool) root len (c.publish_root.ensures.bytes (c.write_all.ensures.wrote.told seen.told)) wrote in
     subst (λ (o : Option Uber). IfSome o (λ (u : Uber). HasHead now c.end_group.new.pool u.root u.len)) (sym c.end_group.ensures.last)
-    (ended_head c.args.reset now pool c.end_group.new.pool root len c.end_group.ensures.table c.end_group.ensures.dir c.end_group.ensures.streams c.end_group.ensures.saved c.end_group.ensures.space published)
+    (ended_head c.args.reset now pool c.end_group.new.pool root len c.end_group.ensures.table c.end_group.ensures.dir c.end_group.ensures.streams c.end_group.ensures.cond c.end_group.ensures.saved c.end_group.ensures.space published)
 
 pub returns-clause-seen : goal.returns-clause-seen
 returns-clause-seen g c = λ seen.

@@ -11,3 +11,4 @@ returns-clause-pool c = λ sizes o.
     (c.new.ensures.txg ∙ ap (λ (n : ℕ). n + 1) c.txg-txg.ensures)
     c.new.ensures.empty
     refl
+    refl

@@ -7,5 +7,5 @@ returns-clause-stands g c = λ seen.
     let pool = c.args.pool.now in
     let old = c.args.shelf.now in
     let head = c.in_ok-head.ensures.head in
-    let stands = c.put_head.ensures.stands _ (empty_holds pool.table.slots (g.S.Shelf.tells old) (g.S.Shelf.world old).now.seen pool.space pool.cache c.requires.pool.service seen.told seen.read) in
+    let stands = c.put_head.ensures.stands _ (empty_holds pool.table.slots (g.S.Shelf.tells old) (g.S.Shelf.world old).now.seen pool.space pool.cache seen.told seen.read) in
     search (rules, stands, head)

@@ -1,13 +1,26 @@
-use Rattle.std.proofs.Common.{◌≡◌, ◌∙◌, [], None, sym, subst, arith}
+use Rattle.std.proofs.Common.{◌≡◌, ◌∙◌, [], None, refl, sym, subst, arith}
 use Rattle.std.proofs.lemmas.List.{get_or_default}
+use Rattle.std.proofs.Math.ListN.{length-set}
 use Rattle.zr_commit.specs.Logs.{streams_reach}
 use Rattle.zr_store.specs.Store.{AreStored, Now, Swaps}
 use Rattle.zr_vdev.specs.Stores.{HoldsBlocks}
 use Rattle.zr_vdev.specs.declared.kind.Kind.TheVariants.{Meta}
-use Rattle.zr_sync.specs.Checkpoints.{no_streams}
+use Rattle.zr_sync.specs.Checkpoints.{no_stream, no_streams}
 use Rattle.zr_sync.specs.Streams.{late_streams, streams_at}
 use Rattle.zr_sync.specs.declared.open.DeviceStreams.{DeviceStreams}
+use Rattle.zr_sync.proofs.Pools.{step_open, streams_at as streams_lawful, streams_set}
 use Rattle.zr_sync.proofs.late.give_late.Goals as goal
+
+pub returns-clause-pool : goal.returns-clause-pool
+returns-clause-pool g c =
+    let pool = c.args.pool.now in
+    let o = c.requires.pool in
+    let count = o.count in
+    let was = c.index_mut-device.result.now in
+    let are = streams_lawful pool.streams.items c.args.dev was (omega (arith, count, c.requires.dev)) c.index_mut-device.ensures.value o.streams in
+    let now : DeviceStreams = record was { late1 = no_stream; late2 = no_stream } in
+    step_open pool _ o c.give_streams.ensures.continues refl (length-set pool.streams.items c.args.dev now)
+    (streams_set pool.streams.items c.args.dev now (record { held = are.held; kept = are.kept; entries = are.entries; counts = are.counts; fresh = are.fresh; late1 = (refl, refl); late2 = (refl, refl) }) o.streams) o.cond
 
 pub returns-clause-gives : goal.returns-clause-gives
 returns-clause-gives g c = λ s held stored.

@@ -1,4 +1,4 @@
-use Rattle.std.proofs.Common.{◌≡◌, ◌∙◌, List, ℕ, length, ap, refl, sym, subst, arith}
+use Rattle.std.proofs.Common.{◌≡◌, ◌∙◌, List, ℕ, length, ap, refl, subst, arith}
 use Rattle.std.proofs.lemmas.List.{get_or_default}
 use Rattle.std.proofs.Math.ListN.{length-set}
 use Rattle.std.specs.Prelude.{slice_index_or, slice_set}
@@ -37,7 +37,7 @@ returns-clause-pool g c =
     let are = streams_at pool.streams.items c.args.dev was (omega (arith, count, same, c.requires.dev)) c.index_mut-device.ensures.value o.streams in
     let now = record was { late1 = c.in_ok-late1.late1; late2 = c.in_ok-late2.late2 } in
     streams_open (g.S.Shelf.sizes shelf) (g.S.Shelf.counts shelf) (g.S.Shelf.tells shelf) (g.S.Shelf.world shelf) pool _ o refl (length-set pool.streams.items c.args.dev now)
-    (streams_set pool.streams.items c.args.dev now (record { held = are.held; kept = are.kept; late1 = c.in_ok-late1.ensures.stream; late2 = c.in_ok-late2.ensures.stream }) o.streams)
+    (streams_set pool.streams.items c.args.dev now (record { held = are.held; kept = are.kept; entries = are.entries; counts = are.counts; fresh = are.fresh; late1 = c.in_ok-late1.ensures.stream; late2 = c.in_ok-late2.ensures.stream }) o.streams)
 
 pub returns-clause-writes : goal.returns-clause-writes
 returns-clause-writes g c = λ s held.

@@ -1,10 +1,10 @@
-use Rattle.std.proofs.Common.{◌≡◌, ◌∙◌, List, ℕ, refl, sym, ap, subst, arith}
+use Rattle.std.proofs.Common.{◌≡◌, ◌∙◌, refl, sym, ap, subst, arith}
 use Rattle.std.proofs.lemmas.List.{get_or_default}
 use Rattle.std.proofs.Math.ListN.{length-set}
 use Rattle.std.specs.Prelude.{slice_set}
 use Rattle.zr_meta.specs.declared.Stream.{Stream}
 use Rattle.zr_root.specs.Streams.{HasWords}
-use Rattle.zr_store.specs.Store.{AreStored, Stored}
+use Rattle.zr_store.specs.Store.{AreStored}
 use Rattle.zr_tree.specs.Trees.{tree_reach}
 use Rattle.zr_commit.specs.Logs.{Rewrites}
 use Rattle.zr_sync.specs.Checkpoints.{no_streams}
@@ -25,7 +25,7 @@ returns-clause-pool g c =
     let old = c.args.pool.now.streams.items in
     let now = c.with_stream.result in
     step_open c.args.pool.now _ c.requires.pool c.put_log.ensures.continues refl (length-set old c.args.dev now)
-    (streams_set old c.args.dev now c.with_stream.ensures.lawful c.requires.pool.streams)
+    (streams_set old c.args.dev now c.with_stream.ensures.lawful c.requires.pool.streams) c.requires.pool.cond
 
 pub returns-clause-writes : goal.returns-clause-writes
 returns-clause-writes g c = λ s had held stored has last.

@@ -3,8 +3,7 @@ use Rattle.std.specs.List.{AllByRecursion}
 use Rattle.std.proofs.lemmas.Bool.Decides.{nat_tests}
 use Rattle.zr_base.specs.declared.space.Change.{Change}
 use Rattle.zr_commit.proofs.Rewriting as rewriting
-use Rattle.zr_base.specs.declared.space.Extent.{Extent}
-use Rattle.zr_rules.specs.Logs.{IsAnew, SpellsChanges}
+use Rattle.zr_rules.specs.Logs.{SpellsChanges}
 use Rattle.zr_rules.specs.Places.{part_of}
 use Rattle.zr_sync.specs.Words.{IsRun, ReplaysAs, log_has, log_set, log_was}
 use Rattle.zr_sync.proofs.Runs.{log_is_set, not_long}
@@ -22,18 +21,16 @@ is_long-requires-clause-words c =
 
 pub is_long-requires-clause-anew : goal.is_long-requires-clause-anew
 is_long-requires-clause-anew c =
-    let few = c.set_of.ensures.few c.args.version in
-    omega (arith, few, c.in_ok-anew.ensures.words)
+    let few = c.in_ok-anew.ensures.few in omega (arith, few)
 
 pub returns-then-is_long-clause-room : goal.returns-then-is_long-clause-room
 returns-then-is_long-clause-room c =
-    let few = c.set_of.ensures.few c.args.version in
-    omega (arith, few, c.in_ok-anew.ensures.words)
+    let few = c.in_ok-anew.ensures.few in omega (arith, few)
 
 pub returns-clause-room : goal.returns-clause-room
 returns-clause-room c =
-    let few = c.set_of.ensures.few c.args.version in
-    let short = not_long c.is_long.result c.args.old.now.words c.len.result c.len-2.result c.is_long.ensures c.if-is_long.false (omega (arith, few, c.in_ok-anew.ensures.words)) in
+    let few = c.in_ok-anew.ensures.few in
+    let short = not_long c.is_long.result c.args.old.now.words c.len.result c.len-2.result c.is_long.ensures c.if-is_long.false (omega (arith, few)) in
     omega (arith, short)
 
 pub returns-then-is_empty-clause-log : goal.returns-then-is_empty-clause-log
@@ -50,18 +47,17 @@ pub returns-then-is_long-clause-log : goal.returns-then-is_long-clause-log
 returns-then-is_long-clause-log c = λ had long last.
     let s = c.args.space.now in
     anew_log c.args.version c.args.dev c.in_ok-anew.anew.items (log_set c.args.log (part_of s.parts.devs c.args.dev)) (log_is_set s c.args.dev c.args.log c.requires.lawful).maximal
-    (subst (λ (es : List Extent). IsAnew c.args.version c.args.dev es c.in_ok-anew.anew.items) c.set_of.ensures.set c.in_ok-anew.ensures.anew)
+    c.in_ok-anew.ensures.anew
 
 pub returns-clause-log : goal.returns-clause-log
 returns-clause-log c = λ had long last.
     let s = c.args.space.now in
     let now = log_set c.args.log (part_of s.parts.devs c.args.dev) in
-    let few = c.set_of.ensures.few c.args.version in
     let fits = still_few c.is_long.result c.args.old.now.words c.len.result c.len-2.result c.is_long.ensures c.if-is_long.false in
     grown_log c.args.version c.args.dev had c.in_ok-added.added.items last.set now c.in_ok-changes.changes.items c.in_ok-cut.cut.items last.log_is
     (subst (λ (cs : List Change). SpellsChanges c.args.version c.args.dev c.in_ok-added.added.items cs) c.as_slice-2.ensures.value c.in_ok-added.ensures)
     (subst (λ (cs : List Change). ReplaysAs cs c.in_ok-cut.cut.items) c.as_slice.ensures.value c.in_ok-cut.ensures.replays)
     (log_was c.args.log s c.args.dev) (log_has c.args.log s c.args.dev) c.in_ok-changes.ensures.replays last.units (has_now c.args.log s c.args.dev) (log_is_set s c.args.dev c.args.log c.requires.lawful).maximal
     c.in_ok-anew.anew.items
-    (subst (λ (es : List Extent). IsAnew c.args.version c.args.dev es c.in_ok-anew.anew.items) c.set_of.ensures.set c.in_ok-anew.ensures.anew)
+    c.in_ok-anew.ensures.anew
     (search (rules, fits, long, c.len.ensures, c.len-2.ensures))

@@ -3,7 +3,7 @@ use Rattle.zr_sync.specs.declared.open.OpenPool.{OpenPool}
 use Rattle.zr_sync.specs.declared.open.Table.{Table}
 use Rattle.zr_sync.proofs.Anew.{renewed_next}
 use Rattle.zr_sync.proofs.Pools.{metadata_itself, metadata_then, metadata_table}
-use Rattle.zr_sync.proofs.logs.write_logs.Goals as goal
+use Rattle.zr_sync.proofs.device_streams.write_devices.Goals as goal
 
 pub loop-dev-init : goal.loop-dev-init
 loop-dev-init g c = record {
@@ -12,22 +12,22 @@ loop-dev-init g c = record {
   anew = λ is dev log lt. absurd (omega (arith, lt));
 }
 
-pub write_both-requires-clause-dev : goal.write_both-requires-clause-dev
-write_both-requires-clause-dev g c =
+pub write_device-requires-clause-dev : goal.write_device-requires-clause-dev
+write_device-requires-clause-dev g c =
     let same = ap (λ (t : Table). t.count) (metadata_table c.loop-dev.invariant.wrote) in
     omega (arith, same, c.loop-dev-test.true)
 
-pub returns-in_err-write_both-clause-wrote : goal.returns-in_err-write_both-clause-wrote
-returns-in_err-write_both-clause-wrote g c = metadata_then c.loop-dev.invariant.wrote c.write_both.ensures.wrote
+pub returns-in_err-write_device-clause-wrote : goal.returns-in_err-write_device-clause-wrote
+returns-in_err-write_device-clause-wrote g c = metadata_then c.loop-dev.invariant.wrote c.write_device.ensures.wrote
 
 pub loop-dev-preserved : goal.loop-dev-preserved
 loop-dev-preserved g c = record {
-  wrote = metadata_then c.loop-dev.invariant.wrote c.write_both.ensures.wrote;
-  pool = c.in_ok-write_both.ensures.pool;
+  wrote = metadata_then c.loop-dev.invariant.wrote c.write_device.ensures.wrote;
+  pool = c.in_ok-write_device.ensures.pool;
   anew = λ is.
       let wrote = c.loop-dev.invariant.wrote in
       let count = c.loop-dev.invariant.pool.count in
       let same = ap (λ (t : Table). t.count) (metadata_table wrote) in
-      renewed_next c.args.pool.now.version c.args.pool.now.space c.loop-dev.pool c.write_both.new.pool c.loop-dev.dev (omega (arith, same, count, c.loop-dev-test.true)) (ap (λ (o : OpenPool). o.version) wrote.rest) wrote.goes.space
-      (c.in_ok-write_both.ensures.anew is) (c.loop-dev.invariant.anew is);
+      renewed_next c.args.pool.now.version c.args.pool.now.space c.loop-dev.pool c.write_device.new.pool c.loop-dev.dev (omega (arith, same, count, c.loop-dev-test.true)) (ap (λ (o : OpenPool). o.version) wrote.rest) wrote.goes.space
+      (c.in_ok-write_device.ensures.anew is) (c.loop-dev.invariant.anew is);
 }

@@ -3,7 +3,7 @@ use Rattle.zr_sync.specs.Anew.{AreRenewed}
 use Rattle.zr_sync.specs.declared.logs.Logs.TheVariants.{Anew}
 use Rattle.zr_sync.specs.Pools.{IsOpen}
 use Rattle.zr_sync.specs.Writes.{WritesMetadata}
-use Rattle.zr_sync.proofs.logs.write_logs.Given as goal
+use Rattle.zr_sync.proofs.device_streams.write_devices.Given as goal
 
 abbrev pub invariant-loop-dev : goal.invariant-loop-dev
 invariant-loop-dev g l = record {
