@@ -1,0 +1,6 @@
+pub mod Few
+pub mod Giving
+pub mod Turned
+pub mod Condensed
+pub mod Copied
+pub mod Ending

@@ -1,0 +1,57 @@
+use Rattle.std.proofs.Common.{◌≡◌, ◌∙◌, ◌<◌, ℕ, List, Option, true, sym, ap, subst, arith}
+use Rattle.std.specs.Prelude.{IfSome}
+use Rattle.zr_label.specs.declared.root.Uber.{Uber}
+use Rattle.zr_rules.specs.Space.{Space}
+use Rattle.zr_shelf.specs.Moments.{World}
+use Rattle.zr_sync.specs.Commits.{EndsGroup, IsNextRoot, IsShownFrom}
+use Rattle.zr_sync.specs.Pools.{IsOpen}
+use Rattle.zr_sync.specs.declared.open.OpenPool.{OpenPool}
+use Rattle.zr_sync.specs.declared.open.Table.{Table}
+use Rattle.zr_sync.proofs.Disks.{works_more}
+use Rattle.zr_removal.specs.Rows.{without_slot}
+use Rattle.zr_removal.proofs.Ending.{gone_now}
+use Rattle.zr_removal.proofs.evacuate.finish_removal.Goals as goal
+
+pub let_go-requires-clause-known : goal.let_go-requires-clause-known
+let_go-requires-clause-known g c =
+    let known = c.in_ok-dev.ensures.known in
+    let count = ap (λ (t : Table). t.count) c.in_ok-commit_gone.ensures.same.table in
+    omega (arith, known, count)
+
+pub let_go-requires-clause-gone : goal.let_go-requires-clause-gone
+let_go-requires-clause-gone g c =
+    let n0 = g.S.Shelf.sizes c.args.shelf.now in
+    let z = c.commit_gone.new.pool in
+    let known = c.in_ok-dev.ensures.known in
+    let count = ap (λ (t : Table). t.count) c.in_ok-commit_gone.ensures.same.table in
+    let open_now = subst (λ (n : List ℕ). IsOpen n z) (c.commit_gone.ensures.sizes ∙ c.vanish.ensures.sizes) c.in_ok-commit_gone.ensures.pool in
+    gone_now n0 c.args.pool.now c.vanish.new.pool z c.in_ok-dev.dev c.requires.pool open_now c.in_ok-dev.ensures.vanishes c.in_ok-commit_gone.ensures.same.table (omega (arith, known, count))
+
+pub returns-in_err-commit_gone-clause-disks : goal.returns-in_err-commit_gone-clause-disks
+returns-in_err-commit_gone-clause-disks g c = λ t.
+    works_more (g.S.Shelf.world c.args.shelf.now) (g.S.Shelf.world c.vanish.new.shelf) (g.S.Shelf.world c.commit_gone.new.shelf) (c.vanish.ensures.disks t) (c.commit_gone.ensures.disks (c.vanish.ensures.told t))
+
+pub returns-clause-disks : goal.returns-clause-disks
+returns-clause-disks g c = λ t.
+    works_more (g.S.Shelf.world c.args.shelf.now) (g.S.Shelf.world c.vanish.new.shelf) (g.S.Shelf.world c.commit_gone.new.shelf) (c.vanish.ensures.disks t) (c.commit_gone.ensures.disks (c.vanish.ensures.told t))
+
+pub returns-clause-ends : goal.returns-clause-ends
+returns-clause-ends g c =
+    let gone = c.vanish.new.pool in
+    let rest = c.let_go.ensures.forgets.rest in
+    let now = g.S.Shelf.world c.commit_gone.new.shelf in
+    let last = sym (ap (λ (p : OpenPool). p.last) rest) in
+    record {
+      gone = gone;
+      vanishes = c.in_ok-dev.ensures.vanishes;
+      root = subst (λ (l : Option Uber). IfSome l (IsNextRoot gone true)) last c.in_ok-commit_gone.ensures.last;
+      resets = subst (λ (s : Space). EndsGroup true gone.space s) (sym (ap (λ (p : OpenPool). p.space) rest)) c.in_ok-commit_gone.ensures.ends;
+      shown = λ t.
+          subst (λ (l : Option Uber). IfSome l (λ u. (before : World) × IsShownFrom (g.S.Shelf.sizes c.args.shelf.now) gone u before now)) last
+          (subst (λ (n : List ℕ). IfSome c.commit_gone.new.pool.last (λ u. (before : World) × IsShownFrom n gone u before now)) c.vanish.ensures.sizes
+          (c.in_ok-commit_gone.ensures.shown (c.vanish.ensures.told t)));
+      table = c.let_go.ensures.forgets.table ∙ ap (λ (t : Table). without_slot t c.in_ok-dev.dev) c.in_ok-commit_gone.ensures.same.table;
+    }
+
+pub returns-clause-pool : goal.returns-clause-pool
+returns-clause-pool g c = c.let_go.ensures.pool (g.S.Shelf.sizes c.commit_gone.new.shelf) c.in_ok-commit_gone.ensures.pool

@@ -1,0 +1,54 @@
+use Rattle.std.proofs.Common.{◌≡◌, ◌∙◌, inl, inr, true, ap, subst, arith}
+use Rattle.zr_rules.specs.Places.{is_leaving, state_of_dev}
+use Rattle.zr_rules.specs.Space.{Space}
+use Rattle.zr_sync.proofs.Disks.{works_more}
+use Rattle.zr_removal.proofs.Ending.{cancels_before, ends_before}
+use Rattle.zr_removal.proofs.evacuate.step_evac.Goals as goal
+
+pub returns-in_err-finish_removal-in-Nothing-clause-disks : goal.returns-in_err-finish_removal-in-Nothing-clause-disks
+returns-in_err-finish_removal-in-Nothing-clause-disks g c = λ t.
+    works_more (g.S.Shelf.world c.args.shelf.now) (g.S.Shelf.world c.copy_next.new.shelf) (g.S.Shelf.world c.finish_removal.new.shelf) (c.copy_next.ensures.disks t) (c.finish_removal.ensures.disks (c.copy_next.ensures.told t))
+
+pub returns-in_err-cancel_removal-in-Fault-clause-disks : goal.returns-in_err-cancel_removal-in-Fault-clause-disks
+returns-in_err-cancel_removal-in-Fault-clause-disks g c = λ t.
+    works_more (g.S.Shelf.world c.args.shelf.now) (g.S.Shelf.world c.copy_next.new.shelf) (g.S.Shelf.world c.cancel_removal.new.shelf) (c.copy_next.ensures.disks t) (c.cancel_removal.ensures.disks (c.copy_next.ensures.told t))
+
+pub returns-in_ok-finish_removal-in-Nothing-clause-disks : goal.returns-in_ok-finish_removal-in-Nothing-clause-disks
+returns-in_ok-finish_removal-in-Nothing-clause-disks g c = λ t.
+    works_more (g.S.Shelf.world c.args.shelf.now) (g.S.Shelf.world c.copy_next.new.shelf) (g.S.Shelf.world c.finish_removal.new.shelf) (c.copy_next.ensures.disks t) (c.finish_removal.ensures.disks (c.copy_next.ensures.told t))
+
+pub returns-in_ok-cancel_removal-in-Fault-clause-disks : goal.returns-in_ok-cancel_removal-in-Fault-clause-disks
+returns-in_ok-cancel_removal-in-Fault-clause-disks g c = λ t.
+    works_more (g.S.Shelf.world c.args.shelf.now) (g.S.Shelf.world c.copy_next.new.shelf) (g.S.Shelf.world c.cancel_removal.new.shelf) (c.copy_next.ensures.disks t) (c.cancel_removal.ensures.disks (c.copy_next.ensures.told t))
+
+pub returns-in_ok-finish_removal-in-Nothing-clause-steps : goal.returns-in_ok-finish_removal-in-Nothing-clause-steps
+returns-in_ok-finish_removal-in-Nothing-clause-steps g c =
+    let x = c.args.pool.now in
+    let tried = c.copy_next.new.pool in
+    let d = c.in_ok-finish_removal-in-Nothing.field-0 in
+    let space : tried.space ≡ x.space = c.in_ok-units.ensures.same (inl c.in-Nothing.is) in
+    record {
+      leaving = subst (λ (s : Space). is_leaving (state_of_dev s.parts.devs d) ≡ true) space c.in_ok-finish_removal-in-Nothing.ensures.leaving;
+      copied = c.in_ok-units.ensures.nothing c.in-Nothing.is;
+      tried = tried;
+      same = c.copy_next.ensures.rest ∙ ap (λ (s : Space). record x { space = s; cache = tried.cache }) space;
+      ends = ends_before (g.S.Shelf.sizes c.copy_next.new.shelf) (g.S.Shelf.sizes c.args.shelf.now) (g.S.Shelf.tells c.args.shelf.now) (g.S.Shelf.tells c.copy_next.new.shelf) (g.S.Shelf.world c.finish_removal.new.shelf) tried c.finish_removal.new.pool d
+          c.copy_next.ensures.sizes c.copy_next.ensures.told c.in_ok-finish_removal-in-Nothing.ensures.ends;
+    }
+
+pub returns-in_ok-cancel_removal-in-Fault-clause-steps : goal.returns-in_ok-cancel_removal-in-Fault-clause-steps
+returns-in_ok-cancel_removal-in-Fault-clause-steps g c =
+    let x = c.args.pool.now in
+    let tried = c.copy_next.new.pool in
+    let d = c.in_ok-cancel_removal-in-Fault.field-0 in
+    let space : tried.space ≡ x.space = c.in_ok-units.ensures.same (inr c.in-Fault.is) in
+    let rose = c.in_ok-units.ensures.fault c.in-Fault.is in
+    let fell = c.cancel_removal.ensures.none_fell.disk in
+    record {
+      leaving = subst (λ (s : Space). is_leaving (state_of_dev s.parts.devs d) ≡ true) space c.in_ok-cancel_removal-in-Fault.ensures.leaving;
+      failed = omega (arith, rose, fell);
+      tried = tried;
+      same = c.copy_next.ensures.rest ∙ ap (λ (s : Space). record x { space = s; cache = tried.cache }) space;
+      cancels = cancels_before (g.S.Shelf.sizes c.copy_next.new.shelf) (g.S.Shelf.sizes c.args.shelf.now) (g.S.Shelf.tells c.args.shelf.now) (g.S.Shelf.tells c.copy_next.new.shelf) (g.S.Shelf.world c.cancel_removal.new.shelf) tried c.cancel_removal.new.pool d
+          c.copy_next.ensures.sizes c.copy_next.ensures.told c.in_ok-cancel_removal-in-Fault.ensures.cancels;
+    }

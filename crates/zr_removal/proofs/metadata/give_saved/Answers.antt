@@ -1,0 +1,16 @@
+use Rattle.zr_removal.proofs.Giving.{gives_itself, less_saved, none_saved, saved_step}
+use Rattle.zr_removal.proofs.metadata.give_saved.Goals as goal
+
+pub loop-more-init : goal.loop-more-init
+loop-more-init c = record { gives = gives_itself c.args.space.now; none = λ e. cc }
+
+pub loop-more-preserved : goal.loop-more-preserved
+loop-more-preserved c =
+    let first = c.args.space.now in
+    let mid = c.loop-more.space in
+    let new = c.drop_saved.new.self in
+    let b = c.in_ok-more.more in
+    record {
+      gives = saved_step first mid new b c.loop-more.invariant.gives c.in_ok-more.ensures.yes c.in_ok-more.ensures.no;
+      none = none_saved mid new b c.in_ok-more.ensures.no;
+    }
