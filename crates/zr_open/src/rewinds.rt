@@ -29,8 +29,8 @@ use crate::saved::Beside;
 use std::alloc::Global;
 use zr_base::Refusal;
 use zr_label::Uber;
-use zr_shelf::Shelf;
 use zr_roots::own_slots;
+use zr_shelf::Shelf;
 use zr_slots::{Found, publish, slots_in_both};
 use zr_sync::{Fault, OpenPool, Stop};
 

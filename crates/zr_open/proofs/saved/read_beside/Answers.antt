@@ -55,8 +55,7 @@ returns-clause-beside g c =
     let slots = c.args.found.now.slots in
     let cut = c.own_slots.result in
     let ready = own.open sizes (saved_disks c.args.found.now.root u c.requires.root is.spelled.lawful is.rows sizes slots cut c.own_slots.ensures.own c.requires.disks) in
-    let mapped = c.in-Ok.ensures.mapped in
-    (
+    let mapped = c.in-Ok.ensures.mapped in (
       c.in-Some.block,
       c.in-Some.is,
       record {
