@@ -41,6 +41,7 @@ pub fn is_of_removal(command: &Command) -> bool
 // The device in service that a line names, where a removal may begin.
 fn removable(paths: &[Blob], pool: &OpenPool, dev: &Blob) -> Result<u32, Refusal>
     requires pool { (sizes : List ℕ) × IsOpen sizes pool.now }
+    requires few { length paths.now ≤ 32 }
     ensures known { IfOk result (λ d. d < pool.now.table.count) }
     ensures on { IfOk result (λ d. state_of_dev pool.now.space.parts.devs d ≡ On) }
     ensures clear { OnOk result (pool.now.space.parts.ckpt ≡ Clear) }
@@ -61,6 +62,7 @@ fn removable(paths: &[Blob], pool: &OpenPool, dev: &Blob) -> Result<u32, Refusal
 /// In bytes: what the mapping of a device would take, were it removed.
 pub fn estimate_of(paths: &[Blob], pool: &OpenPool, dev: &Blob) -> Result<u64, Refusal>
     requires pool { (sizes : List ℕ) × IsOpen sizes pool.now }
+    requires few { length paths.now ≤ 32 }
     ensures refused { IfErr result IsRemoveRefusal }
     ensures cause { (p : PoolState) → HasCheckpoint pool.now.space.parts.ckpt p.saved p.discarding → IfErr result (IsCheckpointCause p) }
 {
@@ -103,6 +105,7 @@ pub fn removal_line<S: Shelf>(
     command: &Command,
 ) -> Result<Reply, Fault>
     requires pool { IsOpen (S.sizes shelf.old) pool.old }
+    requires few { length paths.now ≤ 32 }
     requires line { is_of_removal command.now ≡ true }
     ensures sizes { S.sizes shelf.new ≡ S.sizes shelf.old }
     ensures none_fell { NoneFell (S.counts shelf.old) (S.counts shelf.new) }
