@@ -7,17 +7,19 @@ use Rattle.zr_base.specs.declared.refusal.Refusal.{Refusal}
 use Rattle.zr_base.specs.declared.refusal.Refusal.TheVariants as refusal
 use Rattle.zr_script.specs.declared.command.Command.{Command}
 use Rattle.zr_script.specs.declared.command.Command.TheVariants as cmd
+use Rattle.zr_script.specs.declared.reply.Reply.{Reply}
 use Rattle.zr_script.specs.declared.reply.Reply.TheVariants as reply
 use Rattle.zr_script.specs.declared.reply.ListLine.{ListLine}
 use Rattle.zr_script.specs.declared.reply.StatusLines.{StatusLines}
 use Rattle.zr_script.specs.declared.reply.AuditLine.{AuditLine}
+use Rattle.zr_script.specs.declared.reply.MapLine.{MapLine}
 use Rattle.zr_model.specs.Objects.{Object, Objects, blank, with_bytes, reads_lost, changes_lost, has_lost, object_sum}
 use Rattle.zr_model.specs.State.{InService, PoolState, with_objects}
 use Rattle.zr_moves.specs.Answers.{needs_lost, of_object, with_devs, with_saved}
 use Rattle.zr_change.specs.declared.ranges.Edit.{Edit}
 use Rattle.zr_held.specs.Steps.{IsObjectOf}
 use Rattle.zr_lines.specs.Reads.{IsReadOf}
-use Rattle.zr_pool.specs.Plain.{IsMissing, IsBeyond, IsThere, IsObjectCause, IsPlainOn, IsPlainOf}
+use Rattle.zr_pool.specs.Plain.{IsMissing, IsBeyond, IsThere, IsObjectCause, IsDone, IsPlainOn, IsPlainOf, is_of_removal}
 
 pub plain_refusal : (objects : Objects) (command : Command) (r : Refusal) → (r ≡ refusal.NoSuchObject → IsMissing objects command) → (r ≡ refusal.OutOfRange → IsBeyond objects command) → (r ≡ refusal.ObjectExists → IsThere objects command)
     → IsObjectCause objects command r
@@ -88,6 +90,12 @@ module _ (Holds : PoolState → Type 0) (p : PoolState) where
   pub audited_as : (command : Command) (lines : List AuditLine) → command ≡ cmd.Audit → Holds p → IsPlainOf Holds p command (reply.Audit lines)
   audited_as command lines is h = subst (λ (k : Command). IsPlainOf Holds p k (reply.Audit lines)) (sym is) (record { after = p; holds = h; step = (refl, refl) })
 
+  pub estimated_as : (command : Command) (dev : List ℕ) (bytes : ℕ) → command ≡ cmd.Estimate dev → Holds p → IsPlainOf Holds p command (reply.Estimate bytes)
+  estimated_as command dev bytes is h = subst (λ (k : Command). IsPlainOf Holds p k (reply.Estimate bytes)) (sym is) (record { after = p; holds = h; step = (refl, refl) })
+
+  pub mapped_as : (command : Command) (index : ℕ) (lines : List MapLine) → command ≡ cmd.Map index → Holds p → IsPlainOf Holds p command (reply.Map lines)
+  mapped_as command index lines is h = subst (λ (k : Command). IsPlainOf Holds p k (reply.Map lines)) (sym is) (record { after = p; holds = h; step = (refl, refl) })
+
   pub saved_as : (command : Command) → command ≡ cmd.Checkpoint → Holds (with_saved p (Some (record { objects = p.objects; devs = p.devs })) false) → IsPlainOf Holds p command reply.Done
   saved_as command is h =
       let q = with_saved p (Some (record { objects = p.objects; devs = p.devs })) false in
@@ -108,3 +116,11 @@ module _ (Holds : PoolState → Type 0) (p : PoolState) where
   stepped_as command units false is some h =
       let lt = some refl in
       subst (λ (k : Command). IsPlainOf Holds p k (reply.Freed units)) (sym is) (record { after = p; holds = h; step = ((omega (arith, lt), refl), refl) })
+
+-- a step of a removal that was done is just that
+pub removal_done : (Holds : PoolState → Type 0) (p : PoolState) (command : Command) (answer : Reply) → is_of_removal command ≡ true → IsDone answer → IsPlainOf Holds p command answer
+removal_done Holds p (cmd.Remove dev) answer is done = done
+removal_done Holds p cmd.Cancel answer is done = done
+removal_done Holds p cmd.StepEvac answer is done = done
+removal_done Holds p cmd.StepCondense answer is done = done
+removal_done Holds p command answer is done = absurd (cc)

@@ -39,12 +39,12 @@ any_leaving (p ∷ ps) (suc d) is = or_right (is_leaving_part p) (list_any is_le
 
 one_leaving : (ps : List DevPart) → list_any is_leaving_part ps ≡ true → (d : ℕ) × (is_leaving (state_of_dev ps d) ≡ true)
 one_leaving [] is = absurd (false_true is)
-one_leaving (p ∷ ps) is = by_first (is_leaving_part p) refl
+one_leaving (p ∷ ps) is = by_first (is_leaving_part p) refl (λ rest. one_leaving ps rest)
   where
-    by_first : (b : Bool) → is_leaving_part p ≡ b → (d : ℕ) × (is_leaving (state_of_dev (p ∷ ps) d) ≡ true)
-    by_first true first = (0, first)
-    by_first false first =
-        let rest = one_leaving ps (sym (ap (λ (b : Bool). b || list_any is_leaving_part ps) first) ∙ is) in
+    by_first : (b : Bool) → is_leaving_part p ≡ b → (list_any is_leaving_part ps ≡ true → (d : ℕ) × (is_leaving (state_of_dev ps d) ≡ true)) → (d : ℕ) × (is_leaving (state_of_dev (p ∷ ps) d) ≡ true)
+    by_first true first later = (0, first)
+    by_first false first later =
+        let rest = later (sym (ap (λ (b : Bool). b || list_any is_leaving_part ps) first) ∙ is) in
         (suc rest.0, rest.1)
 
 discards_so : (k : CkptPart) → is_discarding k ≡ true → k ≡ Discarding

@@ -13,8 +13,8 @@ ghost use Rattle.zr_pool.specs.Plain.{IsMade, IsOpeningCause, shelf_of};
 ghost use Rattle.zr_pool.specs.Turns.{IsServed, IsClosedRefusal, IsOfVersion, is_opener};
 
 use crate::lines::{is_on_objects, is_on_pool};
-use crate::removals::is_of_removal;
 use crate::names::name_of;
+use crate::removals::is_of_removal;
 use std::alloc::Global;
 use zr_base::{Blob, Refusal};
 use zr_choose::Chooser;

@@ -23,7 +23,9 @@ use std::alloc::Global;
 use zr_base::{Blob, Condensed, Refusal};
 use zr_choose::Chooser;
 use zr_create::slot_of;
-use zr_removal::{Evacuated, cancel, device_on, estimate, has_other, may_remove, remove, step_condense, step_evac};
+use zr_removal::{
+    Evacuated, cancel, device_on, estimate, has_other, may_remove, remove, step_condense, step_evac,
+};
 use zr_script::{Command, Reply};
 use zr_shelf::Shelf;
 use zr_sync::{Fault, OpenPool};

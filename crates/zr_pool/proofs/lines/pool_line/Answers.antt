@@ -9,7 +9,7 @@ use Rattle.zr_shelf.specs.Moments.{World}
 use Rattle.zr_model.specs.State.{InService}
 use Rattle.zr_moves.specs.Answers.{with_devs}
 use Rattle.zr_sync.specs.declared.open.OpenPool.{OpenPool}
-use Rattle.zr_pool.proofs.Acting.{plain_refusal, synced_as, added_as, listed_as, status_as, audited_as, saved_as, given_up_as, stepped_as, upgraded_as}
+use Rattle.zr_pool.proofs.Acting.{plain_refusal, synced_as, added_as, listed_as, status_as, audited_as, estimated_as, mapped_as, saved_as, given_up_as, stepped_as, upgraded_as}
 use Rattle.zr_pool.specs.Turns.{IsOpenAnswer, IsOpenRefusal}
 use Rattle.zr_pool.proofs.Refused.{fault_same, add_refusal, take_cause, take_refusal, give_cause, give_refusal, step_cause, step_refusal}
 use Rattle.zr_pool.proofs.Staying.{stays_still, same_state, held_state, discarding_state, stepped_state, objects_told, objects_anew_unit, step_answer, some_units}
@@ -198,3 +198,15 @@ returns-in_err-units-in-StepDiscard-clause-refused g c = λ r is.
 
 pub returns-in_ok-units-in-StepDiscard-clause-pool : goal.returns-in_ok-units-in-StepDiscard-clause-pool
 returns-in_ok-units-in-StepDiscard-clause-pool g c = c.in_ok-units-in-StepDiscard.ensures.pool (g.S.Shelf.sizes c.args.shelf.now) c.requires.pool
+
+-- ---- removed devices
+
+pub returns-in_ok-estimate_of-in-Estimate-clause-acts : goal.returns-in_ok-estimate_of-in-Estimate-clause-acts
+returns-in_ok-estimate_of-in-Estimate-clause-acts g c = λ p h.
+    let Holds = HoldsState (g.S.Shelf.tells c.args.shelf.now) (g.S.Shelf.world c.args.shelf.now).now.seen c.args.pool.now in
+    estimated_as Holds p c.args.command.now c.in-Estimate.dev _ c.in-Estimate.is h
+
+pub returns-in_ok-map_lines-in-Map-clause-acts : goal.returns-in_ok-map_lines-in-Map-clause-acts
+returns-in_ok-map_lines-in-Map-clause-acts g c = λ p h.
+    let Holds = HoldsState (g.S.Shelf.tells c.args.shelf.now) (g.S.Shelf.world c.args.shelf.now).now.seen c.args.pool.now in
+    mapped_as Holds p c.args.command.now c.in-Map.index _ c.in-Map.is h
