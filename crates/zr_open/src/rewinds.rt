@@ -58,6 +58,7 @@ pub(crate) fn show<S: Shelf>(
     requires pool { IsOpen (S.sizes shelf.old) pool.now }
     requires lawful { IsUber root.now }
     requires count { root.now.count ≡ pool.now.table.count }
+    requires rows { root.now.rows ≡ pool.now.table.rows }
     requires few { current.now.count ≤ 32 }
     ensures sizes { S.sizes shelf.new ≡ S.sizes shelf.old }
     ensures none_fell { NoneFell (S.counts shelf.old) (S.counts shelf.new) }

@@ -7,7 +7,6 @@ use Rattle.zr_base.specs.declared.refusal.Refusal.{Refusal}
 use Rattle.zr_base.specs.declared.refusal.Refusal.TheVariants as refusal
 use Rattle.zr_script.specs.declared.command.Command.{Command}
 use Rattle.zr_script.specs.declared.command.Command.TheVariants as cmd
-use Rattle.zr_script.specs.declared.reply.Reply.{Reply}
 use Rattle.zr_script.specs.declared.reply.Reply.TheVariants as reply
 use Rattle.zr_script.specs.declared.reply.ListLine.{ListLine}
 use Rattle.zr_script.specs.declared.reply.StatusLines.{StatusLines}
@@ -19,7 +18,7 @@ use Rattle.zr_moves.specs.Answers.{needs_lost, of_object, with_devs, with_saved}
 use Rattle.zr_change.specs.declared.ranges.Edit.{Edit}
 use Rattle.zr_held.specs.Steps.{IsObjectOf}
 use Rattle.zr_lines.specs.Reads.{IsReadOf}
-use Rattle.zr_pool.specs.Plain.{IsMissing, IsBeyond, IsThere, IsObjectCause, IsDone, IsPlainOn, IsPlainOf, is_of_removal}
+use Rattle.zr_pool.specs.Plain.{IsMissing, IsBeyond, IsThere, IsObjectCause, IsPlainOn, IsPlainOf}
 
 pub plain_refusal : (objects : Objects) (command : Command) (r : Refusal) → (r ≡ refusal.NoSuchObject → IsMissing objects command) → (r ≡ refusal.OutOfRange → IsBeyond objects command) → (r ≡ refusal.ObjectExists → IsThere objects command)
     → IsObjectCause objects command r
@@ -116,11 +115,3 @@ module _ (Holds : PoolState → Type 0) (p : PoolState) where
   stepped_as command units false is some h =
       let lt = some refl in
       subst (λ (k : Command). IsPlainOf Holds p k (reply.Freed units)) (sym is) (record { after = p; holds = h; step = ((omega (arith, lt), refl), refl) })
-
--- a step of a removal that was done is just that
-pub removal_done : (Holds : PoolState → Type 0) (p : PoolState) (command : Command) (answer : Reply) → is_of_removal command ≡ true → IsDone answer → IsPlainOf Holds p command answer
-removal_done Holds p (cmd.Remove dev) answer is done = done
-removal_done Holds p cmd.Cancel answer is done = done
-removal_done Holds p cmd.StepEvac answer is done = done
-removal_done Holds p cmd.StepCondense answer is done = done
-removal_done Holds p command answer is done = absurd (cc)

@@ -25,7 +25,7 @@ returns-in_err-beside-clause-still g c = λ t.
 pub returns-in_err-beside-clause-refused : goal.returns-in_err-beside-clause-refused
 returns-in_err-beside-clause-refused g c = λ r is.
     let told = c.in_err-beside.field-0.0 in
-    let e : c.from_residual-in_err-beside.result ≡ Err told = search rules in
+    let e : c.from_residual.result ≡ Err told = search rules in
     let both = sym e ∙ is in
     let same : told ≡ No r = cc in
     let root = c.in-Ok.root in

@@ -8,12 +8,12 @@ use Rattle.zr_open.proofs.rewinds.show.Goals as goal
 pub publish-requires-clause-both : goal.publish-requires-clause-both
 publish-requires-clause-both g c =
     subst (AreDisks (g.S.Shelf.sizes c.args.shelf.now)) (sym c.as_slice.ensures)
-    (slots_disks (g.S.Shelf.sizes c.args.shelf.now) c.args.pool.now c.args.current.now c.args.root.now c.in_ok-both.both c.requires.pool c.requires.count c.in_ok-both.ensures.each)
+    (slots_disks (g.S.Shelf.sizes c.args.shelf.now) c.args.pool.now c.args.current.now c.args.root.now c.in_ok-both.both c.requires.pool c.requires.count c.requires.rows c.in_ok-both.ensures.each)
 
 pub publish-requires-clause-all : goal.publish-requires-clause-all
 publish-requires-clause-all g c =
     subst (AreDisks (g.S.Shelf.sizes c.args.shelf.now)) (sym c.as_slice-2.ensures)
-    (slots_disks (g.S.Shelf.sizes c.args.shelf.now) c.args.pool.now c.args.root.now c.args.root.now c.in_ok-all.all c.requires.pool c.requires.count c.in_ok-all.ensures.each)
+    (slots_disks (g.S.Shelf.sizes c.args.shelf.now) c.args.pool.now c.args.root.now c.args.root.now c.in_ok-all.all c.requires.pool c.requires.count c.requires.rows c.in_ok-all.ensures.each)
 
 pub returns-in_err-publish-clause-disks : goal.returns-in_err-publish-clause-disks
 returns-in_err-publish-clause-disks g c = λ t.

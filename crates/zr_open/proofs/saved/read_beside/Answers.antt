@@ -1,4 +1,4 @@
-use Rattle.std.proofs.Common.{◌≡◌, ℕ, List, [], Option, inl, inr, refl, sym, subst}
+use Rattle.std.proofs.Common.{rules, ◌≡◌, ◌∙◌, ℕ, List, [], Option, Err, inl, inr, refl, sym, ap, subst}
 use Rattle.zr_image.specs.Roots.{IsSavedUber}
 use Rattle.zr_image.specs.StateOf.{AreObjects}
 use Rattle.zr_store.specs.Store.{Stored}
@@ -38,6 +38,17 @@ returns-then-not-is_served-clause-beside g c =
         ),
       ),
     )
+
+pub own_slots-requires-clause-few : goal.own_slots-requires-clause-few
+own_slots-requires-clause-few g c = (c.in-Some-saved_uber.ensures (told_root c.args.found.now.root c.args.current.now) refl refl).spelled.lawful.head.devices
+
+pub returns-in_err-open_saved-clause-refused : goal.returns-in_err-open_saved-clause-refused
+returns-in_err-open_saved-clause-refused g c = λ r is.
+    let told = c.in_err-open_saved.field-0.0 in
+    let e : c.from_residual.result ≡ Err told = search rules in
+    let both = sym e ∙ is in
+    let same : told ≡ No r = cc in
+    elim (c.in_err-open_saved.ensures.refused r (ap Err same)) [ inl own ↦ inl own | inr eight ↦ inr (eight, (c.in-Some.block, c.in-Some.is)) ]
 
 pub open_saved-requires-clause-uber : goal.open_saved-requires-clause-uber
 open_saved-requires-clause-uber g c = (c.in-Some-saved_uber.ensures (told_root c.args.found.now.root c.args.current.now) refl refl).spelled.lawful
