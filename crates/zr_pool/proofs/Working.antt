@@ -12,7 +12,9 @@ use Rattle.zr_removal.specs.Refusals.{HasWork}
 use Rattle.zr_rules.specs.Places.{is_leaving, state_of_dev}
 use Rattle.zr_rules.specs.Space.{Space}
 use Rattle.zr_rules.specs.Steps.{has_condensing}
-use Rattle.zr_pool.specs.Pools.{is_evacuating, work_of}
+use Rattle.zr_model.specs.State.{State, Work}
+use Rattle.zr_sync.specs.declared.open.OpenPool.{OpenPool}
+use Rattle.zr_pool.specs.Pools.{IsStateOf, is_evacuating, work_of}
 use Rattle.zr_pool.specs.Turns.{works_on}
 
 false_true : false ≡ true → ⊥
@@ -57,3 +59,9 @@ pub works_so : (s : Space) (actor : Actor) (result : Bool) → (IsTrue result �
 works_so s Evac result is = same_test result (is_evacuating s) (λ yes. let w = is.0 yes in any_leaving s.parts.devs w.0 w.1) (λ any. is.1 (one_leaving s.parts.devs any))
 works_so s Discard result is = same_test result (is_discarding s.parts.ckpt) (λ yes. ap is_discarding (is.0 yes)) (λ some. is.1 (discards_so s.parts.ckpt some))
 works_so s Condense result is = same_test result (has_condensing s) (λ yes. is.0 yes) (λ due. is.1 due)
+
+-- so of the state for which a pool stands
+pub state_works : (disks : List (List ℕ)) (pool : OpenPool) (state : State) (actor : Actor) (result : Bool) → IsStateOf disks pool state → (IsTrue result ↔ HasWork pool.space actor) → result ≡ works_on state.is_open state.work actor
+state_works disks pool state actor result stands is =
+    subst (λ (b : Bool). result ≡ works_on b state.work actor) (sym stands.is_open)
+    (subst (λ (w : Work). result ≡ works_on true w actor) (sym stands.work) (works_so pool.space actor result is))
