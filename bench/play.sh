@@ -1,7 +1,8 @@
 #!/usr/bin/env bash
 # Runs scripts on devices in memory (crates/zr_play) and holds their answers, and the SHA-256 of what each leaves on its
 # devices, against those of an independent model of the program: 203 of objects, and 300 in which devices are given up, of
-# which the digests of the model's answers are kept. The gate runs the first few of each.
+# which the digests of the model's answers are kept. The gate runs a few of each. README.md says how many of the 300 agree
+# today, and in what the others differ.
 set -u
 top=$(cd "$(dirname "$0")/.." && pwd)
 program=$top/crates/zr_play/out/zr_play
