@@ -4,7 +4,7 @@ use Rattle.zr_base.specs.declared.space.CondPart.{CondPart}
 use Rattle.zr_base.specs.declared.space.Condensed.{Condensed}
 use Rattle.zr_base.specs.declared.space.Condensed.TheVariants.{Done}
 use Rattle.zr_rules.specs.Space.{Space}
-use Rattle.zr_rules.specs.Steps.{CondensesSome}
+use Rattle.zr_rules.specs.Steps.{CondensesSome, due_device}
 use Rattle.zr_vdev.specs.Stores.{KeepsOthers}
 use Rattle.zr_vdev.specs.declared.kind.Kind.TheVariants.{Meta}
 use Rattle.zr_sync.specs.declared.open.OpenPool.{OpenPool}
@@ -15,9 +15,10 @@ abbrev pub condensed_next : Option CondPart → Option ℕ → Option ℕ
 condensed_next (Some c) due = Some c.dev
 condensed_next None due = due
 
-abbrev pub is_begun : Option CondPart → Bool
-is_begun (Some c) = true
-is_begun None = false
+-- a step is the first of its condensing where none goes on
+abbrev pub is_first : Option CondPart → Bool
+is_first (Some c) = false
+is_first None = true
 
 abbrev pub is_done : Condensed → Bool
 is_done Done = true
@@ -25,7 +26,7 @@ is_done _ = false
 
 -- the first step turns the counts, and the last one the entries too
 abbrev pub turned_by : Turned → Bool → Condensed → Turned
-turned_by t begins outcome = record { entries = t.entries || is_done outcome; counts = t.counts || begins || is_done outcome }
+turned_by t first outcome = record { entries = t.entries || is_done outcome; counts = t.counts || first || is_done outcome }
 
 abbrev pub none_turned : Turned
 none_turned = record { entries = false; counts = false }
@@ -33,13 +34,13 @@ none_turned = record { entries = false; counts = false }
 -- A step was made, and what it turned is noted.
 pub record CondensesMapping (old new : OpenPool) (d : ℕ) (outcome : Condensed) : Type 0 where
   pub step : CondensesSome old.space outcome new.space
-  pub begins : Bool
-  pub turned : d < length old.turned → new.turned ≡ slice_set old.turned d (turned_by (slice_index_or old.turned d none_turned) begins outcome)
+  pub turned : d < length old.turned → new.turned ≡ slice_set old.turned d (turned_by (slice_index_or old.turned d none_turned) (is_first old.space.parts.cond) outcome)
   pub rest : new ≡ record old { space = new.space; turned = new.turned }
 
 -- A step was made, and at the end the streams of the condensing are given back.
 pub record CondensesPool (old new : OpenPool) (outcome : Condensed) : Type 0 where
   pub worked : OpenPool
   pub dev : ℕ
+  pub next : condensed_next old.space.parts.cond (due_device old.space) ≡ Some dev
   pub mapping : CondensesMapping old worked dev outcome
   pub streams : KeepsOthers Meta worked.space new.space

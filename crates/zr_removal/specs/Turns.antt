@@ -32,12 +32,13 @@ pub record CancelsSpace (old new : OpenPool) (d : ℕ) : Type 0 where
   pub table : new.table ≡ with_row old.table d (record (slice_index_or old.table.rows d no_row) { state = On })
   pub rest : new ≡ record old { space = new.space; table = new.table }
 
--- The device is back in service in the space and in the table, and the streams of its mapping are given back.
+-- The device is back in service in the space and in the table, and the streams of its mapping are given back; nothing else is changed.
 pub record ComesBack (old new : OpenPool) (d : ℕ) : Type 0 where
   pub back : Space
   pub cancels : Cancels old.space back d
   pub streams : KeepsOthers Meta back new.space
   pub table : new.table ≡ with_row old.table d (record (slice_index_or old.table.rows d no_row) { state = On })
+  pub rest : new ≡ record old { space = new.space; table = new.table; cache = new.cache; streams = new.streams; cond = new.cond }
 
 -- A removal is given up, and a reset tells so.
 pub record CancelsRemoval (sizes : List ℕ) (told : Type 0) (now : World) (old new : OpenPool) (d : ℕ) : Type 0 where
@@ -60,7 +61,7 @@ pub record ForgetsSlot (old new : OpenPool) (d : ℕ) : Type 0 where
   pub table : new.table ≡ without_slot old.table d
   pub rest : new ≡ record old { table = new.table }
 
--- The device is gone in the space and in the table, in the open group, behind metadata that was left on it, and the streams of its sets are given back.
+-- The device is gone in the space and in the table, in the open group, behind metadata that was left on it, and the streams of its sets are given back; nothing else is changed.
 pub record Vanishes (old new : OpenPool) (d : ℕ) : Type 0 where
   pub given : Space
   pub gives : GivesMetadata old.space given
@@ -68,6 +69,7 @@ pub record Vanishes (old new : OpenPool) (d : ℕ) : Type 0 where
   pub finishes : Finishes given gone d old.group.txg
   pub streams : KeepsOthers Meta gone new.space
   pub table : new.table ≡ with_row old.table d (record (slice_index_or old.table.rows d no_row) { state = Gone; gone = old.group.txg })
+  pub rest : new ≡ record old { space = new.space; table = new.table; cache = new.cache; streams = new.streams; cond = new.cond }
 
 -- A removal ends: the device is gone, a reset tells so, and it has no disk any more.
 pub record EndsRemoval (sizes : List ℕ) (told : Type 0) (now : World) (old new : OpenPool) (d : ℕ) : Type 0 where

@@ -3,7 +3,7 @@
 //! The first step counts the fresh obsolete units, and the last puts the new mapping in place of the old one: then the next
 //! commit has to write what changed of the mapping's streams anew. In between the mapping stays, and what was kept so far
 //! has streams of its own, which go with the last step.
-ghost use Rattle.std.specs.Prelude.{◌≡◌, ◌<◌, ◌≤◌, ◌^◌, ◌⊎◌, ℕ, List, Option, None, true, false, IsErrOf, IfErr, IfOk, IfSome, OnOk, length, slice_index_or, slice_set};
+ghost use Rattle.std.specs.Prelude.{◌≡◌, ◌<◌, ◌≤◌, ◌^◌, ◌⊎◌, ℕ, List, Option, Some, None, true, false, IsErrOf, IfErr, IfOk, IfSome, OnOk, length, slice_index_or, slice_set};
 ghost use Rattle.zr_base.specs.Counts.{HasRisen};
 ghost use Rattle.zr_base.specs.declared.refusal.Refusal.{Refusal};
 ghost use Rattle.zr_rules.specs.Steps.{CondensesSome, due_device, has_condensing};
@@ -12,7 +12,7 @@ ghost use Rattle.zr_sync.specs.Pools.{IsOpen};
 ghost use Rattle.zr_sync.specs.Writes.{WorksOnDisks};
 ghost use Rattle.zr_sync.specs.declared.fault.Fault.TheVariants.{No, Stops};
 ghost use Rattle.zr_sync.specs.declared.stop.Stop.TheVariants.{DiskFault};
-ghost use Rattle.zr_removal.specs.Condensing.{CondensesPool, CondensesMapping, condensed_next, none_turned, turned_by};
+ghost use Rattle.zr_removal.specs.Condensing.{CondensesPool, CondensesMapping, condensed_next, is_first, none_turned, turned_by};
 ghost use Rattle.zr_removal.specs.Refusals.{IsCondenseRefusal};
 ghost use Rattle.zr_removal.specs.Streams.{GivesStreams};
 
@@ -48,6 +48,7 @@ fn condensed_next(space: &Space) -> Option<u32>
 
 // The device to be condensed next. It is refused where there is no work.
 fn demand_to_condense(pool: &OpenPool) -> Result<u32, Refusal>
+    ensures next { IfOk result (λ d. condensed_next pool.now.space.parts.cond (due_device pool.now.space) ≡ Some d) }
     ensures due { OnOk result (has_condensing pool.now.space ≡ true) }
     ensures refused { IfErr result (IsCondenseRefusal pool.now.space) }
 {
@@ -58,26 +59,36 @@ fn demand_to_condense(pool: &OpenPool) -> Result<u32, Refusal>
 }
 
 // Which streams of a mapping are to be written anew behind a step.
-fn turned_by(turned: Turned, begins: bool, outcome: Condensed) -> Turned
-    ensures { result ≡ turned_by turned begins outcome }
+fn turned_by(turned: Turned, first: bool, outcome: Condensed) -> Turned
+    ensures { result ≡ turned_by turned first outcome }
 {
     let done = matches!(outcome, Condensed::Done);
     Turned {
         entries: turned.entries || done,
-        counts: turned.counts || begins || done,
+        counts: turned.counts || first || done,
     }
 }
 
 // Notes which streams of a device's mapping are to be written anew behind a step.
-fn note_turned(turned: &mut [Turned], dev: u32, begins: bool, outcome: Condensed)
+fn note_turned(turned: &mut [Turned], dev: u32, first: bool, outcome: Condensed)
     ensures length { length turned.new ≡ length turned.old }
-    ensures noted { dev < length turned.old → turned.new ≡ slice_set turned.old dev (turned_by (slice_index_or turned.old dev none_turned) begins outcome) }
+    ensures noted { dev < length turned.old → turned.new ≡ slice_set turned.old dev (turned_by (slice_index_or turned.old dev none_turned) first outcome) }
 {
     let index = dev as usize;
     if index >= turned.len() {
         return;
     }
-    turned[index] = turned_by(turned[index], begins, outcome);
+    turned[index] = turned_by(turned[index], first, outcome);
+}
+
+// Whether no condensing goes on.
+fn is_first(space: &Space) -> bool
+    ensures { result ≡ is_first space.now.parts.cond }
+{
+    match space.condensing() {
+        Some(_) => false,
+        None => true,
+    }
 }
 
 // Works through the next entries of a mapping, and notes what the next commit has to write anew of its streams.
@@ -86,9 +97,9 @@ fn condense_mapping(pool: &mut OpenPool, dev: u32) -> Result<Condensed, NoMemory
     ensures condenses { IfOk result (CondensesMapping pool.old pool.new dev) }
     ensures pool { (sizes : List ℕ) → IsOpen sizes pool.old → OnOk result (IsOpen sizes pool.new) }
 {
-    let begins = pool.space.condensing().is_none();
+    let first = is_first(&pool.space);
     let outcome = pool.space.condense_step()?;
-    note_turned(&mut pool.turned, dev, begins, outcome);
+    note_turned(&mut pool.turned, dev, first, outcome);
     Ok(outcome)
 }
 
