@@ -32,16 +32,19 @@ pub ends_before : (n m : List ℕ) (t1 t2 : Type 0) (now : World) (x y : OpenPoo
 ends_before n m t1 t2 now x y d sizes told e = record {
   gone = e.gone;
   vanishes = e.vanishes;
+  ended = e.ended;
+  same = e.same;
   root = e.root;
   resets = e.resets;
   shown = λ t. subst (λ (k : List ℕ). IfSome y.last (λ (u : Uber). (before : World) × IsShownFrom k e.gone u before now)) sizes (e.shown (told t));
-  table = e.table;
+  forgets = e.forgets;
 }
 
 pub cancels_before : (n m : List ℕ) (t1 t2 : Type 0) (now : World) (x y : OpenPool) (d : ℕ) → n ≡ m → (t1 → t2) → CancelsRemoval n t2 now x y d → CancelsRemoval m t1 now x y d
 cancels_before n m t1 t2 now x y d sizes told e = record {
   back = e.back;
   comes = e.comes;
+  same = e.same;
   root = e.root;
   resets = e.resets;
   shown = λ t. subst (λ (k : List ℕ). IfSome y.last (λ (u : Uber). (before : World) × IsShownFrom k e.back u before now)) sizes (e.shown (told t));

@@ -8,6 +8,7 @@ use Rattle.zr_shelf.specs.Moments.{World}
 use Rattle.zr_vdev.specs.Stores.{KeepsOthers}
 use Rattle.zr_vdev.specs.declared.kind.Kind.TheVariants.{Meta}
 use Rattle.zr_sync.specs.Commits.{EndsGroup, IsNextRoot, IsShownFrom}
+use Rattle.zr_sync.specs.Pools.{IsSamePool}
 use Rattle.zr_sync.specs.declared.open.OpenPool.{OpenPool}
 use Rattle.zr_removal.specs.Metadata.{GivesMetadata}
 use Rattle.zr_removal.specs.Rows.{with_row, without_slot}
@@ -22,6 +23,7 @@ pub record LeavesPool (old new : OpenPool) (d : ℕ) : Type 0 where
 pub record BeginsRemoval (sizes : List ℕ) (told : Type 0) (now : World) (old new : OpenPool) (d : ℕ) : Type 0 where
   pub left : OpenPool
   pub leaves : LeavesPool old left d
+  pub same : IsSamePool left new
   pub root : IfSome new.last (IsNextRoot left true)
   pub resets : EndsGroup true left.space new.space
   pub shown : told → IfSome new.last (λ u. (before : World) × IsShownFrom sizes left u before now)
@@ -44,6 +46,7 @@ pub record ComesBack (old new : OpenPool) (d : ℕ) : Type 0 where
 pub record CancelsRemoval (sizes : List ℕ) (told : Type 0) (now : World) (old new : OpenPool) (d : ℕ) : Type 0 where
   pub back : OpenPool
   pub comes : ComesBack old back d
+  pub same : IsSamePool back new
   pub root : IfSome new.last (IsNextRoot back true)
   pub resets : EndsGroup true back.space new.space
   pub shown : told → IfSome new.last (λ u. (before : World) × IsShownFrom sizes back u before now)
@@ -75,7 +78,9 @@ pub record Vanishes (old new : OpenPool) (d : ℕ) : Type 0 where
 pub record EndsRemoval (sizes : List ℕ) (told : Type 0) (now : World) (old new : OpenPool) (d : ℕ) : Type 0 where
   pub gone : OpenPool
   pub vanishes : Vanishes old gone d
+  pub ended : OpenPool
+  pub same : IsSamePool gone ended
   pub root : IfSome new.last (IsNextRoot gone true)
   pub resets : EndsGroup true gone.space new.space
   pub shown : told → IfSome new.last (λ u. (before : World) × IsShownFrom sizes gone u before now)
-  pub table : new.table ≡ without_slot gone.table d
+  pub forgets : ForgetsSlot ended new d

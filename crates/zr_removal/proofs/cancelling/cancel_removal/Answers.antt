@@ -17,6 +17,7 @@ pub returns-clause-cancels : goal.returns-clause-cancels
 returns-clause-cancels g c = record {
   back = c.come_back.new.pool;
   comes = c.in_ok-dev.ensures.comes;
+  same = c.in_ok-commit.ensures.same;
   root = c.in_ok-commit.ensures.last;
   resets = c.in_ok-commit.ensures.ends;
   shown = λ t.

@@ -44,13 +44,15 @@ returns-clause-ends g c =
     record {
       gone = gone;
       vanishes = c.in_ok-dev.ensures.vanishes;
+      ended = c.commit_gone.new.pool;
+      same = c.in_ok-commit_gone.ensures.same;
       root = subst (λ (l : Option Uber). IfSome l (IsNextRoot gone true)) last c.in_ok-commit_gone.ensures.last;
       resets = subst (λ (s : Space). EndsGroup true gone.space s) (sym (ap (λ (p : OpenPool). p.space) rest)) c.in_ok-commit_gone.ensures.ends;
       shown = λ t.
           subst (λ (l : Option Uber). IfSome l (λ u. (before : World) × IsShownFrom (g.S.Shelf.sizes c.args.shelf.now) gone u before now)) last
           (subst (λ (n : List ℕ). IfSome c.commit_gone.new.pool.last (λ u. (before : World) × IsShownFrom n gone u before now)) c.vanish.ensures.sizes
           (c.in_ok-commit_gone.ensures.shown (c.vanish.ensures.told t)));
-      table = c.let_go.ensures.forgets.table ∙ ap (λ (t : Table). without_slot t c.in_ok-dev.dev) c.in_ok-commit_gone.ensures.same.table;
+      forgets = c.let_go.ensures.forgets;
     }
 
 pub returns-clause-pool : goal.returns-clause-pool

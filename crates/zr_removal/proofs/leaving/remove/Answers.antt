@@ -7,6 +7,7 @@ pub returns-clause-begins : goal.returns-clause-begins
 returns-clause-begins g c = record {
   left = c.leave.new.pool;
   leaves = c.in_ok-leave.ensures.leaves;
+  same = c.in_ok-commit_moving.ensures.same;
   root = c.in_ok-commit_moving.ensures.last;
   resets = c.in_ok-commit_moving.ensures.ends;
   shown = c.in_ok-commit_moving.ensures.shown;
