@@ -1,17 +1,19 @@
 #!/usr/bin/env bash
 # Runs scripts on devices in memory (crates/zr_play) and holds their answers, and the SHA-256 of what each leaves on its
-# devices, against those of an independent model of the program: 203 of objects, and 300 in which devices are given up, of
-# which the digests of the model's answers are kept. The gate runs a few of each. README.md says how many of the 300 agree
-# today, and in what the others differ.
+# devices, against those of an independent model of the program: 203 of objects, 300 in which devices are given up, and 300
+# in which pools go back to a checkpoint or to a recent group. Of these 600 the digests of the model's answers are kept. The
+# gate runs a few of each. README.md says how many of those with removals agree today, and in what the others differ.
 set -u
 top=$(cd "$(dirname "$0")/.." && pwd)
 program=$top/crates/zr_play/out/zr_play
 (cd "$top/crates/zr_play" && rt run < /dev/null > /tmp/zr-play.$$ 2>&1) || { cat /tmp/zr-play.$$ >&2; exit 70; }
 time "$program" < "$top/bench/play/stdin" > /tmp/zr-play.$$
 if cmp /tmp/zr-play.$$ "$top/bench/play/stdout"; then echo "203 scripts: equal"; else status=1; fi
-python3 "$top/bench/play/generate.py" removals > /tmp/zr-removals.$$
-time "$program" < /tmp/zr-removals.$$ > /tmp/zr-play.$$
-python3 "$top/bench/play/generate.py" sums < /tmp/zr-play.$$ > /tmp/zr-sums.$$
-if cmp /tmp/zr-sums.$$ "$top/bench/play/removals.sums"; then echo "300 scripts with removals: equal"; else status=1; fi
-rm -f /tmp/zr-play.$$ /tmp/zr-removals.$$ /tmp/zr-sums.$$
+for kind in removals checkpoints; do
+  python3 "$top/bench/play/generate.py" $kind > /tmp/zr-scripts.$$
+  time "$program" < /tmp/zr-scripts.$$ > /tmp/zr-play.$$
+  python3 "$top/bench/play/generate.py" sums < /tmp/zr-play.$$ > /tmp/zr-sums.$$
+  if cmp /tmp/zr-sums.$$ "$top/bench/play/$kind.sums"; then echo "300 scripts with $kind: equal"; else status=1; fi
+done
+rm -f /tmp/zr-play.$$ /tmp/zr-scripts.$$ /tmp/zr-sums.$$
 exit ${status:-0}

@@ -2,6 +2,7 @@
 
 generate.py > stdin          those of this folder's stdin
 generate.py removals         those in which devices are given up
+generate.py checkpoints      those in which pools go back: to a checkpoint, or to a recent group
 generate.py sums < answers   a line for each script that was answered: the SHA-256 of its answers
 """
 import hashlib, random, sys
@@ -163,6 +164,154 @@ def condensing(s):
     return words, L
 
 
+class Guess:
+    """What a script has come to, if no line of it was refused for room: good enough to put lines where they are answered."""
+    def __init__(self, r, seed, names, first):
+        self.r, self.L, self.names = r, [], names
+        self.old = seed % 3 == 0                    # a pool of the first version
+        self.on, self.rest = list(first), [x for x in names if x not in first]
+        self.cur, self.saved, self.leaving, self.ids = 1, None, None, {}
+        self.L.append('create %sp%d %d %s' % ('-1 ' if self.old else '', seed, seed, ' '.join(first)))
+
+    def say(self, *lines): self.L += lines
+
+    def commit(self, line, groups=1):
+        self.L.append(line); self.cur += groups
+
+    def change(self):
+        """A line that changes or reads an object."""
+        r, i = self.r, self.r.choice(sorted(self.ids))
+        u = self.ids[i] * 4096
+        off = r.choice([0, 0, 1, 2, 5, 20, 31, 33]) * u + r.choice([0, 0, 0, 1, 4094])
+        k = r.randrange(100)
+        if k < 35: self.say('fill %d %d %d %d' % (i, off, r.choice([1, u, 3 * u, 20 * u, 60 * u]), r.randrange(256)))
+        elif k < 60: self.say('punch %d %d %d' % (i, off, r.choice([1, u, 3 * u, 20 * u, 60 * u])))
+        elif k < 72: self.say('write %d %d %s' % (i, off, bytes(r.randrange(256) for _ in range(5)).hex()))
+        elif k < 80: self.say('drop %d' % i, 'make %d %d' % (i, self.ids[i]))
+        elif k < 90: self.say('sum %d' % i)
+        else: self.say('read %d %d %d' % (i, off, r.choice([1, 30, 64])))
+
+    def reopen(self):
+        """The pool is closed and opened: as it was, as it was at the checkpoint, or as a recent group left it."""
+        r, k = self.r, self.r.randrange(100)
+        rewinds = k < (55 if self.saved else 8)
+        if k >= 70:
+            for _ in range(r.choice([0, 1, 2, 2])): self.change(); self.commit('sync')
+        self.commit('export')
+        if rewinds:
+            self.say('import rewind')
+            if self.saved: self.cur += 1; self.on, self.old = list(self.saved[0]), self.saved[1]; self.saved = self.leaving = None
+            else: self.say(r.choice(['import', 'import txg %d' % self.cur]))
+        elif k < 70: self.say('import')
+        else:
+            for n in r.sample([3, 2, 2, 1, 1, 0, -1, r.randint(4, 9)], r.choice([1, 1, 2, 2, 3])): self.say('import txg %d' % max(self.cur - n, 0))
+            self.cur += 1
+            if r.random() < .6: self.say('import')
+
+    def checkpoint(self):
+        """A checkpoint is taken or given up."""
+        r = self.r
+        if not self.saved or r.random() < .1:
+            if not self.saved and not self.leaving: self.saved = (list(self.on), self.old); self.cur += 2
+            self.say('checkpoint')
+            return
+        if r.random() < .4:
+            self.change()
+            if self.old and r.random() < .6: self.old = False; self.commit('upgrade')
+            elif r.random() < .5: self.change()
+            return
+        self.saved = None
+        self.commit('checkpoint -d')
+        for _ in range(r.choice([0, 0, 1, 2])): self.change()
+        if r.random() < .5: self.say(r.choice(['checkpoint', 'checkpoint -d', 'remove ' + r.choice(self.names), 'remove -n ' + r.choice(self.names)]))
+        self.say(*['step discard'] * r.choice([0, 1, 2, 2, 3]))
+
+    def removal(self):
+        """A device is given up, for a while or for good."""
+        r = self.r
+        if self.leaving:
+            if r.random() < .4: self.commit('remove -s'); self.on.append(self.leaving); self.leaving = None
+            else:
+                self.say(*['step evac'] * r.choice([1, 2, 4]))
+                if r.random() < .5: self.leaving = None; self.cur += 1
+            return
+        if len(self.on) == 1 and self.rest and r.random() < .9:
+            self.commit('add ' + self.rest[0], 2); self.on.append(self.rest.pop(0))
+        if len(self.on) == 1 and r.random() < .9:
+            self.change()
+            return
+        if self.saved and r.random() < .6:
+            self.saved = None
+            self.commit('checkpoint -d')
+            self.say('step discard', 'step discard')
+        name = r.choice(self.on if r.random() < .9 else self.names)
+        if name in self.on and len(self.on) > 1 and not self.saved: self.leaving = name; self.on.remove(name)
+        self.commit('remove ' + name)
+        self.say(*['step evac'] * r.choice([0, 1, 1, 2, 4]))
+        if r.random() < .4: self.change()
+        if self.leaving and r.random() < .3: self.commit('remove -s'); self.on.append(self.leaving); self.leaving = None
+        if r.random() < .2: self.say(r.choice(['checkpoint', 'remove ' + r.choice(self.names)]))
+
+    def other(self):
+        """A line of another kind."""
+        r, k = self.r, self.r.randrange(100)
+        if k < 20 and self.rest:
+            self.commit('add ' + self.rest[0], 2); self.on.append(self.rest.pop(0))
+        elif k < 56 and self.old or k < 24: self.old = False; self.commit('upgrade')
+        elif k < 60: self.say('step condense')
+        elif k < 64: self.say('step discard')
+        elif k < 70: self.say('checkpoint -d')
+        elif k < 74: self.say('remove -s')
+        else: self.say(r.choice(['list', 'status', 'audit', 'map %d' % r.randrange(3), 'remove -n ' + r.choice(self.names), 'step evac']))
+
+
+def checkpoints(seed):
+    """A script in which checkpoints are taken, given up and gone back to, and groups too, with removals before and after."""
+    r = random.Random(seed)
+    names = ['a', 'b', 'c'][:r.choice([1, 2, 2, 3, 3])]
+    full = seed % 4 == 2        # small devices with little room
+    size = {x: 8388608 if full else r.choice([8388608, 8388608, 8392704, 9437184, 12582912]) for x in names}
+    words = ['%s:%d' % (x, size[x]) for x in names]
+    if seed % 10 == 7: words = ['--auto', str(r.choice([1, 2]))] + words
+    g = Guess(r, seed, names, names[:r.randint(1, len(names))])
+    for i in range(1, r.randint(2, 4)):
+        g.ids[i] = r.choice([16, 32, 32]) if full else r.choice([1, 1, 2, 4, 8])
+        g.say('make %d %d' % (i, g.ids[i]))
+        for _ in range(r.randint(1, 2)):
+            u = g.ids[i] * 4096
+            g.say('fill %d %d %d %d' % (i, r.choice([0, 1, 5, 33]) * u, r.choice([8, 12, 16] if full else [1, 3, 20, 60]) * u, r.randrange(1, 256)))
+    end = r.randint(17, 30)
+    while len(g.L) < end:
+        k = r.randrange(100)
+        if k < 30: g.change()
+        elif k < 36: g.commit('sync')
+        elif k < 56: g.checkpoint()
+        elif k < 72: g.reopen()
+        elif k < 86: g.removal()
+        else: g.other()
+    g.say('list', 'status', 'audit')
+    g.reopen()
+    g.say('list', 'audit', 'sum %d' % r.choice(sorted(g.ids)))
+    return words, g.L
+
+
+def checkpoints_and_condensing(s):
+    """A script with more extents to discard, and more entries to condense, than one step takes, and a pool that goes back meanwhile."""
+    r = random.Random(s)
+    words = ['a:12582912', 'b:%d' % r.choice([12582912, 16777216]), 'c:8388608']
+    holes = r.choice([70, 90, 140])
+    last = 20 + (holes - 1) // 64       # the group that the `export` below commits
+    L = ['create %sd%d %d a' % ('-1 ' if s % 3 == 0 else '', s, s), 'make 9 1'] + ['fill 9 %d 262144 %d' % (k * 262144, k + 1) for k in range(5)]
+    L += ['sync', 'checkpoint'] + ['punch 9 %d 4096' % (k * 8192) for k in range(holes)] + ['status', 'checkpoint -d', 'checkpoint', 'step discard']
+    L += ['step discard', 'status', 'fill 9 0 20480 8', 'step discard', 'step discard', 'checkpoint -d', 'add b', 'remove a', 'checkpoint']
+    L += ['step evac'] * (holes + 14) + ['map 0'] + ['punch 9 %d 262144' % (65536 + k * 262144) for k in range(3)]
+    L += ['sync', 'step condense', 'status', 'checkpoint', 'punch 9 851968 131072']
+    L += ['step condense'] * r.choice([0, 1, 2]) + ['status', 'sync', 'step condense', 'export', r.choice(['import rewind', 'import rewind', 'import txg %d' % (last - 1), 'import txg %d' % (last - 2)])]
+    L += ['import', 'status', 'map 0', 'list', 'audit', 'sum 9', 'punch 9 983040 131072'] + ['step condense'] * 3
+    L += ['upgrade', 'checkpoint', 'drop 9', 'step condense', 'step condense', 'checkpoint -d', 'step discard', 'step discard', 'sync', 'status', 'map 0', 'list', 'audit']
+    return words, L
+
+
 def sums(answers):
     """The SHA-256 of the answers to each script: its replies, its status, and the digest of each device."""
     found, ended = [], False
@@ -179,6 +328,13 @@ def sums(answers):
 if __name__ == '__main__':
     if sys.argv[1:] == ['sums']:
         print('\n'.join(sums(sys.stdin)))
+        sys.exit(0)
+    if sys.argv[1:] == ['checkpoints']:
+        for s in range(2001, 2301):
+            words, lines = checkpoints(s) if s % 25 else checkpoints_and_condensing(s)
+            print(' '.join(words))
+            print('\n'.join(lines))
+            print('====')
         sys.exit(0)
     if sys.argv[1:] == ['removals']:
         for s in range(1001, 1301):
