@@ -1,25 +1,16 @@
 -- How many blocks a change puts and gives back.
-use Rattle.std.proofs.Common.{◌≡◌, ◌+◌, ◌*◌, ◌-◌, ◌<◌, ◌≤◌, inl, inr, ℕ, zero, suc, List, [], ◌∷◌, length, Result, refl, sym, ◌∙◌, ap, subst, arith, Bool, true, false, nat_eq, eq-eqb}
+use Rattle.std.proofs.Common.{◌≡◌, ◌+◌, ◌*◌, ◌-◌, ◌<◌, ◌≤◌, inl, inr, ℕ, zero, suc, min, List, [], ◌∷◌, length, refl, sym, ◌∙◌, ap, subst, arith, Bool, true, false, nat_eq, nat_lt, eq-eqb}
 use Rattle.std.specs.Prelude.{if◌then◌else◌}
 use Rattle.std.proofs.Math.Nat.{mul-add, suc-mul, mul-le-mul_left, mul-le-mul_right, le_antisymm}
 use Rattle.std.proofs.lemmas.Bool.{ne_eqb, cases_eq}
+use Rattle.std.proofs.lemmas.Bool.Decides.{nat_tests}
 use Rattle.zr_bptr.specs.declared.Ptr.{Ptr}
-use Rattle.zr_store.specs.declared.StoreErr.{StoreErr}
-use Rattle.zr_store.specs.Causes.{Account, Costs, HasCause}
-use Rattle.zr_store.proofs.Causes.{costs_then, costs_most, cause_then, cause_most}
-use Rattle.zr_tree.specs.Trees.{most_puts, most_frees, IsHeightFor}
+use Rattle.zr_tree.specs.Trees.{AllAt, AreRows, most_puts, most_frees, row_puts, IsHeightFor}
 
 -- ---- numbers
 
 less_one : (n : ℕ) → suc n - 1 ≡ n
 less_one n = omega arith
-
--- a block more for each change
-pub one_level : (level n : ℕ) → 0 < level → 0 < n → (level - 1) * n + 1 ≤ level * n
-one_level zero n high some = absurd (omega arith)
-one_level (suc below) n high some =
-    let e : (suc below - 1) * n ≡ below * n = ap (λ (k : ℕ). k * n) (less_one below) in
-    omega (arith, suc-mul below n, e, some)
 
 -- one level less
 one_less : (l n : ℕ) → 0 < l → (l - 1) * n + n ≡ l * n
@@ -34,43 +25,11 @@ puts_same h n = ap (λ (b : Bool). if b then h * n else (h - 1) * n + (h - h)) (
 puts_more : (h l n : ℕ) → h < l → most_puts h l n ≡ (l - 1) * n + (l - h)
 puts_more h l n lt = ap (λ (b : Bool). if b then l * n else (l - 1) * n + (l - h)) (ne_eqb h l (λ e. omega (arith, lt, e)))
 
-puts_over : (h m n : ℕ) → h ≤ m → most_puts h (suc m) n ≡ m * n + (suc m - h)
-puts_over h m n le = puts_more h (suc m) n (omega (arith, le)) ∙ ap (λ (k : ℕ). k * n + (suc m - h)) (less_one m)
-
 frees_same : (h n : ℕ) → most_frees h h n ≡ h * n
 frees_same h n = ap (λ (b : Bool). if b then h * n else (h - 1) * n) (eq-eqb h h refl)
 
 frees_more : (h l n : ℕ) → h < l → most_frees h l n ≡ (l - 1) * n
 frees_more h l n lt = ap (λ (b : Bool). if b then l * n else (l - 1) * n) (ne_eqb h l (λ e. omega (arith, lt, e)))
-
-frees_over : (h m n : ℕ) → h ≤ m → most_frees h (suc m) n ≡ m * n
-frees_over h m n le = frees_more h (suc m) n (omega (arith, le)) ∙ ap (λ (k : ℕ). k * n) (less_one m)
-
-pub puts_raised : (h m low high n : ℕ) → h ≤ m → low + high ≡ n → most_puts h m low + m * high + 1 ≤ most_puts h (suc m) n
-puts_raised h m low high n le parts = elim (cases_eq h m) [
-  | inl e ↦
-      let below : most_puts h m low ≡ m * low = subst (λ (k : ℕ). most_puts h k low ≡ k * low) e (puts_same h low) in
-      omega (arith, below, puts_over h m n le, product, e)
-  | inr ne ↦
-      let less : (m - 1) * low ≤ m * low = mul-le-mul_right low (omega arith) in
-      omega (arith, puts_more h m low (omega (arith, le, ne)), puts_over h m n le, product, less, le, ne)
-]
-  where
-    product : m * n ≡ m * low + m * high
-    product = ap (λ (k : ℕ). m * k) (sym parts) ∙ mul-add m low high
-
-pub frees_raised : (h m low high n : ℕ) → h ≤ m → low + high ≡ n → most_frees h m low + m * high ≤ most_frees h (suc m) n
-frees_raised h m low high n le parts = elim (cases_eq h m) [
-  | inl e ↦
-      let below : most_frees h m low ≡ m * low = subst (λ (k : ℕ). most_frees h k low ≡ k * low) e (frees_same h low) in
-      omega (arith, below, frees_over h m n le, product)
-  | inr ne ↦
-      let less : (m - 1) * low ≤ m * low = mul-le-mul_right low (omega arith) in
-      omega (arith, frees_more h m low (omega (arith, le, ne)), frees_over h m n le, product, less)
-]
-  where
-    product : m * n ≡ m * low + m * high
-    product = ap (λ (k : ℕ). m * k) (sym parts) ∙ mul-add m low high
 
 pub puts_fewer : (h l n m : ℕ) → n ≤ m → most_puts h l n ≤ most_puts h l m
 puts_fewer h l n m le =
@@ -120,68 +79,73 @@ frees_within h l top changes tall is = elim (cases_eq h l) [
       omega (arith, more, most)
 ]
 
--- ---- a block is replaced by a copy
+-- ---- the rows
 
-module _ {a b c d : Account} (level n : ℕ) (high : 0 < level) (some : 0 < n) (opened : Costs 0 0 a b) (each : Costs ((level - 1) * n) ((level - 1) * n) b c) where
-  pub put_costs : Costs 1 0 c d → Costs (level * n) (level * n) a d
-  put_costs put = let more = one_level level n high some in costs_most (level * n) (level * n) (omega (arith, more)) (omega (arith, more)) (costs_then (costs_then opened each) put)
+-- how many blocks of the lowest row lie over changes below one block of a level, at most
+abbrev pub row_most : ℕ → ℕ → ℕ
+row_most zero changes = min 1 changes
+row_most (suc above) changes = changes
 
-  pub put_cause : {T : Type 0} {r : Result T StoreErr} → HasCause 1 c d r → HasCause (level * n) a d r
-  put_cause h = let more = one_level level n high some in cause_most (level * n) (omega (arith, more)) (cause_then (costs_then opened each) h)
+pub rows_most : (above : ℕ) (changes : List (ℕ × Ptr)) → AllAt (suc above) 0 changes → AreRows (row_most above (length changes)) changes
+rows_most zero [] here = inl (omega arith)
+rows_most zero (x ∷ xs) here = inr (omega arith, here)
+rows_most (suc above) changes here = inl (omega arith)
 
-  pub copy_costs : {e : Account} → Costs 1 0 c d → Costs 0 1 d e → Costs (level * n) (level * n) a e
-  copy_costs put free = let more = one_level level n high some in costs_most (level * n) (level * n) (omega (arith, more)) (omega (arith, more)) (costs_then (costs_then (costs_then opened each) put) free)
+puts_equal : (m c : ℕ) → row_puts (suc m) (suc m) c ≡ m * c + min 1 c
+puts_equal m c = ap (λ (b : Bool). m * c + (if b then suc m - suc m else min 1 c)) (not_less (suc m))
+  where
+    not_less : (n : ℕ) → nat_lt n n ≡ false
+    not_less n = grind (arith, nat_tests)
 
-  pub free_cause : {e : Account} {T : Type 0} {r : Result T StoreErr} → Costs 1 0 c d → HasCause 0 d e r → HasCause (level * n) a e r
-  free_cause put h = let more = one_level level n high some in cause_most (level * n) (omega (arith, more)) (cause_then (costs_then (costs_then opened each) put) h)
+puts_taller : (n m c : ℕ) → n ≤ m → row_puts n (suc m) c ≡ m * c + (suc m - n)
+puts_taller n m c le = ap (λ (b : Bool). m * c + (if b then suc m - n else min 1 c)) (is_less n m le)
+  where
+    is_less : (n m : ℕ) → n ≤ m → nat_lt n (suc m) ≡ true
+    is_less n m le = grind (arith, nat_tests)
 
--- ---- one more run of changes
+-- one row, and those above it
+pub puts_stepped : (h m few all : ℕ) → h ≤ m → few ≤ row_most m all → row_most m all + row_puts h m few ≤ row_puts (suc h) (suc m) all
+puts_stepped h zero few all le fewer =
+    let e = puts_equal 0 all in
+    let z : h ≡ 0 = omega (arith, le) in
+    subst (λ (k : ℕ). row_most 0 all + row_puts k 0 few ≤ row_puts (suc k) 1 all) (sym z) (omega (arith, e))
+puts_stepped h (suc m) few all le fewer = elim (cases_eq h (suc m)) [
+  | inl e ↦ subst (λ (k : ℕ). all + row_puts k (suc m) few ≤ row_puts (suc k) (suc (suc m)) all) (sym e)
+      (let a = puts_equal m few in let b = puts_equal (suc m) all in omega (arith, a, b, more, suc-mul m all, fewer))
+  | inr ne ↦
+      let a = puts_taller h m few (omega (arith, le, ne)) in
+      let b = puts_taller (suc h) (suc m) all (omega (arith, le, ne)) in
+      omega (arith, a, b, more, suc-mul m all)
+]
+  where
+    more : m * few ≤ m * all
+    more = mul-le-mul_left m fewer
 
-pub run_costs : {a b c : Account} (below from n all : ℕ) → from + n ≤ all → Costs (below * from) (below * from) a b → Costs (below * n) (below * n) b c → Costs (below * all) (below * all) a c
-run_costs below from n all le so_far one =
-    let sum = mul-add below from n in
-    let most : below * (from + n) ≤ below * all = mul-le-mul_left below le in
-    costs_most (below * all) (below * all) (omega (arith, sum, most)) (omega (arith, sum, most)) (costs_then so_far one)
+-- a row of holes with the root before the changes
+pub puts_rooted : (m all changes : ℕ) → all ≤ changes + 1 → 0 < all → row_puts (suc m) (suc m) all ≤ row_puts 0 (suc m) changes
+puts_rooted m all changes few some =
+    let a = puts_equal m all in
+    let b = puts_taller 0 m changes (omega arith) in
+    let c : m * all ≤ m * (changes + 1) = mul-le-mul_left m few in
+    let d = mul-add m changes 1 in
+    omega (arith, a, b, c, d, some)
 
-pub run_cause : {a b c : Account} {T : Type 0} {r : Result T StoreErr} (below from n all : ℕ) → from + n ≤ all → Costs (below * from) (below * from) a b → HasCause (below * n) b c r → HasCause (below * all) a c r
-run_cause below from n all le so_far h =
-    let sum = mul-add below from n in
-    let most : below * (from + n) ≤ below * all = mul-le-mul_left below le in
-    cause_most (below * all) (omega (arith, sum, most)) (cause_then so_far h)
+pub puts_rows : (h l n : ℕ) → h ≤ l → row_puts h l n ≤ most_puts h l n
+puts_rows h zero n le = omega arith
+puts_rows h (suc m) n le = elim (cases_eq h (suc m)) [
+  | inl e ↦ subst (λ (k : ℕ). row_puts k (suc m) n ≤ most_puts k (suc m) n) (sym e) (let a = puts_equal m n in let b = puts_same (suc m) n in omega (arith, a, b, suc-mul m n))
+  | inr ne ↦
+      let a = puts_taller h m n (omega (arith, le, ne)) in
+      let b = puts_more h (suc m) n (omega (arith, le, ne)) in
+      let c : (suc m - 1) * n ≡ m * n = ap (λ (k : ℕ). k * n) (less_one m) in
+      omega (arith, a, b, c)
+]
 
--- ---- a taller tree
-
-module _ {a b c : Account} (h m low high n : ℕ) (short : h ≤ m) (parts : low + high ≡ n) (first : Costs (most_puts h m low) (most_frees h m low) a b) where
-  pub high_costs : Costs (m * high) (m * high) b c → Costs (most_puts h (suc m) n) (most_frees h (suc m) n) a c
-  high_costs each =
-      let p = puts_raised h m low high n short parts in
-      let f = frees_raised h m low high n short parts in
-      costs_most (most_puts h (suc m) n) (most_frees h (suc m) n) (omega (arith, p)) (omega (arith, f)) (costs_then first each)
-
-  pub high_cause : {T : Type 0} {r : Result T StoreErr} → HasCause (m * high) b c r → HasCause (most_puts h (suc m) n) a c r
-  high_cause e = let p = puts_raised h m low high n short parts in cause_most (most_puts h (suc m) n) (omega (arith, p)) (cause_then first e)
-
-  pub raised_costs : {d : Account} → Costs (m * high) (m * high) b c → Costs 1 0 c d → Costs (most_puts h (suc m) n) (most_frees h (suc m) n) a d
-  raised_costs each put =
-      let p = puts_raised h m low high n short parts in
-      let f = frees_raised h m low high n short parts in
-      costs_most (most_puts h (suc m) n) (most_frees h (suc m) n) (omega (arith, p)) (omega (arith, f)) (costs_then (costs_then first each) put)
-
-  pub raised_cause : {d : Account} {T : Type 0} {r : Result T StoreErr} → Costs (m * high) (m * high) b c → HasCause 1 c d r → HasCause (most_puts h (suc m) n) a d r
-  raised_cause each e = let p = puts_raised h m low high n short parts in cause_most (most_puts h (suc m) n) (omega (arith, p)) (cause_then (costs_then first each) e)
-
-pub low_cause : {a b : Account} {T : Type 0} {r : Result T StoreErr} (h m low high n : ℕ) → h ≤ m → low + high ≡ n → HasCause (most_puts h m low) a b r → HasCause (most_puts h (suc m) n) a b r
-low_cause h m low high n short parts e = let p = puts_raised h m low high n short parts in cause_most (most_puts h (suc m) n) (omega (arith, p)) e
-
-pub low_costs : {a b : Account} (h m low high n : ℕ) → h ≤ m → low + high ≡ n → Costs (most_puts h m low) (most_frees h m low) a b → Costs (most_puts h (suc m) n) (most_frees h (suc m) n) a b
-low_costs h m low high n short parts first =
-    let p = puts_raised h m low high n short parts in
-    let f = frees_raised h m low high n short parts in
-    costs_most (most_puts h (suc m) n) (most_frees h (suc m) n) (omega (arith, p)) (omega (arith, f)) first
-
--- at its own height
-pub same_costs : {a b : Account} (h n : ℕ) → Costs (h * n) (h * n) a b → Costs (most_puts h h n) (most_frees h h n) a b
-same_costs h n c = let p = puts_same h n in let f = frees_same h n in costs_most (most_puts h h n) (most_frees h h n) (omega (arith, p)) (omega (arith, f)) c
-
-pub same_cause : {a b : Account} {T : Type 0} {r : Result T StoreErr} (h n : ℕ) → HasCause (h * n) a b r → HasCause (most_puts h h n) a b r
-same_cause h n c = let p = puts_same h n in cause_most (most_puts h h n) (omega (arith, p)) c
+pub frees_rows : (h l n : ℕ) → h ≤ l → h * n ≤ most_frees h l n
+frees_rows h l n le = elim (cases_eq h l) [
+  | inl e ↦ subst (λ (k : ℕ). h * n ≤ most_frees h k n) e (let a = frees_same h n in omega (arith, a))
+  | inr ne ↦
+      let a = frees_more h l n (omega (arith, le, ne)) in
+      let b : h * n ≤ (l - 1) * n = mul-le-mul_right n (omega (arith, le, ne)) in
+      omega (arith, a, b)
+]

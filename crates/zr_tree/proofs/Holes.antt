@@ -1,7 +1,8 @@
 -- Blocks of holes, and one step down.
-use Rattle.std.proofs.Common.{◌≡◌, ◌+◌, ◌*◌, ◌/◌, ◌^◌, ◌<◌, ℕ, zero, suc, List, [], ◌∷◌, ◌++◌, length, get_or, refl, sym, ◌∙◌, ap, subst, arith}
+use Rattle.std.proofs.Common.{◌≡◌, ◌≢◌, ◌+◌, ◌*◌, ◌/◌, ◌^◌, ◌<◌, ◌≤◌, inl, inr, ℕ, zero, suc, List, [], ◌∷◌, ◌++◌, length, get_or, refl, sym, ◌∙◌, ap, subst, arith}
+use Rattle.std.proofs.lemmas.Bool.{cases_lt}
 use Rattle.std.proofs.lemmas.Bool.Decides.{nat_tests}
-use Rattle.std.proofs.Math.Nat.{div-div-eq-div-mul, pow-suc, lt-div-mul-add}
+use Rattle.std.proofs.Math.Nat.{div-div-eq-div-mul, div-eq_of_lt, pow-suc, pow-le-pow_right, lt-div-mul-add}
 use Rattle.std.proofs.lemmas.List.{get_or_default}
 use Rattle.std.proofs.lemmas.List.Elements.{All-head, All-tail}
 use Rattle.std.specs.Prelude.{All, ◌↔◌}
@@ -12,7 +13,7 @@ use Rattle.zr_bptr.specs.declared.Tree.{Tree}
 use Rattle.std.specs.List.{flat_map}
 use Rattle.zr_store.specs.Store.{Stored}
 use Rattle.zr_tree.specs.Blocks.{pointers_in}
-use Rattle.zr_tree.specs.Trees.{kids, slot, digit, leaf_at, leaves_below, tree_at, blocks, IsOpen, IsWhole, IsWay}
+use Rattle.zr_tree.specs.Trees.{kids, slot, digit, leaf_at, leaves_below, tree_at, blocks, IsOpen, IsWhole, IsWay, IsTreeWay}
 use Rattle.zr_tree.proofs.Frames.{hole_leaf, way_hole}
 
 pub hole_blocks : (s : Stored) (level : ℕ) → blocks s level Hole ≡ []
@@ -26,7 +27,7 @@ holes_blocks s level (p ∷ ps) h =
     ∙ ap (λ (bs : List Bptr). bs ++ flat_map (blocks s level) ps) (hole_blocks s level)
     ∙ holes_blocks s level ps (All-tail (λ q. q ≡ Hole) p ps h)
 
-hole_leaves : (s : Stored) (level : ℕ) → leaves_below s level Hole ≡ []
+pub hole_leaves : (s : Stored) (level : ℕ) → leaves_below s level Hole ≡ []
 hole_leaves s zero = refl
 hole_leaves s (suc below) = refl
 
@@ -80,7 +81,7 @@ way_step s level below p b index k ps next level_is is kids_are k_is lt next_is 
 pub div-suc : (n h : ℕ) → n / 32 ^ suc h ≡ n / 32 ^ h / 32
 div-suc n h = ap (λ (m : ℕ). n / m) (pow-suc 32 h) ∙ sym (div-div-eq-div-mul n (32 ^ h) 32)
 
-pow-pos : (h : ℕ) → 0 < 32 ^ h
+pub pow-pos : (h : ℕ) → 0 < 32 ^ h
 pow-pos zero = omega arith
 pow-pos (suc h) = let e = pow-pos h in omega (arith, pow-suc 32 h, e)
 
@@ -89,3 +90,13 @@ below_top n h e = let pos = pow-pos h in let lt = lt-div-mul-add {a = n} {b = 32
 
 pub inside : (s : Stored) (t : Tree) (index : ℕ) → index / 32 ^ t.height ≡ 0 → tree_at s t index ≡ leaf_at s t.height t.root index
 inside s t index e = let lt = below_top index t.height e in grind (arith, nat_tests)
+
+-- past the height there is nothing
+pub outside : (s : Stored) (t : Tree) (index level : ℕ) → t.height ≤ level → index / 32 ^ level ≢ 0 → tree_at s t index ≡ Hole
+outside s t index level le ne = elim (cases_lt index (32 ^ t.height)) [
+  | inl lt ↦ absurd (ne (div-eq_of_lt (omega (arith, lt, pow-le-pow_right {n = 32} (omega arith) {i = t.height} {j = level} le))))
+  | inr ge ↦ grind (arith, nat_tests)
+]
+
+pub no_way : (s : Stored) (t : Tree) (index level : ℕ) → t.height ≤ level → index / 32 ^ level ≢ 0 → IsTreeWay s t index
+no_way s t index level le ne lt = absurd (ne (div-eq_of_lt (omega (arith, lt, pow-le-pow_right {n = 32} (omega arith) {i = t.height} {j = level} le))))

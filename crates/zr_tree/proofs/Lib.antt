@@ -4,6 +4,11 @@ pub mod Sums
 pub mod Holes
 pub mod Below
 pub mod Each
+pub mod Pointers
+pub mod Levels
+pub mod Row
+pub mod Steps
+pub mod Runs
 pub mod Raise
 pub mod Past
 pub mod Walking

@@ -12,8 +12,7 @@ use Rattle.zr_bptr.specs.declared.Tree.{Tree}
 use Rattle.zr_store.specs.Store.{Stored}
 use Rattle.zr_tree.specs.Trees.{tree_at, updated, Rises, HasRoom, weigh, weight_at, weight_of, SetsTree, IsTreeWay}
 use Rattle.zr_tree.proofs.Each.{updated_append, weight_at_append, weight_of_append}
-use Rattle.zr_tree.proofs.Holes.{below_top}
-use Rattle.zr_tree.proofs.Raise.{outside, no_way}
+use Rattle.zr_tree.proofs.Holes.{below_top, outside, no_way}
 
 -- a hole at an index past a block of this level
 pub record IsPast (level : ℕ) (change : ℕ × Ptr) : Type 0 where

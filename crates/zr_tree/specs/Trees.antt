@@ -1,5 +1,5 @@
 -- What a tree in a store means.
-use Rattle.std.specs.Prelude.{◌≡◌, ◌≢◌, ◌⊎◌, ◌/◌, ◌%◌, ◌^◌, ◌*◌, ◌-◌, ◌≤◌, nat_eq, nat_lt, if◌then◌else◌, ℕ, zero, suc, List, [], ◌∷◌, ◌++◌, ◌↔◌, slice_index_or, All, Result, IsErrOf, ◌+◌, sum_by, ◌<◌}
+use Rattle.std.specs.Prelude.{◌≡◌, ◌≢◌, ◌⊎◌, ◌/◌, ◌%◌, ◌^◌, ◌*◌, ◌-◌, ◌≤◌, nat_eq, nat_lt, if◌then◌else◌, ℕ, zero, suc, List, [], ◌∷◌, ◌++◌, ◌↔◌, slice_index_or, All, Result, IsErrOf, ◌+◌, sum_by, ◌<◌, length, min}
 use Rattle.std.specs.List.{flat_map, AllByRecursion}
 use Rattle.zr_base.specs.declared.space.Dva.{Dva}
 use Rattle.zr_bptr.specs.declared.Bptr.{Bptr}
@@ -12,7 +12,7 @@ use Rattle.zr_tree.specs.Blocks.{FitsAt}
 use Rattle.zr_tree.specs.Blocks.{pointers_in, IsNoBlock}
 use Rattle.zr_store.specs.declared.StoreErr.{StoreErr}
 use Rattle.zr_store.specs.declared.StoreErr.TheVariants.{Malformed, Damaged, Unresolved}
-use Rattle.zr_store.specs.Store.{Stored, Swaps, AreStored}
+use Rattle.zr_store.specs.Store.{Stored, Swaps, AreStored, hits}
 
 -- the pointers in a tree block above this level
 abbrev pub kids : Stored → ℕ → Bptr → List Ptr
@@ -72,6 +72,14 @@ AllAt level place = All (λ change. change.0 / 32 ^ level ≡ place)
 abbrev pub AreLeaves : List (ℕ × Ptr) → Type 0
 AreLeaves = All (λ change. FitsAt 0 change.1)
 
+-- each change sets a pointer of this level
+abbrev pub AreOfLevel : ℕ → List (ℕ × Ptr) → Type 0
+AreOfLevel level = All (λ change. FitsAt level change.1)
+
+-- At most so many blocks of a row lie over the changes. Changes below one block have one.
+abbrev pub AreRows : ℕ → List (ℕ × Ptr) → Type 0
+AreRows most changes = (length changes ≤ most) ⊎ ((1 ≤ most) × AllAt 1 0 changes)
+
 -- a block of one unit
 abbrev pub IsOneUnit : Ptr → Type 0
 IsOneUnit Hole = ⊥
@@ -80,6 +88,10 @@ IsOneUnit (At b) = b.at.len ≡ 1
 -- each change sets such a block
 abbrev pub AreUnits : List (ℕ × Ptr) → Type 0
 AreUnits = All (λ change. IsOneUnit change.1)
+
+-- the last change, if there is one, sets such a block
+abbrev pub EndsInUnit : List (ℕ × Ptr) → Type 0
+EndsInUnit changes = (n : ℕ) (d : ℕ × Ptr) → length changes ≡ suc n → IsOneUnit (slice_index_or changes n d).1
 
 -- the indices rise
 abbrev pub Rises : List (ℕ × Ptr) → Type 0
@@ -144,31 +156,6 @@ IsSoundAt s zero p = FitsAt 0 p
 IsSoundAt s (suc below) Hole = Unit {0}
 IsSoundAt s (suc below) (At b) = FitsAt (suc below) (At b) × IsWhole s b × All (IsSoundAt s below) (kids s below b)
 
--- the pointer p came for a block of these pointers, a hole where all are holes
-pub record PutsBlock (below : ℕ) (pointers : List Ptr) (old new : Stored) (p : Ptr) : Type 0 where
-  pub opens : IsOpen new below p pointers
-  pub whole : IsWholeAt new p
-  pub swaps : Swaps old new [] (own p)
-
--- The pointer p stands for q, with the changes made, and the store has its tree blocks in place of q's. The way to each
--- change was whole, and so was each way that is whole now.
-pub record Sets (level place : ℕ) (changes : List (ℕ × Ptr)) (old new : Stored) (q p : Ptr) : Type 0 where
-  pub leaves : (index : ℕ) → index / 32 ^ level ≡ place → leaf_at new level p index ≡ updated changes index (leaf_at old level q index)
-  pub swaps : Swaps old new (blocks old level q) (blocks new level p)
-  pub brings : Brings old new (blocks old level q) (blocks new level p)
-  pub swaps_leaves : Rises changes → SwapsLeaves changes (leaves_below old level q) (leaves_below new level p) (leaf_at old level q)
-  pub ways : All (λ change. IsWay old level q change.0) changes
-  pub were_whole : (index : ℕ) → index / 32 ^ level ≡ place → IsWay new level p index → IsWay old level q index
-
--- the same for the 32 pointers of a block above this level
-pub record SetsEach (below place : ℕ) (changes : List (ℕ × Ptr)) (old new : Stored) (qs ps : List Ptr) : Type 0 where
-  pub leaves : (index : ℕ) → index / 32 ^ suc below ≡ place → leaf_at new below (slot ps (digit below index)) index ≡ updated changes index (leaf_at old below (slot qs (digit below index)) index)
-  pub swaps : Swaps old new (flat_map (blocks old below) qs) (flat_map (blocks new below) ps)
-  pub brings : Brings old new (flat_map (blocks old below) qs) (flat_map (blocks new below) ps)
-  pub swaps_leaves : Rises changes → SwapsLeaves changes (flat_map (leaves_below old below) qs) (flat_map (leaves_below new below) ps) (λ index. leaf_at old below (slot qs (digit below index)) index)
-  pub ways : All (λ change. IsWay old below (slot qs (digit below change.0)) change.0) changes
-  pub were_whole : (index : ℕ) → index / 32 ^ suc below ≡ place → IsWay new below (slot ps (digit below index)) index → IsWay old below (slot qs (digit below index)) index
-
 -- the tree blocks of a tree
 abbrev pub tree_blocks : Stored → Tree → List Bptr
 tree_blocks s t = blocks s t.height t.root
@@ -181,14 +168,70 @@ tree_leaves s t = leaves_below s t.height t.root
 abbrev pub tree_reach : Stored → Tree → List Bptr
 tree_reach s t = reach s t.height t.root
 
+-- the pointer p came for a block of these pointers, a hole where all are holes
+pub record PutsBlock (pointers : List Ptr) (old new : Stored) (p : Ptr) : Type 0 where
+  pub opens : IsOpen new 0 p pointers
+  pub whole : IsWholeAt new p
+  pub swaps : Swaps old new [] (own p)
+
+-- the pointers of the block at a place of its row, with the changes
+pub record SetsPointers (place : ℕ) (changes : List (ℕ × Ptr)) (qs ps : List Ptr) : Type 0 where
+  pub slots : (index : ℕ) → index / 32 ≡ place → slot ps (index % 32) ≡ updated changes index (slot qs (index % 32))
+  pub swaps_leaves : Rises changes → SwapsLeaves changes (flat_map own qs) (flat_map own ps) (λ index. slot qs (index % 32))
+
+-- what is stored stays, with its bytes
+abbrev pub Keeps : Stored → Stored → Type 0
+Keeps old new = (b : Bptr) → 0 < hits old.pointers b.at → new.bytes b ≡ old.bytes b
+
+-- what the leaves below a block of the lowest level weigh
+abbrev pub weight_below : Stored → (Bptr → ℕ) → Bptr → ℕ
+weight_below s weight b = sum_by weight (flat_map own (kids s 0 b))
+
+-- The pointer p came for the block at a place of a row, with the changes made. The tree t has the row's blocks as its
+-- leaves. The block that was there was whole, and the list of what is to be given back has it now.
+pub record PutsChanged (place : ℕ) (changes : List (ℕ × Ptr)) (old new : Stored) (t : Tree) (p : Ptr) (before after : List Bptr) : Type 0 where
+  pub leaves : (index : ℕ) → index / 32 ≡ place → leaf_at new 1 p index ≡ updated changes index (leaf_at old 1 (tree_at old t place) index)
+  pub swaps_leaves : Rises changes → SwapsLeaves changes (leaves_below old 1 (tree_at old t place)) (leaves_below new 1 p) (leaf_at old 1 (tree_at old t place))
+  pub whole : IsWholeAt new p
+  pub way : IsTreeWay old t place
+  pub was_whole : IsWholeAt old (tree_at old t place)
+  pub swaps : Swaps old new [] (own p)
+  pub gone : (weight : Bptr → ℕ) → sum_by weight after ≡ sum_by weight before + weigh weight (tree_at old t place)
+
+-- The same for each block of the row that lies over a change: `row` has their places and the new pointers. Nothing has
+-- left the store.
+pub record PutsRow (changes row : List (ℕ × Ptr)) (old new : Stored) (t : Tree) (before after : List Bptr) : Type 0 where
+  pub leaves : (index : ℕ) → leaf_at new 1 (updated row (index / 32) (tree_at old t (index / 32))) index ≡ updated changes index (leaf_at old 1 (tree_at old t (index / 32)) index)
+  pub swaps_leaves : (weight : Bptr → ℕ) → weight_of (weight_below new weight) row + weight_at weight (λ index. leaf_at old 1 (tree_at old t (index / 32)) index) changes ≡ weight_at (weight_below old weight) (tree_at old t) row + weight_of weight changes
+  pub stored : (weight : Bptr → ℕ) → sum_by weight new.pointers ≡ sum_by weight old.pointers + weight_of weight row
+  pub kept : Keeps old new
+  pub gone : (weight : Bptr → ℕ) → sum_by weight after ≡ sum_by weight before + weight_at weight (tree_at old t) row
+  pub whole : All (λ change. IsWholeAt new change.1) row
+  pub ways : All (λ change. IsTreeWay old t (change.0 / 32) × IsWholeAt old (tree_at old t (change.0 / 32))) changes
+
+-- The pointer p stands for the tree at this height, with the changes made. Nothing has left the store: the list of what
+-- is to be given back has grown by the blocks of the tree that are not below p.
+pub record PutsTree (height : ℕ) (changes : List (ℕ × Ptr)) (old new : Stored) (t : Tree) (p : Ptr) (before after : List Bptr) : Type 0 where
+  pub leaves : (index : ℕ) → index / 32 ^ height ≡ 0 → leaf_at new height p index ≡ updated changes index (tree_at old t index)
+  pub stored : (weight : Bptr → ℕ) → sum_by weight new.pointers + sum_by weight (tree_blocks old t) + sum_by weight before ≡ sum_by weight old.pointers + sum_by weight (blocks new height p) + sum_by weight after
+  pub grows : (weight : Bptr → ℕ) → sum_by weight old.pointers ≤ sum_by weight new.pointers
+  pub kept : Keeps old new
+  pub brings : Brings old new (tree_blocks old t) (blocks new height p)
+  pub swaps_leaves : SwapsLeaves changes (tree_leaves old t) (leaves_below new height p) (tree_at old t)
+  pub ways : All (λ change. IsTreeWay old t change.0) changes
+
+-- The changes, and in front of them the root at the first place, where they do not set it.
+abbrev pub HasRoot : Ptr → List (ℕ × Ptr) → List (ℕ × Ptr) → Type 0
+HasRoot root [] all = all ≡ (0, root) ∷ []
+HasRoot root (change ∷ changes) all = ((change.0 ≡ 0) × (all ≡ change ∷ changes)) ⊎ ((change.0 ≢ 0) × (all ≡ (0, root) ∷ change ∷ changes))
+
 -- a block of this level in place of the tree, whose leaves have the changes
 pub record Raises (level : ℕ) (changes : List (ℕ × Ptr)) (old new : Stored) (t : Tree) (p : Ptr) : Type 0 where
   pub leaves : (index : ℕ) → index / 32 ^ level ≡ 0 → leaf_at new level p index ≡ updated changes index (tree_at old t index)
   pub swaps : Swaps old new (tree_blocks old t) (blocks new level p)
   pub brings : Brings old new (tree_blocks old t) (blocks new level p)
-  pub swaps_leaves : Rises changes → SwapsLeaves changes (tree_leaves old t) (leaves_below new level p) (tree_at old t)
+  pub swaps_leaves : SwapsLeaves changes (tree_leaves old t) (leaves_below new level p) (tree_at old t)
   pub ways : All (λ change. IsTreeWay old t change.0) changes
-  pub were_whole : (index : ℕ) → index / 32 ^ level ≡ 0 → IsWay new level p index → IsTreeWay old t index
 
 -- the tree means what it meant
 pub record KeepsTree (old new : Stored) (t : Tree) : Type 0 where
@@ -207,6 +250,12 @@ pub record SetsTree (changes : List (ℕ × Ptr)) (old new : Stored) (t u : Tree
   pub brings : Brings old new (tree_blocks old t) (tree_blocks new u)
   pub swaps_leaves : SwapsLeaves changes (tree_leaves old t) (tree_leaves new u) (tree_at old t)
   pub others : KeepsOthers old new (tree_blocks old t)
+
+-- So many blocks are put at most by the rows of a tree of one height that becomes one of another: one for each change and
+-- level, one more above what the tree had, and one at the top.
+abbrev pub row_puts : ℕ → ℕ → ℕ → ℕ
+row_puts old zero changes = 0
+row_puts old (suc below) changes = below * changes + (if nat_lt old (suc below) then suc below - old else min 1 changes)
 
 -- at most so many blocks are put where a tree of the one height becomes one of the other by so many changes: the way to
 -- each change, and where it grows also the way to what it was

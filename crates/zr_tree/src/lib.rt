@@ -9,6 +9,7 @@
 
 mod blocks;
 mod reads;
+mod rows;
 mod sets;
 mod trees;
 mod walks;

@@ -2,6 +2,7 @@
 //!
 //! The time is linear in the height, which is at most 5.
 ghost use Rattle.std.specs.Prelude.{◌≡◌, ◌+◌, ◌*◌, ◌-◌, ◌/◌, ◌%◌, ◌^◌, ◌<◌, ◌≤◌, List, [], ◌∷◌, ℕ, length, All, IfOk};
+ghost use Rattle.zr_bptr.specs.declared.Ptr.TheVariants.{Hole};
 ghost use Rattle.zr_tree.specs.Blocks.{FitsAt};
 ghost use Rattle.zr_store.specs.Causes.{Costs, HasCause};
 ghost use Rattle.zr_bptr.specs.Spelling.{IsTree};
@@ -56,36 +57,65 @@ pub(crate) fn read_block<B: Blocks>(
     }
 }
 
-pub(crate) fn get_below<B: Blocks>(
+// The pointer at an index of the leaves, which are of the level `base`, below a pointer so many levels above them.
+fn get_below<B: Blocks>(
     alloc: Global,
     store: &mut B,
-    level: u32,
+    base: u32,
+    levels: u32,
     p: &Ptr,
     index: u64,
 ) -> Result<Ptr, StoreErr>
-    requires tall { level ≤ 5 }
-    requires fits { FitsAt level p.now }
+    requires tall { base + levels ≤ 5 }
+    requires fits { FitsAt (base + levels) p.now }
     ensures follows { (start : B) → B.follows start store.old → B.follows start store.new }
     ensures costs { Costs 0 0 (B.account store.old) (B.account store.new) }
     ensures cause { HasCause 0 (B.account store.old) (B.account store.new) result }
     ensures same { (s : Stored) → B.holds store.old s → B.holds store.new s }
-    ensures errors { (s : Stored) → B.holds store.old s → TellsOf s (blocks s level p.now) result }
-    ensures fits { IfOk result (FitsAt 0) }
-    ensures leaf { (s : Stored) → B.holds store.old s → IfOk result (λ leaf. leaf ≡ leaf_at s level p.now index) }
-    ensures way { (s : Stored) → B.holds store.old s → IfOk result (λ leaf. IsWay s level p.now index) }
+    ensures errors { (s : Stored) → B.holds store.old s → TellsOf s (blocks s levels p.now) result }
+    ensures fits { IfOk result (FitsAt base) }
+    ensures hole { p.now ≡ Hole → IfOk result (λ leaf. leaf ≡ Hole) }
+    ensures leaf { (s : Stored) → B.holds store.old s → IfOk result (λ leaf. leaf ≡ leaf_at s levels p.now index) }
+    ensures way { (s : Stored) → B.holds store.old s → IfOk result (λ leaf. IsWay s levels p.now index) }
 {
-    if level == 0 {
+    if levels == 0 {
         return Ok(*p);
     }
     match p {
         Ptr::Hole => Ok(Ptr::Hole),
         Ptr::At(b) => {
-            let below = level - 1;
-            let pointers = read_block(alloc, store, below, b)?;
+            let below = levels - 1;
+            let pointers = read_block(alloc, store, base + below, b)?;
             let next = pointers[(place_of(index, below) % 32) as usize];
-            get_below(alloc, store, below, &next, index)
+            get_below(alloc, store, base, below, &next, index)
         }
     }
+}
+
+// The pointer at an index of the leaves of a tree, which are of the level `base`.
+pub(crate) fn get_at<B: Blocks>(
+    alloc: Global,
+    store: &mut B,
+    base: u32,
+    t: &Tree,
+    index: u64,
+) -> Result<Ptr, StoreErr>
+    requires tall { base + t.now.height ≤ 5 }
+    requires fits { FitsAt (base + t.now.height) t.now.root }
+    ensures follows { (start : B) → B.follows start store.old → B.follows start store.new }
+    ensures costs { Costs 0 0 (B.account store.old) (B.account store.new) }
+    ensures cause { HasCause 0 (B.account store.old) (B.account store.new) result }
+    ensures same { (s : Stored) → B.holds store.old s → B.holds store.new s }
+    ensures errors { (s : Stored) → B.holds store.old s → TellsOf s (tree_blocks s t.now) result }
+    ensures fits { IfOk result (FitsAt base) }
+    ensures hole { t.now.root ≡ Hole → IfOk result (λ leaf. leaf ≡ Hole) }
+    ensures leaf { (s : Stored) → B.holds store.old s → IfOk result (λ leaf. leaf ≡ tree_at s t.now index) }
+    ensures way { (s : Stored) → B.holds store.old s → IfOk result (λ leaf. IsTreeWay s t.now index) }
+{
+    if place_of(index, t.height) != 0 {
+        return Ok(Ptr::Hole);
+    }
+    get_below(alloc, store, base, t.height, &t.root, index)
 }
 
 /// The leaf pointer at an index.
@@ -100,8 +130,5 @@ pub fn get<B: Blocks>(alloc: Global, store: &mut B, t: &Tree, index: u64) -> Res
     ensures leaf { (s : Stored) → B.holds store.old s → IfOk result (λ leaf. leaf ≡ tree_at s t.now index) }
     ensures way { (s : Stored) → B.holds store.old s → IfOk result (λ leaf. IsTreeWay s t.now index) }
 {
-    if place_of(index, t.height) != 0 {
-        return Ok(Ptr::Hole);
-    }
-    get_below(alloc, store, t.height, &t.root, index)
+    get_at(alloc, store, 0, t, index)
 }

@@ -1,20 +1,23 @@
-//! Changing: a block on the way to a changed leaf is read, changed, put anew and given back.
+//! Changing a row: the blocks of one level that lie over changes are put anew.
 //!
-//! The changes are handed down in runs that lie below one pointer. A block of which nothing is left becomes a hole.
-ghost use Rattle.std.specs.Prelude.{◌≡◌, ◌≢◌, ◌+◌, ◌*◌, ◌-◌, ◌/◌, ◌%◌, ◌^◌, ◌<◌, ◌≤◌, ◌↔◌, List, [], ℕ, length, All, IfOk, OnOk, IsTrue, IfSome, take, drop, slice_index_or};
+//! A row is changed from its first block to its last. Each is looked up from the root, so that the tree need only be known
+//! by its root, and its level is no concern of the change: to the blocks of a row those of the row below are the leaves. A
+//! block of which nothing is left becomes a hole. The blocks that were there are noted, and given back later.
+ghost use Rattle.std.specs.Prelude.{◌≡◌, ◌≢◌, ◌+◌, ◌*◌, ◌-◌, ◌/◌, ◌%◌, ◌^◌, ◌<◌, ◌≤◌, ◌↔◌, List, [], ℕ, suc, length, All, IfOk, OnOk, IsTrue, IfSome, take, drop, slice_index_or};
 ghost use Rattle.std.specs.List.{flat_map};
+ghost use Rattle.zr_bptr.specs.declared.Bptr.{Bptr};
 ghost use Rattle.zr_bptr.specs.declared.Ptr.{Ptr};
 ghost use Rattle.zr_bptr.specs.declared.Ptr.TheVariants.{Hole};
 ghost use Rattle.zr_tree.specs.Blocks.{FitsAt};
 ghost use Rattle.zr_store.specs.Store.{Stored, Now, AreStored, Swaps};
 ghost use Rattle.zr_store.specs.Causes.{Costs, HasCause};
-ghost use Rattle.zr_tree.specs.Trees.{blocks, own, IsOpen, PutsBlock, Sets, SetsEach, AllAt, AreLeaves, AreUnits, IsOneUnit, IsWholeAt, TellsOf};
+ghost use Rattle.zr_tree.specs.Trees.{blocks, own, IsOpen, PutsBlock, SetsPointers, PutsChanged, PutsRow, AllAt, AreOfLevel, AreRows, EndsInUnit, IsOneUnit, IsWholeAt, Rises, TellsOf};
 ghost use Rattle.zr_bptr.specs.Spelling.{IsOfLevel};
 
 use crate::blocks::encode_pointers;
-use crate::reads::{place_of, read_block};
+use crate::reads::{get_at, place_of, read_block};
 use std::alloc::{AllocError, Global};
-use zr_bptr::Ptr;
+use zr_bptr::{Bptr, Ptr, Tree};
 use zr_store::{Blocks, StoreErr};
 
 pub(crate) fn is_hole(p: &Ptr) -> bool
@@ -32,7 +35,7 @@ fn are_holes(pointers: &[Ptr]) -> bool
     pointers.iter().all(|p| is_hole(p))
 }
 
-pub(crate) fn holes(alloc: Global) -> Result<Vec<Ptr>, AllocError>
+fn holes(alloc: Global) -> Result<Vec<Ptr>, AllocError>
     ensures count { IfOk result (λ pointers. length pointers.items ≡ 32) }
     ensures holes { IfOk result (λ pointers. All (λ p. p ≡ Hole) pointers.items) }
 {
@@ -54,7 +57,7 @@ fn open_block<B: Blocks>(
     ensures same { (s : Stored) → B.holds store.old s → B.holds store.new s }
     ensures count { IfOk result (λ pointers. length pointers.items ≡ 32) }
     ensures fit { IfOk result (λ pointers. All (FitsAt below) pointers.items) }
-    ensures open { (s : Stored) → B.holds store.old s → IfOk result (λ pointers. IsOpen s below p.now pointers.items) }
+    ensures open { (s : Stored) → B.holds store.old s → IfOk result (λ pointers. IsOpen s 0 p.now pointers.items) }
     ensures whole { (s : Stored) → B.holds store.old s → IsOfLevel (below + 1) p.now → IfOk result (λ pointers. IsWholeAt s p.now) }
 {
     match p {
@@ -64,7 +67,7 @@ fn open_block<B: Blocks>(
 }
 
 // A block of these pointers, or a hole.
-pub(crate) fn put_block<B: Blocks>(
+fn put_block<B: Blocks>(
     alloc: Global,
     store: &mut B,
     below: u32,
@@ -79,7 +82,7 @@ pub(crate) fn put_block<B: Blocks>(
     ensures errors { (s : Stored) → TellsOf s [] result }
     ensures fits { IfOk result (FitsAt (below + 1)) }
     ensures hole { IfOk result (λ p. p ≡ Hole → All (λ q. q ≡ Hole) pointers.now) }
-    ensures puts { (s : Stored) → B.holds store.old s → IfOk result (λ p. Now (B.holds store.new) (λ n. PutsBlock below pointers.now s n p)) }
+    ensures puts { (s : Stored) → B.holds store.old s → IfOk result (λ p. Now (B.holds store.new) (λ n. PutsBlock pointers.now s n p)) }
 {
     if are_holes(pointers) {
         return Ok(Ptr::Hole);
@@ -89,17 +92,16 @@ pub(crate) fn put_block<B: Blocks>(
     Ok(Ptr::At(b))
 }
 
-// Gives back a block, but not those below it.
-fn free_block<B: Blocks>(alloc: Global, store: &mut B, p: &Ptr) -> Result<(), StoreErr>
-    ensures follows { (start : B) → B.follows start store.old → B.follows start store.new }
-    ensures costs { Costs 0 1 (B.account store.old) (B.account store.new) }
-    ensures cause { HasCause 0 (B.account store.old) (B.account store.new) result }
-    ensures errors { (s : Stored) → TellsOf s [] result }
-    ensures swaps { (s : Stored) → B.holds store.old s → AreStored (own p.now) s → OnOk result (Now (B.holds store.new) (λ n. Swaps s n (own p.now) [])) }
+// Makes changes in the pointers of the block that lies over them.
+fn change_pointers(pointers: &mut Vec<Ptr>, changes: &[(u64, Ptr)])
+    requires { length pointers.old.items ≡ 32 }
+    ensures count { length pointers.new.items ≡ 32 }
+    ensures fit { (level : ℕ) → All (FitsAt level) pointers.old.items → AreOfLevel level changes.now → All (FitsAt level) pointers.new.items }
+    ensures some { EndsInUnit changes.now → 0 < length changes.now → ¬ All (λ p. p ≡ Hole) pointers.new.items }
+    ensures sets { (place : ℕ) → AllAt 1 place changes.now → SetsPointers place changes.now pointers.old.items pointers.new.items }
 {
-    match p {
-        Ptr::Hole => Ok(()),
-        Ptr::At(b) => store.free(alloc, b),
+    for change in changes {
+        pointers[(change.0 % 32) as usize] = change.1;
     }
 }
 
@@ -119,78 +121,77 @@ pub(crate) fn run_len(rest: &[(u64, Ptr)], level: u32, place: u64) -> usize
     rest.len()
 }
 
-// The pointer for a changed tree, at one place of the blocks of its level.
-#[cycle(set)]
-pub(crate) fn set_below<B: Blocks>(
+// Puts the block at a place of a row, with the changes that lie below it. The row's blocks are the leaves of the tree.
+fn put_changed<B: Blocks>(
     alloc: Global,
     store: &mut B,
-    level: u32,
+    below: u32,
+    t: &Tree,
     place: u64,
-    p: &Ptr,
     changes: &[(u64, Ptr)],
+    old: &mut Vec<Bptr>,
 ) -> Result<Ptr, StoreErr>
-    requires tall { level ≤ 5 }
-    requires fits { FitsAt level p.now }
-    requires here { AllAt level place changes.now }
-    requires leaves { AreLeaves changes.now }
+    requires tall { below + 1 + t.now.height ≤ 5 }
+    requires fits { FitsAt (below + 1 + t.now.height) t.now.root }
+    requires leaves { AreOfLevel below changes.now }
+    requires here { AllAt 1 place changes.now }
     ensures follows { (start : B) → B.follows start store.old → B.follows start store.new }
-    ensures costs { Costs (level * length changes.now) (level * length changes.now) (B.account store.old) (B.account store.new) }
-    ensures cause { HasCause (level * length changes.now) (B.account store.old) (B.account store.new) result }
-    ensures errors { (s : Stored) → B.holds store.old s → AreStored (blocks s level p.now) s → TellsOf s (blocks s level p.now) result }
-    ensures fits { IfOk result (FitsAt level) }
-    ensures unit { AreUnits changes.now → 0 < length changes.now → IfOk result IsOneUnit }
-    ensures sets { (s : Stored) → B.holds store.old s → AreStored (blocks s level p.now) s → IfOk result (λ root. Now (B.holds store.new) (λ n. Sets level place changes.now s n p.now root)) }
+    ensures costs { Costs 1 0 (B.account store.old) (B.account store.new) }
+    ensures cause { HasCause 1 (B.account store.old) (B.account store.new) result }
+    ensures errors { (s : Stored) → B.holds store.old s → TellsOf s (blocks s (suc t.now.height) t.now.root) result }
+    ensures fits { IfOk result (FitsAt (below + 1)) }
+    ensures unit { EndsInUnit changes.now → 0 < length changes.now → IfOk result IsOneUnit }
+    ensures count { OnOk result (length old.new.items ≤ length old.old.items + 1) }
+    ensures none { t.now.root ≡ Hole → OnOk result (length old.new.items ≤ length old.old.items) }
+    ensures puts { (s : Stored) → B.holds store.old s → IfOk result (λ p. Now (B.holds store.new) (λ n. PutsChanged place changes.now s n t.now p old.old.items old.new.items)) }
 {
-    if changes.is_empty() {
-        return Ok(*p);
+    let was = get_at(alloc, store, below + 1, t, place)?;
+    let mut pointers = open_block(alloc, store, below, &was)?;
+    change_pointers(&mut pointers, changes);
+    let new = put_block(alloc, store, below, pointers.as_slice())?;
+    if let Ptr::At(b) = was {
+        old.push(b)?;
     }
-    if level == 0 {
-        return Ok(changes[changes.len() - 1].1);
-    }
-    let mut pointers = open_block(alloc, store, level - 1, p)?;
-    set_each(alloc, store, level, place, &mut pointers, changes)?;
-    let new = put_block(alloc, store, level - 1, pointers.as_slice())?;
-    free_block(alloc, store, p)?;
     Ok(new)
 }
 
-// The same for each of the 32 pointers of a block of this level.
-#[cycle(set)]
-pub(crate) fn set_each<B: Blocks>(
+// Puts the blocks of a row that lie over changes: the changes of the row above. The row's blocks are the leaves of the
+// tree.
+pub(crate) fn put_row<B: Blocks>(
     alloc: Global,
     store: &mut B,
-    level: u32,
-    place: u64,
-    pointers: &mut Vec<Ptr>,
+    below: u32,
+    t: &Tree,
     changes: &[(u64, Ptr)],
-) -> Result<(), StoreErr>
-    requires block { 0 < level }
-    requires tall { level ≤ 5 }
-    requires count { length pointers.old.items ≡ 32 }
-    requires fit { All (FitsAt (level - 1)) pointers.old.items }
-    requires here { AllAt level place changes.now }
-    requires leaves { AreLeaves changes.now }
+    old: &mut Vec<Bptr>,
+) -> Result<Vec<(u64, Ptr)>, StoreErr>
+    requires tall { below + 1 + t.now.height ≤ 5 }
+    requires fits { FitsAt (below + 1 + t.now.height) t.now.root }
+    requires leaves { AreOfLevel below changes.now }
+    requires rises { Rises changes.now }
     ensures follows { (start : B) → B.follows start store.old → B.follows start store.new }
-    ensures costs { Costs ((level - 1) * length changes.now) ((level - 1) * length changes.now) (B.account store.old) (B.account store.new) }
-    ensures cause { HasCause ((level - 1) * length changes.now) (B.account store.old) (B.account store.new) result }
-    ensures errors { (s : Stored) → B.holds store.old s → AreStored (flat_map (blocks s (level - 1)) pointers.old.items) s → TellsOf s (flat_map (blocks s (level - 1)) pointers.old.items) result }
-    ensures count { length pointers.new.items ≡ 32 }
-    ensures fit { All (FitsAt (level - 1)) pointers.new.items }
-    ensures some { AreUnits changes.now → 0 < length changes.now → OnOk result (¬ All (λ p. p ≡ Hole) pointers.new.items) }
-    ensures none { length changes.now ≡ 0 → OnOk result (pointers.new.items ≡ pointers.old.items) }
-    ensures sets { (s : Stored) → B.holds store.old s → AreStored (flat_map (blocks s (level - 1)) pointers.old.items) s → OnOk result (Now (B.holds store.new) (λ n. SetsEach (level - 1) place changes.now s n pointers.old.items pointers.new.items)) }
+    ensures costs { (most : ℕ) → AreRows most changes.now → Costs most 0 (B.account store.old) (B.account store.new) }
+    ensures cause { (most : ℕ) → AreRows most changes.now → HasCause most (B.account store.old) (B.account store.new) result }
+    ensures errors { (s : Stored) → B.holds store.old s → AreStored (blocks s (suc t.now.height) t.now.root) s → TellsOf s (blocks s (suc t.now.height) t.now.root) result }
+    ensures few { (most : ℕ) → AreRows most changes.now → IfOk result (λ row. length row.items ≤ most) }
+    ensures rises { IfOk result (λ row. Rises row.items) }
+    ensures room { (level : ℕ) → AllAt (suc level) 0 changes.now → IfOk result (λ row. AllAt level 0 row.items) }
+    ensures leaves { IfOk result (λ row. AreOfLevel (below + 1) row.items) }
+    ensures unit { EndsInUnit changes.now → IfOk result (λ row. EndsInUnit row.items) }
+    ensures some { 0 < length changes.now → IfOk result (λ row. 0 < length row.items) }
+    ensures count { IfOk result (λ row. length old.new.items ≤ length old.old.items + length row.items) }
+    ensures none { t.now.root ≡ Hole → OnOk result (length old.new.items ≤ length old.old.items) }
+    ensures puts { (s : Stored) → B.holds store.old s → AreStored (blocks s (suc t.now.height) t.now.root) s → IfOk result (λ row. Now (B.holds store.new) (λ n. PutsRow changes.now row.items s n t.now old.old.items old.new.items)) }
 {
-    let below = level - 1;
+    let mut row = Vec::new(alloc);
     let mut from = 0;
     while from < changes.len() {
         let rest = &changes[from..];
-        let child = place_of(rest[0].0, below);
-        let n = run_len(rest, below, child);
-        let k = (child % 32) as usize;
-        let old = pointers[k];
-        let new = set_below(alloc, store, below, child, &old, &rest[..n])?;
-        pointers[k] = new;
+        let place = rest[0].0 / 32;
+        let n = run_len(rest, 1, place);
+        let p = put_changed(alloc, store, below, t, place, &rest[..n], old)?;
+        row.push((place, p))?;
         from += n;
     }
-    Ok(())
+    Ok(row)
 }

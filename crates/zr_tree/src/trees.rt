@@ -1,6 +1,6 @@
 //! Whole trees: a change may make a tree taller, and trees beside it stay.
 //!
-//! A taller tree is put from its low part up, so that no block is put and given back at once.
+//! All new tree blocks are put, row by row from the leaves up, before the old ones are given back.
 ghost use Rattle.std.specs.Prelude.{◌≡◌, ◌+◌, ◌*◌, ◌-◌, ◌/◌, ◌%◌, ◌^◌, ◌<◌, ◌≤◌, ◌↔◌, List, ℕ, length, All, IfOk, OnOk, IsTrue};
 ghost use Rattle.zr_tree.specs.Blocks.{FitsAt};
 ghost use Rattle.zr_bptr.specs.declared.Bptr.{Bptr};
@@ -11,7 +11,8 @@ ghost use Rattle.zr_bptr.specs.Spelling.{IsTree};
 ghost use Rattle.zr_tree.specs.Trees.{tree_blocks, AllAt, AreLeaves, AreUnits, IsOneUnit, Rises, HasRoom, Raises, SetsTree, IsHeightFor, KeepsTree, IsTreeWay, most_puts, most_frees, TellsOf};
 
 use crate::reads::place_of;
-use crate::sets::{holes, is_hole, put_block, run_len, set_below, set_each};
+use crate::rows::{free_all, put_rows};
+use crate::sets::{is_hole, run_len};
 use std::alloc::Global;
 use zr_bptr::{Ptr, Tree};
 use zr_store::{Blocks, StoreErr};
@@ -49,6 +50,7 @@ fn raise<B: Blocks>(
     requires tall { level ≤ 5 }
     requires here { AllAt level 0 changes.now }
     requires leaves { AreLeaves changes.now }
+    requires rises { Rises changes.now }
     ensures follows { (start : B) → B.follows start store.old → B.follows start store.new }
     ensures costs { Costs (most_puts t.now.height level (length changes.now)) (most_frees t.now.height level (length changes.now)) (B.account store.old) (B.account store.new) }
     ensures cause { HasCause (most_puts t.now.height level (length changes.now)) (B.account store.old) (B.account store.new) result }
@@ -57,15 +59,9 @@ fn raise<B: Blocks>(
     ensures unit { AreUnits changes.now → 0 < length changes.now → IfOk result IsOneUnit }
     ensures raises { (s : Stored) → B.holds store.old s → AreStored (tree_blocks s t.now) s → IfOk result (λ p. Now (B.holds store.new) (λ n. Raises level changes.now s n t.now p)) }
 {
-    if level == t.height {
-        return set_below(alloc, store, level, 0, &t.root, changes);
-    }
-    let n = run_len(changes, level - 1, 0);
-    let low = raise(alloc, store, t, level - 1, &changes[..n])?;
-    let mut pointers = holes(alloc)?;
-    pointers[0] = low;
-    set_each(alloc, store, level, 0, &mut pointers, &changes[n..])?;
-    let root = put_block(alloc, store, level - 1, pointers.as_slice())?;
+    let mut old = Vec::new(alloc);
+    let root = put_rows(alloc, store, 0, t, level, changes, &mut old)?;
+    free_all(alloc, store, old.as_slice())?;
     Ok(root)
 }
 

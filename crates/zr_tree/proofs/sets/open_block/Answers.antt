@@ -6,4 +6,4 @@ use Rattle.zr_tree.proofs.sets.open_block.Goals as goal
 
 pub returns-in_ok-holes-in-Hole-clause-open : goal.returns-in_ok-holes-in-Hole-clause-open
 returns-in_ok-holes-in-Hole-clause-open g c = λ s holds.
-    subst (λ (p : Ptr). IsOpen s c.args.below p c.in_ok-holes-in-Hole.field-0.items) (sym c.in-Hole.is) (open_hole s c.args.below c.in_ok-holes-in-Hole.field-0.items c.in_ok-holes-in-Hole.ensures.holes)
+    subst (λ (p : Ptr). IsOpen s 0 p c.in_ok-holes-in-Hole.field-0.items) (sym c.in-Hole.is) (open_hole s 0 c.in_ok-holes-in-Hole.field-0.items c.in_ok-holes-in-Hole.ensures.holes)

@@ -8,7 +8,7 @@ pub returns-then-are_holes-clause-puts : goal.returns-then-are_holes-clause-puts
 returns-then-are_holes-clause-puts g c = λ s holds. record {
   stored = s;
   held = holds;
-  is = record { opens = open_hole s c.args.below c.args.pointers.now (c.are_holes.ensures.0 c.if-are_holes.true); whole = tt; swaps = record { stored = λ weight. refl; kept = λ b out stored. refl } };
+  is = record { opens = open_hole s 0 c.args.pointers.now (c.are_holes.ensures.0 c.if-are_holes.true); whole = tt; swaps = record { stored = λ weight. refl; kept = λ b out stored. refl } };
 }
 
 pub put-requires-clause-block : goal.put-requires-clause-block
@@ -27,7 +27,7 @@ returns-clause-puts g c = λ s holds.
       stored = n;
       held = now.held;
       is = record {
-        opens = opened n c.args.below b bytes c.args.pointers.now given c.in_ok-bytes.ensures.pointers;
+        opens = opened n 0 b bytes c.args.pointers.now given c.in_ok-bytes.ensures.pointers;
         whole = put_whole n c.args.below bytes c.as_slice.result.now b c.as_slice.ensures.value c.in_ok-bytes.ensures.block c.in_ok-b.ensures.pointer now.is.given;
         swaps = now.is.swaps;
       };

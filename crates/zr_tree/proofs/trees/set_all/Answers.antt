@@ -33,8 +33,11 @@ returns-clause-sets g c = λ s holds held.
       stored = root.stored;
       held = root.held;
       is = with_past changes low high s root.stored t u parts c.height_for-height.ensures.height.grows (later_past height high (rises_back low high rises) room (first_past height n changes c.run_len-n.ensures.past))
-          (whole low s root.stored t u c.height_for-height.ensures.height.grows c.run_len-n.ensures.here (rises_front low high rises) (g.met.B.Blocks.once c.args.store.now s holds) root.is);
+          (whole low s root.stored t u c.height_for-height.ensures.height.grows c.run_len-n.ensures.here (g.met.B.Blocks.once c.args.store.now s holds) root.is);
     }
+
+pub raise-requires-clause-rises : goal.raise-requires-clause-rises
+raise-requires-clause-rises g c = let changes = c.args.changes.now in let n = c.run_len-n.result in rises_front (take n changes) (drop n changes) (subst Rises (sym (take-append-drop n changes)) c.requires.rises)
 
 pub returns-clause-way : goal.returns-clause-way
 returns-clause-way g c = λ s holds held.

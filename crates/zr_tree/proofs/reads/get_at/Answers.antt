@@ -2,7 +2,7 @@ use Rattle.std.proofs.Common.{◌∙◌, sym}
 use Rattle.std.proofs.lemmas.Result.{IfOk-weaker}
 use Rattle.std.proofs.Math.Nat.{div-eq_of_lt}
 use Rattle.zr_tree.proofs.Holes.{inside}
-use Rattle.zr_tree.proofs.reads.get.Goals as goal
+use Rattle.zr_tree.proofs.reads.get_at.Goals as goal
 
 pub returns-clause-leaf : goal.returns-clause-leaf
 returns-clause-leaf g c = λ s holds.
