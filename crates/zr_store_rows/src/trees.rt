@@ -338,3 +338,64 @@ fn holes_past_the_end_change_nothing(rt: HostRuntime) -> Result<(), Fail> {
     assert_eq!(rt; (grown.height, store.next), (1, 2));
     Ok(())
 }
+
+// The first units of the tree blocks, each before those below it.
+fn places_of(alloc: Global, store: &mut MemBlocks, t: &Tree) -> Result<Vec<u64>, StoreErr>
+    requires { IsTree t.now }
+{
+    let mut places = Vec::new(alloc);
+    for b in &walk(alloc, store, t)? {
+        if b.level > 0 {
+            places.push(b.at.start)?;
+        }
+    }
+    Ok(places)
+}
+
+// The tree blocks of a change take rising units: first those of level 1 by rising index, then those of level 2, at last the
+// root. The old ones are given back after that.
+#[test]
+fn puts_level_by_level(rt: HostRuntime) -> Result<(), Fail> {
+    let alloc = rt.alloc();
+    let mut store = MemBlocks::new(alloc, 64);
+    let a = Ptr::At(store.put(alloc, &[1; 4096], 0)?);
+    let first = set_all(
+        alloc,
+        &mut store,
+        &NO_TREE,
+        &[(0, a), (33, a), (1024, a), (32767, a)],
+    )?;
+    assert_eq!(rt; first.height, 3);
+    let places = places_of(alloc, &mut store, &first)?;
+    assert_eq!(rt; places.as_slice(), [8, 5, 1, 2, 6, 3, 7, 4].as_slice());
+    let second = set_all(alloc, &mut store, &first, &[(1, a), (1025, a)])?;
+    let places = places_of(alloc, &mut store, &second)?;
+    assert_eq!(rt; places.as_slice(), [13, 11, 9, 2, 12, 10, 7, 4].as_slice());
+    assert_eq!(rt; (store.next, store.kept.len()), (14, 9));
+    let taller = set_all(
+        alloc,
+        &mut store,
+        &second,
+        &[(0, Ptr::Hole), (32768, a), (33792, a)],
+    )?;
+    assert_eq!(rt; taller.height, 4);
+    let places = places_of(alloc, &mut store, &taller)?;
+    assert_eq!(rt;
+        places.as_slice(),
+        [22, 20, 17, 14, 2, 12, 10, 7, 4, 21, 18, 15, 19, 16].as_slice()
+    );
+    assert_eq!(rt; (store.next, store.kept.len()), (23, 15));
+    Ok(())
+}
+
+#[test]
+fn puts_the_row_of_the_old_root(rt: HostRuntime) -> Result<(), Fail> {
+    let alloc = rt.alloc();
+    let mut store = MemBlocks::new(alloc, 64);
+    let a = Ptr::At(store.put(alloc, &[1; 4096], 0)?);
+    let t = Tree { root: a, height: 0 };
+    let u = set_all(alloc, &mut store, &t, &[(1023, a)])?;
+    let places = places_of(alloc, &mut store, &u)?;
+    assert_eq!(rt; places.as_slice(), [3, 1, 2].as_slice());
+    Ok(())
+}

@@ -1,5 +1,5 @@
 -- How many blocks a change puts and gives back.
-use Rattle.std.proofs.Common.{◌≡◌, ◌+◌, ◌*◌, ◌-◌, ◌<◌, ◌≤◌, inl, inr, ℕ, zero, suc, min, List, [], ◌∷◌, length, refl, sym, ◌∙◌, ap, subst, arith, Bool, true, false, nat_eq, nat_lt, eq-eqb}
+use Rattle.std.proofs.Common.{◌≡◌, ◌+◌, ◌*◌, ◌-◌, ◌<◌, ◌≤◌, inl, inr, ℕ, zero, suc, min, List, [], ◌∷◌, length, refl, sym, ap, subst, arith, Bool, true, false, nat_eq, nat_lt, eq-eqb}
 use Rattle.std.specs.Prelude.{if◌then◌else◌}
 use Rattle.std.proofs.Math.Nat.{mul-add, suc-mul, mul-le-mul_left, mul-le-mul_right, le_antisymm}
 use Rattle.std.proofs.lemmas.Bool.{ne_eqb, cases_eq}

@@ -1,5 +1,5 @@
 -- One level more at the foot of a tree: what was a leaf is a block.
-use Rattle.std.proofs.Common.{◌≡◌, ◌≢◌, ◌+◌, ◌*◌, ◌/◌, ◌%◌, ◌^◌, ◌<◌, ◌≤◌, ◌⊎◌, inl, inr, ℕ, zero, suc, List, [], ◌∷◌, ◌++◌, refl, sym, ◌∙◌, ap, subst, arith, nat_lt, true, false, Bool}
+use Rattle.std.proofs.Common.{◌≡◌, ◌+◌, ◌*◌, ◌/◌, ◌%◌, ◌^◌, ◌<◌, ◌≤◌, inl, inr, ℕ, zero, suc, List, [], ◌∷◌, refl, sym, ◌∙◌, ap, subst, arith, nat_lt, true, false, Bool}
 use Rattle.std.specs.Prelude.{if◌then◌else◌}
 use Rattle.std.specs.List.{sum_by, flat_map}
 use Rattle.std.proofs.lemmas.Bool.{cases_eq}
@@ -81,9 +81,9 @@ way_up s zero Hole index way whole = tt
 way_up s zero (At b) index way whole = (whole, tt)
 way_up s (suc level) Hole index way whole = tt
 way_up s (suc level) (At b) index way whole = (
-    way.0,
-    way_up s level (slot (kids s level b) (digit (suc level) index)) index (subst (λ (k : ℕ). IsWay s level (slot (kids s level b) k) (index / 32)) (sym (digit_up level index)) way.1)
-        (subst (λ (k : ℕ). IsWholeAt s (leaf_at s level (slot (kids s level b) k) (index / 32))) (sym (digit_up level index)) whole),
+  way.0,
+  way_up s level (slot (kids s level b) (digit (suc level) index)) index (subst (λ (k : ℕ). IsWay s level (slot (kids s level b) k) (index / 32)) (sym (digit_up level index)) way.1)
+      (subst (λ (k : ℕ). IsWholeAt s (leaf_at s level (slot (kids s level b) k) (index / 32))) (sym (digit_up level index)) whole),
 )
 
 -- ---- a leaf is one of the leaves

@@ -1,18 +1,14 @@
 -- One more pointer of a block has changed.
-use Rattle.std.proofs.Common.{◌≡◌, ◌≢◌, ◌+◌, ◌/◌, ◌%◌, ◌<◌, ◌⊎◌, inl, inr, ℕ, List, [], ◌∷◌, ◌++◌, length, set, refl, sym, ◌∙◌, ap, arith, nat_eq, Bool, eq-eqb, get_or-set_other, get_or-set_same}
+use Rattle.std.proofs.Common.{◌≡◌, ◌≢◌, ◌/◌, ◌%◌, ◌<◌, ◌⊎◌, inl, inr, ℕ, List, [], ◌∷◌, ◌++◌, length, set, refl, sym, ◌∙◌, ap, arith, Bool, eq-eqb, get_or-set_other, get_or-set_same}
 use Rattle.std.specs.Prelude.{if◌then◌else◌}
-use Rattle.std.specs.List.{sum_by, flat_map}
+use Rattle.std.specs.List.{sum_by}
 use Rattle.std.proofs.lemmas.Bool.{cases_eq, ne_eqb}
-use Rattle.zr_bptr.specs.declared.Bptr.{Bptr}
 use Rattle.zr_bptr.specs.declared.Ptr.{Ptr}
 use Rattle.zr_bptr.specs.declared.Ptr.TheVariants.{Hole}
-use Rattle.zr_tree.specs.Trees.{slot, own, updated, Rises, weigh, weight_at, weight_of, SetsPointers}
+use Rattle.zr_tree.specs.Trees.{slot, own, updated, SetsPointers}
 use Rattle.zr_tree.proofs.Below.{own_weight}
 use Rattle.zr_tree.proofs.Each.{updated_append, updated_past, weight_at_append, weight_of_append, rises_front, above_of}
 use Rattle.zr_tree.proofs.Sums.{sum_flat, sum_swap}
-
-pub no_pointer : (place : ℕ) (ps : List Ptr) → SetsPointers place [] ps ps
-no_pointer place ps = record { slots = λ index here. refl; swaps_leaves = λ rises. record { stored = λ weight. refl } }
 
 module _ (place : ℕ) (done : List (ℕ × Ptr)) (x : ℕ × Ptr) (qs ps : List Ptr) (count : length ps ≡ 32) (so_far : SetsPointers place done qs ps) (here : x.0 / 32 ≡ place) where
   within : x.0 % 32 < length ps

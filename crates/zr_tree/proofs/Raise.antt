@@ -1,17 +1,28 @@
 -- What was put in all rows, and what is given back after that.
-use Rattle.std.proofs.Common.{◌≡◌, ◌+◌, ◌/◌, ◌^◌, ◌<◌, ◌≤◌, inl, inr, ℕ, List, [], ◌∷◌, sym, ◌∙◌, ap, subst, arith}
+use Rattle.std.proofs.Common.{◌/◌, ◌^◌, ◌≤◌, inl, inr, ℕ, List, [], sym, ◌∙◌, ap, subst, arith}
 use Rattle.std.specs.List.{sum_by}
 use Rattle.std.proofs.lemmas.Bool.{cases_eq}
 use Rattle.zr_bptr.specs.declared.Bptr.{Bptr}
 use Rattle.zr_bptr.specs.declared.Ptr.{Ptr}
 use Rattle.zr_bptr.specs.declared.Tree.{Tree}
 use Rattle.zr_store.specs.Store.{Stored, Swaps, AreStored, IsOnce, one_at}
-use Rattle.zr_tree.specs.Trees.{blocks, updated, tree_at, tree_blocks, AllAt, Brings, PutsTree, Raises, SetsTree}
+use Rattle.zr_tree.specs.Trees.{blocks, tree_at, tree_blocks, AllAt, Brings, PutsTree, Raises, SetsTree}
 use Rattle.zr_tree.proofs.Frames.{Agree, IsSameTree, frame}
-use Rattle.zr_tree.proofs.Holes.{inside, outside}
+use Rattle.zr_tree.proofs.Holes.{inside}
+pub use Rattle.zr_tree.proofs.Holes.{outside}
 use Rattle.zr_tree.proofs.Wholes.{among_hits, brings_same}
 use Rattle.zr_tree.proofs.Others.{keeps_others}
 use Rattle.zr_tree.proofs.Each.{updated_other}
+
+-- what came by the first may go by the second
+pub joined : (a b c : Stored) (out mid into : List Bptr) → Swaps a b out mid → Swaps b c mid into → IsOnce b → Swaps a c out into
+joined a b c out mid into first second once = record {
+  stored = λ weight. let e = first.stored weight in let f = second.stored weight in omega (arith, e, f);
+  kept = λ x free held.
+      let e = first.stored (one_at x.at) in
+      let o = once x.at in
+      second.kept x (omega (arith, e, o, free, held)) (omega (arith, e, free, held)) ∙ first.kept x free held;
+}
 
 -- what is to be given back is stored
 pub gone_stored : (height : ℕ) (changes : List (ℕ × Ptr)) (s0 s1 : Stored) (t : Tree) (p : Ptr) (gone : List Bptr) → PutsTree height changes s0 s1 t p [] gone → AreStored (tree_blocks s0 t) s0 → AreStored gone s1

@@ -11,7 +11,7 @@ use Rattle.zr_bptr.specs.declared.Ptr.TheVariants.{Hole, At}
 use Rattle.zr_bptr.specs.declared.Tree.{Tree}
 use Rattle.zr_store.specs.Store.{Stored, AreStored, one_at}
 use Rattle.zr_tree.specs.Blocks.{pointers_in}
-use Rattle.zr_tree.specs.Trees.{slot, digit, kids, leaf_at, leaves_below, blocks, own, updated, tree_at, AllAt, Rises, weigh, weight_at, weight_of, weight_below, Keeps, IsOpen, IsWholeAt, IsTreeWay, SetsPointers, PutsBlock, PutsChanged, PutsRow}
+use Rattle.zr_tree.specs.Trees.{slot, digit, kids, leaf_at, leaves_below, blocks, own, updated, tree_at, AllAt, Rises, weigh, weight_of, weight_below, Keeps, IsOpen, IsWholeAt, IsTreeWay, SetsPointers, PutsBlock, PutsChanged, PutsRow}
 use Rattle.zr_tree.proofs.Below.{own_weight, weight_same}
 use Rattle.zr_tree.proofs.Each.{updated_append, updated_other, above_none, weight_past, weight_at_append, weight_of_append, rises_back}
 use Rattle.zr_tree.proofs.Frames.{IsSameTree, frame, one_itself, whole_again}

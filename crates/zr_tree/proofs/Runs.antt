@@ -1,5 +1,5 @@
 -- Runs of changes below one block, one after another.
-use Rattle.std.proofs.Common.{◌≡◌, ◌≢◌, ◌+◌, ◌-◌, ◌/◌, ◌^◌, ◌<◌, ◌≤◌, ◌⊎◌, inl, inr, ℕ, zero, suc, List, [], ◌∷◌, ◌++◌, length, take, drop, get_or, get_or-drop, length-drop, length-append, refl, sym, ◌∙◌, ap, subst, arith}
+use Rattle.std.proofs.Common.{◌≡◌, ◌≢◌, ◌+◌, ◌-◌, ◌/◌, ◌^◌, ◌<◌, ◌≤◌, ◌⊎◌, inl, inr, ℕ, zero, suc, List, [], ◌∷◌, ◌++◌, length, take, drop, get_or, get_or-drop, length-drop, length-append, sym, ◌∙◌, ap, subst, arith}
 use Rattle.std.specs.Prelude.{All}
 use Rattle.std.specs.List.{AllByRecursion}
 use Rattle.std.proofs.Math.Seq.{take-add, get_or-append_seam}
@@ -61,7 +61,7 @@ pub done_more : (changes : List (ℕ × Ptr)) (from n place next : ℕ) → plac
 done_more changes from n place next lt at below =
     subst (All (λ (change : ℕ × Ptr). change.0 / 32 < next)) (sym (take-add from n changes))
     (All-append (λ (change : ℕ × Ptr). change.0 / 32 < next) (take from changes) (take n (drop from changes)) (below_more (λ (change : ℕ × Ptr). change.0 / 32) (take from changes) place next (omega (arith, lt)) below)
-        (λ k d l. let e = at k d l in omega (arith, e, lt)))
+    (λ k d l. let e = at k d l in omega (arith, e, lt)))
 
 -- the last run ends as the changes do
 pub ends_here : (changes : List (ℕ × Ptr)) (from n : ℕ) → from + n ≡ length changes → EndsInUnit changes → EndsInUnit (take n (drop from changes))

@@ -1,18 +1,17 @@
 -- From a row to the row above, and from the top of a tree to a taller one.
-use Rattle.std.proofs.Common.{◌≡◌, ◌≢◌, ◌+◌, ◌/◌, ◌^◌, ◌<◌, ◌≤◌, ◌⊎◌, inl, inr, ℕ, zero, suc, List, [], ◌∷◌, ◌++◌, Result, length, get_or, refl, sym, ◌∙◌, ap, subst, arith, nat_eq, nat_lt, true, false, Bool, eq-eqb}
+use Rattle.std.proofs.Common.{◌≡◌, ◌≢◌, ◌+◌, ◌/◌, ◌^◌, ◌<◌, ◌≤◌, ◌⊎◌, inl, inr, ℕ, zero, suc, List, [], ◌∷◌, Result, length, get_or, refl, sym, ◌∙◌, ap, subst, arith, nat_lt, true, false, Bool, eq-eqb}
 use Rattle.std.specs.Prelude.{if◌then◌else◌, All}
 use Rattle.std.specs.List.{sum_by, AllByRecursion}
 use Rattle.std.proofs.lemmas.Bool.{cases_eq, ne_eqb}
 use Rattle.std.proofs.lemmas.List.Sums.{sum_by-cons}
-use Rattle.std.proofs.lemmas.List.Elements.{All-head, All-tail, All-cons, All-nil}
+use Rattle.std.proofs.lemmas.List.Elements.{All-head, All-tail, All-cons}
 use Rattle.zr_bptr.specs.declared.Bptr.{Bptr}
 use Rattle.zr_bptr.specs.declared.Ptr.{Ptr}
 use Rattle.zr_bptr.specs.declared.Ptr.TheVariants.{Hole, At}
 use Rattle.zr_bptr.specs.declared.Tree.{Tree}
-use Rattle.zr_store.specs.Store.{Stored, AreStored, one_at, hits}
+use Rattle.zr_store.specs.Store.{Stored, AreStored, one_at}
 use Rattle.zr_store.specs.declared.StoreErr.{StoreErr}
-use Rattle.zr_tree.specs.Trees.{leaf_at, leaves_below, blocks, own, updated, tree_at, tree_blocks, AllAt, AreOfLevel, Rises, weigh, weight_at, weight_of, weight_below, Keeps, Brings, IsAmong, IsWhole, IsWholeAt, IsTreeWay, SwapsLeaves, EndsInUnit, HasRoot, TellsOf, PutsRow, PutsTree}
-use Rattle.zr_tree.specs.Blocks.{FitsAt}
+use Rattle.zr_tree.specs.Trees.{leaf_at, leaves_below, blocks, own, updated, tree_at, AllAt, Rises, weigh, weight_at, weight_of, weight_below, Keeps, Brings, IsAmong, IsWhole, IsWholeAt, IsTreeWay, EndsInUnit, HasRoot, TellsOf, PutsRow, PutsTree}
 use Rattle.zr_tree.proofs.Below.{own_weight, weight_same, updated_last, leaf_weighs}
 use Rattle.zr_tree.proofs.Frames.{IsSameTree, one_itself, whole_again, hole_leaf}
 use Rattle.zr_tree.proofs.Holes.{inside, outside, hole_blocks, hole_leaves}
@@ -292,9 +291,9 @@ in_place height level root p x changes s0 s1 before after first above put =
       | inr ne ↦ ap (λ (b : Bool). if b then x.1 else Hole) (ne_eqb x.0 index ne) ∙ sym (ap (λ (b : Bool). if b then x.1 else tree_at s0 (tree_of root 0) index) (ne_eqb x.0 index ne) ∙ not_first s0 root index (λ e. ne (first ∙ sym e)))
     ]))
     (λ weight.
-        let n = none_above weight s0 root changes above in
-        let r : weigh weight (tree_at s0 (tree_of root 0) x.0) ≡ weigh weight root = ap (weigh weight) (is_first s0 root x.0 first) in
-        omega (arith, n, r)) put
+    let n = none_above weight s0 root changes above in
+    let r : weigh weight (tree_at s0 (tree_of root 0) x.0) ≡ weigh weight root = ap (weigh weight) (is_first s0 root x.0 first) in
+    omega (arith, n, r)) put
 
 pub grown : (height level : ℕ) (root p : Ptr) (changes all : List (ℕ × Ptr)) (s0 s1 : Stored) (before after : List Bptr) → HasRoot root changes all → Rises changes → PutsTree height all s0 s1 (tree_of Hole level) p before after → PutsTree height changes s0 s1 (tree_of root 0) p before after
 grown height level root p [] all s0 s1 before after has rises put =

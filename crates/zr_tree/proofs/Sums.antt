@@ -34,11 +34,3 @@ pub one_of : (f : Ptr → ℕ) (ps : List Ptr) (k : ℕ) → k < length ps → f
 one_of f [] k lt = absurd (omega arith)
 one_of f (p ∷ ps) zero lt = omega (arith, sum_by-cons f p ps)
 one_of f (p ∷ ps) (suc k) lt = let rest = one_of f ps k (omega arith) in omega (arith, sum_by-cons f p ps, rest)
-
-pub two_of : (f : Ptr → ℕ) (ps : List Ptr) (j k : ℕ) → j < length ps → k < length ps → j ≢ k → f (slot ps j) + f (slot ps k) ≤ sum_by f ps
-two_of f [] j k jl kl ne = absurd (omega arith)
-two_of f (p ∷ ps) zero zero jl kl ne = absurd (ne refl)
-two_of f (p ∷ ps) zero (suc k) jl kl ne = let rest = one_of f ps k (omega arith) in omega (arith, sum_by-cons f p ps, rest)
-two_of f (p ∷ ps) (suc j) zero jl kl ne = let rest = one_of f ps j (omega arith) in omega (arith, sum_by-cons f p ps, rest)
-two_of f (p ∷ ps) (suc j) (suc k) jl kl ne =
-    let rest = two_of f ps j k (omega arith) (omega arith) (λ e. ne (ap suc e)) in omega (arith, sum_by-cons f p ps, rest)

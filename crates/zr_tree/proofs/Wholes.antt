@@ -14,7 +14,7 @@ use Rattle.zr_store.specs.declared.StoreErr.{StoreErr}
 use Rattle.zr_store.specs.declared.StoreErr.TheVariants.{Malformed, Damaged, Unresolved}
 use Rattle.zr_store.proofs.Causes.{again}
 use Rattle.zr_tree.specs.Blocks.{IsNoBlock}
-use Rattle.zr_tree.specs.Trees.{IsAmong, IsWhole, IsWholeAt, Brings, TellsOf, IsOpen, own, blocks, kids, slot}
+use Rattle.zr_tree.specs.Trees.{IsAmong, IsWhole, IsWholeAt, Brings, TellsOf, own, blocks, kids, slot}
 pub use Rattle.zr_tree.proofs.Frames.{whole_again}
 use Rattle.zr_tree.proofs.Frames.{one_itself}
 use Rattle.zr_tree.proofs.Sums.{sum_flat, one_of}
@@ -158,17 +158,6 @@ kid_within s level below k p b ps next level_is is kids_are lt next_is weight =
     let same = ap (λ (qs : List Ptr). sum_by weight (flat_map (blocks s below) qs)) kids_are in
     omega (arith, all, one, this, same, sum_by-cons weight b (flat_map (blocks s below) (kids s below b)))
 
-own_above : (s : Stored) (below : ℕ) (p : Ptr) → Within (own p) (blocks s (suc below) p)
-own_above s below Hole weight = omega arith
-own_above s below (At b) weight = within_first b (flat_map (blocks s below) (kids s below b)) weight
-
-pub own_within : (s : Stored) (level below : ℕ) (p : Ptr) → level ≡ suc below → Within (own p) (blocks s level p)
-own_within s level below p level_is = subst (λ (l : ℕ). Within (own p) (blocks s l p)) (sym level_is) (own_above s below p)
-
-pub open_within : (s : Stored) (level below : ℕ) (p : Ptr) (ps : List Ptr) → level ≡ suc below → IsOpen s below p ps → Within (flat_map (blocks s below) ps) (blocks s level p)
-open_within s level below p ps level_is h =
-    subst (λ (bs : List Bptr). Within (flat_map (blocks s below) ps) bs) (sym (ap (λ (l : ℕ). blocks s l p) level_is ∙ h.tree_blocks)) (within_back (own p) (flat_map (blocks s below) ps))
-
 -- ---- errors
 
 -- an error that tells of no block at all
@@ -222,18 +211,6 @@ tells_before s t out into r brings stored h = record {
 pub brings_none : (s : Stored) (xs : List Bptr) → Brings s s xs xs
 brings_none s xs = record { each = λ b h. inl (h, refl) }
 
--- what came in two steps
-pub brings_then : (a b c : Stored) (out mid into : List Bptr) → Brings a b out mid → Brings b c mid into → Brings a c out into
-brings_then a b c out mid into first second = record {
-  each = λ x h. elim (second.each x h) [
-    | inr whole ↦ inr whole
-    | inl old ↦ elim (first.each x old.0) [
-      | inl older ↦ inl (older.0, old.1 ∙ older.1)
-      | inr whole ↦ inr (whole_again b c x old.1 whole)
-    ]
-  ];
-}
-
 -- of two parts one has it
 pub among_parts : (b : Bptr) (xs ys : List Bptr) → IsAmong b (xs ++ ys) → IsAmong b xs ⊎ IsAmong b ys
 among_parts b xs ys h = elim (cases_eq (sum_by (like b) xs) 0) [
@@ -248,26 +225,6 @@ among_own s (At x) b whole h = elim (like_cases b x) [
   | inl e ↦ subst (IsWhole s) (sym e) whole
   | inr z ↦ absurd (let n = among_count b (x ∷ []) h in omega (arith, n, z, sum_by-cons (like b) x []))
 ]
-
--- the new block and those below it
-pub brings_block : (a b c : Stored) (p : Ptr) (out mid : List Bptr) → Brings a b out mid → IsWholeAt c p → ((x : Bptr) → IsAmong x mid → c.bytes x ≡ b.bytes x) → Brings a c out (own p ++ mid)
-brings_block a b c p out mid first whole same = record {
-  each = λ x h. elim (among_parts x (own p) mid h) [
-    | inl own_is ↦ inr (among_own c p x whole own_is)
-    | inr below ↦ elim (first.each x below) [
-      | inl old ↦ inl (old.0, same x below ∙ old.1)
-      | inr w ↦ inr (whole_again b c x (same x below) w)
-    ]
-  ];
-}
-
-pub brings_within : (s t : Stored) (xs ys into : List Bptr) → Within xs ys → Brings s t xs into → Brings s t ys into
-brings_within s t xs ys into within h = record {
-  each = λ b k. elim (h.each b k) [
-    | inl old ↦ inl (among_within b xs ys within old.0, old.1)
-    | inr whole ↦ inr whole
-  ];
-}
 
 -- the blocks stay, and their bytes too
 pub brings_same : (s t u : Stored) (out into : List Bptr) → Brings s t out into → ((x : Bptr) → IsAmong x into → u.bytes x ≡ t.bytes x) → Brings s u out into

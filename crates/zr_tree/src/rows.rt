@@ -88,7 +88,11 @@ pub(crate) fn put_rows<B: Blocks>(
 }
 
 // Gives back blocks, but not those below them.
-pub(crate) fn free_all<B: Blocks>(alloc: Global, store: &mut B, old: &[Bptr]) -> Result<(), StoreErr>
+pub(crate) fn free_all<B: Blocks>(
+    alloc: Global,
+    store: &mut B,
+    old: &[Bptr],
+) -> Result<(), StoreErr>
     ensures follows { (start : B) → B.follows start store.old → B.follows start store.new }
     ensures costs { Costs 0 (length old.now) (B.account store.old) (B.account store.new) }
     ensures cause { HasCause 0 (B.account store.old) (B.account store.new) result }

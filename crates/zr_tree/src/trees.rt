@@ -1,6 +1,8 @@
 //! Whole trees: a change may make a tree taller, and trees beside it stay.
 //!
-//! All new tree blocks are put, row by row from the leaves up, before the old ones are given back.
+//! What a change puts and what it takes away are two steps: all new tree blocks are put, row by row from the leaves up,
+//! before the first of the old ones is given back. So no block is put and given back by one change, and each old block can
+//! be read until the end.
 ghost use Rattle.std.specs.Prelude.{◌≡◌, ◌+◌, ◌*◌, ◌-◌, ◌/◌, ◌%◌, ◌^◌, ◌<◌, ◌≤◌, ◌↔◌, List, ℕ, length, All, IfOk, OnOk, IsTrue};
 ghost use Rattle.zr_tree.specs.Blocks.{FitsAt};
 ghost use Rattle.zr_bptr.specs.declared.Bptr.{Bptr};
@@ -65,9 +67,10 @@ fn raise<B: Blocks>(
     Ok(root)
 }
 
-/// Changes leaf pointers. The old tree blocks are given back. At most five tree blocks a change are put and given back,
-/// and four more are put where the tree grows, also where the answer is an error. Only a leaf makes a tree taller: a hole
-/// past its end changes nothing.
+/// Changes leaf pointers. New tree blocks are put level by level, the lowest first and each by rising index, and then the
+/// old ones are given back in that order. At most five tree blocks a change are put and given back, and four more are put
+/// where the tree grows, also where the answer is an error. Only a leaf makes a tree taller: a hole past its end changes
+/// nothing.
 pub fn set_all<B: Blocks>(
     alloc: Global,
     store: &mut B,

@@ -1,5 +1,4 @@
-use Rattle.std.proofs.Common.{◌≡◌, ◌≢◌, ◌∙◌, ◌+◌, ◌-◌, ◌*◌, ◌≤◌, ◌/◌, ◌^◌, ◌<◌, inl, [], ◌∷◌, ℕ, List, suc, length, Err, Vec, Global, refl, sym, ap, subst, arith, rules}
-use Rattle.std.specs.Prelude.{All}
+use Rattle.std.proofs.Common.{◌≡◌, ◌≢◌, ◌+◌, ◌-◌, ◌*◌, ◌≤◌, ◌/◌, ◌^◌, ◌<◌, inl, ℕ, List, suc, length, Err, Vec, Global, sym, ap, subst, arith, rules}
 use Rattle.std.specs.List.{sum_by}
 use Rattle.std.proofs.Math.Nat.{div-eq_of_lt, mul-le-mul_left, suc-mul}
 use Rattle.std.proofs.lemmas.Result.{IfOk-weaker, on_ok_weaker, err_from_is_err_and}
@@ -7,10 +6,9 @@ use Rattle.zr_bptr.specs.declared.Bptr.{Bptr}
 use Rattle.zr_bptr.specs.declared.Ptr.{Ptr}
 use Rattle.zr_bptr.specs.declared.Ptr.TheVariants.{Hole}
 use Rattle.zr_store.specs.Store.{AreStored}
-use Rattle.zr_store.specs.Causes.{Costs, HasCause}
 use Rattle.zr_store.proofs.Causes.{cause_from, cause_most, cause_then, costs_most, costs_then}
 use Rattle.zr_tree.specs.Blocks.{FitsAt}
-use Rattle.zr_tree.specs.Trees.{AllAt, AreOfLevel, AreRows, EndsInUnit, IsOneUnit, Rises, HasRoot, PutsTree, TellsOf, blocks, tree_blocks, row_puts}
+use Rattle.zr_tree.specs.Trees.{AllAt, AreOfLevel, AreRows, IsOneUnit, Rises, HasRoot, PutsTree, TellsOf, blocks, tree_blocks, row_puts}
 use Rattle.zr_tree.proofs.Costing.{row_most, rows_most, puts_stepped, puts_rooted}
 use Rattle.zr_tree.proofs.Holes.{hole_blocks, pow-pos}
 use Rattle.zr_tree.proofs.Levels.{tree_of, blocks_up}
@@ -45,7 +43,7 @@ returns-then-height-eq0-clause-puts g t c = λ s holds held.
       held = holds;
       is = subst (λ (h : ℕ). PutsTree h changes s s tree p old old) (sym height_is)
           (subst (λ (k : ℕ). PutsTree 0 changes s s (tree_of tree.root k) p old old) (sym low)
-              (last_put tree.root p changes s old c.last_or.ensures.none c.last_or.ensures.last (subst (λ (h : ℕ). AllAt h 0 changes) height_is c.requires.here) c.requires.rises));
+          (last_put tree.root p changes s old c.last_or.ensures.none c.last_or.ensures.last (subst (λ (h : ℕ). AllAt h 0 changes) height_is c.requires.here) c.requires.rises));
     }
 
 -- ---- a taller tree
@@ -136,7 +134,7 @@ module _ (height level : ℕ) (changes : List (ℕ × Ptr)) (tall : height ≢ 0
       let level_is : level ≡ suc (level - 1) = omega (arith, some) in
       subst (λ (k : ℕ). row_most (height - 1) (length changes) + row_puts (level - 1) (height - 1) few ≤ row_puts k height (length changes)) (sym level_is)
       (subst (λ (h : ℕ). row_most (height - 1) (length changes) + row_puts (level - 1) (height - 1) few ≤ row_puts (suc (level - 1)) h (length changes)) (sym above_is)
-          (puts_stepped (level - 1) (height - 1) few (length changes) (omega (arith, tall, some, le)) fewer))
+      (puts_stepped (level - 1) (height - 1) few (length changes) (omega (arith, tall, some, le)) fewer))
 
 pub returns-in_err-row-clause-costs : goal.returns-in_err-row-clause-costs
 returns-in_err-row-clause-costs g t c =
@@ -242,6 +240,6 @@ returns-clause-puts g t c = λ s holds held.
       held = now.held;
       is = subst (λ (h : ℕ). PutsTree h changes s now.stored tree p old new) (sym height_is)
           (subst (λ (k : ℕ). PutsTree (suc height) changes s now.stored (tree_of root k) p old new) (sym level_is)
-              (stepped height level root p changes row s s1 now.stored old mid new held_suc lower.is
-                  (subst (λ (xs : List (ℕ × Ptr)). PutsTree height xs s1 now.stored (tree_of root level) p mid new) c.as_slice-2.ensures.value now.is)));
+          (stepped height level root p changes row s s1 now.stored old mid new held_suc lower.is
+          (subst (λ (xs : List (ℕ × Ptr)). PutsTree height xs s1 now.stored (tree_of root level) p mid new) c.as_slice-2.ensures.value now.is)));
     }) (c.put_rows-2.ensures.puts s1 lower.held (stored_kept s s1 level root lower.is.kept grows held_above))

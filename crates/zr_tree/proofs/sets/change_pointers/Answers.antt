@@ -1,5 +1,4 @@
-use Rattle.std.proofs.Common.{◌≡◌, ◌∙◌, ◌%◌, ◌-◌, ◌≤◌, ◌<◌, [], ◌∷◌, ◌++◌, ℕ, List, suc, length, get_or, take, set, sym, ap, subst, arith, get_or-set_same, add-one}
-use Rattle.std.specs.Prelude.{All}
+use Rattle.std.proofs.Common.{◌≡◌, ◌∙◌, ◌%◌, ◌-◌, ◌<◌, ℕ, List, suc, length, get_or, take, set, sym, ap, subst, arith, get_or-set_same, add-one}
 use Rattle.std.proofs.Math.ListN.{length-set}
 use Rattle.std.proofs.Math.Seq.{take-suc}
 use Rattle.std.proofs.lemmas.List.{take_all}
@@ -7,7 +6,7 @@ use Rattle.std.proofs.lemmas.List.Elements.{All-set}
 use Rattle.zr_bptr.specs.declared.Ptr.{Ptr}
 use Rattle.zr_bptr.specs.declared.Ptr.TheVariants.{Hole}
 use Rattle.zr_tree.specs.Blocks.{FitsAt}
-use Rattle.zr_tree.specs.Trees.{AllAt, AreOfLevel, SetsPointers, IsOneUnit, slot}
+use Rattle.zr_tree.specs.Trees.{SetsPointers, slot}
 use Rattle.zr_tree.proofs.Pointers.{one_pointer}
 use Rattle.zr_tree.proofs.Units.{unit_there}
 use Rattle.zr_tree.proofs.sets.change_pointers.Goals as goal

@@ -1,19 +1,17 @@
-use Rattle.std.proofs.Common.{◌≡◌, ◌≢◌, ◌∙◌, ◌+◌, ◌-◌, ◌*◌, ◌≤◌, ◌/◌, ◌%◌, ◌^◌, ◌<◌, ◌⊎◌, inl, inr, [], ◌∷◌, ◌++◌, ℕ, Err, List, suc, refl, length, get_or, take, drop, sym, ap, subst, arith, rules, length-append, length-drop}
+use Rattle.std.proofs.Common.{◌≡◌, ◌≢◌, ◌∙◌, ◌+◌, ◌-◌, ◌≤◌, ◌/◌, ◌<◌, inl, inr, [], ◌∷◌, ◌++◌, ℕ, List, suc, refl, length, get_or, take, drop, sym, ap, subst, arith, length-append}
 use Rattle.std.specs.Prelude.{All}
 use Rattle.std.proofs.Math.Seq.{take-add}
 use Rattle.std.proofs.lemmas.Bool.{cases_lt}
 use Rattle.std.proofs.lemmas.List.{length-take, take-append-drop}
-use Rattle.std.proofs.lemmas.List.Elements.{All-append, All-cons, All-nil, All-take, All-drop}
-use Rattle.std.proofs.lemmas.Result.{IfOk-weaker, err_from_is_err_and}
+use Rattle.std.proofs.lemmas.List.Elements.{All-append, All-cons, All-nil}
+use Rattle.std.proofs.lemmas.Result.{err_from_is_err_and}
 use Rattle.zr_bptr.specs.declared.Ptr.{Ptr}
 use Rattle.zr_bptr.specs.declared.Ptr.TheVariants.{Hole}
-use Rattle.zr_store.specs.Store.{AreStored}
-use Rattle.zr_store.specs.Causes.{Costs, HasCause}
 use Rattle.zr_store.proofs.Causes.{cause_from, cause_most, cause_then, costs_most, costs_then}
 use Rattle.zr_tree.specs.Blocks.{FitsAt}
-use Rattle.zr_tree.specs.Trees.{AllAt, AreOfLevel, AreRows, EndsInUnit, IsOneUnit, Rises, PutsChanged, PutsRow, TellsOf, blocks}
+use Rattle.zr_tree.specs.Trees.{AllAt, AreOfLevel, EndsInUnit, Rises, PutsChanged, PutsRow, blocks}
 use Rattle.zr_tree.proofs.Each.{rises_front}
-use Rattle.zr_tree.proofs.Row.{no_row, one_block}
+use Rattle.zr_tree.proofs.Row.{one_block}
 use Rattle.zr_tree.proofs.Runs.{rest_is, rest_at, first_at, rest_long, rises_more, next_place, row_more, done_more, ends_here, ends_more, room_more, IsOneRun, one_more_fits, all_fit, run_ends}
 use Rattle.zr_tree.proofs.Steps.{tells_kept}
 use Rattle.zr_tree.proofs.Wholes.{tells_from}
@@ -50,10 +48,10 @@ loop-from-preserved g c =
       few = let e = inv.few in omega (arith, now_long, e, some);
       one = subst (λ (k : ℕ). IsOneRun changes (from + n) k) (sym now_long)
           (run_ends changes from n (length row) within lt inv.one
-              (elim (cases_lt (from + n) (length changes)) [
-                | inl more ↦ inl (λ e. next_ne more (sym e ∙ sym place_is))
-                | inr end ↦ inr end
-              ]));
+          (elim (cases_lt (from + n) (length changes)) [
+            | inl more ↦ inl (λ e. next_ne more (sym e ∙ sym place_is))
+            | inr end ↦ inr end
+          ]));
       some = λ more. omega (arith, now_long);
       count = let a = inv.count in let b = c.in_ok-p.ensures.count in omega (arith, a, b, now_long);
       none = λ hole. let a = inv.none hole in let b = c.in_ok-p.ensures.none hole in omega (arith, a, b);
@@ -61,7 +59,7 @@ loop-from-preserved g c =
       costs = costs_most (length c.push.new.self.items) 0 (omega (arith, now_long)) (omega arith) (costs_then inv.costs c.put_changed.ensures.costs);
       leaves = subst (AreOfLevel (c.args.below + 1)) (sym row_is)
           (All-append (λ (change : ℕ × Ptr). FitsAt (c.args.below + 1) change.1) row ((place, p) ∷ []) inv.leaves
-              (All-cons (λ (change : ℕ × Ptr). FitsAt (c.args.below + 1) change.1) (place, p) [] c.in_ok-p.ensures.fits (All-nil (λ (change : ℕ × Ptr). FitsAt (c.args.below + 1) change.1))));
+          (All-cons (λ (change : ℕ × Ptr). FitsAt (c.args.below + 1) change.1) (place, p) [] c.in_ok-p.ensures.fits (All-nil (λ (change : ℕ × Ptr). FitsAt (c.args.below + 1) change.1))));
       unit = λ ends end.
           let last = subst (λ (xs : List (ℕ × Ptr)). EndsInUnit (take n xs)) (sym (rest_is changes from)) (ends_here changes from n end ends) in
           subst EndsInUnit (sym row_is) (ends_more row (place, p) (c.in_ok-p.ensures.unit last (omega (arith, length-take n rest, some, n_fits))));
