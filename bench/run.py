@@ -570,6 +570,79 @@ def writes_on(zr):
     return zr.do(*lines).processor / len(lines)
 
 
+def moved(zr, index):
+    """Takes the steps of the removal of a device to its end: the cost, and how many units were copied."""
+    cost, units = Cost(), 0
+    while True:
+        answer, step = zr.send(['step evac'] * 16 if units % 4096 == 0 else ['step evac'])
+        cost += step
+        for line in answer.splitlines():
+            if line == 'gone %d' % index:
+                return cost, units
+            if line.startswith('copied '):
+                units += int(line.split()[1])
+            elif line != 'refused 19 nothing to do':
+                raise Wrong(line)
+
+
+def evac(runs, memory, disk):
+    """The steps that move 896 MiB off a device of 1 GiB, beside `dd` of as many bytes between the same files."""
+    made = row('step evac to gone, 1 GiB, on a disk', 'dd bs=1M conv=fdatasync', 'MiB/s', least=0.8)
+    for _ in range(runs):
+        with Folder(disk) as folder:
+            with Zr(folder, 'a:%d' % (1024 * MIB), 'b:%d' % (2048 * MIB)) as zr:
+                zr.do('create p 1 a', 'make 1 32', *fills(1, 7168, 32), 'sync', 'add b', 'remove a')
+                cost, units = moved(zr, 0)
+                zr.do('export')
+            bound, _ = run_alone(['dd', 'if=' + os.path.join(folder, 'a'), 'of=' + os.path.join(folder, 'b'), 'bs=1M',
+                                  'count=%d' % (units * UNIT // MIB), 'conv=fdatasync,notrunc'])
+        total = units * UNIT / MIB
+        made.add(total / cost.clock, total / bound.clock)
+    return [made]
+
+
+def chain(runs, memory, disk):
+    """`read` of blocks that lie behind three devices that are gone, beside that of blocks that lie where they were put."""
+    count = 4096
+    made = row('read, 1-unit blocks, behind three devices', 'read of as many', 'us', least=0.5)
+    for _ in range(runs):
+        each = []
+        for others in ((), ('b', 'c', 'd')):
+            with Folder(memory) as folder:
+                with Zr(folder, *('%s:%d' % (name, 64 * MIB) for name in ('a',) + others)) as zr:
+                    zr.do('create p 1 a', 'make 1 1', *fills(1, count, 1))
+                    for index, name in enumerate(others):
+                        zr.do('add ' + name, 'remove ' + 'abc'[index])
+                        moved(zr, index)
+                    zr.do('export')
+                with Zr(folder, *('a',) + others) as zr:
+                    zr.do('import')
+                    each.append(zr.do(*['read 1 %d 4096' % (k * UNIT) for k in range(count)]).processor / count * 1e6)
+        made.add(each[1], each[0])
+    return [made]
+
+
+def generated(runs, memory, disk):
+    """A generated run with two rounds of steps behind each line, beside the digests and the writes that it makes."""
+    made = row('--gen 7:2000 --auto 2', 'digest and dd of its bytes', 'ms', least=0.5)
+    for _ in range(runs):
+        with Folder(memory) as folder:
+            told = os.path.join(folder, 'io')
+            words = PROGRAM + ['--gen', '7:2000', '--auto', '2'] + ['%s:%d' % (name, 64 * MIB) for name in 'abc']
+            child = subprocess.Popen(['sh', '-c', '"$@"; cat /proc/$$/io > "$0"', told] + words, cwd=folder,
+                                     stdin=subprocess.DEVNULL, stdout=subprocess.DEVNULL)
+            _, status, usage = os.wait4(child.pid, 0)
+            child.returncode = os.waitstatus_to_exitcode(status)
+            if child.returncode != 0:
+                raise Wrong('a generated run ended with status %d' % child.returncode)
+            with open(told) as lines:
+                io = dict(line.split(': ') for line in lines.read().splitlines())
+            done = Cost(read=int(io['rchar']), written=int(io['wchar']))
+            bound = bound_read(folder, done) + digest(UNIT, done.written / UNIT) + put(folder, UNIT, done.written // UNIT)
+        made.add((usage.ru_utime + usage.ru_stime) * 1e3, bound.processor * 1e3)
+    return [made]
+
+
 # --- The chart ---------------------------------------------------------------------------------------------------------
 
 def chart():
@@ -609,7 +682,7 @@ def built(crate):
 
 
 PARTS = {'fill': fill, 'sync': sync, 'flushes': flushes, 'read': read, 'whole': whole, 'idents': idents,
-         'spans': spans, 'allocate': allocate, 'commits': commits}
+         'spans': spans, 'allocate': allocate, 'commits': commits, 'evac': evac, 'chain': chain, 'generated': generated}
 
 
 def main():

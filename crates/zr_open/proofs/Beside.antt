@@ -25,7 +25,7 @@ use Rattle.zr_store.specs.Store.{Stored}
 use Rattle.zr_current.specs.Current.{HasSlots}
 use Rattle.zr_roots.specs.Devices.{HasItsDisks, HasRows, IsCut, is_there}
 use Rattle.zr_open.specs.Opened.{IsHeadOn, IsNotServedRoot}
-use Rattle.zr_roots.specs.Standing.{Stands, blocks_of, image_of}
+use Rattle.zr_roots.specs.Standing.{Stands, blocks_of}
 use Rattle.zr_open.specs.Roots.{FindsBeside, HasSaved, IsBeside, IsLawfulSaved, IsSavedRoot, meta_of, saved_in}
 use Rattle.zr_open.specs.declared.saved.SavedRoot.{SavedRoot}
 use Rattle.zr_open.specs.declared.saved.Beside.{Beside}

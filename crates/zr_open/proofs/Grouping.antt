@@ -27,7 +27,7 @@ use Rattle.zr_open.specs.Groups.{HoldsGroup, HoldsRoot}
 use Rattle.zr_open.specs.Looked.{IsLookedAt}
 use Rattle.zr_open.specs.Opened.{IsFresh}
 use Rattle.zr_open.specs.Rewound.{rewound}
-use Rattle.zr_roots.specs.Standing.{Stands, image_of}
+use Rattle.zr_roots.specs.Standing.{Stands}
 use Rattle.zr_open.specs.Roots.{HasParts, meta_of, saved_in, told_root}
 use Rattle.zr_open.specs.declared.look.Looked.{Looked}
 use Rattle.zr_open.proofs.Beside.{beside_moved, is_beside}

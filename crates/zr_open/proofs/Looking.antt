@@ -10,7 +10,7 @@ use Rattle.zr_current.specs.Current.{HasSlots}
 use Rattle.zr_open.specs.Found.{FindsOn}
 use Rattle.zr_open.specs.Looked.{IsLooked, IsLookedAt}
 use Rattle.zr_open.specs.Opened.{HasBlock, IsNotServed, IsRefusedRoot, IsRefusedSaved}
-use Rattle.zr_roots.specs.Standing.{Stands, image_of}
+use Rattle.zr_roots.specs.Standing.{Stands}
 use Rattle.zr_open.specs.declared.look.Looked.{Looked}
 use Rattle.zr_open.proofs.Beside.{beside_moved, head_moved, not_served_moved}
 

@@ -1,5 +1,5 @@
 -- What a commit left is found again.
-use Rattle.std.proofs.Common.{◌≡◌, ◌∙◌, ℕ, Bool, List, [], length, map, Option, Some, Ok, sym, ap, subst}
+use Rattle.std.proofs.Common.{◌≡◌, ℕ, Bool, List, [], length, map, Option, Some, Ok, sym, subst}
 use Rattle.zr_image.specs.Current.{FindsCurrent, ShowsAll, slots_of}
 use Rattle.zr_label.specs.Blocks.{IsUber}
 use Rattle.zr_label.specs.declared.root.Seen.{Seen}

@@ -1,5 +1,5 @@
 -- What an import may be refused for.
-use Rattle.std.proofs.Common.{◌≡◌, ◌⊎◌, inl, inr, ℕ, ◌≤◌, List, Option, Result, Ok, Err, refl, sym, ◌∙◌, subst, arith}
+use Rattle.std.proofs.Common.{◌≡◌, ◌⊎◌, inl, inr, ℕ, List, Option, Result, Ok, Err, refl, sym, ◌∙◌, subst, arith}
 use Rattle.zr_base.specs.declared.refusal.Refusal.{Refusal}
 use Rattle.zr_base.specs.declared.refusal.Refusal.TheVariants.{BadRoot, Damaged, GroupNotKept, NoCheckpoint, NoPoolOnDevices}
 use Rattle.zr_image.specs.Current.{AreTwoCopies, AreTwoPools, AreTwoRoots, ExcludesPair, ExcludesSlot, FindsCurrent, IsOldest, IsOnePool, slots_of}

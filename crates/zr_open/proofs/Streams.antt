@@ -1,6 +1,5 @@
 -- The streams of a head, cut into those of its devices.
-use Rattle.std.proofs.Common.{◌≡◌, ℕ, zero, suc, ◌+◌, ◌-◌, ◌<◌, ◌≤◌, List, [], ◌∷◌, ◌++◌, length, take, drop, get_or, refl, sym, ◌∙◌, ap, subst, arith}
-use Rattle.std.specs.List.{AllByRecursion, sum_by}
+use Rattle.std.proofs.Common.{◌≡◌, ℕ, ◌+◌, ◌-◌, ◌<◌, List, [], ◌∷◌, ◌++◌, length, take, drop, get_or, refl, sym, ◌∙◌, ap, subst, arith}
 use Rattle.std.proofs.lemmas.List.{append_assoc, drop_more, length-take-le, take_more}
 use Rattle.std.proofs.lemmas.List.Elements.{All-cons, All-head, All-nil, All-tail}
 use Rattle.std.proofs.lemmas.List.Sums.{sum_by-cons}
@@ -8,7 +7,7 @@ use Rattle.std.specs.Prelude.{All}
 use Rattle.zr_sync.specs.Pools.{AreStreams}
 use Rattle.zr_base.specs.declared.space.DevRow.{DevRow}
 use Rattle.zr_label.specs.Blocks.{no_row}
-use Rattle.zr_meta.specs.Heads.{IsHead, IsStream, cond_count, stream_count, stream_total}
+use Rattle.zr_meta.specs.Heads.{IsHead, stream_count, stream_total}
 use Rattle.zr_meta.specs.declared.Head.{Head}
 use Rattle.zr_meta.specs.declared.Stream.{Stream}
 use Rattle.zr_sync.specs.Heads.{streams_in, streams_of}

@@ -1,22 +1,15 @@
 -- Blocks as they stand on the disks, by the slots of the devices.
-use Rattle.std.proofs.Common.{◌≡◌, ℕ, zero, suc, ◌<◌, Bool, true, false, List, [], ◌∷◌, ◌++◌, map, Option, Some, None, refl, ◌∙◌, ap, subst, arith}
+use Rattle.std.proofs.Common.{◌≡◌, ℕ, List, [], ◌∷◌, ◌++◌, map, Option, Some, None, refl, ◌∙◌, ap, subst}
 use Rattle.std.specs.List.{flat_map}
 use Rattle.std.proofs.Math.Path.{fun_ext}
 use Rattle.zr_bptr.specs.declared.Bptr.{Bptr}
-use Rattle.zr_cache.specs.Entries.{entries}
-use Rattle.zr_cache.specs.declared.table.Cache.{Cache}
-use Rattle.zr_cache.specs.Sums.{Entry}
 use Rattle.zr_label.specs.declared.root.Uber.{Uber}
 use Rattle.zr_image.specs.Reading.{bare_devices, store_of}
-use Rattle.std.specs.Prelude.{Contains}
 use Rattle.zr_rules.specs.Devices.{Devices, devices_of}
 use Rattle.zr_rules.specs.Places.{Place}
 use Rattle.zr_rules.specs.Resolve.{resolved_units}
-use Rattle.zr_rules.specs.Space.{Space}
 use Rattle.zr_store.specs.Store.{Stored}
-use Rattle.zr_vdev.specs.Runs.{view_of}
-use Rattle.zr_vdev.specs.Stores.{HoldsRead}
-use Rattle.zr_view.specs.Views.{View, place_bytes, slot_of, unit_bytes}
+use Rattle.zr_view.specs.Views.{place_bytes, unit_bytes}
 use Rattle.zr_current.specs.Current.{HasSlots}
 use Rattle.zr_import.specs.Directories.{IsInPlace}
 use Rattle.zr_import.specs.Spending.{HasOlder, MarksHeld}

@@ -1,16 +1,15 @@
 -- What an open pool leaves on its disks for an import to find.
-use Rattle.std.specs.Prelude.{◌≡◌, ℕ, ◌+◌, List, [], ◌∷◌, Option, Some, Ok}
+use Rattle.std.specs.Prelude.{◌≡◌, ℕ, ◌+◌, List, [], ◌∷◌, Option}
 use Rattle.zr_base.specs.declared.space.CkptPart.{CkptPart}
 use Rattle.zr_base.specs.declared.space.DevPart.{DevPart}
 use Rattle.zr_base.specs.declared.space.DevRow.{DevRow}
 use Rattle.zr_base.specs.declared.space.DevState.TheVariants.{On}
 use Rattle.zr_base.specs.declared.space.SpaceParts.{SpaceParts}
-use Rattle.zr_image.specs.Current.{FindsCurrent, ShowsAll, slots_of}
+use Rattle.zr_image.specs.Current.{slots_of}
 use Rattle.zr_image.specs.Roots as image
 use Rattle.zr_image.specs.Roots.{late_counted, rows_of}
 use Rattle.zr_image.specs.StateOf.{IsSaved}
 use Rattle.zr_import.specs.Words.{HaveWords}
-use Rattle.zr_label.specs.declared.root.Seen.{Seen}
 use Rattle.zr_label.specs.declared.root.Uber.{Uber}
 use Rattle.zr_meta.specs.Parts.{SpellsParts}
 use Rattle.zr_meta.specs.Streams.{SpellsPart}

@@ -1,6 +1,6 @@
 -- What the disks have of a root, and the pool that is opened from it.
 use Rattle.std.specs.Prelude.{◌≡◌, ℕ, ◌++◌, List, [], All, Option, Some, None, is_some}
-use Rattle.zr_base.specs.declared.space.CkptPart.TheVariants.{Clear, Held}
+use Rattle.zr_base.specs.declared.space.CkptPart.TheVariants.{Clear}
 use Rattle.zr_base.specs.declared.space.Dva.{Dva}
 use Rattle.zr_image.specs.Roots as image
 use Rattle.zr_image.specs.Roots.{rows_of, head_tree, IsSavedUber}
@@ -12,20 +12,13 @@ use Rattle.zr_open.specs.Opened.{CoversOwed, IsNotServedRoot, IsServed}
 use Rattle.zr_open.specs.declared.saved.SavedRoot.{SavedRoot}
 use Rattle.zr_open.specs.declared.saved.Beside.{Beside}
 use Rattle.zr_open.specs.declared.saved.Beside.TheVariants.{Alone, Saved, NotServed}
-use Rattle.zr_rules.specs.Devices.{devices_of}
 use Rattle.zr_rules.specs.Space.{Space}
-use Rattle.zr_bptr.specs.declared.Bptr.{Bptr}
 use Rattle.zr_label.specs.declared.root.Uber.{Uber}
-use Rattle.zr_image.specs.Reading.{bare_devices, store_of}
-use Rattle.zr_import.specs.Directories.{IsInPlace}
-use Rattle.zr_import.specs.Spending.{HasOlder, HaveHeld, MarksHeld}
-use Rattle.zr_import.specs.Words.{ReadsMeta, meta_reach}
+use Rattle.zr_import.specs.Spending.{HaveHeld}
 use Rattle.zr_import.specs.declared.roots.Root.{Root}
 use Rattle.zr_judge.specs.Parts.{HasMapping}
 use Rattle.zr_roots.specs.Standing.{Stands, blocks_of}
-use Rattle.zr_objset.specs.Records.{all_reach}
 use Rattle.zr_space.specs.Opens.{IsOpened}
-use Rattle.zr_store.specs.Store.{Stored}
 use Rattle.zr_sync.specs.Heads.{cond_streams, head_of, streams_of}
 use Rattle.zr_sync.specs.declared.open.Checkpoint.{Checkpoint}
 use Rattle.zr_sync.specs.declared.open.OpenPool.{OpenPool}

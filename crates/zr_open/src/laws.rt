@@ -8,7 +8,6 @@ ghost use Rattle.zr_image.specs.Current.{FindsCurrent, ShowsAll, slots_of};
 ghost use Rattle.zr_image.specs.Reading.{store_of};
 ghost use Rattle.zr_image.specs.Roots.{head_tree, rows_of};
 ghost use Rattle.zr_image.specs.StateOf.{AreObjects, StateOf};
-ghost use Rattle.zr_label.specs.Blocks.{IsUber};
 ghost use Rattle.zr_label.specs.declared.root.Seen.{Seen};
 ghost use Rattle.zr_label.specs.declared.root.Uber.{Uber};
 ghost use Rattle.zr_meta.specs.Heads.{IsHead, head_bytes};

@@ -1,5 +1,5 @@
 //! The open pool of a root that was read.
-ghost use Rattle.std.specs.Prelude.{◌≡◌, ◌↔◌, ℕ, ◌≤◌, ◌^◌, ◌+◌, ◌++◌, List, [], length, All, IsTrue, IfOk, IfSome, IsErrOf};
+ghost use Rattle.std.specs.Prelude.{◌≡◌, ◌↔◌, ℕ, ◌≤◌, ◌^◌, ◌+◌, ◌++◌, List, length, All, IsTrue, IfOk, IfSome, IsErrOf};
 ghost use Rattle.std.specs.List.{AllByRecursion};
 ghost use Rattle.zr_base.specs.declared.refusal.Refusal.{Refusal};
 ghost use Rattle.zr_bptr.specs.Spelling.{IsTree};
@@ -153,6 +153,7 @@ fn cond_streams(cond: &Option<CondAt>, rest: &[Stream]) -> CondStreams
         Some(_) => CondStreams {
             entries: rest[0],
             counts: rest[1],
+            done: false,
         },
     }
 }

@@ -3,7 +3,7 @@
 //! The root that a checkpoint saved is written once more, as the current one: in the group behind, and as a reset. So what was
 //! allocated since is free, and what was freed since is not. Nothing else is written. A device that was added since is no
 //! device of the pool any more, and one that had gone by then is gone.
-ghost use Rattle.std.specs.Prelude.{◌≡◌, ◌⊎◌, ◌+◌, ◌≤◌, ◌<◌, ◌^◌, ℕ, List, length, nat_lt, Some, None, Ok, Err, IfOk, IfSome, IfNone, OnOk, IsErrOf, if◌then◌else◌};
+ghost use Rattle.std.specs.Prelude.{◌≡◌, ◌⊎◌, ◌+◌, ◌≤◌, ◌<◌, ◌^◌, length, Some, None, Ok, Err, IfOk, IfSome, IfNone, OnOk, IsErrOf};
 ghost use Rattle.zr_base.specs.Counts.{HasRisen};
 ghost use Rattle.zr_base.specs.declared.refusal.Refusal.{Refusal};
 ghost use Rattle.zr_label.specs.Blocks.{IsUber};
@@ -15,7 +15,6 @@ ghost use Rattle.zr_sync.specs.Pools.{IsOpen};
 ghost use Rattle.zr_sync.specs.Writes.{WorksOnDisks};
 ghost use Rattle.zr_sync.specs.declared.fault.Fault.TheVariants.{No, Stops};
 ghost use Rattle.zr_sync.specs.declared.stop.Stop.TheVariants.{DiskFault};
-ghost use Rattle.zr_view.specs.Views.{slot_of};
 ghost use Rattle.zr_base.specs.declared.refusal.Refusal.TheVariants.{NoCheckpoint};
 ghost use Rattle.zr_image.specs.Current.{slots_of};
 ghost use Rattle.zr_label.specs.declared.root.Uber.{Uber};

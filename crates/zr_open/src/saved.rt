@@ -2,7 +2,7 @@
 //!
 //! It stands on the same disks, among the devices that were there by then. It is read as the current root is, opened by
 //! itself to see that it could be, and closed again: of it the open pool needs no more than where its metadata lies.
-ghost use Rattle.std.specs.Prelude.{◌≡◌, ◌⊎◌, ◌≤◌, ℕ, List, [], length, Some, None, IfOk, IfSome, IfNone, IsErrOf};
+ghost use Rattle.std.specs.Prelude.{◌≡◌, ◌⊎◌, ℕ, List, [], length, Some, None, IfOk, IfSome, IfNone, IsErrOf};
 ghost use Rattle.zr_base.specs.Counts.{HasRisen};
 ghost use Rattle.zr_base.specs.declared.refusal.Refusal.{Refusal};
 ghost use Rattle.zr_base.specs.declared.space.CkptPart.TheVariants.{Clear};

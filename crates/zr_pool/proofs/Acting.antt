@@ -14,7 +14,7 @@ use Rattle.zr_script.specs.declared.reply.AuditLine.{AuditLine}
 use Rattle.zr_script.specs.declared.reply.MapLine.{MapLine}
 use Rattle.zr_model.specs.Objects.{Object, Objects, blank, with_bytes, reads_lost, changes_lost, has_lost, object_sum}
 use Rattle.zr_model.specs.State.{InService, PoolState, with_objects}
-use Rattle.zr_moves.specs.Answers.{needs_lost, of_object, with_devs, with_saved}
+use Rattle.zr_moves.specs.Answers.{of_object, with_devs, with_saved}
 use Rattle.zr_change.specs.declared.ranges.Edit.{Edit}
 use Rattle.zr_held.specs.Steps.{IsObjectOf}
 use Rattle.zr_lines.specs.Reads.{IsReadOf}

@@ -1,5 +1,4 @@
 -- Work on the disks leaves paths, input and output as they were.
-use Rattle.std.proofs.Common.{refl}
 use Rattle.zr_shelf.specs.Disks.{Stand}
 use Rattle.zr_shelf.specs.Moments.{World}
 use Rattle.zr_shelf.proofs.Doings.{IsQuiet, quiet_throughout}

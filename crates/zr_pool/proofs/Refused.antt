@@ -1,9 +1,9 @@
 -- Refusals that are passed on.
-use Rattle.std.proofs.Common.{◌≡◌, ◌⊎◌, inl, inr, ℕ, List, Option, Some, None, Result, Ok, Err, refl, sym, ◌∙◌, ap, subst}
+use Rattle.std.proofs.Common.{◌≡◌, ◌⊎◌, inl, inr, ℕ, List, Option, Some, None, Result, Ok, Err, refl, sym, ◌∙◌, subst}
 use Rattle.std.specs.Prelude.{IfOk, IfSome}
 use Rattle.zr_base.specs.declared.refusal.Refusal.{Refusal}
 use Rattle.zr_change.specs.declared.ranges.Edit.{Edit}
-use Rattle.zr_lines.specs.Causes.{IsLookRefusal, IsUndone, IsShort, IsLongRun}
+use Rattle.zr_lines.specs.Causes.{IsLookRefusal, IsUndone}
 use Rattle.zr_lines.specs.declared.range.Reach.{Reach}
 use Rattle.zr_rules.specs.Columns.{free_units}
 use Rattle.zr_sync.specs.declared.fault.Fault.{Fault}

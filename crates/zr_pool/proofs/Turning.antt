@@ -8,7 +8,7 @@ use Rattle.zr_script.specs.declared.reply.Reply.{Reply}
 use Rattle.zr_script.specs.declared.reply.Reply.TheVariants as reply
 use Rattle.zr_shelf.specs.Disks.{Stand}
 use Rattle.zr_model.specs.State.{State, PoolState, ShelfPart, Empty, Refused, Is, IsOpened, Work, no_pool, untold, created}
-use Rattle.zr_model.specs.Runs.{Shelf, TurnsTo}
+use Rattle.zr_model.specs.Runs.{TurnsTo}
 use Rattle.zr_moves.specs.Answers.{rewound}
 use Rattle.zr_sync.specs.States.{HoldsState}
 use Rattle.zr_sync.specs.declared.fault.Fault.{Fault}
@@ -17,7 +17,7 @@ use Rattle.zr_sync.specs.declared.open.OpenPool.{OpenPool}
 use Rattle.zr_pool.specs.Ends.{answer_of, is_closing}
 use Rattle.zr_pool.specs.Plain.{exported, IsMade, IsOpeningCause, IsPlainRefusal, IsPlainTurn, IsPlainOn, IsPlainOf, IsOpeningTurn, IsObjectsTurn, IsUntold, shelf_of}
 use Rattle.zr_pool.specs.Pools.{IsPartOf, StandsFor, work_of}
-use Rattle.zr_pool.specs.Turns.{on_devices, IsTurn, IsOpenAnswer, IsOpenRefusal, IsClosedAnswer, IsClosedRefusal, stays_open, is_opened, is_opener}
+use Rattle.zr_pool.specs.Turns.{on_devices, IsTurn, IsOpenAnswer, IsOpenRefusal, IsClosedAnswer, IsClosedRefusal, stays_open, is_opener}
 use Rattle.zr_pool.proofs.Staying.{told_anew}
 
 -- ---- the state of an open pool

@@ -1,5 +1,5 @@
 -- How what was done, refused or stopped is told to a run.
-use Rattle.std.specs.Prelude.{Bool, true, false, Option, Some, None, Result, Ok, Err}
+use Rattle.std.specs.Prelude.{Bool, true, false, Option, Some, Result, Ok, Err}
 use Rattle.zr_model.specs.declared.pool.Stop as model
 use Rattle.zr_model.specs.declared.pool.Stop.TheVariants as run
 use Rattle.zr_script.specs.declared.command.Command.{Command}

@@ -1,5 +1,5 @@
 -- What a line to the pool on devices makes of the plain objects that its disks hold.
-use Rattle.std.specs.Prelude.{◌≡◌, ◌⊎◌, ℕ, Bool, true, false, List, length, Option, Some, None, is_some, MatchBool}
+use Rattle.std.specs.Prelude.{◌≡◌, ℕ, Bool, true, false, length, Some, None, is_some, MatchBool}
 use Rattle.std.specs.FinMap as map
 use Rattle.zr_base.specs.declared.refusal.Refusal.{Refusal}
 use Rattle.zr_base.specs.declared.refusal.Refusal.TheVariants as refusal

@@ -3,7 +3,7 @@ use Rattle.std.specs.Prelude.{◌≡◌, ℕ, Bool, true, false, ◌≤◌, List
 use Rattle.std.specs.List.{list_any}
 use Rattle.zr_base.specs.declared.space.DevPart.{DevPart}
 use Rattle.zr_image.specs.StateOf.{is_discarding}
-use Rattle.zr_model.specs.State.{State, PoolState, ShelfPart, Empty, Refused, Is, Work}
+use Rattle.zr_model.specs.State.{State, ShelfPart, Empty, Refused, Is, Work}
 use Rattle.zr_rules.specs.Places.{is_leaving}
 use Rattle.zr_rules.specs.Space.{Space}
 use Rattle.zr_rules.specs.Steps.{has_condensing}

@@ -16,7 +16,7 @@ use Rattle.zr_lines.specs.Answers.{IsNoRoom, IsSumRefusal, IsReadRefusal, IsMake
 use Rattle.zr_model.specs.State.{Work}
 use Rattle.zr_model.specs.declared.pool.Actor.{Actor}
 use Rattle.zr_model.specs.declared.pool.Actor.TheVariants.{Evac, Discard, Condense}
-use Rattle.zr_model.specs.Runs.{Point, Turn, Meaning}
+use Rattle.zr_model.specs.Runs.{Meaning}
 use Rattle.zr_pool.specs.Plain.{IsObjectsTurn, is_of_removal}
 
 -- the lines on objects

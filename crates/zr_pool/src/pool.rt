@@ -1,5 +1,5 @@
 //! The pool on the devices of the words, as a run over lines knows it.
-ghost use Rattle.std.specs.Prelude.{◌≡◌, ◌≤◌, ◌⊎◌, ◌&&◌, ℕ, List, Bool, Option, None, true, false, is_some, IsTrue, IfOk, IfErr, IfSome, IfNone, IsErrOf, OnOk, OnErr, length};
+ghost use Rattle.std.specs.Prelude.{◌≡◌, ◌≤◌, ℕ, List, Option, None, true, false, is_some, IfOk, IfSome, IfNone, IsErrOf, OnOk, OnErr, length};
 ghost use Rattle.zr_base.specs.Counts.{HasRisen};
 ghost use Rattle.zr_base.specs.declared.refusal.Refusal.{Refusal};
 ghost use Rattle.zr_script.specs.Grammar.{IsLine};

@@ -130,7 +130,7 @@ pub fn removal_line<S: Shelf>(
         }
         Command::Cancel => Ok(Reply::Cancelled(cancel(alloc, pool, shelf, pick)?)),
         Command::StepEvac => Ok(evac_reply(step_evac(alloc, pool, shelf, pick)?)),
-        Command::StepCondense => Ok(condense_reply(step_condense(alloc, pool, shelf, pick)?)),
+        Command::StepCondense => Ok(condense_reply(step_condense(pool)?)),
         _ => unreachable!(),
     }
 }

@@ -1,5 +1,5 @@
 -- A step of condensing keeps each device's row, and a device that is due is found in order.
-use Rattle.std.proofs.Common.{◌≡◌, ◌≢◌, ◌∙◌, inl, inr, ℕ, zero, suc, ◌+◌, ◌<◌, ◌≤◌, Bool, true, false, ◌==◌, List, [], ◌∷◌, length, drop, Option, Some, None, refl, sym, ap, add-one, arith, if◌then◌else◌}
+use Rattle.std.proofs.Common.{◌≡◌, ◌∙◌, inl, inr, ℕ, zero, suc, ◌+◌, ◌<◌, ◌≤◌, Bool, true, false, ◌==◌, List, [], ◌∷◌, length, drop, Option, Some, None, refl, sym, ap, add-one, arith, if◌then◌else◌}
 use Rattle.std.specs.Prelude.{◌&&◌, MatchBool}
 use Rattle.std.proofs.lemmas.Bool.{cases_eq}
 use Rattle.zr_base.specs.declared.space.CondPart.{CondPart}

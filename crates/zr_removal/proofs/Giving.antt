@@ -1,5 +1,5 @@
 -- Metadata that is given back run by run, and what stays copied meanwhile.
-use Rattle.std.proofs.Common.{◌≡◌, ◌∙◌, ◌⊎◌, inl, inr, ℕ, ◌+◌, ◌≤◌, ◌<◌, Bool, true, false, List, [], ◌∷◌, ◌==◌, refl, sym, ap, subst, arith, if◌then◌else◌}
+use Rattle.std.proofs.Common.{◌≡◌, ◌∙◌, ◌⊎◌, inl, inr, ℕ, ◌+◌, ◌≤◌, ◌<◌, Bool, true, false, [], ◌∷◌, refl, sym, ap, subst, arith, if◌then◌else◌}
 use Rattle.std.proofs.lemmas.Bool.Decides.{nat_tests}
 use Rattle.zr_base.specs.declared.space.DevRow.{DevRow}
 use Rattle.zr_base.specs.declared.space.Dva.{Dva}
@@ -8,7 +8,7 @@ use Rattle.zr_rules.specs.Mappings.{end_of_last}
 use Rattle.zr_rules.specs.Places.{in_address, is_held, is_leaving, one_if, state_of_dev}
 use Rattle.zr_rules.specs.Roles.{Role, dropped, is_held_role, is_meta_role}
 use Rattle.zr_rules.specs.Roles.Role.{DeferredMeta, Meta, SavedMeta}
-use Rattle.zr_rules.specs.Space.{Space, IsLawful, frontier, has_place, is_uncopied, role_at, set_hits}
+use Rattle.zr_rules.specs.Space.{Space, IsLawful, frontier, has_place, role_at, set_hits}
 use Rattle.zr_space.specs.Metadata.{GivesMeta, meta_left}
 use Rattle.zr_space.specs.Plans.{IsCopied}
 use Rattle.zr_space.specs.Saved.{GivesSaved, saved_left}

@@ -1,6 +1,6 @@
 -- A pool of which one device has another state is open.
 use Rattle.std.proofs.Common.{◌≡◌, ◌≢◌, ◌∙◌, ◌⊎◌, inl, inr, ℕ, zero, suc, ◌<◌, ◌≤◌, ◌^◌, Bool, true, false, List, [], ◌∷◌, length, set, take, drop, get_or, Option, Some, None, refl, sym, ap, subst, arith}
-use Rattle.std.specs.Prelude.{IsTrue, ◌&&◌, ◌||◌, nat_le, nat_lt, slice_index, slice_index_or}
+use Rattle.std.specs.Prelude.{IsTrue, ◌&&◌, ◌||◌, nat_le, slice_index}
 use Rattle.std.specs.List.{list_all, list_any}
 use Rattle.std.proofs.lemmas.Bool.{cases_eq}
 use Rattle.std.proofs.lemmas.Bool.Decides.{nat_tests}
@@ -16,7 +16,7 @@ use Rattle.zr_meta.specs.Heads.{IsSaved}
 use Rattle.zr_rules.specs.Equation.{devices_in}
 use Rattle.zr_rules.specs.Places.{is_gone, is_leaving, is_on, part_of, state_of_dev}
 use Rattle.zr_rules.specs.Space.{IsLawful, Space}
-use Rattle.zr_rules.specs.Steps.{Cancels, Finishes, IsSameElsewhere, Leaves}
+use Rattle.zr_rules.specs.Steps.{Cancels, Finishes, Leaves}
 use Rattle.zr_view.specs.Runs.{HasDisk}
 use Rattle.zr_view.specs.Views.{slot_of}
 use Rattle.zr_vdev.specs.Mounts.{AreMounted}

@@ -1,12 +1,10 @@
 -- A step of condensing on an open pool.
-use Rattle.std.specs.Prelude.{◌≡◌, ◌<◌, ℕ, Bool, true, false, ◌||◌, List, Option, Some, None, slice_index_or, slice_set, length}
+use Rattle.std.specs.Prelude.{◌≡◌, ◌<◌, ℕ, Bool, true, false, ◌||◌, Option, Some, None, slice_index_or, slice_set, length}
 use Rattle.zr_base.specs.declared.space.CondPart.{CondPart}
 use Rattle.zr_base.specs.declared.space.Condensed.{Condensed}
 use Rattle.zr_base.specs.declared.space.Condensed.TheVariants.{Done}
-use Rattle.zr_rules.specs.Space.{Space}
 use Rattle.zr_rules.specs.Steps.{CondensesSome, due_device}
-use Rattle.zr_vdev.specs.Stores.{KeepsOthers}
-use Rattle.zr_vdev.specs.declared.kind.Kind.TheVariants.{Meta}
+use Rattle.zr_sync.specs.declared.open.CondStreams.{CondStreams}
 use Rattle.zr_sync.specs.declared.open.OpenPool.{OpenPool}
 use Rattle.zr_sync.specs.declared.open.Turned.{Turned}
 
@@ -31,16 +29,18 @@ turned_by t first outcome = record { entries = t.entries || is_done outcome; cou
 abbrev pub none_turned : Turned
 none_turned = record { entries = false; counts = false }
 
--- A step was made, and what it turned is noted.
+-- at the end of a condensing the next commit is to give its streams back
+abbrev pub cond_behind : CondStreams → Condensed → CondStreams
+cond_behind t outcome = record t { done = t.done || is_done outcome }
+
+-- A step was made, and what it turned and whether it was the last is noted. Nothing else changed.
 pub record CondensesMapping (old new : OpenPool) (d : ℕ) (outcome : Condensed) : Type 0 where
   pub step : CondensesSome old.space outcome new.space
   pub turned : d < length old.turned → new.turned ≡ slice_set old.turned d (turned_by (slice_index_or old.turned d none_turned) (is_first old.space.parts.cond) outcome)
-  pub rest : new ≡ record old { space = new.space; turned = new.turned }
+  pub rest : new ≡ record old { space = new.space; turned = new.turned; cond = cond_behind old.cond outcome }
 
--- A step was made, and at the end the streams of the condensing are given back.
+-- A step was made on the mapping that is condensed, or on that of the lowest device that is due.
 pub record CondensesPool (old new : OpenPool) (outcome : Condensed) : Type 0 where
-  pub worked : OpenPool
   pub dev : ℕ
   pub next : condensed_next old.space.parts.cond (due_device old.space) ≡ Some dev
-  pub mapping : CondensesMapping old worked dev outcome
-  pub streams : KeepsOthers Meta worked.space new.space
+  pub mapping : CondensesMapping old new dev outcome

@@ -1,5 +1,5 @@
 -- The devices of which a removal speaks.
-use Rattle.std.specs.Prelude.{◌≡◌, ◌≢◌, ℕ, ◌<◌, List, Option, Some, sum_by, length}
+use Rattle.std.specs.Prelude.{◌≡◌, ◌≢◌, ℕ, ◌<◌, List, Some, sum_by, length}
 use Rattle.std.specs.Int.{div_ceil}
 use Rattle.zr_base.specs.declared.space.DevState.TheVariants.{On}
 use Rattle.zr_base.specs.declared.space.Extent.{Extent}

@@ -1,5 +1,5 @@
 -- Why a line of a removal is refused.
-use Rattle.std.specs.Prelude.{◌≡◌, ◌⊎◌, ℕ, ◌+◌, ◌-◌, ◌<◌, Bool, true, false, length}
+use Rattle.std.specs.Prelude.{◌≡◌, ◌⊎◌, ℕ, ◌+◌, ◌-◌, ◌<◌, true, false, length}
 use Rattle.zr_base.specs.declared.refusal.Refusal.{Refusal}
 use Rattle.zr_base.specs.declared.refusal.Refusal.TheVariants.{CheckpointExists, DiscardingCheckpoint, NoRemoval, NoRoom, NothingToDo, OnlyDevice, RemovalInProgress}
 use Rattle.zr_base.specs.declared.space.CkptPart.{CkptPart}

@@ -1,5 +1,5 @@
 -- What the lines of a removal do to an open pool.
-use Rattle.std.specs.Prelude.{◌≡◌, ◌⊎◌, ℕ, ◌<◌, true, false, List, Some, IfSome, slice_index_or}
+use Rattle.std.specs.Prelude.{◌≡◌, ℕ, true, List, IfSome, slice_index_or}
 use Rattle.zr_base.specs.declared.space.DevState.TheVariants.{On, Leaving, Gone}
 use Rattle.zr_label.specs.Blocks.{no_row}
 use Rattle.zr_rules.specs.Space.{Space}

@@ -1,7 +1,7 @@
 //! A removal is given up.
 //!
 //! The copies are freed and the device is in service again, with what it held. Its commit is a reset.
-ghost use Rattle.std.specs.Prelude.{◌≡◌, ◌<◌, ◌⊎◌, ◌^◌, ℕ, List, true, false, IsErrOf, IfErr, IfOk, OnOk, length};
+ghost use Rattle.std.specs.Prelude.{◌≡◌, ◌<◌, ℕ, List, true, IsErrOf, IfErr, IfOk, OnOk};
 ghost use Rattle.zr_base.specs.Counts.{HasRisen};
 ghost use Rattle.zr_base.specs.declared.refusal.Refusal.{Refusal};
 ghost use Rattle.zr_rules.specs.Places.{is_leaving, state_of_dev};

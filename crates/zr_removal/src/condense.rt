@@ -2,27 +2,19 @@
 //!
 //! The first step counts the fresh obsolete units, and the last puts the new mapping in place of the old one: then the next
 //! commit has to write what changed of the mapping's streams anew. In between the mapping stays, and what was kept so far
-//! has streams of its own, which go with the last step.
-ghost use Rattle.std.specs.Prelude.{◌≡◌, ◌<◌, ◌≤◌, ◌^◌, ◌⊎◌, ℕ, List, Option, Some, None, true, false, IsErrOf, IfErr, IfOk, IfSome, OnOk, length, slice_index_or, slice_set};
-ghost use Rattle.zr_base.specs.Counts.{HasRisen};
+//! has streams of its own: the last root has them until the commit behind the last step, which gives them back.
+ghost use Rattle.std.specs.Prelude.{◌≡◌, ◌<◌, ℕ, List, Some, true, IsErrOf, IfErr, IfOk, OnOk, length, slice_index_or, slice_set};
 ghost use Rattle.zr_base.specs.declared.refusal.Refusal.{Refusal};
-ghost use Rattle.zr_rules.specs.Steps.{CondensesSome, due_device, has_condensing};
-ghost use Rattle.zr_shelf.specs.Counts.{NoneFell};
+ghost use Rattle.zr_rules.specs.Steps.{due_device, has_condensing};
 ghost use Rattle.zr_sync.specs.Pools.{IsOpen};
-ghost use Rattle.zr_sync.specs.Writes.{WorksOnDisks};
 ghost use Rattle.zr_sync.specs.declared.fault.Fault.TheVariants.{No, Stops};
 ghost use Rattle.zr_sync.specs.declared.stop.Stop.TheVariants.{DiskFault};
-ghost use Rattle.zr_removal.specs.Condensing.{CondensesPool, CondensesMapping, condensed_next, is_first, none_turned, turned_by};
+ghost use Rattle.zr_removal.specs.Condensing.{CondensesPool, CondensesMapping, cond_behind, condensed_next, is_first, none_turned, turned_by};
 ghost use Rattle.zr_removal.specs.Refusals.{IsCondenseRefusal};
-ghost use Rattle.zr_removal.specs.Streams.{GivesStreams};
 
-use crate::streams::give_cond;
-use std::alloc::Global;
 use zr_base::{Condensed, DevState, NoMemory, Refusal};
-use zr_choose::Chooser;
-use zr_shelf::Shelf;
 use zr_space::Space;
-use zr_sync::{Fault, OpenPool, Stop, Turned};
+use zr_sync::{CondStreams, Fault, OpenPool, Turned};
 
 // The lowest removed device whose mapping is due.
 fn due(space: &Space) -> Option<u32>
@@ -91,7 +83,17 @@ fn is_first(space: &Space) -> bool
     }
 }
 
-// Works through the next entries of a mapping, and notes what the next commit has to write anew of its streams.
+// Notes whether the streams of the condensing are to be given back behind a step.
+fn note_done(cond: &mut CondStreams, outcome: Condensed)
+    ensures { cond.new ≡ cond_behind cond.old outcome }
+{
+    if matches!(outcome, Condensed::Done) {
+        cond.done = true;
+    }
+}
+
+// Works through the next entries of a mapping, and notes what the next commit has to do with its streams and with those of
+// the condensing.
 fn condense_mapping(pool: &mut OpenPool, dev: u32) -> Result<Condensed, NoMemory>
     requires pool { (sizes : List ℕ) × IsOpen sizes pool.old }
     ensures condenses { IfOk result (CondensesMapping pool.old pool.new dev) }
@@ -100,52 +102,22 @@ fn condense_mapping(pool: &mut OpenPool, dev: u32) -> Result<Condensed, NoMemory
     let first = is_first(&pool.space);
     let outcome = pool.space.condense_step()?;
     note_turned(&mut pool.turned, dev, first, outcome);
+    note_done(&mut pool.cond, outcome);
     Ok(outcome)
-}
-
-// Gives back the streams of a condensing that has come to its end.
-fn give_worked<S: Shelf>(
-    alloc: Global,
-    pool: &mut OpenPool,
-    shelf: &mut S,
-    pick: &Chooser,
-    outcome: Condensed,
-) -> Result<(), Stop>
-    requires pool { IsOpen (S.sizes shelf.old) pool.old }
-    ensures gave { GivesStreams (S.sizes shelf.old) (S.sizes shelf.new) (S.counts shelf.old) (S.counts shelf.new) (S.tells shelf.old) (S.tells shelf.new) (S.world shelf.old) (S.world shelf.new) pool.old pool.new }
-    ensures pool { OnOk result (IsOpen (S.sizes shelf.new) pool.new) }
-    ensures fault { IsErrOf result DiskFault → HasRisen (S.counts shelf.old).disk (S.counts shelf.new).disk }
-{
-    match outcome {
-        Condensed::Done => give_cond(alloc, pool, shelf, pick),
-        Condensed::Kept(_) | Condensed::Nothing => Ok(()),
-    }
 }
 
 /// Works through 64 entries of the mapping that is condensed, or of the lowest removed device whose mapping is due. It
-/// answers how many of them it kept, or that these were the last. It costs a step for each entry; the first counts all fresh
-/// obsolete units of the mapping, and the last reads the trees of the condensing's streams.
-pub fn step_condense<S: Shelf>(
-    alloc: Global,
-    pool: &mut OpenPool,
-    shelf: &mut S,
-    pick: &Chooser,
-) -> Result<Condensed, Fault>
-    requires pool { IsOpen (S.sizes shelf.old) pool.old }
-    ensures sizes { S.sizes shelf.new ≡ S.sizes shelf.old }
-    ensures none_fell { NoneFell (S.counts shelf.old) (S.counts shelf.new) }
-    ensures told { S.tells shelf.old → S.tells shelf.new }
-    ensures disks { S.tells shelf.old → WorksOnDisks (S.world shelf.old) (S.world shelf.new) }
-    ensures fault { IsErrOf result (Stops DiskFault) → HasRisen (S.counts shelf.old).disk (S.counts shelf.new).disk }
-    ensures pool { OnOk result (IsOpen (S.sizes shelf.new) pool.new) }
+/// answers how many of them it kept, or that these were the last. No device is touched. It costs a step for each entry; the
+/// first counts all fresh obsolete units of the mapping.
+pub fn step_condense(pool: &mut OpenPool) -> Result<Condensed, Fault>
+    requires pool { (sizes : List ℕ) × IsOpen sizes pool.old }
+    ensures pool { (sizes : List ℕ) → IsOpen sizes pool.old → OnOk result (IsOpen sizes pool.new) }
     ensures due { OnOk result (has_condensing pool.old.space ≡ true) }
     ensures condenses { IfOk result (CondensesPool pool.old pool.new) }
+    ensures fault { IsErrOf result (Stops DiskFault) → ⊥ }
     ensures refused { (r : Refusal) → IsErrOf result (No r) → IsCondenseRefusal pool.old.space r }
     ensures unchanged { (r : Refusal) → IsErrOf result (No r) → pool.new ≡ pool.old }
-    ensures untouched { (r : Refusal) → IsErrOf result (No r) → S.world shelf.new ≡ S.world shelf.old }
 {
     let dev = demand_to_condense(pool)?;
-    let outcome = condense_mapping(pool, dev)?;
-    give_worked(alloc, pool, shelf, pick, outcome)?;
-    Ok(outcome)
+    Ok(condense_mapping(pool, dev)?)
 }

@@ -2,7 +2,7 @@
 //!
 //! Units are copied until none is left, and then the device is gone: its commit, a reset, is the first root of which the
 //! device is no part. Where a disk fails in copying, the removal is given up, since what was not copied has to stay.
-ghost use Rattle.std.specs.Prelude.{◌≡◌, ◌≤◌, ◌<◌, ◌⊎◌, ◌^◌, ℕ, List, true, false, IsErrOf, IfErr, IfOk, IfSome, OnOk, length};
+ghost use Rattle.std.specs.Prelude.{◌≡◌, ◌<◌, ◌⊎◌, ℕ, List, true, false, IsErrOf, IfErr, IfOk, IfSome, OnOk};
 ghost use Rattle.zr_base.specs.Counts.{HasRisen};
 ghost use Rattle.zr_base.specs.declared.refusal.Refusal.{Refusal};
 ghost use Rattle.zr_rules.specs.Places.{is_gone, is_leaving, state_of_dev};

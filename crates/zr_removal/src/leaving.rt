@@ -2,13 +2,12 @@
 //!
 //! From then on it gives out no units. Its commit writes all metadata anew, and so on the devices that stay, and is a reset:
 //! what was freed of the device's metadata is free with it. So room is asked for as if the device were leaving already.
-ghost use Rattle.std.specs.Prelude.{◌≡◌, ◌<◌, ◌≤◌, ◌+◌, ◌⊎◌, ◌^◌, ℕ, List, true, false, [], IsTrue, ◌↔◌, IfErr, IsErrOf, OnOk, length};
+ghost use Rattle.std.specs.Prelude.{◌≡◌, ◌<◌, ◌≤◌, ℕ, List, true, false, IfErr, IsErrOf, OnOk};
 ghost use Rattle.zr_base.specs.Counts.{HasRisen};
 ghost use Rattle.zr_base.specs.declared.refusal.Refusal.{Refusal};
 ghost use Rattle.zr_base.specs.declared.space.CkptPart.TheVariants.{Clear};
 ghost use Rattle.zr_base.specs.declared.space.DevState.TheVariants.{On};
 ghost use Rattle.zr_rules.specs.Places.{state_of_dev};
-ghost use Rattle.zr_rules.specs.Steps.{Leaves};
 ghost use Rattle.zr_shelf.specs.Counts.{NoneFell};
 ghost use Rattle.zr_sync.specs.Pools.{IsOpen};
 ghost use Rattle.zr_sync.specs.Writes.{WorksOnDisks};

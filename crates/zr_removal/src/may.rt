@@ -1,5 +1,5 @@
 //! What a removal is refused for, as far as it can be told of the pool alone, and what it would cost.
-ghost use Rattle.std.specs.Prelude.{◌≡◌, ◌*◌, ◌<◌, ◌≤◌, ℕ, List, true, false, IfErr, IfSome, IfNone, OnOk, length};
+ghost use Rattle.std.specs.Prelude.{◌≡◌, ◌*◌, ◌<◌, ◌≤◌, ℕ, List, false, IfErr, IfSome, IfNone, OnOk};
 ghost use Rattle.zr_base.specs.Extents.{unit_count};
 ghost use Rattle.zr_base.specs.declared.space.CkptPart.TheVariants.{Clear};
 ghost use Rattle.zr_rules.specs.Places.{is_leaving, part_of, state_of_dev};

@@ -1,5 +1,5 @@
 //! The room that a removal needs.
-ghost use Rattle.std.specs.Prelude.{◌≡◌, ◌<◌, ◌≤◌, ◌^◌, ℕ, List, length};
+ghost use Rattle.std.specs.Prelude.{◌≡◌, ◌<◌, ℕ, List, length};
 ghost use Rattle.zr_rules.specs.Owed.{AreSmall};
 ghost use Rattle.zr_sync.specs.Pools.{IsOpen};
 ghost use Rattle.zr_removal.specs.Refusals.{free_beside, leaving_sizes, removal_needs};

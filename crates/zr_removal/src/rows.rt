@@ -1,5 +1,5 @@
 //! The row of a device in the table of an open pool.
-ghost use Rattle.std.specs.Prelude.{◌≡◌, ◌<◌, ◌≤◌, ◌↔◌, ℕ, IsTrue, length};
+ghost use Rattle.std.specs.Prelude.{◌≡◌, ◌<◌, ◌↔◌, IsTrue};
 ghost use Rattle.zr_removal.specs.Rows.{ArePast, with_row, without_slot};
 
 use zr_base::DevRow;

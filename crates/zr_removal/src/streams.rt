@@ -1,7 +1,7 @@
 //! Streams that a pool has no more use for.
 //!
 //! Their blocks are metadata that the last root still has, so they are given back within the open group.
-ghost use Rattle.std.specs.Prelude.{◌≡◌, ◌<◌, ℕ, IsErrOf, OnOk, length};
+ghost use Rattle.std.specs.Prelude.{◌<◌, IsErrOf, OnOk};
 ghost use Rattle.zr_base.specs.Counts.{HasRisen};
 ghost use Rattle.zr_sync.specs.Pools.{IsOpen};
 ghost use Rattle.zr_removal.specs.Streams.{GivesStreams};
@@ -10,7 +10,7 @@ ghost use Rattle.zr_sync.specs.declared.stop.Stop.TheVariants.{DiskFault};
 use std::alloc::Global;
 use zr_choose::Chooser;
 use zr_shelf::Shelf;
-use zr_sync::{EMPTY, NO_COND, OpenPool, Stop, give_streams};
+use zr_sync::{EMPTY, OpenPool, Stop, give_streams};
 use zr_vdev::{Kind, Mount};
 
 /// Gives back the streams of a device's mapping: its entries, their counts, and the log of its fresh obsolete units.
@@ -85,36 +85,5 @@ pub fn give_sets<S: Shelf>(
     device.kept = EMPTY;
     device.late1 = EMPTY;
     device.late2 = EMPTY;
-    Ok(())
-}
-
-/// Gives back the streams of a condensing.
-pub fn give_cond<S: Shelf>(
-    alloc: Global,
-    pool: &mut OpenPool,
-    shelf: &mut S,
-    pick: &Chooser,
-) -> Result<(), Stop>
-    requires pool { IsOpen (S.sizes shelf.old) pool.old }
-    ensures gave { GivesStreams (S.sizes shelf.old) (S.sizes shelf.new) (S.counts shelf.old) (S.counts shelf.new) (S.tells shelf.old) (S.tells shelf.new) (S.world shelf.old) (S.world shelf.new) pool.old pool.new }
-    ensures pool { OnOk result (IsOpen (S.sizes shelf.new) pool.new) }
-    ensures fault { IsErrOf result DiskFault → HasRisen (S.counts shelf.old).disk (S.counts shelf.new).disk }
-{
-    let old = pool.cond;
-    let mount = Mount {
-        slots: &pool.table.slots,
-        pick,
-        txg: pool.group.txg(),
-        kind: Kind::Meta,
-    };
-    give_streams(
-        alloc,
-        &mut pool.space,
-        shelf,
-        &mut pool.cache,
-        mount,
-        &[old.entries, old.counts],
-    )?;
-    pool.cond = NO_COND;
     Ok(())
 }

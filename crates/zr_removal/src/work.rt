@@ -1,5 +1,5 @@
 //! Whether there is background work on an open pool.
-ghost use Rattle.std.specs.Prelude.{◌≡◌, ◌↔◌, IsTrue};
+ghost use Rattle.std.specs.Prelude.{◌↔◌, IsTrue};
 ghost use Rattle.zr_removal.specs.Refusals.{HasWork};
 
 use zr_base::CkptPart;

@@ -25,7 +25,7 @@ no_streams = record { held = no_stream; kept = no_stream; entries = no_stream; c
 
 -- those of no condensing
 abbrev pub no_cond : CondStreams
-no_cond = record { entries = no_stream; counts = no_stream }
+no_cond = record { entries = no_stream; counts = no_stream; done = false }
 
 -- metadata of the saved root is given back, and nothing else is changed: where there is none, nothing at all
 pub record GivesSavedMeta (old new : Space) : Type 0 where

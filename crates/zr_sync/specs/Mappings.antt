@@ -1,5 +1,5 @@
 -- The streams of mappings, and what a commit makes of them.
-use Rattle.std.specs.Prelude.{◌≡◌, ℕ, ◌*◌, ◌/◌, ◌≤◌, Bool, false, List, length, take, slice_index_or, slice_set}
+use Rattle.std.specs.Prelude.{◌≡◌, ℕ, ◌*◌, ◌/◌, ◌≤◌, Bool, false, List, length, take, slice_index_or, slice_set, if◌then◌else◌, [], ◌∷◌}
 use Rattle.std.specs.List.{AllByRecursion, flat_map}
 use Rattle.zr_base.specs.declared.space.CondPart.{CondPart}
 use Rattle.zr_base.specs.declared.space.DevPart.{DevPart}
@@ -93,6 +93,10 @@ cond_stream Counts t = t.counts
 abbrev pub with_cond_stream : MappingStream → CondStreams → Stream → CondStreams
 with_cond_stream Entries t now = record t { entries = now }
 with_cond_stream Counts t now = record t { counts = now }
+
+-- what a condensing that is done leaves to be given back
+abbrev pub done_streams : CondStreams → List Stream
+done_streams t = if t.done then t.entries ∷ t.counts ∷ [] else []
 
 -- A stream of the condensing was written: in the stream that it has in place of the old one stand the words of what it kept.
 pub record WritesCond (old new : Stored) (was now : OpenPool) (c : CondPart) (which : MappingStream) : Type 0 where

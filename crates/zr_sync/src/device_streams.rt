@@ -1,16 +1,18 @@
 //! The streams of a commit but the late sets: those of each device in order, and those of the condensing behind them.
 //!
 //! The logs are written whatever the state of the device is: one of an empty set in which nothing changed stays empty.
-ghost use Rattle.std.specs.Prelude.{◌≡◌, ◌<◌, ℕ, List, Some, false, length, IsErrOf, IfOk, OnOk};
+ghost use Rattle.std.specs.Prelude.{◌≡◌, ◌<◌, ℕ, List, [], Some, false, if◌then◌else◌, length, IsErrOf, IfOk, OnOk};
 ghost use Rattle.zr_base.specs.Counts.{HasRisen};
 ghost use Rattle.zr_base.specs.declared.space.CondPart.{CondPart};
+ghost use Rattle.zr_commit.specs.Logs.{streams_reach};
 ghost use Rattle.zr_meta.specs.Heads.{IsStream};
 ghost use Rattle.zr_root.specs.Streams.{HasWords};
 ghost use Rattle.zr_rules.specs.Places.{part_of};
-ghost use Rattle.zr_store.specs.Store.{AreStored, Now, Stored};
+ghost use Rattle.zr_store.specs.Store.{AreStored, Now, Stored, Swaps};
 ghost use Rattle.zr_tree.specs.Trees.{tree_reach};
 ghost use Rattle.zr_sync.specs.Anew.{AreRenewed, KeepsCounts, RenewsEach};
-ghost use Rattle.zr_sync.specs.Mappings.{HadFirst, HasFirst, IsSpelled, TurnsMapping, WritesCond, WritesMapping, cond_stream, is_turned, mapping_stream, mapping_words, with_cond_stream, with_mapping};
+ghost use Rattle.zr_sync.specs.Checkpoints.{no_cond};
+ghost use Rattle.zr_sync.specs.Mappings.{HadFirst, HasFirst, IsSpelled, TurnsMapping, WritesCond, WritesMapping, cond_stream, done_streams, is_turned, mapping_stream, mapping_words, with_cond_stream, with_mapping};
 ghost use Rattle.zr_sync.specs.Pools.{AreCondStreams, AreStreams, IsOpen};
 ghost use Rattle.zr_sync.specs.Streams.{HasMeta, streams_at};
 ghost use Rattle.zr_sync.specs.Words.{HasRoomFor, words_then};
@@ -19,9 +21,9 @@ ghost use Rattle.zr_sync.specs.declared.stop.Stop.TheVariants.{DiskFault};
 
 use crate::logs::{Logs, write_log};
 use crate::mappings::{MappingStream, cond_grows, mapping_grows};
-use crate::open::{CondStreams, DeviceStreams, OpenPool, Turned};
+use crate::open::{CondStreams, DeviceStreams, NO_COND, OpenPool, Turned};
 use crate::stop::Stop;
-use crate::stores::put_log;
+use crate::stores::{give_streams, put_log};
 use crate::words::{Log, LogWords};
 use std::alloc::Global;
 use zr_base::NoMemory;
@@ -179,6 +181,42 @@ fn with_cond(streams: CondStreams, which: MappingStream, stream: Stream) -> Cond
     }
 }
 
+// Gives back the streams of a condensing that is done.
+fn give_done<S: Shelf, P: Place>(
+    alloc: Global,
+    pool: &mut OpenPool,
+    shelf: &mut S,
+    pick: &P,
+) -> Result<(), Stop>
+    requires pool { IsOpen (S.sizes shelf.old) pool.old }
+    ensures wrote { WritesMetadata (S.sizes shelf.old) (S.sizes shelf.new) (S.counts shelf.old) (S.counts shelf.new) (S.tells shelf.old) (S.tells shelf.new) (S.world shelf.old) (S.world shelf.new) pool.old pool.new }
+    ensures pool { OnOk result (IsOpen (S.sizes shelf.new) pool.new) }
+    ensures fault { IsErrOf result DiskFault → HasRisen (S.counts shelf.old).disk (S.counts shelf.new).disk }
+    ensures streams { pool.new.streams ≡ pool.old.streams }
+    ensures none { OnOk result (pool.new.cond ≡ (if pool.old.cond.done then no_cond else pool.old.cond)) }
+    ensures gives { (s : Stored) → HasMeta (S.tells shelf.old) (S.world shelf.old).now.seen pool.old s → AreStored (streams_reach s (done_streams pool.old.cond)) s → OnOk result (Now (HasMeta (S.tells shelf.new) (S.world shelf.new).now.seen pool.new) (λ n. Swaps s n (streams_reach s (done_streams pool.old.cond)) [])) }
+{
+    if !pool.cond.done {
+        return Ok(());
+    }
+    let mount = Mount {
+        slots: &pool.table.slots,
+        pick,
+        txg: pool.group.txg(),
+        kind: Kind::Meta,
+    };
+    give_streams(
+        alloc,
+        &mut pool.space,
+        shelf,
+        &mut pool.cache,
+        mount,
+        &[pool.cond.entries, pool.cond.counts],
+    )?;
+    pool.cond = NO_COND;
+    Ok(())
+}
+
 // What becomes of a stream of the condensing. Where none goes on it stays.
 fn cond_words(
     alloc: Global,
@@ -234,7 +272,7 @@ fn write_cond<S: Shelf, P: Place>(
     Ok(())
 }
 
-// Writes the streams of the condensing that goes on.
+// Writes the streams of the condensing that goes on, behind those of one that is done.
 fn write_condensing<S: Shelf, P: Place>(
     alloc: Global,
     pool: &mut OpenPool,
@@ -248,6 +286,7 @@ fn write_condensing<S: Shelf, P: Place>(
     ensures fault { IsErrOf result DiskFault → HasRisen (S.counts shelf.old).disk (S.counts shelf.new).disk }
     ensures counts { OnOk result (KeepsCounts pool.old pool.new) }
 {
+    give_done(alloc, pool, shelf, pick)?;
     write_cond(alloc, pool, shelf, pick, MappingStream::Entries, logs)?;
     write_cond(alloc, pool, shelf, pick, MappingStream::Counts, logs)
 }

@@ -29,12 +29,13 @@ pub struct Table {
     pub slots: [Option<u32>; 32],
 }
 
-/// The streams of the condensing that goes on: the entries that it has kept, and their counts. Where none goes on both
-/// are `EMPTY`.
+/// The streams of a condensing: the entries that it has kept, and their counts. Where none goes on both are `EMPTY`, or it
+/// is `done` and the last root still has them: then the next commit gives them back.
 #[derive(Clone, Copy, PartialEq, Eq, Debug)]
 pub struct CondStreams {
     pub entries: Stream,
     pub counts: Stream,
+    pub done: bool,
 }
 
 /// Which streams of a mapping the next commit has to write anew, since their words changed otherwise than at their end.
@@ -55,7 +56,7 @@ pub struct Checkpoint {
 }
 
 /// An open pool. `last` is the root that was committed last, none before the first. `dir`, `head`, `streams` and `cond`
-/// are its directory, the tree of its head, the streams of each device, and those of the condensing that goes on. `saved`
+/// are its directory, the tree of its head, the streams of each device, and those of a condensing. `saved`
 /// is the root that a checkpoint holds, none where no checkpoint is held. `group` is what was changed since, and `turned`
 /// tells of each device which streams of its mapping no longer begin with the words that they have.
 #[derive(Drop)]
@@ -100,6 +101,7 @@ pub const NO_STREAMS: DeviceStreams = DeviceStreams {
 pub const NO_COND: CondStreams = CondStreams {
     entries: EMPTY,
     counts: EMPTY,
+    done: false,
 };
 
 /// Mappings that changed at their end alone.

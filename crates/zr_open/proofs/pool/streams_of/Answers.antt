@@ -1,8 +1,8 @@
-use Rattle.std.proofs.Common.{rules, ◌≡◌, ◌<◌, ◌+◌, ◌++◌, [], ◌∷◌, List, length, get_or, take, drop, sym, ◌∙◌, ap, subst, arith}
+use Rattle.std.proofs.Common.{rules, ◌≡◌, ◌+◌, ◌++◌, List, length, take, sym, ◌∙◌, ap, subst, arith}
 use Rattle.std.specs.Prelude.{All}
 use Rattle.std.proofs.lemmas.List.{take-append-drop}
 use Rattle.zr_meta.specs.declared.Stream.{Stream}
-use Rattle.zr_sync.specs.Heads.{streams_in, streams_of}
+use Rattle.zr_sync.specs.Heads.{streams_of}
 use Rattle.zr_sync.specs.Pools.{AreStreams}
 use Rattle.zr_sync.specs.declared.open.DeviceStreams.{DeviceStreams}
 use Rattle.zr_open.proofs.Streams.{all_more, step_each, step_total}

@@ -1,4 +1,4 @@
-use Rattle.std.proofs.Common.{false, List, ℕ, None, Err, ◌∙◌, ap, refl, sym, subst}
+use Rattle.std.proofs.Common.{false, None, Err, ◌∙◌, ap, refl, sym, subst}
 use Rattle.zr_base.specs.declared.space.CkptPart.{CkptPart}
 use Rattle.std.specs.Prelude.{IfOk, IfSome}
 use Rattle.zr_script.specs.declared.command.Command.{Command}

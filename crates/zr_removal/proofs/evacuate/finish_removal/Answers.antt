@@ -1,4 +1,4 @@
-use Rattle.std.proofs.Common.{◌≡◌, ◌∙◌, ◌<◌, ℕ, List, Option, true, sym, ap, subst, arith}
+use Rattle.std.proofs.Common.{◌∙◌, ℕ, List, Option, true, sym, ap, subst, arith}
 use Rattle.std.specs.Prelude.{IfSome}
 use Rattle.zr_label.specs.declared.root.Uber.{Uber}
 use Rattle.zr_rules.specs.Space.{Space}
@@ -8,7 +8,6 @@ use Rattle.zr_sync.specs.Pools.{IsOpen}
 use Rattle.zr_sync.specs.declared.open.OpenPool.{OpenPool}
 use Rattle.zr_sync.specs.declared.open.Table.{Table}
 use Rattle.zr_sync.proofs.Disks.{works_more}
-use Rattle.zr_removal.specs.Rows.{without_slot}
 use Rattle.zr_removal.proofs.Ending.{gone_now}
 use Rattle.zr_removal.proofs.evacuate.finish_removal.Goals as goal
 

@@ -1,9 +1,9 @@
-use Rattle.std.proofs.Common.{◌≡◌, ◌∙◌, ℕ, ◌<◌, true, rules, length, sym, ap, subst, arith}
+use Rattle.std.proofs.Common.{◌≡◌, ◌∙◌, ℕ, ◌<◌, true, rules, sym, ap, subst, arith}
 use Rattle.std.specs.Prelude.{slice_index_or}
 use Rattle.zr_base.specs.declared.space.DevRow.{DevRow}
 use Rattle.zr_base.specs.declared.space.DevState.TheVariants.{Gone}
 use Rattle.zr_label.specs.Blocks.{no_row}
-use Rattle.zr_rules.specs.Places.{is_gone, is_leaving, part_of, state_of_dev}
+use Rattle.zr_rules.specs.Places.{is_gone, is_leaving, state_of_dev}
 use Rattle.zr_rules.specs.Steps.{Finishes}
 use Rattle.zr_sync.specs.Pools.{IsOpen}
 use Rattle.zr_sync.specs.declared.open.Table.{Table}

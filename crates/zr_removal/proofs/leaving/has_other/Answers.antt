@@ -1,4 +1,4 @@
-use Rattle.std.proofs.Common.{◌≡◌, ◌<◌, length, arith}
+use Rattle.std.proofs.Common.{arith}
 use Rattle.zr_removal.proofs.leaving.has_other.Goals as goal
 
 pub returns-clause-no : goal.returns-clause-no

@@ -1,4 +1,4 @@
-use Rattle.std.proofs.Common.{◌≡◌, ◌+◌, ◌≤◌, ap, get_or, arith}
+use Rattle.std.proofs.Common.{ap, arith}
 use Rattle.zr_base.specs.Extents.{unit_count}
 use Rattle.zr_removal.proofs.Few.{pieces_next, pieces_so_far}
 use Rattle.zr_removal.proofs.may.copy_pieces.Goals as goal

@@ -1,4 +1,4 @@
-use Rattle.std.proofs.Common.{◌≡◌, ◌<◌, length, arith}
+use Rattle.std.proofs.Common.{arith}
 use Rattle.zr_removal.proofs.may.device_on.Goals as goal
 
 pub returns-clause-none : goal.returns-clause-none

@@ -1,4 +1,4 @@
-use Rattle.std.proofs.Common.{◌≤◌, ◌^◌, ap, arith}
+use Rattle.std.proofs.Common.{ap, arith}
 use Rattle.zr_base.specs.Extents.{unit_count}
 use Rattle.zr_removal.proofs.Few.{few_held}
 use Rattle.zr_removal.proofs.may.estimate.Goals as goal

@@ -1,4 +1,4 @@
-use Rattle.std.proofs.Common.{◌≡◌, ℕ, ◌+◌, false, [], length, if◌then◌else◌}
+use Rattle.std.proofs.Common.{◌≡◌, ℕ, ◌+◌, false, [], if◌then◌else◌}
 use Rattle.zr_rules.specs.Roles.{is_meta_role}
 use Rattle.zr_rules.specs.Space.{role_at}
 use Rattle.zr_space.specs.Metadata.{meta_left}

@@ -1,4 +1,4 @@
-use Rattle.zr_removal.proofs.Giving.{gives_itself, less_saved, none_saved, saved_step}
+use Rattle.zr_removal.proofs.Giving.{gives_itself, none_saved, saved_step}
 use Rattle.zr_removal.proofs.metadata.give_saved.Goals as goal
 
 pub loop-more-init : goal.loop-more-init

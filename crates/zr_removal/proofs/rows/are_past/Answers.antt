@@ -1,4 +1,4 @@
-use Rattle.std.proofs.Common.{◌≡◌, ◌∷◌, sym, subst, arith}
+use Rattle.std.proofs.Common.{sym, subst, arith}
 use Rattle.std.proofs.lemmas.List.Elements.{All-cons, All-tail}
 use Rattle.zr_removal.specs.Rows.{ArePast, IsPast}
 use Rattle.zr_removal.proofs.rows.are_past.Goals as goal

@@ -1,4 +1,4 @@
-use Rattle.std.proofs.Common.{ℕ, List, Option, subst}
+use Rattle.std.proofs.Common.{Option, subst}
 use Rattle.zr_sync.specs.declared.open.OpenPool.{OpenPool}
 use Rattle.zr_pool.specs.Pools.{StandsFor}
 use Rattle.zr_pool.proofs.Working.{state_works}
