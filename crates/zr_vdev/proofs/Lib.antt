@@ -15,3 +15,4 @@ pub mod Moves
 pub mod Frames
 pub mod Mounting
 pub mod Carrying
+pub mod Giving

@@ -3,8 +3,10 @@
 //! A block is stored where its units are in use. What stands in free units is nothing: a pointer to them reads no bytes,
 //! so a put that fails half way changes nothing that can be read. The units that such a put took are noted as lost, and
 //! nothing is read there either. The next put gives them back.
-ghost use Rattle.std.specs.Prelude.{◌≡◌, ◌≤◌, ◌↔◌, true, IsTrue, OnOk, OnErr, IfOk};
+ghost use Rattle.std.specs.Prelude.{◌≡◌, ◌≤◌, ◌↔◌, true, false, IsTrue, OnOk, OnErr, IfOk};
 ghost use Rattle.std.specs.List.{list_any};
+ghost use Rattle.std.specs.Map.{remove_entry};
+ghost use Rattle.zr_cache.specs.Entries.{capacity, entries, is_key};
 ghost use Rattle.zr_rules.specs.Equation.{devices_in};
 ghost use Rattle.zr_rules.specs.Resolve.{is_resolved};
 ghost use Rattle.zr_vdev.specs.Mounts.{AreMounted, HaveDisks};
@@ -158,6 +160,26 @@ impl<'a, S: Shelf, P: Place> Vdev<'a, S, P> {
         }
         is_apart(alloc, self.space, self.lost, at)
     }
+
+    /// Gives back a block if one is stored at its address, and answers whether it did. Where none is nothing changes. Else its
+    /// address goes, and its place in the cache. It costs what `has` does, and a free in the space.
+    pub fn give(&mut self, alloc: Global, b: &Bptr) -> Result<bool, NoMemory>
+        ensures stored { IfOk result (λ given. IsTrue given ↔ IsStoredAt self.old.mount.kind self.old.space.now self.old.lost b.now.at) }
+        ensures none { IfOk result (λ given. given ≡ false → (self.new.space.now ≡ self.old.space.now) × (self.new.cache.now ≡ self.old.cache.now)) }
+        ensures gives { IfOk result (λ given. given ≡ true → GivesBack self.old.mount.kind self.old.space.now self.new.space.now b.now.at b.now.birth) }
+        ensures entries { IfOk result (λ given. given ≡ true → entries self.new.cache.now ≡ remove_entry (is_key b.now) (entries self.old.cache.now)) }
+        ensures room { capacity self.new.cache.now ≡ capacity self.old.cache.now }
+        ensures shelf { self.new.shelf.now ≡ self.old.shelf.now }
+        ensures rest { (self.new.mount ≡ self.old.mount) × (self.new.lost ≡ self.old.lost) }
+        ensures names { (self.new.space.ghost_name ≡ self.old.space.ghost_name) × (self.new.shelf.ghost_name ≡ self.old.shelf.ghost_name) × (self.new.cache.ghost_name ≡ self.old.cache.ghost_name) }
+        ensures err { OnErr result ((self.new.space.now ≡ self.old.space.now) × (self.new.cache.now ≡ self.old.cache.now)) }
+    {
+        let stored = self.has(alloc, &b.at)?;
+        if stored {
+            free_block(self.space, self.cache, self.mount.kind, b)?;
+        }
+        Ok(stored)
+    }
 }
 
 impl<S: Shelf, P: Place> Blocks for Vdev<'_, S, P> {
@@ -211,10 +233,7 @@ impl<S: Shelf, P: Place> Blocks for Vdev<'_, S, P> {
     }
 
     fn free(&mut self, alloc: Global, b: &Bptr) -> Result<(), StoreErr> {
-        let stored = self.has(alloc, &b.at)?;
-        if stored {
-            free_block(self.space, self.cache, self.mount.kind, b)?;
-        }
+        let _given = self.give(alloc, b)?;
         Ok(())
     }
 }
