@@ -1,5 +1,5 @@
 -- A pool without devices.
-use Rattle.std.proofs.Common.{◌≡◌, ◌⊎◌, ℕ, ◌<◌, ◌≤◌, List, [], length, replicate, Option, None, Some, refl, sym, ◌∙◌, ap, subst, arith}
+use Rattle.std.proofs.Common.{◌≡◌, ◌⊎◌, ℕ, ◌<◌, ◌≤◌, List, [], length, replicate, Option, None, Some, false, refl, sym, ◌∙◌, ap, subst, arith}
 use Rattle.std.specs.Prelude.{All, IfSome}
 use Rattle.std.specs.List.{AllByRecursion}
 use Rattle.std.proofs.lemmas.List.Elements.{All-nil}
@@ -38,7 +38,7 @@ lawful_without version = record {
 pub no_tree : IsTree (record { root = Hole; height = 0 })
 no_tree = record { lawful = tt; level = tt; low = omega arith }
 
-pub no_cond : AreCondStreams (record { entries = record { words = 0; tree = record { root = Hole; height = 0 } }; counts = record { words = 0; tree = record { root = Hole; height = 0 } } })
+pub no_cond : AreCondStreams (record { entries = record { words = 0; tree = record { root = Hole; height = 0 } }; counts = record { words = 0; tree = record { root = Hole; height = 0 } }; done = false })
 no_cond = record { entries = (refl, refl); counts = (refl, refl) }
 
 pub no_directory : IsDirectory (record { root = Hole; height = 0 })
