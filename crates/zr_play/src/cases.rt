@@ -1,0 +1,122 @@
+//! The cases of an input.
+//!
+//! A case is one or more runs, and a line of four `=` ends it. A run is a line with the program's words and the lines of its
+//! script, and a line of four `-` ends it and begins the next. Before its first run a case may say by a line that begins with
+//! `@` that more than its answers is asked.
+
+use anyhow::{Context, bail};
+use std::alloc::Global;
+
+/// What is asked of a case.
+#[derive(Clone, Copy, Debug, PartialEq, Eq)]
+pub enum Kind {
+    /// What its runs are answered, one behind another.
+    Plain,
+    /// `@stops N`: what is shown where its first run is stopped from its line N on, counted from 1.
+    Stops(usize),
+    /// `@faults`: what comes where a call of its first run fails.
+    Faults,
+    /// `@reads`: whether its run reads of a device that is gone.
+    Reads,
+}
+
+/// A run of the program.
+#[derive(Drop)]
+pub struct Run {
+    pub words: Vec<String>,
+    pub script: Vec<u8>,
+}
+
+/// A case.
+#[derive(Drop)]
+pub struct Case {
+    pub kind: Kind,
+    pub runs: Vec<Run>,
+}
+
+impl Case {
+    fn new(alloc: Global) -> Case {
+        Case {
+            kind: Kind::Plain,
+            runs: Vec::new(alloc),
+        }
+    }
+}
+
+// The words of a line.
+fn words_of(alloc: Global, line: &[u8]) -> anyhow::Result<Vec<String>> {
+    let mut words = Vec::new(alloc);
+    for word in line.split(|b| *b == b' ') {
+        words.push(String::from_str(alloc, std::str::from_utf8(word)?)?)?;
+    }
+    Ok(words)
+}
+
+// What a line that begins with `@` asks.
+fn kind_of(line: &[u8]) -> anyhow::Result<Kind> {
+    if let Some(number) = line.strip_prefix(b"@stops ") {
+        return Ok(Kind::Stops(std::str::from_utf8(number)?.parse::<usize>()?));
+    }
+    match line {
+        b"@faults" => Ok(Kind::Faults),
+        b"@reads" => Ok(Kind::Reads),
+        _ => bail!("no such table"),
+    }
+}
+
+// What was read of an input: whole cases, the runs of the next, and of its next run what has come.
+#[derive(Drop)]
+struct Reader {
+    alloc: Global,
+    cases: Vec<Case>,
+    case: Case,
+    run: Option<Run>,
+}
+
+impl Reader {
+    fn end_run(&mut self) -> anyhow::Result<()> {
+        if let Some(run) = self.run.take() {
+            self.case.runs.push(run)?;
+        }
+        Ok(())
+    }
+
+    fn end_case(&mut self) -> anyhow::Result<()> {
+        self.end_run()?;
+        let next = Case::new(self.alloc);
+        self.cases.push(std::mem::replace(&mut self.case, next))?;
+        Ok(())
+    }
+
+    fn line(&mut self, line: &[u8]) -> anyhow::Result<()> {
+        match (line, &mut self.run) {
+            (b"====", _) => self.end_case()?,
+            (b"----", _) => self.end_run()?,
+            (_, Some(run)) => {
+                run.script.extend_from_slice(line)?;
+                run.script.push(b'\n')?;
+            }
+            (_, None) if line.starts_with(b"@") => self.case.kind = kind_of(line)?,
+            (_, None) => {
+                let words = words_of(self.alloc, line)?;
+                let script = Vec::new(self.alloc);
+                self.run = Some(Run { words, script });
+            }
+        }
+        Ok(())
+    }
+}
+
+/// The cases of an input. What follows the last line of four `=` is none.
+pub fn cases_of(alloc: Global, text: &[u8]) -> anyhow::Result<Vec<Case>> {
+    let mut reader = Reader {
+        alloc,
+        cases: Vec::new(alloc),
+        case: Case::new(alloc),
+        run: None,
+    };
+    for line in text.split(|b| *b == b'\n') {
+        reader.line(line)?;
+    }
+    Ok(reader.cases)
+}
