@@ -2,7 +2,8 @@
 //!
 //! A case is one or more runs, and a line of four `=` ends it. A run is a line with the program's words and the lines of its
 //! script, and a line of four `-` ends it and begins the next. Before its first run a case may say by a line that begins with
-//! `@` that more than its answers is asked.
+//! `@` that more than its answers is asked. Before the words of a run there may be lines `! PATH OFFSET HEX`: they put bytes
+//! into a file that the run before left, for images that no script makes.
 
 use anyhow::{Context, bail};
 use std::alloc::Global;
@@ -20,9 +21,18 @@ pub enum Kind {
     Reads,
 }
 
-/// A run of the program.
+/// Bytes that are put into a file, and the place in bytes.
+#[derive(Drop)]
+pub struct Edit {
+    pub path: String,
+    pub at: u64,
+    pub bytes: Vec<u8>,
+}
+
+/// A run of the program, and what is put into the files before it.
 #[derive(Drop)]
 pub struct Run {
+    pub edits: Vec<Edit>,
     pub words: Vec<String>,
     pub script: Vec<u8>,
 }
@@ -64,12 +74,26 @@ fn kind_of(line: &[u8]) -> anyhow::Result<Kind> {
     }
 }
 
+// What a line that begins with `!` puts into a file.
+fn edit_of(alloc: Global, line: &[u8]) -> anyhow::Result<Edit> {
+    let words = words_of(alloc, line)?;
+    match words.as_slice() {
+        [_, path, at, bytes] => Ok(Edit {
+            path: String::from_str(alloc, path.as_str())?,
+            at: at.as_str().parse::<u64>()?,
+            bytes: hex::decode(alloc, bytes.as_str())?,
+        }),
+        _ => bail!("an edit has a path, an offset and bytes"),
+    }
+}
+
 // What was read of an input: whole cases, the runs of the next, and of its next run what has come.
 #[derive(Drop)]
 struct Reader {
     alloc: Global,
     cases: Vec<Case>,
     case: Case,
+    edits: Vec<Edit>,
     run: Option<Run>,
 }
 
@@ -88,6 +112,17 @@ impl Reader {
         Ok(())
     }
 
+    // Begins the run of these words.
+    fn begin(&mut self, line: &[u8]) -> anyhow::Result<()> {
+        let none = Vec::new(self.alloc);
+        self.run = Some(Run {
+            edits: std::mem::replace(&mut self.edits, none),
+            words: words_of(self.alloc, line)?,
+            script: Vec::new(self.alloc),
+        });
+        Ok(())
+    }
+
     fn line(&mut self, line: &[u8]) -> anyhow::Result<()> {
         match (line, &mut self.run) {
             (b"====", _) => self.end_case()?,
@@ -97,11 +132,11 @@ impl Reader {
                 run.script.push(b'\n')?;
             }
             (_, None) if line.starts_with(b"@") => self.case.kind = kind_of(line)?,
-            (_, None) => {
-                let words = words_of(self.alloc, line)?;
-                let script = Vec::new(self.alloc);
-                self.run = Some(Run { words, script });
+            (_, None) if line.starts_with(b"! ") => {
+                let edit = edit_of(self.alloc, line)?;
+                self.edits.push(edit)?;
             }
+            (_, None) => self.begin(line)?,
         }
         Ok(())
     }
@@ -113,6 +148,7 @@ pub fn cases_of(alloc: Global, text: &[u8]) -> anyhow::Result<Vec<Case>> {
         alloc,
         cases: Vec::new(alloc),
         case: Case::new(alloc),
+        edits: Vec::new(alloc),
         run: None,
     };
     for line in text.split(|b| *b == b'\n') {

@@ -38,9 +38,12 @@ fn ends_well(whole: &[Vec<u8>], tried: &Played) -> bool {
     let replies = tried.replies.as_slice();
     let same = same_front(whole, replies);
     match tried.status {
-        0 => is_cancelled(replies, same) && !is_cancelled(whole, same) && replies.len() == whole.len(),
+        0 => is_cancelled(replies, same)
+            && !is_cancelled(whole, same)
+            && replies.len() == whole.len(),
         2 | 3 | 7 => same == replies.len(),
-        4 => replies.get(same..).is_some_and(|rest| rest.len() == 1 && rest.iter().all(|it| it.as_slice() == STOPPED)),
+        4 => replies.get(same..).is_some_and(|rest| rest.len() == 1
+            && rest.iter().all(|it| it.as_slice() == STOPPED)),
         _ => false,
     }
 }
@@ -93,7 +96,9 @@ impl Tries<'_> {
     fn fail(&mut self, rt: &HostRuntime, call: u64) -> anyhow::Result<()> {
         let (tried, text) = self.play(call)?;
         let replies = tried.replies.as_slice();
-        let shows = self.shown.take(text.as_slice(), reached(self.lines, replies));
+        let shows = self
+            .shown
+            .take(text.as_slice(), reached(self.lines, replies));
         let same = same_front(self.whole.as_slice(), replies);
         self.cancelled = self.cancelled || is_cancelled(replies, same);
         if shows && ends_well(self.whole.as_slice(), &tried) {
@@ -103,7 +108,10 @@ impl Tries<'_> {
         if self.wrong <= PRINTED {
             let told = text_of(self.alloc, &tried)?;
             let told = std::str::from_utf8(told.as_slice())?;
-            println!(rt; "call {call}: {told} // {}", std::str::from_utf8(text.as_slice())?)?;
+            println!(rt;
+                "call {call}: {told} // {}",
+                std::str::from_utf8(text.as_slice())?
+            )?;
         }
         Ok(())
     }

@@ -7,7 +7,7 @@
 //! As a desk over the files of a system does, it tells no content. So what is shown with it is shown by trying.
 ghost use Rattle.std.specs.Prelude.{◌≡◌, [], ◌<◌, ◌≤◌, ◌^◌, length};
 
-use crate::patch::Patch;
+use crate::patch::{Patch, number_of};
 use std::alloc::{AllocError, Global};
 use zr_shelf::{Desk, DeskErr, DiskFile, Shelf};
 
@@ -120,11 +120,6 @@ fn put_late(
     Ok(())
 }
 
-// The number of the file of that path.
-fn number_of(files: &[DiskFile], path: &str) -> Option<usize> {
-    files.iter().position(|file| file.path.as_str() == path)
-}
-
 // The number and the length of the file of that path. Where there is none and a size is given, it is made of zeros.
 fn file_for(
     alloc: Global,
@@ -200,7 +195,11 @@ impl Shelf for LentDesk {
 
     fn read(&mut self, slot: u32, at: u64, out: &mut [u8]) -> Result<(), DeskErr> {
         let due = self.is_due();
-        let file = self.places.get(slot as usize).copied().unwrap_or(usize::MAX);
+        let file = self
+            .places
+            .get(slot as usize)
+            .copied()
+            .unwrap_or(usize::MAX);
         let reading = Reading {
             file,
             at,
@@ -219,7 +218,11 @@ impl Shelf for LentDesk {
 
     fn write(&mut self, slot: u32, at: u64, bytes: &[u8]) -> Result<(), DeskErr> {
         let due = self.is_due();
-        let file = self.places.get(slot as usize).copied().unwrap_or(usize::MAX);
+        let file = self
+            .places
+            .get(slot as usize)
+            .copied()
+            .unwrap_or(usize::MAX);
         let mut patch = Patch::of(self.alloc, file, at, bytes)?;
         if due {
             self.late.push(patch)?;

@@ -39,6 +39,11 @@ impl Patch {
     }
 }
 
+/// The number of the file of that path.
+pub fn number_of(files: &[DiskFile], path: &str) -> Option<usize> {
+    files.iter().position(|file| file.path.as_str() == path)
+}
+
 /// Takes the patches out again, the last first.
 pub fn take_out(files: &mut Vec<DiskFile>, mut patches: Vec<Patch>) {
     for _ in 0..patches.len() {

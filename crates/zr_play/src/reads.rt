@@ -42,7 +42,10 @@ fn reads_after(played: &Played, lines: &[&[u8]], place: usize, device: usize) ->
         .as_slice()
         .iter()
         .filter(|reading| {
-            let line = lines.get(reading.replies).copied().unwrap_or(b"".as_slice());
+            let line = lines
+                .get(reading.replies)
+                .copied()
+                .unwrap_or(b"".as_slice());
             let after = place < reading.replies && reading.file == device;
             after && !(is_search(line) && is_label(played, reading))
         })

@@ -4,8 +4,9 @@ ghost use Rattle.std.specs.Prelude.{◌≡◌, ◌<◌, []};
 ghost use Rattle.zr_base.specs.declared.space.Policy.{Policy};
 ghost use Rattle.zr_rules.specs.Choices.{AreRuns, IsPick};
 
-use crate::cases::Run;
+use crate::cases::{Edit, Run};
 use crate::lent_desk::{LentDesk, Played};
+use crate::patch::{Patch, number_of};
 use sha2::{Digest, Sha256};
 use std::alloc::{AllocError, Global};
 use zr_base::{Extent, Policy};
@@ -100,16 +101,31 @@ fn joined(mut disks: Vec<DiskFile>, folder: Vec<DiskFile>) -> Result<Vec<DiskFil
     let attached = disks.len();
     for file in folder {
         let path = file.path.as_str();
-        if !disks.iter().take(attached).any(|disk| disk.path.as_str() == path) {
+        if !disks
+            .iter()
+            .take(attached)
+            .any(|disk| disk.path.as_str() == path)
+        {
             disks.push(file)?;
         }
     }
     Ok(disks)
 }
 
+// Puts the bytes of the edits into the files.
+fn edit(alloc: Global, files: &mut Vec<DiskFile>, edits: &[Edit]) -> anyhow::Result<()> {
+    for edit in edits {
+        let number = number_of(files.as_slice(), edit.path.as_str()).unwrap_or(usize::MAX);
+        let mut patch = Patch::of(alloc, number, edit.at, edit.bytes.as_slice())?;
+        anyhow::ensure!(patch.swap(files), "no such place to edit");
+    }
+    Ok(())
+}
+
 // Runs the program over the files that the run before left, and answers those that it leaves.
-fn play(rt: &HostRuntime, files: Vec<DiskFile>, run: &Run) -> anyhow::Result<Vec<DiskFile>> {
+fn play(rt: &HostRuntime, mut files: Vec<DiskFile>, run: &Run) -> anyhow::Result<Vec<DiskFile>> {
     let alloc = rt.alloc();
+    edit(alloc, &mut files, run.edits.as_slice())?;
     let script = run.script.as_slice().to_vec(alloc)?;
     let Ok(mut desk) = MemDesk::reopen(alloc, files, script) else {
         anyhow::bail!("no memory for a desk");

@@ -98,7 +98,12 @@ fn choices(alloc: Global, count: usize) -> Result<Vec<Choice>, AllocError> {
         (Came::Torn, Came::Old, 2),
         (Came::Old, Came::New, 3),
     ] {
-        push_each(&mut all, alone, others, if count < least { 0 } else { count })?;
+        push_each(
+            &mut all,
+            alone,
+            others,
+            if count < least { 0 } else { count },
+        )?;
     }
     Ok(all)
 }
@@ -278,12 +283,7 @@ impl<'a> Walk<'a> {
     }
 
     // Makes the calls again, and tries the images of each moment from the line of that number on.
-    fn follow(
-        &mut self,
-        rt: &HostRuntime,
-        calls: &'a [Call],
-        line: usize,
-    ) -> anyhow::Result<()> {
+    fn follow(&mut self, rt: &HostRuntime, calls: &'a [Call], line: usize) -> anyhow::Result<()> {
         for call in calls {
             let begun = self.step(&call.deed)?;
             if begun && line <= self.reached.sent.saturating_add(1) {
