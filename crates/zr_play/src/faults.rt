@@ -156,7 +156,7 @@ pub fn faults(rt: &HostRuntime, run: &Run, probe: &Run) -> anyhow::Result<()> {
     let script = run.script.as_slice().to_vec(alloc)?;
     let whole = lend(alloc, Vec::new(alloc), run.words.as_slice(), script, 0)?;
     let sent = sent_of(alloc, whole.replies.as_slice())?;
-    print_run(rt, sent.as_slice(), whole.status, whole.files.as_slice())?;
+    print_run(rt, sent.as_slice(), whole.status)?;
     let lines = lines_of(alloc, run.script.as_slice())?;
     fail_each(rt, run, probe, lines.as_slice(), whole)
 }

@@ -1,8 +1,9 @@
 //! Scripts over devices in memory, and what they are answered.
 //!
 //! The input has cases one behind another, of which `cases` says the form. For each run its replies are printed, then its
-//! status and the SHA-256 of each device. Three tables ask more of a case: what is shown where its run is stopped at any
-//! moment, what comes where a call fails, and whether it reads of a device that is gone.
+//! status and the SHA-256 of each device. Three tables ask something else of a case: what is shown where its run is stopped at
+//! any moment, what comes where a call fails, and whether it reads of a device that is gone. Behind the replies and the status
+//! they print what they found.
 #![tactic(auto)]
 
 mod cases;

@@ -59,7 +59,7 @@ pub fn reads(rt: &HostRuntime, run: &Run) -> anyhow::Result<()> {
     let script = run.script.as_slice().to_vec(alloc)?;
     let played = lend(alloc, Vec::new(alloc), run.words.as_slice(), script, 0)?;
     let sent = sent_of(alloc, played.replies.as_slice())?;
-    print_run(rt, sent.as_slice(), played.status, played.files.as_slice())?;
+    print_run(rt, sent.as_slice(), played.status)?;
     let lines = lines_of(alloc, run.script.as_slice())?;
     let mut wrong: usize = 0;
     for (place, reply) in played.replies.as_slice().iter().enumerate() {

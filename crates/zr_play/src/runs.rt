@@ -84,16 +84,11 @@ fn print_sums(rt: &HostRuntime, files: &[DiskFile]) -> anyhow::Result<()> {
     Ok(())
 }
 
-/// Prints what a run sent, its status, and the SHA-256 of each device as it left them.
-pub fn print_run(
-    rt: &HostRuntime,
-    sent: &[u8],
-    status: u8,
-    files: &[DiskFile],
-) -> anyhow::Result<()> {
+/// Prints what a run sent, and its status.
+pub fn print_run(rt: &HostRuntime, sent: &[u8], status: u8) -> anyhow::Result<()> {
     print!(rt; "{}", std::str::from_utf8(sent)?)?;
     println!(rt; "status {status}")?;
-    print_sums(rt, files)
+    Ok(())
 }
 
 // The disks, and the files of the folder that none of them is.
@@ -133,7 +128,8 @@ fn play(rt: &HostRuntime, mut files: Vec<DiskFile>, run: &Run) -> anyhow::Result
     let status = status_of(alloc, run.words.as_slice(), &mut desk)?;
     let memory = desk.memory;
     let files = joined(memory.disks, memory.folder)?;
-    print_run(rt, memory.sent.as_slice(), status, files.as_slice())?;
+    print_run(rt, memory.sent.as_slice(), status)?;
+    print_sums(rt, files.as_slice())?;
     Ok(files)
 }
 

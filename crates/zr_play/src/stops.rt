@@ -325,7 +325,7 @@ pub fn stops(rt: &HostRuntime, line: usize, run: &Run, probe: &Run) -> anyhow::R
     let script = run.script.as_slice().to_vec(alloc)?;
     let mut desk = MemDesk::new(alloc, script, Vec::new(alloc));
     let status = status_of(alloc, run.words.as_slice(), &mut desk)?;
-    print_run(rt, desk.sent(), status, desk.memory.disks.as_slice())?;
+    print_run(rt, desk.sent(), status)?;
     let lines = lines_of(alloc, run.script.as_slice())?;
     let shown = Shown::new(alloc, states_of(alloc, run, probe)?)?;
     let calls = desk.memory.history.calls.as_slice();
