@@ -10,15 +10,13 @@ use crate::patch::{Patch, number_of};
 use sha2::{Digest, Sha256};
 use std::alloc::{AllocError, Global};
 use zr_base::{Extent, Policy};
-use zr_choose::{Chooser, pick_first};
+use zr_choose::{Chooser, pick_best, pick_first};
 use zr_run::run;
 use zr_shelf::{Desk, DiskFile, MemDesk};
 
-/// Runs the program over a desk, with the policy `first` alone, and answers its status.
-pub fn status_of<D: Desk>(alloc: Global, words: &[String], desk: &mut D) -> Result<u8, AllocError>
-    requires { D.sizes desk.old ≡ [] }
-{
-    let pick = Chooser::new(
+// The chooser of the first run that fits.
+fn first(alloc: Global) -> Result<Chooser, AllocError> {
+    Ok(Chooser::new(
         String::from_str(alloc, "first")?,
         Policy::First,
         Box::new(
@@ -28,8 +26,29 @@ pub fn status_of<D: Desk>(alloc: Global, words: &[String], desk: &mut D) -> Resu
                 ensures { IsPick Policy.First want runs.entry.now result }
             { pick_first(want, runs) },
         )?,
-    );
-    Ok(run(alloc, words, desk, &[pick]))
+    ))
+}
+
+// The chooser of the shortest run that fits.
+fn best(alloc: Global) -> Result<Chooser, AllocError> {
+    Ok(Chooser::new(
+        String::from_str(alloc, "best")?,
+        Policy::Best,
+        Box::new(
+            alloc,
+            |want: u64, runs: &[Extent]| -> Option<usize>
+                requires { (0 < want) × AreRuns runs.now }
+                ensures { IsPick Policy.Best want runs.entry.now result }
+            { pick_best(want, runs) },
+        )?,
+    ))
+}
+
+/// Runs the program over a desk, with the policies `first` and `best`, and answers its status.
+pub fn status_of<D: Desk>(alloc: Global, words: &[String], desk: &mut D) -> Result<u8, AllocError>
+    requires { D.sizes desk.old ≡ [] }
+{
+    Ok(run(alloc, words, desk, &[first(alloc)?, best(alloc)?]))
 }
 
 /// Runs the program over lent files, of which the call of the number `fails` fails; at 0 none does.
