@@ -100,10 +100,13 @@ pub struct FileDesk {
 
 impl FileDesk {
     ghost use Rattle.std.specs.Prelude.{[]};
+    ghost use Rattle.zr_files.specs.Desk.{faults_of};
 
-    /// A desk with no device yet.
+    /// A desk with no device yet, of which nothing has failed and nothing was moved.
     pub fn new(rt: HostRuntime) -> FileDesk
         ensures none { result.devices.items ≡ [] }
+        ensures faults { faults_of result ≡ record { disk = 0; attach = 0; input = 0; output = 0 } }
+        ensures moved { result.moved ≡ record { read = 0; written = 0; synced = 0; missing = 0; taken = 0; takes = 0; given = 0 } }
     {
         let alloc: Global = rt.alloc();
         FileDesk {
