@@ -1,8 +1,10 @@
 -- A step of condensing on an open pool.
-use Rattle.std.specs.Prelude.{◌≡◌, ◌<◌, ℕ, Bool, true, false, ◌||◌, Option, Some, None, slice_index_or, slice_set, length}
+use Rattle.std.specs.Prelude.{◌≡◌, ◌<◌, ℕ, Bool, true, false, ◌||◌, Option, Some, None, slice_index_or, slice_set, length, nat_lt}
 use Rattle.zr_base.specs.declared.space.CondPart.{CondPart}
 use Rattle.zr_base.specs.declared.space.Condensed.{Condensed}
 use Rattle.zr_base.specs.declared.space.Condensed.TheVariants.{Done}
+use Rattle.zr_rules.specs.Places.{part_of}
+use Rattle.zr_rules.specs.Space.{Space}
 use Rattle.zr_rules.specs.Steps.{CondensesSome, due_device}
 use Rattle.zr_sync.specs.declared.open.CondStreams.{CondStreams}
 use Rattle.zr_sync.specs.declared.open.OpenPool.{OpenPool}
@@ -22,9 +24,13 @@ abbrev pub is_done : Condensed → Bool
 is_done Done = true
 is_done _ = false
 
--- the first step turns the counts, and the last one the entries too
-abbrev pub turned_by : Turned → Bool → Condensed → Turned
-turned_by t first outcome = record { entries = t.entries || is_done outcome; counts = t.counts || first || is_done outcome }
+-- fewer entries are left of the device's mapping
+abbrev pub leaves_out : Space → Space → ℕ → Bool
+leaves_out old new d = nat_lt (length (part_of new.parts.devs d).entries) (length (part_of old.parts.devs d).entries)
+
+-- the first step turns the counts, and the last one turns both where it leaves entries out
+abbrev pub turned_by : Turned → Bool → Bool → Turned
+turned_by t first fewer = record { entries = t.entries || fewer; counts = t.counts || first || fewer }
 
 abbrev pub none_turned : Turned
 none_turned = record { entries = false; counts = false }
@@ -36,7 +42,7 @@ cond_behind t outcome = record t { done = t.done || is_done outcome }
 -- A step was made, and what it turned and whether it was the last is noted. Nothing else changed.
 pub record CondensesMapping (old new : OpenPool) (d : ℕ) (outcome : Condensed) : Type 0 where
   pub step : CondensesSome old.space outcome new.space
-  pub turned : d < length old.turned → new.turned ≡ slice_set old.turned d (turned_by (slice_index_or old.turned d none_turned) (is_first old.space.parts.cond) outcome)
+  pub turned : d < length old.turned → new.turned ≡ slice_set old.turned d (turned_by (slice_index_or old.turned d none_turned) (is_first old.space.parts.cond) (leaves_out old.space new.space d))
   pub rest : new ≡ record old { space = new.space; turned = new.turned; cond = cond_behind old.cond outcome }
 
 -- A step was made on the mapping that is condensed, or on that of the lowest device that is due.

@@ -1,15 +1,17 @@
 //! A step of condensing the mapping of a device that is gone.
 //!
 //! The first step counts the fresh obsolete units, and the last puts the new mapping in place of the old one: then the next
-//! commit has to write what changed of the mapping's streams anew. In between the mapping stays, and what was kept so far
+//! commit has to write what changed of the mapping's streams anew: the counts behind the first step, and both where the last
+//! one left entries out. In between the mapping stays, and what was kept so far
 //! has streams of its own: the last root has them until the commit behind the last step, which gives them back.
 ghost use Rattle.std.specs.Prelude.{◌≡◌, ◌<◌, ℕ, List, Some, true, IsErrOf, IfErr, IfOk, OnOk, length, slice_index_or, slice_set};
 ghost use Rattle.zr_base.specs.declared.refusal.Refusal.{Refusal};
+ghost use Rattle.zr_rules.specs.Places.{part_of};
 ghost use Rattle.zr_rules.specs.Steps.{due_device, has_condensing};
 ghost use Rattle.zr_sync.specs.Pools.{IsOpen};
 ghost use Rattle.zr_sync.specs.declared.fault.Fault.TheVariants.{No, Stops};
 ghost use Rattle.zr_sync.specs.declared.stop.Stop.TheVariants.{DiskFault};
-ghost use Rattle.zr_removal.specs.Condensing.{CondensesPool, CondensesMapping, cond_behind, condensed_next, is_first, none_turned, turned_by};
+ghost use Rattle.zr_removal.specs.Condensing.{CondensesPool, CondensesMapping, cond_behind, condensed_next, is_first, leaves_out, none_turned, turned_by};
 ghost use Rattle.zr_removal.specs.Refusals.{IsCondenseRefusal};
 
 use zr_base::{Condensed, DevState, NoMemory, Refusal};
@@ -51,26 +53,40 @@ fn demand_to_condense(pool: &OpenPool) -> Result<u32, Refusal>
 }
 
 // Which streams of a mapping are to be written anew behind a step.
-fn turned_by(turned: Turned, first: bool, outcome: Condensed) -> Turned
-    ensures { result ≡ turned_by turned first outcome }
+fn turned_by(turned: Turned, first: bool, fewer: bool) -> Turned
+    ensures { result ≡ turned_by turned first fewer }
 {
-    let done = matches!(outcome, Condensed::Done);
     Turned {
-        entries: turned.entries || done,
-        counts: turned.counts || first || done,
+        entries: turned.entries || fewer,
+        counts: turned.counts || first || fewer,
     }
 }
 
 // Notes which streams of a device's mapping are to be written anew behind a step.
-fn note_turned(turned: &mut [Turned], dev: u32, first: bool, outcome: Condensed)
+fn note_turned(turned: &mut [Turned], dev: u32, first: bool, fewer: bool)
     ensures length { length turned.new ≡ length turned.old }
-    ensures noted { dev < length turned.old → turned.new ≡ slice_set turned.old dev (turned_by (slice_index_or turned.old dev none_turned) first outcome) }
+    ensures noted { dev < length turned.old → turned.new ≡ slice_set turned.old dev (turned_by (slice_index_or turned.old dev none_turned) first fewer) }
 {
     let index = dev as usize;
     if index >= turned.len() {
         return;
     }
-    turned[index] = turned_by(turned[index], first, outcome);
+    turned[index] = turned_by(turned[index], first, fewer);
+}
+
+// How many entries the mapping of a device has.
+fn entry_count(space: &Space, dev: u32) -> usize
+    ensures { result ≡ length (part_of space.now.parts.devs dev).entries }
+{
+    if dev >= space.devices() {
+        return 0;
+    }
+    let moves = space.moves(dev);
+    moves.lawful();
+    match moves.map() {
+        None => 0,
+        Some(map) => map.len(),
+    }
 }
 
 // Whether no condensing goes on.
@@ -100,8 +116,10 @@ fn condense_mapping(pool: &mut OpenPool, dev: u32) -> Result<Condensed, NoMemory
     ensures pool { (sizes : List ℕ) → IsOpen sizes pool.old → OnOk result (IsOpen sizes pool.new) }
 {
     let first = is_first(&pool.space);
+    let before = entry_count(&pool.space, dev);
     let outcome = pool.space.condense_step()?;
-    note_turned(&mut pool.turned, dev, first, outcome);
+    let fewer = entry_count(&pool.space, dev) < before;
+    note_turned(&mut pool.turned, dev, first, fewer);
     note_done(&mut pool.cond, outcome);
     Ok(outcome)
 }
