@@ -2,7 +2,7 @@
 //!
 //! A case is one or more runs, and a line of four `=` ends it. A run is a line with the program's words and the lines of its
 //! script, and a line of four `-` ends it and begins the next. Before its first run a case may say by a line that begins with
-//! `@` that more than its answers is asked. Before the words of a run there may be lines `! PATH OFFSET HEX`: they put bytes
+//! `@` what is asked of it instead. Before the words of a run there may be lines `! PATH OFFSET HEX`: they put bytes
 //! into a file that the run before left, for images that no script makes.
 
 use anyhow::{Context, bail};
@@ -11,8 +11,10 @@ use std::alloc::Global;
 /// What is asked of a case.
 #[derive(Clone, Copy, Debug, PartialEq, Eq)]
 pub enum Kind {
-    /// What its runs are answered, one behind another.
+    /// What its runs are answered, one behind another, and the sums of their devices.
     Plain,
+    /// `@answers`: what its runs are answered alone.
+    Answers,
     /// `@stops N`: what is shown where its first run is stopped from its line N on, counted from 1.
     Stops(usize),
     /// `@faults`: what comes where a call of its first run fails.
@@ -68,6 +70,7 @@ fn kind_of(line: &[u8]) -> anyhow::Result<Kind> {
         return Ok(Kind::Stops(std::str::from_utf8(number)?.parse::<usize>()?));
     }
     match line {
+        b"@answers" => Ok(Kind::Answers),
         b"@faults" => Ok(Kind::Faults),
         b"@reads" => Ok(Kind::Reads),
         _ => bail!("no such table"),

@@ -21,7 +21,8 @@ use std::io::Read;
 // Prints what is asked of a case.
 fn play_case(rt: &HostRuntime, case: &Case) -> anyhow::Result<()> {
     match (case.kind, case.runs.as_slice()) {
-        (Kind::Plain, runs) => runs::play_all(rt, runs),
+        (Kind::Plain, runs) => runs::play_all(rt, runs, true),
+        (Kind::Answers, runs) => runs::play_all(rt, runs, false),
         (Kind::Stops(line), [run, probe]) => stops::stops(rt, line, run, probe),
         (Kind::Faults, [run, probe]) => faults::faults(rt, run, probe),
         (Kind::Reads, [run]) => reads::reads(rt, run),

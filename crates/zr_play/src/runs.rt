@@ -148,15 +148,17 @@ fn play(rt: &HostRuntime, mut files: Vec<DiskFile>, run: &Run) -> anyhow::Result
     let memory = desk.memory;
     let files = joined(memory.disks, memory.folder)?;
     print_run(rt, memory.sent.as_slice(), status)?;
-    print_sums(rt, files.as_slice())?;
     Ok(files)
 }
 
-/// Runs of a case, each over the files that the one before left.
-pub fn play_all(rt: &HostRuntime, runs: &[Run]) -> anyhow::Result<()> {
+/// Runs of a case, each over the files that the one before left. The sums of the devices are printed where they are wanted.
+pub fn play_all(rt: &HostRuntime, runs: &[Run], sums: bool) -> anyhow::Result<()> {
     let mut files = Vec::new(rt.alloc());
     for run in runs {
         files = play(rt, files, run)?;
+        if sums {
+            print_sums(rt, files.as_slice())?;
+        }
     }
     Ok(())
 }
