@@ -14,9 +14,11 @@ use zr_choose::{Chooser, pick_best, pick_first};
 use zr_run::run;
 use zr_shelf::{Desk, DiskFile, MemDesk};
 
-// The chooser of the first run that fits.
-fn first(alloc: Global) -> Result<Chooser, AllocError> {
-    Ok(Chooser::new(
+/// Runs the program over a desk, with the policies `first` and `best`, and answers its status.
+pub fn status_of<D: Desk>(alloc: Global, words: &[String], desk: &mut D) -> Result<u8, AllocError>
+    requires { D.sizes desk.old ≡ [] }
+{
+    let first = Chooser::new(
         String::from_str(alloc, "first")?,
         Policy::First,
         Box::new(
@@ -26,12 +28,8 @@ fn first(alloc: Global) -> Result<Chooser, AllocError> {
                 ensures { IsPick Policy.First want runs.entry.now result }
             { pick_first(want, runs) },
         )?,
-    ))
-}
-
-// The chooser of the shortest run that fits.
-fn best(alloc: Global) -> Result<Chooser, AllocError> {
-    Ok(Chooser::new(
+    );
+    let best = Chooser::new(
         String::from_str(alloc, "best")?,
         Policy::Best,
         Box::new(
@@ -41,14 +39,8 @@ fn best(alloc: Global) -> Result<Chooser, AllocError> {
                 ensures { IsPick Policy.Best want runs.entry.now result }
             { pick_best(want, runs) },
         )?,
-    ))
-}
-
-/// Runs the program over a desk, with the policies `first` and `best`, and answers its status.
-pub fn status_of<D: Desk>(alloc: Global, words: &[String], desk: &mut D) -> Result<u8, AllocError>
-    requires { D.sizes desk.old ≡ [] }
-{
-    Ok(run(alloc, words, desk, &[first(alloc)?, best(alloc)?]))
+    );
+    Ok(run(alloc, words, desk, &[first, best]))
 }
 
 /// Runs the program over lent files, of which the call of the number `fails` fails; at 0 none does.
