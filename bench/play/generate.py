@@ -329,22 +329,12 @@ if __name__ == '__main__':
     if sys.argv[1:] == ['sums']:
         print('\n'.join(sums(sys.stdin)))
         sys.exit(0)
-    if sys.argv[1:] == ['checkpoints']:
-        for s in range(2001, 2301):
-            words, lines = checkpoints(s) if s % 25 else checkpoints_and_condensing(s)
-            print(' '.join(words))
-            print('\n'.join(lines))
-            print('====')
-        sys.exit(0)
-    if sys.argv[1:] == ['removals']:
-        for s in range(1001, 1301):
-            words, lines = removals(s) if s % 25 else condensing(s)
-            print(' '.join(words))
-            print('\n'.join(lines))
-            print('====')
-        sys.exit(0)
-    for s in list(range(1, 201)) + [201, 202, 204]:
-        words, lines = script(s, 40) if s <= 200 else short_runs(s)
+    made = {
+        'checkpoints': (checkpoints(s) if s % 25 else checkpoints_and_condensing(s) for s in range(2001, 2301)),
+        'removals': (removals(s) if s % 25 else condensing(s) for s in range(1001, 1301)),
+        '': (script(s, 40) if s <= 200 else short_runs(s) for s in [*range(1, 201), 201, 202, 204]),
+    }
+    for words, lines in made[''.join(sys.argv[1:])]:
         print(' '.join(words))
         print('\n'.join(lines))
         print('====')
