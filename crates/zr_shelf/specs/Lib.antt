@@ -6,3 +6,4 @@ pub mod Protected
 pub mod Publish
 pub mod Memory
 pub mod Choices
+pub mod Faultless

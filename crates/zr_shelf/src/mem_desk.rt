@@ -1,7 +1,9 @@
 //! A desk in memory that fails at the calls that it is told.
-ghost use Rattle.std.specs.Prelude.{◌≡◌, ◌++◌, ◌∷◌, [], OnOk, OnErr, IfOk, string_bytes, min, ◌+◌, ◌-◌, ◌^◌};
+ghost use Rattle.std.specs.Prelude.{◌≡◌, ◌==◌, ◌++◌, ◌∷◌, [], OnOk, OnErr, IfOk, string_bytes, min, ◌+◌, ◌-◌, ◌^◌};
+ghost use Rattle.std.specs.List.{list_any};
 ghost use Rattle.zr_shelf.specs.Memory.{world_of, start, stand_at, IsImage};
 ghost use Rattle.zr_shelf.specs.Choices.{IsChosen, HasOthers};
+ghost use Rattle.zr_shelf.specs.Faultless.{HasNoFault};
 
 use crate::desk::{Desk, DeskErr, Shelf};
 use crate::memory::{DiskFile, Memory};
@@ -27,12 +29,16 @@ impl MemDesk {
         ensures disks { result.memory.disks.items ≡ [] }
         ensures folder { result.memory.folder.items ≡ [] }
         ensures moment { result.memory.made ≡ 0 }
+        ensures fails { result.fails ≡ fails }
+        ensures faults { HasNoFault result }
     {
         MemDesk::over(Memory::new(alloc, input, Vec::new(alloc)), fails)
     }
 
     fn over(memory: Memory, fails: Vec<u64>) -> MemDesk
-        ensures { result.memory ≡ memory }
+        ensures memory { result.memory ≡ memory }
+        ensures fails { result.fails ≡ fails }
+        ensures faults { HasNoFault result }
     {
         MemDesk {
             memory,
@@ -49,6 +55,8 @@ impl MemDesk {
         ensures world { IfOk result (λ desk. world_of desk.memory.history ≡ start input.items) }
         ensures disks { IfOk result (λ desk. desk.memory.disks.items ≡ []) }
         ensures folder { IfOk result (λ desk. desk.memory.folder ≡ image) }
+        ensures fails { IfOk result (λ desk. desk.fails.items ≡ []) }
+        ensures faults { IfOk result HasNoFault }
     {
         Ok(MemDesk::over(Memory::new(alloc, input, image), Vec::new(alloc)))
     }
@@ -89,7 +97,8 @@ impl MemDesk {
 
     // Counts a call, and answers whether it is to fail.
     fn is_due(&mut self) -> bool
-        ensures { self.new ≡ record self.old { memory = record self.old.memory { made = min (self.old.memory.made + 1) (2 ^ 64 - 1) } } }
+        ensures counted { self.new ≡ record self.old { memory = record self.old.memory { made = min (self.old.memory.made + 1) (2 ^ 64 - 1) } } }
+        ensures due { result ≡ list_any (λ n. n == min (self.old.memory.made + 1) (2 ^ 64 - 1)) self.old.fails.items }
     {
         let number = self.memory.count();
         self.fails.contains(&number)
