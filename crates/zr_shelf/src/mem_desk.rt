@@ -1,6 +1,5 @@
 //! A desk in memory that fails at the calls that it is told.
-ghost use Rattle.std.specs.Prelude.{◌≡◌, ◌==◌, ◌++◌, ◌∷◌, [], OnOk, OnErr, IfOk, string_bytes, min, ◌+◌, ◌-◌, ◌^◌};
-ghost use Rattle.std.specs.List.{list_any};
+ghost use Rattle.std.specs.Prelude.{◌≡◌, ◌++◌, ◌∷◌, [], OnOk, OnErr, IfOk, string_bytes, min, ◌+◌, ◌-◌, ◌^◌};
 ghost use Rattle.zr_shelf.specs.Memory.{world_of, start, stand_at, IsImage};
 ghost use Rattle.zr_shelf.specs.Choices.{IsChosen, HasOthers};
 ghost use Rattle.zr_shelf.specs.Faultless.{HasNoFault};
@@ -97,8 +96,7 @@ impl MemDesk {
 
     // Counts a call, and answers whether it is to fail.
     fn is_due(&mut self) -> bool
-        ensures counted { self.new ≡ record self.old { memory = record self.old.memory { made = min (self.old.memory.made + 1) (2 ^ 64 - 1) } } }
-        ensures due { result ≡ list_any (λ n. n == min (self.old.memory.made + 1) (2 ^ 64 - 1)) self.old.fails.items }
+        ensures { self.new ≡ record self.old { memory = record self.old.memory { made = min (self.old.memory.made + 1) (2 ^ 64 - 1) } } }
     {
         let number = self.memory.count();
         self.fails.contains(&number)
