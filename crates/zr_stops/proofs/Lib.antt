@@ -1,0 +1,5 @@
+pub mod Images
+pub mod Grouped
+pub mod Torn
+pub mod Putting
+pub mod Committing

@@ -1,0 +1,58 @@
+-- The last root of an open pool, on the disks and on what a crash may leave of them.
+use Rattle.std.specs.Prelude.{◌≡◌, ℕ, true, false, List, [], All, length, map}
+use Rattle.zr_base.specs.declared.space.Dva.{Dva}
+use Rattle.zr_bptr.specs.declared.Bptr.{Bptr}
+use Rattle.zr_bptr.specs.declared.Ptr.{Ptr}
+use Rattle.zr_bptr.specs.declared.Tree.{Tree}
+use Rattle.zr_current.specs.Current.{IsCurrentOn, IsShownFor}
+use Rattle.zr_image.specs.Reading.{store_of}
+use Rattle.zr_image.specs.StateOf.{AreObjects}
+use Rattle.zr_label.specs.declared.root.Uber.{Uber}
+use Rattle.zr_model.specs.Objects.{Objects}
+use Rattle.zr_root.specs.Streams.{IsTreeFor}
+use Rattle.zr_rules.specs.Equation.{devices_in}
+use Rattle.zr_rules.specs.Resolve.{leads_to}
+use Rattle.zr_rules.specs.Space.{Space, nothing_opened, opened_of, role_at}
+use Rattle.zr_shelf.specs.Disks.{IsAtRest, MayLeave, Stand}
+use Rattle.zr_sync.specs.Heads.{HasHead}
+use Rattle.zr_sync.specs.Objects.{HoldsObjects}
+use Rattle.zr_sync.specs.Pools.{IsOpen}
+use Rattle.zr_sync.specs.declared.open.OpenPool.{OpenPool}
+use Rattle.zr_tree.specs.Trees.{tree_reach}
+use Rattle.zr_vdev.specs.Runs.{view_of}
+use Rattle.zr_vdev.specs.Stores.{is_open_role}
+
+-- no unit to which the address leads is free or the open group's own
+abbrev pub IsOutOfReach : Space → Dva → Type 0
+IsOutOfReach s a = (d u : ℕ) → leads_to (devices_in s) a d u ≡ true → is_open_role (role_at s d u) ≡ false
+
+-- the blocks of the head lie in units that are in use
+abbrev pub HasSafeHead : List (List ℕ) → OpenPool → Ptr → ℕ → Type 0
+HasSafeHead disks pool root len = (t : Tree) → IsTreeFor len root t → All (λ (b : Bptr). IsOutOfReach pool.space b.at) (tree_reach (store_of (view_of disks pool.table.slots pool.space)) t)
+
+-- no unit is the open group's own
+abbrev pub IsSettled : Space → Type 0
+IsSettled s = (d : ℕ) → opened_of s d ≡ nothing_opened
+
+-- The pool stands as its last commit left it: nothing has changed since and nothing is pending. The disks show its last root, and have its head and its objects.
+pub record IsCommitted (sizes : List ℕ) (stand : Stand) (u : Uber) (pool : OpenPool) (all : Objects) : Type 0 where
+  pub ready : IsOpen sizes pool
+  pub empty : pool.group.objects ≡ []
+  pub settled : IsSettled pool.space
+  pub rest : IsAtRest stand
+  pub sized : map length stand.seen ≡ sizes
+  pub shown : IsShownFor stand.seen u pool
+  pub current : IsCurrentOn stand.seen u pool
+  pub head : HasHead stand.seen pool u.root u.len
+  pub safe : HasSafeHead stand.seen pool u.root u.len
+  pub objects : HoldsObjects (Unit {0}) stand.seen pool all
+
+-- The image has the pool's last root: it is the current one whatever is seen of the slots, its head stands at its pointer, and its directory means these objects.
+pub record HasLast (image : List (List ℕ)) (u : Uber) (pool : OpenPool) (all : Objects) : Type 0 where
+  pub current : IsCurrentOn image u pool
+  pub head : HasHead image pool u.root u.len
+  pub objects : AreObjects (store_of (view_of image pool.table.slots pool.space)) pool.dir all
+
+-- whatever a crash leaves has it
+abbrev pub LeavesLast : Uber → OpenPool → Objects → Stand → Type 0
+LeavesLast u pool objects stand = (image : List (List ℕ)) → MayLeave stand image → HasLast image u pool objects

@@ -1,0 +1,4 @@
+pub mod Last
+pub mod Groups
+pub mod Torn
+pub mod Either

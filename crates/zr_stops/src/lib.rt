@@ -1,0 +1,15 @@
+//! What a stop leaves of an open pool.
+//!
+//! A pool is copy-on-write: while a group is open its lines put blocks into units that were free when the group began, and
+//! nothing else is written. So whatever a crash makes of the writes that are pending, what the last root leads to has its
+//! bytes, and the slots show that root. A commit writes into free units too, and makes them durable before it puts the next
+//! root into ring slots: in the place of that root an honest crash leaves what was there, the root or none. So what is shown
+//! at each moment is the state that was committed, or the next one.
+#![tactic(auto)]
+
+mod laws;
+
+pub use laws::{
+    a_commit_leaves_one_of_two_states, a_group_begins, a_group_leaves_the_last_root,
+    lines_stay_in_their_group, the_last_root_is_shown,
+};
