@@ -1,1 +1,6 @@
+pub mod Bits
+pub mod Counting
+pub mod Frames
+pub mod Placed
+pub mod RoleSets
 pub mod SetWords

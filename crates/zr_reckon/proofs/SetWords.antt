@@ -122,38 +122,38 @@ join version low e (x ∷ xs) m l n fits =
     let there = words-cons version x xs in
     ⊎_elim
     (λ before.
-      let rest = join version (x.start + x.len + 1) e xs m.3 (omega (arith, before)) n fits in
-      let r = rest.words in
-      let a = words-cons version x rest.all in
-      record {
-        all = x ∷ rest.all;
-        maximal = (m.0, m.1, m.2, rest.maximal);
-        members = λ u. let s = rest.members u in grind (arith, s);
-        words = omega (arith, r, a, there);
-      })
+    let rest = join version (x.start + x.len + 1) e xs m.3 (omega (arith, before)) n fits in
+    let r = rest.words in
+    let a = words-cons version x rest.all in
+    record {
+      all = x ∷ rest.all;
+      maximal = (m.0, m.1, m.2, rest.maximal);
+      members = λ u. let s = rest.members u in grind (arith, s);
+      words = omega (arith, r, a, there);
+    })
     (λ not_before. ⊎_elim
     (λ after.
-      let a = words-cons version e (x ∷ xs) in
-      record {
-        all = e ∷ (x ∷ xs);
-        maximal = (l, n, fits, (omega (arith, after), m.1, m.2, m.3));
-        members = λ u. grind arith;
-        words = omega (arith, a);
-      })
+    let a = words-cons version e (x ∷ xs) in
+    record {
+      all = e ∷ (x ∷ xs);
+      maximal = (l, n, fits, (omega (arith, after), m.1, m.2, m.3));
+      members = λ u. grind arith;
+      words = omega (arith, a);
+    })
     (λ not_after.
-      let from : ℕ = min x.start e.start in
-      let to : ℕ = max (x.start + x.len) (e.start + e.len) in
-      let h : Extent = record { start = from; len = to - from } in
-      let x0 = m.0 in let x1 = m.1 in let x2 = m.2 in
-      let rest = join version low h xs (lowered low (x.start + x.len + 1) xs (omega (arith, x0)) m.3) (omega (arith, x0, l)) (omega (arith, x1)) (omega (arith, x2, fits)) in
-      let r = rest.words in
-      let both = run_words-joined version x.len e.len h.len (omega (arith, not_before, not_after)) in
-      record {
-        all = rest.all;
-        maximal = rest.maximal;
-        members = λ u. let s = rest.members u in grind (arith, nat_tests, s, not_before, not_after);
-        words = omega (arith, r, both, there);
-      })
+    let from : ℕ = min x.start e.start in
+    let to : ℕ = max (x.start + x.len) (e.start + e.len) in
+    let h : Extent = record { start = from; len = to - from } in
+    let x0 = m.0 in let x1 = m.1 in let x2 = m.2 in
+    let rest = join version low h xs (lowered low (x.start + x.len + 1) xs (omega (arith, x0)) m.3) (omega (arith, x0, l)) (omega (arith, x1)) (omega (arith, x2, fits)) in
+    let r = rest.words in
+    let both = run_words-joined version x.len e.len h.len (omega (arith, not_before, not_after)) in
+    record {
+      all = rest.all;
+      maximal = rest.maximal;
+      members = λ u. let s = rest.members u in grind (arith, nat_tests, s, not_before, not_after);
+      words = omega (arith, r, both, there);
+    })
     (cases_lt (e.start + e.len) x.start))
     (cases_lt (x.start + x.len) e.start)
 
@@ -164,19 +164,19 @@ with_none es fs e w none = same_extents 0 0 fs es w.new_maximal w.old_maximal (�
 with_fits : (es fs : List Extent) (e : Extent) → IsWith es fs e → 0 < e.len → e.start + e.len ≤ 2 ^ 62
 with_fits es fs e w some = ⊎_elim
     (λ high.
-      let out = has_unit-high 0 (e.start + e.len - 1) fs w.new_maximal (omega (arith, high)) in
-      let s = w.members (e.start + e.len - 1) in
-      absurd (grind (arith, nat_tests, out, s, some)))
+    let out = has_unit-high 0 (e.start + e.len - 1) fs w.new_maximal (omega (arith, high)) in
+    let s = w.members (e.start + e.len - 1) in
+    absurd (grind (arith, nat_tests, out, s, some)))
     (λ fits. fits)
     (cases_lt (2 ^ 62) (e.start + e.len))
 
 pub more_words : (version : ℕ) (es fs : List Extent) (e : Extent) → IsWith es fs e → set_words version fs ≤ set_words version es + extent_words version e
 more_words version es fs e w = ⊎_elim
     (λ some.
-      let j = join version 0 e es w.old_maximal (omega arith) some (with_fits es fs e w some) in
-      let same = same_extents 0 0 fs j.all w.new_maximal j.maximal (λ u. w.members u ∙ sym (j.members u)) in
-      let r = j.words in
-      rw same (rw (extent_words-is version e) r))
+    let j = join version 0 e es w.old_maximal (omega arith) some (with_fits es fs e w some) in
+    let same = same_extents 0 0 fs j.all w.new_maximal j.maximal (λ u. w.members u ∙ sym (j.members u)) in
+    let r = j.words in
+    rw same (rw (extent_words-is version e) r))
     (λ none. rw (with_none es fs e w (omega (arith, none))) (omega arith))
     (cases_lt 0 e.len)
 
@@ -197,32 +197,32 @@ cut_front version low e (x ∷ xs) m from =
     ⊎_elim
     (λ inside. ⊎_elim
     (λ part.
-      let y : Extent = record { start = e.start + e.len; len = x.start + x.len - (e.start + e.len) } in
-      let a = words-cons version y xs in
-      let less = run_words-mono version x.len y.len (omega (arith, inside)) in
-      record {
-        all = y ∷ xs;
-        maximal = (omega (arith, inside, x0), omega (arith, part), omega (arith, part, x2), lowered _ (x.start + x.len + 1) xs (omega (arith, part)) m.3);
-        members = λ u. let below = has_unit-below (x.start + x.len + 1) u xs m.3 in grind (arith, nat_tests, below, part, inside, from, x0);
-        words = omega (arith, a, less, there);
-      })
+    let y : Extent = record { start = e.start + e.len; len = x.start + x.len - (e.start + e.len) } in
+    let a = words-cons version y xs in
+    let less = run_words-mono version x.len y.len (omega (arith, inside)) in
+    record {
+      all = y ∷ xs;
+      maximal = (omega (arith, inside, x0), omega (arith, part), omega (arith, part, x2), lowered _ (x.start + x.len + 1) xs (omega (arith, part)) m.3);
+      members = λ u. let below = has_unit-below (x.start + x.len + 1) u xs m.3 in grind (arith, nat_tests, below, part, inside, from, x0);
+      words = omega (arith, a, less, there);
+    })
     (λ whole.
-      let rest = cut_front version (x.start + x.len + 1) e xs m.3 (omega (arith, from, x0)) in
-      let r = rest.words in
-      record {
-        all = rest.all;
-        maximal = lowered low (x.start + x.len + 1) rest.all (omega (arith, x0)) rest.maximal;
-        members = λ u. let s = rest.members u in grind (arith, nat_tests, s, whole, from, x0);
-        words = omega (arith, r, there);
-      })
+    let rest = cut_front version (x.start + x.len + 1) e xs m.3 (omega (arith, from, x0)) in
+    let r = rest.words in
+    record {
+      all = rest.all;
+      maximal = lowered low (x.start + x.len + 1) rest.all (omega (arith, x0)) rest.maximal;
+      members = λ u. let s = rest.members u in grind (arith, nat_tests, s, whole, from, x0);
+      words = omega (arith, r, there);
+    })
     (cases_lt (e.start + e.len) (x.start + x.len)))
     (λ apart.
-      record {
-        all = x ∷ xs;
-        maximal = m;
-        members = λ u. let below = has_unit-below (x.start + x.len + 1) u xs m.3 in grind (arith, nat_tests, below, apart);
-        words = omega arith;
-      })
+    record {
+      all = x ∷ xs;
+      maximal = m;
+      members = λ u. let below = has_unit-below (x.start + x.len + 1) u xs m.3 in grind (arith, nat_tests, below, apart);
+      words = omega arith;
+    })
     (cases_lt x.start (e.start + e.len))
 
 pub part : (version low : ℕ) (e : Extent) (es : List Extent) → IsMaximalFrom low es → 0 < e.len → Parted version (cut_words version) low e es
@@ -234,45 +234,45 @@ part version low e (x ∷ xs) m n =
     (λ after. ⊎_elim
     (λ meets. ⊎_elim
     (λ inside.
-      let y : Extent = record { start = x.start; len = e.start - x.start } in
-      let z : Extent = record { start = e.start + e.len; len = x.start + x.len - (e.start + e.len) } in
-      let a = words-cons version y (z ∷ xs) in
-      let b = words-cons version z xs in
-      let c = run_words-cut version y.len z.len x.len (omega (arith, inside, after)) in
-      record {
-        all = y ∷ (z ∷ xs);
-        maximal = (x0, omega (arith, after), omega (arith, meets, x2), (omega (arith, n, after), omega (arith, inside), omega (arith, inside, x2), lowered _ (x.start + x.len + 1) xs (omega (arith, inside)) m.3));
-        members = λ u. let below = has_unit-below (x.start + x.len + 1) u xs m.3 in grind (arith, nat_tests, below, inside, after, meets);
-        words = omega (arith, a, b, c, there);
-      })
+    let y : Extent = record { start = x.start; len = e.start - x.start } in
+    let z : Extent = record { start = e.start + e.len; len = x.start + x.len - (e.start + e.len) } in
+    let a = words-cons version y (z ∷ xs) in
+    let b = words-cons version z xs in
+    let c = run_words-cut version y.len z.len x.len (omega (arith, inside, after)) in
+    record {
+      all = y ∷ (z ∷ xs);
+      maximal = (x0, omega (arith, after), omega (arith, meets, x2), (omega (arith, n, after), omega (arith, inside), omega (arith, inside, x2), lowered _ (x.start + x.len + 1) xs (omega (arith, inside)) m.3));
+      members = λ u. let below = has_unit-below (x.start + x.len + 1) u xs m.3 in grind (arith, nat_tests, below, inside, after, meets);
+      words = omega (arith, a, b, c, there);
+    })
     (λ past.
-      let y : Extent = record { start = x.start; len = e.start - x.start } in
-      let rest = cut_front version (x.start + x.len + 1) e xs m.3 (omega (arith, meets)) in
-      let r = rest.words in
-      let a = words-cons version y rest.all in
-      let less = run_words-mono version x.len y.len (omega (arith, meets)) in
-      record {
-        all = y ∷ rest.all;
-        maximal = (x0, omega (arith, after), omega (arith, meets, x2), lowered _ (x.start + x.len + 1) rest.all (omega (arith, meets, after)) rest.maximal);
-        members = λ u. let s = rest.members u in grind (arith, nat_tests, s, after, meets, past);
-        words = omega (arith, r, a, less, there);
-      })
+    let y : Extent = record { start = x.start; len = e.start - x.start } in
+    let rest = cut_front version (x.start + x.len + 1) e xs m.3 (omega (arith, meets)) in
+    let r = rest.words in
+    let a = words-cons version y rest.all in
+    let less = run_words-mono version x.len y.len (omega (arith, meets)) in
+    record {
+      all = y ∷ rest.all;
+      maximal = (x0, omega (arith, after), omega (arith, meets, x2), lowered _ (x.start + x.len + 1) rest.all (omega (arith, meets, after)) rest.maximal);
+      members = λ u. let s = rest.members u in grind (arith, nat_tests, s, after, meets, past);
+      words = omega (arith, r, a, less, there);
+    })
     (cases_lt (e.start + e.len) (x.start + x.len)))
     (λ before.
-      let rest = part version (x.start + x.len + 1) e xs m.3 n in
-      let r = rest.words in
-      let a = words-cons version x rest.all in
-      record {
-        all = x ∷ rest.all;
-        maximal = (x0, x1, x2, rest.maximal);
-        members = λ u. let s = rest.members u in grind (arith, nat_tests, s, before);
-        words = omega (arith, r, a, there);
-      })
+    let rest = part version (x.start + x.len + 1) e xs m.3 n in
+    let r = rest.words in
+    let a = words-cons version x rest.all in
+    record {
+      all = x ∷ rest.all;
+      maximal = (x0, x1, x2, rest.maximal);
+      members = λ u. let s = rest.members u in grind (arith, nat_tests, s, before);
+      words = omega (arith, r, a, there);
+    })
     (cases_lt e.start (x.start + x.len)))
     (λ front.
-      let rest = cut_front version x.start e (x ∷ xs) (omega arith, x1, x2, m.3) front in
-      let r = rest.words in
-      record { all = rest.all; maximal = lowered low x.start rest.all x0 rest.maximal; members = rest.members; words = omega (arith, r) })
+    let rest = cut_front version x.start e (x ∷ xs) (omega arith, x1, x2, m.3) front in
+    let r = rest.words in
+    record { all = rest.all; maximal = lowered low x.start rest.all x0 rest.maximal; members = rest.members; words = omega (arith, r) })
     (cases_lt x.start e.start)
 
 without_none : (es fs : List Extent) (e : Extent) → IsWithout es fs e → e.len ≡ 0 → fs ≡ es
@@ -281,10 +281,10 @@ without_none es fs e w none = same_extents 0 0 fs es w.new_maximal w.old_maximal
 less_by : (version : ℕ) (es fs : List Extent) (e : Extent) → IsWithout es fs e → set_words version fs ≤ set_words version es + cut_words version
 less_by version es fs e w = ⊎_elim
     (λ some.
-      let j = part version 0 e es w.old_maximal some in
-      let same = same_extents 0 0 fs j.all w.new_maximal j.maximal (λ u. w.members u ∙ sym (j.members u)) in
-      let r = j.words in
-      rw same r)
+    let j = part version 0 e es w.old_maximal some in
+    let same = same_extents 0 0 fs j.all w.new_maximal j.maximal (λ u. w.members u ∙ sym (j.members u)) in
+    let r = j.words in
+    rw same r)
     (λ none. rw (without_none es fs e w (omega (arith, none))) (omega arith))
     (cases_lt 0 e.len)
 

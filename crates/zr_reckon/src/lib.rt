@@ -7,4 +7,5 @@
 //! each law is the contract of a function with an empty body.
 #![tactic(auto)]
 
+pub mod allocations;
 pub mod sets;

@@ -1,0 +1,16 @@
+//! What an allocation does to the counts.
+ghost use Rattle.std.specs.Prelude.{◌≡◌, ℕ, ◌+◌, ◌≤◌};
+ghost use Rattle.zr_base.specs.declared.space.Dva.{Dva};
+ghost use Rattle.zr_base.specs.declared.space.Policy.{Policy};
+ghost use Rattle.zr_rules.specs.Columns.{free_units, sizes};
+ghost use Rattle.zr_rules.specs.Frees.{Allocates, AllocatesMeta};
+ghost use Rattle.zr_rules.specs.Space.{Space, IsLawful};
+
+/// An allocation for a block adds one word at most, takes its units from those that are free, and leaves all other counts.
+pub fn an_allocation_adds_a_word()
+    ensures words { (policy : Policy) (want : ℕ) (old new : Space) (at : Dva) (blocks objects : ℕ) → Allocates policy want old new at → IsLawful old
+        → (sizes new blocks objects).words ≤ (sizes old blocks objects).words + 1 }
+    ensures free { (policy : Policy) (want : ℕ) (old new : Space) (at : Dva) → Allocates policy want old new at → IsLawful old → free_units new + want ≡ free_units old }
+    ensures others { (policy : Policy) (want : ℕ) (old new : Space) (at : Dva) (blocks objects : ℕ) → Allocates policy want old new at → IsLawful old
+        → sizes new blocks objects ≡ record (sizes old blocks objects) { words = (sizes new blocks objects).words } }
+{}
