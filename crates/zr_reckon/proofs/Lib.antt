@@ -3,4 +3,5 @@ pub mod Counting
 pub mod Frames
 pub mod Placed
 pub mod RoleSets
+pub mod RoomUnits
 pub mod SetWords

@@ -18,7 +18,7 @@ some_hits : (n : ℕ) → one_if (nat_lt 0 n) ≤ n
 some_hits n = grind (arith, nat_tests)
 
 -- each kind of run of a late set counts
-late_hits_most : (runs : List LateRun) (u : ℕ) → one_if (has_late false runs u) + one_if (has_late true runs u) ≤ hits_late runs u
+pub late_hits_most : (runs : List LateRun) (u : ℕ) → one_if (has_late false runs u) + one_if (has_late true runs u) ≤ hits_late runs u
 late_hits_most [] u = omega arith
 late_hits_most (r ∷ runs) u =
     let rest = late_hits_most runs u in

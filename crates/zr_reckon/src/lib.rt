@@ -8,4 +8,5 @@
 #![tactic(auto)]
 
 pub mod allocations;
+pub mod rooms;
 pub mod sets;
