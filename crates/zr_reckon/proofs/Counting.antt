@@ -83,6 +83,10 @@ sum_grows f g h (x ∷ xs) less =
     let c = sum_by-cons h x xs in
     omega (arith, s, r, a, b, c)
 
+pub sum_less : {X : Type 0} (f g : X → ℕ) (xs : List X) → ((x : X) → f x ≤ g x) → sum_by f xs ≤ sum_by g xs
+sum_less f g [] less = omega arith
+sum_less f g (x ∷ xs) less = let s = less x in let r = sum_less f g xs less in let a = sum_by-cons f x xs in let b = sum_by-cons g x xs in omega (arith, s, r, a, b)
+
 -- a sum of sums
 pub sum_both : {X : Type 0} (f g h : X → ℕ) (xs : List X) → ((x : X) → f x ≡ g x + h x) → sum_by f xs ≡ sum_by g xs + sum_by h xs
 sum_both f g h [] same = refl

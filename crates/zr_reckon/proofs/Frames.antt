@@ -14,7 +14,7 @@ use Rattle.zr_base.specs.declared.space.Sizes.{Sizes}
 use Rattle.zr_base.specs.Extents.{has_unit, IsMaximal}
 use Rattle.zr_base.proofs.ExtentSets.{same_extents}
 use Rattle.zr_rules.specs.Owed.{set_words}
-use Rattle.zr_rules.specs.Places.{part_of, is_on, is_leaving, is_gone, is_fresh, state_of_dev, units_of_dev}
+use Rattle.zr_rules.specs.Places.{count_below, part_of, is_on, is_leaving, is_gone, is_fresh, state_of_dev, units_of_dev}
 use Rattle.zr_rules.specs.Mappings.{end_of_last}
 use Rattle.zr_rules.specs.Roles.{Role, is_held_role, is_kept_role}
 use Rattle.zr_rules.specs.Space.{Space, opened_of, role_at, frontier, IsLawful}
@@ -22,7 +22,8 @@ use Rattle.zr_rules.specs.Columns.{role_count, on_devices, units_from, uncopied_
 use Rattle.zr_rules.specs.Frees.{IsSamePart, IsSameFrame, MarksNothing}
 use Rattle.zr_reckon.proofs.Bits.{is_deferred_block}
 use Rattle.zr_reckon.proofs.RoleSets.{held_is, kept_is, deferred_is}
-use Rattle.zr_reckon.proofs.Counting.{sum_as, sum_passing, by_index}
+use Rattle.zr_reckon.specs.Uses.{is_room_role, room}
+use Rattle.zr_reckon.proofs.Counting.{count_as, count_more, sum_as, sum_less, sum_passing, by_index}
 
 -- ---- sets with the same units
 
@@ -107,7 +108,7 @@ module _ (old new : Space) (count : length new.parts.devs ≡ length old.parts.d
           ap (λ (r : DevRow). if is_leaving r.state then sum_by (units_from (end_of_last (part_of new.parts.devs d).entries)) (part_of new.parts.devs d).held else 0) (rows d)
           ∙ by_state d (is_leaving (state_of_dev old.parts.devs d)) refl
 
-abbrev sized : ℕ → ℕ → ℕ → ℕ → ℕ → ℕ → ℕ → ℕ → Sizes
+abbrev pub sized : ℕ → ℕ → ℕ → ℕ → ℕ → ℕ → ℕ → ℕ → Sizes
 sized blocks objects words streams gone uncopied turning past =
     record { blocks = blocks; objects = objects; words = words; streams = streams; gone = gone; uncopied = uncopied; turning = turning; past = past; snaps = false }
 
@@ -132,3 +133,29 @@ others_same old new blocks objects f meta held =
     let turning : (sizes new blocks objects).turning ≡ (sizes old blocks objects).turning = ap₂ (λ (x y : ℕ). x + y) (ap₂ (λ (x y : ℕ). x + y) m o1) o2 in
     let past : (sizes new blocks objects).past ≡ (sizes old blocks objects).past = ap₂ max now (ap₂ max l1 l2) in
     same_sizes _ _ _ _ _ _ _ _ _ _ blocks objects (sizes new blocks objects).words (ap (λ (n : ℕ). 2 + n) streams) gone uncopied turning past
+
+-- ---- the room
+
+module _ (old new : Space) (count : length new.parts.devs ≡ length old.parts.devs) (rows : (d : ℕ) → (part_of new.parts.devs d).row ≡ (part_of old.parts.devs d).row) where
+  units_same : (d : ℕ) → units_of_dev new.parts.devs d ≡ units_of_dev old.parts.devs d
+  units_same d = ap (λ (r : DevRow). r.units) (rows d)
+
+  pub count_same : (kind : Role → Bool) (d : ℕ) → ((u : ℕ) → kind (role_at new d u) ≡ kind (role_at old d u)) → role_count new kind d ≡ role_count old kind d
+  count_same kind d same =
+      ap (λ (n : ℕ). count_below n (λ u. kind (role_at new d u))) (units_same d)
+      ∙ count_as (units_of_dev old.parts.devs d) (λ u. kind (role_at new d u)) (λ u. kind (role_at old d u)) (λ u lt. same u)
+
+  pub count_grows : (kind : Role → Bool) (d : ℕ) → ((u : ℕ) → kind (role_at old d u) ≡ true → kind (role_at new d u) ≡ true) → role_count old kind d ≤ role_count new kind d
+  count_grows kind d more =
+      let a = ap (λ (n : ℕ). count_below n (λ u. kind (role_at new d u))) (units_same d) in
+      let b = count_more (units_of_dev old.parts.devs d) (λ u. kind (role_at old d u)) (λ u. kind (role_at new d u)) (λ u lt. more u) in
+      omega (arith, a, b)
+
+  pub room_same : ((d u : ℕ) → is_room_role (role_at new d u) ≡ is_room_role (role_at old d u)) → room new ≡ room old
+  room_same same = ap₂ sum_by (fun_ext (λ d. count_same is_room_role d (same d))) (on_same old new count rows)
+
+  pub room_grows : ((d u : ℕ) → is_room_role (role_at old d u) ≡ true → is_room_role (role_at new d u) ≡ true) → room old ≤ room new
+  room_grows more =
+      let a = ap (sum_by (role_count new is_room_role)) (on_same old new count rows) in
+      let b = sum_less (role_count old is_room_role) (role_count new is_room_role) (on_devices old) (λ d. count_grows is_room_role d (more d)) in
+      omega (arith, a, b)

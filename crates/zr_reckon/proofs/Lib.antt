@@ -1,7 +1,10 @@
 pub mod Bits
 pub mod Counting
 pub mod Frames
+pub mod FreeOn
+pub mod MetaPlaced
 pub mod Placed
 pub mod RoleSets
 pub mod RoomUnits
 pub mod SetWords
+pub mod Turned

@@ -8,5 +8,6 @@
 #![tactic(auto)]
 
 pub mod allocations;
+pub mod frees;
 pub mod rooms;
 pub mod sets;
