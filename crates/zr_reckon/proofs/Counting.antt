@@ -39,7 +39,7 @@ count_more (suc n) a b h = omega (arith, count_more n a b (λ u lt. h u (omega (
     both false false h = omega arith
 
 -- the numbers of a run below a bound
-count_in : (n start len : ℕ) → count_below n (λ u. nat_le start u && nat_lt u (start + len)) ≡ min n (start + len) - min n start
+pub count_in : (n start len : ℕ) → count_below n (λ u. nat_le start u && nat_lt u (start + len)) ≡ min n (start + len) - min n start
 count_in zero start len = omega arith
 count_in (suc n) start len = grind (arith, nat_tests, count_in n start len)
 

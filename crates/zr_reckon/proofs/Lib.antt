@@ -1,10 +1,15 @@
 pub mod Bits
+pub mod Copying
 pub mod Counting
+pub mod Ended
 pub mod Frames
 pub mod FreeOn
+pub mod Kinds
+pub mod Lates
 pub mod MetaPlaced
 pub mod Placed
 pub mod RoleSets
 pub mod RoomUnits
 pub mod SetWords
 pub mod Turned
+pub mod Uncopied

@@ -101,62 +101,64 @@ module _ (s : Space) (policy : Policy) (want : ℕ) (at : Dva) (p : IsPlacement 
       stays Gone is = refl
 
   -- units that get another role come from those that are free
-  pub frees_less : (new : Space) (role : Role) → is_free_role role ≡ false → IsSameFrame s new → ((d u : ℕ) → role_at new d u ≡ (if in_address at d u then role else role_at s d u)) → free_units new + want ≡ free_units s
-  frees_less new role other f roles =
-      let n = length s.parts.devs in
-      let on : ℕ → Bool = λ (d : ℕ). is_on (state_of_dev s.parts.devs d) in
-      let devices = on_same s new f.devices (λ d. (f.each d).row) in
-      let a = ap (λ (ds : List ℕ). sum_by (λ d. role_count new is_free_role d) ds) devices in
-      let b = sum_passing (λ d. role_count new is_free_role d) on (range_with_len 0 n) in
-      let c = sum_passing (λ d. role_count s is_free_role d) on (range_with_len 0 n) in
-      let both = sum_both (λ (d : ℕ). if on d then role_count s is_free_role d else 0) (λ (d : ℕ). if on d then role_count new is_free_role d else 0) (only_at at.dev at.len) (range_with_len 0 n) each in
-      let one = sum_at at.dev at.len n p.known in
-      let len = p.len in
-      omega (arith, a, b, c, both, one, len)
-    where
-      units : (d : ℕ) → units_of_dev new.parts.devs d ≡ units_of_dev s.parts.devs d
-      units d = ap (λ r. r.units) (f.each d).row
-
-      counts : (d : ℕ) → role_count s is_free_role d ≡ role_count new is_free_role d + only_at at.dev at.len d
+  module _ (new : Space) (role : Role) (count : length new.parts.devs ≡ length s.parts.devs) (rows : (d : ℕ) → (part_of new.parts.devs d).row ≡ (part_of s.parts.devs d).row) (roles : (d u : ℕ) → role_at new d u ≡ (if in_address at d u then role else role_at s d u)) where
+    module _ (kind : Role → Bool) (had : kind Free ≡ true) (other : kind role ≡ false) where
+      counts : (d : ℕ) → role_count s kind d ≡ role_count new kind d + only_at at.dev at.len d
       counts d = ⊎_elim
           (λ here.
             let n = units_of_dev s.parts.devs d in
-            let u = units d in
+            let u : units_of_dev new.parts.devs d ≡ n = ap (λ r. r.units) (rows d) in
             let fit : 0 < at.len → at.start + at.len ≤ n = λ some. let x = fits_device some in let y : units_of_dev s.parts.devs d ≡ units_of_dev s.parts.devs at.dev = ap (units_of_dev s.parts.devs) here in omega (arith, x, y) in
-            let w = count_with n (λ u. is_free_role (role_at new d u)) (λ u. is_free_role (role_at s d u)) (extent_of at) fit
-            (λ u is. ap is_free_role (roles d u) ∙ taken d u here is)
+            let w = count_with n (λ u. kind (role_at new d u)) (λ u. kind (role_at s d u)) (extent_of at) fit
+            (λ u is. ap kind (roles d u) ∙ taken d u here is)
             (λ u lt. left d u here) in
-            let m = ap (λ (k : ℕ). count_below k (λ u. is_free_role (role_at new d u))) u in
+            let m = ap (λ (k : ℕ). count_below k (λ u. kind (role_at new d u))) u in
             grind (arith, nat_tests, w, m, here))
           (λ away.
             let n = units_of_dev s.parts.devs d in
-            let u = units d in
-            let w = count_as n (λ u. is_free_role (role_at new d u)) (λ u. is_free_role (role_at s d u)) (λ u lt. ap is_free_role (roles d u) ∙ stays d u away) in
-            let m = ap (λ (k : ℕ). count_below k (λ u. is_free_role (role_at new d u))) u in
+            let u : units_of_dev new.parts.devs d ≡ n = ap (λ r. r.units) (rows d) in
+            let w = count_as n (λ u. kind (role_at new d u)) (λ u. kind (role_at s d u)) (λ u lt. ap kind (roles d u) ∙ stays d u away) in
+            let m = ap (λ (k : ℕ). count_below k (λ u. kind (role_at new d u))) u in
             grind (arith, nat_tests, w, m, away))
           (cases_eq d at.dev)
         where
-          taken : (d u : ℕ) → d ≡ at.dev → in_extent (extent_of at) u ≡ true → is_free_role (if in_address at d u then role else role_at s d u) ≡ false
+          taken : (d u : ℕ) → d ≡ at.dev → in_extent (extent_of at) u ≡ true → kind (if in_address at d u then role else role_at s d u) ≡ false
           taken d u here is = let yes : in_address at d u ≡ true = grind (arith, nat_tests, here, is) in rw yes other
 
-          left : (d u : ℕ) → d ≡ at.dev → is_free_role (role_at s d u) ≡ (in_extent (extent_of at) u || is_free_role (role_at new d u))
+          left : (d u : ℕ) → d ≡ at.dev → kind (role_at s d u) ≡ (in_extent (extent_of at) u || kind (role_at new d u))
           left d u here = by_test (in_extent (extent_of at) u) refl
             where
-              by_test : (b : Bool) → in_extent (extent_of at) u ≡ b → is_free_role (role_at s d u) ≡ (in_extent (extent_of at) u || is_free_role (role_at new d u))
-              by_test true is = let yes : in_address at d u ≡ true = grind (arith, nat_tests, here, is) in rw is (ap is_free_role (was_free_at d u yes))
-              by_test false is = let no : in_address at d u ≡ false = grind (arith, nat_tests, here, is) in rw is (sym (ap is_free_role (roles d u ∙ (rw no refl))))
+              by_test : (b : Bool) → in_extent (extent_of at) u ≡ b → kind (role_at s d u) ≡ (in_extent (extent_of at) u || kind (role_at new d u))
+              by_test true is = let yes : in_address at d u ≡ true = grind (arith, nat_tests, here, is) in rw is (ap kind (was_free_at d u yes) ∙ had)
+              by_test false is = let no : in_address at d u ≡ false = grind (arith, nat_tests, here, is) in rw is (sym (ap kind (roles d u ∙ (rw no refl))))
 
-          stays : (d u : ℕ) → d ≢ at.dev → is_free_role (if in_address at d u then role else role_at s d u) ≡ is_free_role (role_at s d u)
+          stays : (d u : ℕ) → d ≢ at.dev → kind (if in_address at d u then role else role_at s d u) ≡ kind (role_at s d u)
           stays d u away = let no : in_address at d u ≡ false = grind (arith, nat_tests, away) in rw no refl
 
-      each : (d : ℕ) → (if is_on (state_of_dev s.parts.devs d) then role_count s is_free_role d else 0) ≡ (if is_on (state_of_dev s.parts.devs d) then role_count new is_free_role d else 0) + only_at at.dev at.len d
+      each : (d : ℕ) → (if is_on (state_of_dev s.parts.devs d) then role_count s kind d else 0) ≡ (if is_on (state_of_dev s.parts.devs d) then role_count new kind d else 0) + only_at at.dev at.len d
       each d = by_test (is_on (state_of_dev s.parts.devs d)) refl
         where
-          by_test : (b : Bool) → is_on (state_of_dev s.parts.devs d) ≡ b → (if b then role_count s is_free_role d else 0) ≡ (if b then role_count new is_free_role d else 0) + only_at at.dev at.len d
+          by_test : (b : Bool) → is_on (state_of_dev s.parts.devs d) ≡ b → (if b then role_count s kind d else 0) ≡ (if b then role_count new kind d else 0) + only_at at.dev at.len d
           by_test true is = counts d
           by_test false is =
               let away : d ≢ at.dev = λ here. let x = sym is ∙ (ap (λ (k : ℕ). is_on (state_of_dev s.parts.devs k)) here ∙ p.serves) in absurd (cc) in
               grind (arith, nat_tests, away)
+
+      pub kind_less : sum_by (role_count new kind) (on_devices new) + want ≡ sum_by (role_count s kind) (on_devices s)
+      kind_less =
+          let n = length s.parts.devs in
+          let on : ℕ → Bool = λ (d : ℕ). is_on (state_of_dev s.parts.devs d) in
+          let devices = on_same s new count rows in
+          let a = ap (λ (ds : List ℕ). sum_by (role_count new kind) ds) devices in
+          let b = sum_passing (role_count new kind) on (range_with_len 0 n) in
+          let c = sum_passing (role_count s kind) on (range_with_len 0 n) in
+          let both = sum_both (λ (d : ℕ). if on d then role_count s kind d else 0) (λ (d : ℕ). if on d then role_count new kind d else 0) (only_at at.dev at.len) (range_with_len 0 n) each in
+          let one = sum_at at.dev at.len n p.known in
+          let len = p.len in
+          omega (arith, a, b, c, both, one, len)
+
+  pub frees_less : (new : Space) (role : Role) → is_free_role role ≡ false → IsSameFrame s new → ((d u : ℕ) → role_at new d u ≡ (if in_address at d u then role else role_at s d u)) → free_units new + want ≡ free_units s
+  frees_less new role other f roles = kind_less new role f.devices (λ d. (f.each d).row) roles is_free_role refl other
 
 -- ---- an allocation for a block
 

@@ -62,6 +62,9 @@ module _ (old new : Space) (a : Dva) (before after : Role) (t : Turns old new a 
       by_test true is = kind_by kind d u true is ∙ (same ∙ sym (ap kind (t.was d u is)))
       by_test false is = kind_by kind d u false is
 
+  pub kind_away : (kind : Role → Bool) (d : ℕ) → d ≢ a.dev → (u : ℕ) → kind (role_at new d u) ≡ kind (role_at old d u)
+  kind_away kind d away u = kind_by kind d u false (grind (arith, nat_tests, away))
+
   pub kind_with : (kind : Role → Bool) → kind before ≡ false → kind after ≡ true → (d u : ℕ) → kind (role_at new d u) ≡ (kind (role_at old d u) || in_address a d u)
   kind_with kind lacks has d u = by_test (in_address a d u) refl
     where

@@ -8,6 +8,8 @@
 #![tactic(auto)]
 
 pub mod allocations;
+pub mod commits;
 pub mod frees;
+pub mod removals;
 pub mod rooms;
 pub mod sets;

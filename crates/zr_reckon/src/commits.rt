@@ -1,0 +1,23 @@
+//! What the end of a group does to the counts.
+ghost use Rattle.std.specs.Prelude.{◌≡◌, ℕ, ◌+◌, ◌≤◌, Bool, false, true};
+ghost use Rattle.zr_reckon.specs.Uses.{room, dropped_units, freed_words, second_late_words, HasLateSets};
+ghost use Rattle.zr_rules.specs.Columns.{late1_meta, late2_meta, sizes};
+ghost use Rattle.zr_rules.specs.Space.{Space, IsLawful};
+ghost use Rattle.zr_rules.specs.Steps.{Commits};
+
+/// What the open group freed is the first late set behind a commit, and the first late set is the second. So the words of
+/// the second late sets go, and at a reset those of all that was freed. Units come to the room, or none; the metadata that
+/// was given back is late, and all other counts stay.
+pub fn a_commit_drops_the_second_late_words()
+    ensures words { (old new : Space) (blocks objects : ℕ) → Commits false old new → IsLawful old → HasLateSets old → HasLateSets new
+        → (sizes new blocks objects).words + second_late_words old ≡ (sizes old blocks objects).words }
+    ensures reset { (old new : Space) (blocks objects : ℕ) → Commits true old new → IsLawful old → HasLateSets new
+        → (sizes new blocks objects).words + freed_words old ≡ (sizes old blocks objects).words }
+    ensures room { (reset : Bool) (old new : Space) → Commits reset old new → IsLawful old → room old ≤ room new }
+    ensures first_late { (old new : Space) → Commits false old new → IsLawful old → late1_meta new.parts.devs ≡ dropped_units old }
+    ensures second_late { (old new : Space) → Commits false old new → IsLawful old → late2_meta new.parts.devs ≡ late1_meta old.parts.devs }
+    ensures none_late { (old new : Space) → Commits true old new → IsLawful old → late1_meta new.parts.devs + late2_meta new.parts.devs ≡ 0 }
+    ensures others { (reset : Bool) (old new : Space) (blocks objects : ℕ) → Commits reset old new → IsLawful old
+        → sizes new blocks objects
+        ≡ record (sizes old blocks objects) { words = (sizes new blocks objects).words; turning = (sizes new blocks objects).turning; past = (sizes new blocks objects).past } }
+{}
