@@ -14,7 +14,7 @@ use Rattle.zr_rules.specs.Columns.{role_count, device_words, late_blocks, late_m
 use Rattle.zr_rules.specs.Steps.{Commits}
 use Rattle.zr_reckon.specs.Uses.{is_room_role, room, is_dropped_role, dropped_units, freed_words, second_late_words, HasLateSets}
 use Rattle.zr_reckon.proofs.Bits.{is_deferred_block, is_late1_block, is_late2_block, is_late1_meta, is_late2_meta}
-use Rattle.zr_reckon.proofs.Kinds.{aged_held, aged_kept, aged_late1, aged_late2, aged_late1_meta, aged_late2_meta, aged_room, cleared_held, cleared_kept, cleared_late1_block, cleared_late2_block, cleared_late1_meta, cleared_late2_meta, cleared_room}
+use Rattle.zr_reckon.proofs.RoleKinds.{aged_held, aged_kept, aged_late1, aged_late2, aged_late1_meta, aged_late2_meta, aged_room, cleared_held, cleared_kept, cleared_late1_block, cleared_late2_block, cleared_late1_meta, cleared_late2_meta, cleared_room}
 use Rattle.zr_reckon.proofs.RoleSets.{deferred_is}
 use Rattle.zr_reckon.proofs.Counting.{count_as, count_none, sum_as, sum_both, sum_zero, by_index}
 use Rattle.zr_reckon.proofs.Frames.{held_same, kept_same, fresh_same, words_same, sized, streams_same, gone_same, uncopied_same, room_grows}

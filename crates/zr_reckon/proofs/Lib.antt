@@ -1,13 +1,16 @@
+pub mod Begun
 pub mod Bits
 pub mod Copying
 pub mod Counting
+pub mod Elsewhere
 pub mod Ended
+pub mod Finished
 pub mod Frames
 pub mod FreeOn
-pub mod Kinds
 pub mod Lates
 pub mod MetaPlaced
 pub mod Placed
+pub mod RoleKinds
 pub mod RoleSets
 pub mod RoomUnits
 pub mod SetWords
