@@ -1,7 +1,10 @@
+pub mod Added
 pub mod Begun
 pub mod Bits
+pub mod Condensed
 pub mod Copying
 pub mod Counting
+pub mod Discarded
 pub mod Elsewhere
 pub mod Ended
 pub mod Finished
@@ -9,6 +12,7 @@ pub mod Frames
 pub mod FreeOn
 pub mod Lates
 pub mod MetaPlaced
+pub mod MoreSets
 pub mod Placed
 pub mod RoleKinds
 pub mod RoleSets

@@ -69,7 +69,7 @@ run_words-some version n some = ⊎_elim
     (λ two. grind (arith, nat_tests, two, some))
     (cases_eq version 1)
 
-cut_words-two : (version : ℕ) → cut_words version ≤ 2
+pub cut_words-two : (version : ℕ) → cut_words version ≤ 2
 unfolding cut_words
 cut_words-two version = ⊎_elim (λ one. grind (arith, nat_tests, one)) (λ two. grind (arith, nat_tests, two)) (cases_eq version 1)
 

@@ -1,2 +1,3 @@
+pub mod Condensing
 pub mod Sets
 pub mod Uses

@@ -13,3 +13,4 @@ pub mod frees;
 pub mod removals;
 pub mod rooms;
 pub mod sets;
+pub mod steps;
