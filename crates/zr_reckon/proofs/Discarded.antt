@@ -118,7 +118,7 @@ kept_role Meta is = absurd (cc)
 kept_role SavedMeta is = absurd (cc)
 
 -- fewer units of a set are no more to copy
-left_less : (at : ℕ) (es fs : List Extent) → IsMaximal es → IsMaximal fs → ((u : ℕ) → has_unit fs u ≡ true → has_unit es u ≡ true) → sum_by (units_from at) fs ≤ sum_by (units_from at) es
+pub left_less : (at : ℕ) (es fs : List Extent) → IsMaximal es → IsMaximal fs → ((u : ℕ) → has_unit fs u ≡ true → has_unit es u ≡ true) → sum_by (units_from at) fs ≤ sum_by (units_from at) es
 left_less at es fs m n less = below (2 ^ 62) (omega arith)
   where
     below : (most : ℕ) → 2 ^ 62 ≤ most → sum_by (units_from at) fs ≤ sum_by (units_from at) es

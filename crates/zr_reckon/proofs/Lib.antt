@@ -2,6 +2,7 @@ pub mod Added
 pub mod Begun
 pub mod Bits
 pub mod Condensed
+pub mod Copies
 pub mod Copying
 pub mod Counting
 pub mod Discarded
@@ -9,14 +10,18 @@ pub mod Elsewhere
 pub mod Ended
 pub mod Finished
 pub mod Frames
+pub mod FreePieces
+pub mod FreedKinds
 pub mod FreeOn
 pub mod Lates
+pub mod Leads
 pub mod MetaPlaced
 pub mod MoreSets
 pub mod Placed
 pub mod RoleKinds
 pub mod RoleSets
 pub mod RoomUnits
+pub mod Runs
 pub mod SetWords
 pub mod Turned
 pub mod Uncopied

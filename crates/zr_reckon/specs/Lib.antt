@@ -1,3 +1,5 @@
 pub mod Condensing
+pub mod Examples
+pub mod Pieces
 pub mod Sets
 pub mod Uses

@@ -8,6 +8,7 @@
 #![tactic(auto)]
 
 pub mod allocations;
+pub mod bounds;
 pub mod commits;
 pub mod frees;
 pub mod removals;
