@@ -1,6 +1,7 @@
 pub mod Added
 pub mod Begun
 pub mod Bits
+pub mod Checkpointed
 pub mod Condensed
 pub mod Copies
 pub mod Copying
@@ -13,6 +14,7 @@ pub mod Frames
 pub mod FreePieces
 pub mod FreedKinds
 pub mod FreeOn
+pub mod Gaps
 pub mod Lates
 pub mod Leads
 pub mod MetaPlaced

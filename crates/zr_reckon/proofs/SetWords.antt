@@ -32,7 +32,7 @@ run_words-joined version a b n le = ⊎_elim
     (cases_eq version 1)
 
 -- the words of no more units
-run_words-mono : (version a n : ℕ) → n ≤ a → run_words version n ≤ run_words version a
+pub run_words-mono : (version a n : ℕ) → n ≤ a → run_words version n ≤ run_words version a
 unfolding run_words
 run_words-mono version a n le = ⊎_elim
     (λ one. let x = parts a in let z = parts n in grind (arith, nat_tests, one, x, z, le))
@@ -48,7 +48,7 @@ run_words-cut version a b n le = ⊎_elim
     (cases_eq version 1)
 
 -- a short run has one word, and a run that is not empty has no more words than units
-run_words-short : (version n : ℕ) → n ≤ 32768 → run_words version n ≤ 1
+pub run_words-short : (version n : ℕ) → n ≤ 32768 → run_words version n ≤ 1
 unfolding run_words
 run_words-short version n le = ⊎_elim
     (λ one. let z = parts n in grind (arith, nat_tests, one, z, le))
@@ -189,7 +189,7 @@ pub record Parted (version more low : ℕ) (e : Extent) (es : List Extent) : Typ
   pub words : set_words version all ≤ set_words version es + more
 
 -- where the extent starts below the set, at most the front of one of the set's goes
-cut_front : (version low : ℕ) (e : Extent) (es : List Extent) → IsMaximalFrom low es → e.start ≤ low → Parted version 0 low e es
+pub cut_front : (version low : ℕ) (e : Extent) (es : List Extent) → IsMaximalFrom low es → e.start ≤ low → Parted version 0 low e es
 cut_front version low e [] m from = record { all = []; maximal = tt; members = λ u. refl; words = omega arith }
 cut_front version low e (x ∷ xs) m from =
     let x0 = m.0 in let x1 = m.1 in let x2 = m.2 in

@@ -1,3 +1,4 @@
+pub mod Base
 pub mod Condensing
 pub mod Examples
 pub mod Pieces

@@ -1,9 +1,9 @@
 //! What the end of a group does to the counts.
-ghost use Rattle.std.specs.Prelude.{◌≡◌, ℕ, ◌+◌, ◌≤◌, Bool, false, true};
+ghost use Rattle.std.specs.Prelude.{◌≡◌, ℕ, ◌+◌, ◌≤◌, Bool, false, true, sum_by};
 ghost use Rattle.zr_reckon.specs.Uses.{room, dropped_units, freed_words, second_late_words, HasLateSets};
 ghost use Rattle.zr_rules.specs.Columns.{late1_meta, late2_meta, sizes};
 ghost use Rattle.zr_rules.specs.Space.{Space, IsLawful};
-ghost use Rattle.zr_rules.specs.Steps.{Commits};
+ghost use Rattle.zr_rules.specs.Steps.{Commits, HoldsCheckpoint};
 
 /// What the open group freed is the first late set behind a commit, and the first late set is the second. So the words of
 /// the second late sets go, and at a reset those of all that was freed. Units come to the room, or none; the metadata that
@@ -20,4 +20,13 @@ pub fn a_commit_drops_the_second_late_words()
     ensures others { (reset : Bool) (old new : Space) (blocks objects : ℕ) → Commits reset old new → IsLawful old
         → sizes new blocks objects
         ≡ record (sizes old blocks objects) { words = (sizes new blocks objects).words; turning = (sizes new blocks objects).turning; past = (sizes new blocks objects).past } }
+{}
+
+/// A checkpoint is held from here on: the metadata of the current root goes from the room, and no word is added.
+pub fn a_checkpoint_takes_the_metadata_from_the_room()
+    ensures words { (old new : Space) (txg blocks objects : ℕ) → HoldsCheckpoint old new txg → IsLawful old → (sizes new blocks objects).words ≡ (sizes old blocks objects).words }
+    ensures room { (old new : Space) (txg : ℕ) → HoldsCheckpoint old new txg → IsLawful old → room old ≤ room new + sum_by (λ a. a.len) old.meta }
+    ensures past { (old new : Space) (txg blocks objects : ℕ) → HoldsCheckpoint old new txg → (sizes new blocks objects).past ≤ (sizes old blocks objects).past }
+    ensures others { (old new : Space) (txg blocks objects : ℕ) → HoldsCheckpoint old new txg → IsLawful old
+        → sizes new blocks objects ≡ record (sizes old blocks objects) { turning = (sizes new blocks objects).turning; past = (sizes new blocks objects).past } }
 {}
