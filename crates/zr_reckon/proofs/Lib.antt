@@ -1,6 +1,7 @@
 pub mod Added
 pub mod Begun
 pub mod Bits
+pub mod Cancelled
 pub mod Checkpointed
 pub mod Condensed
 pub mod Copies

@@ -2,11 +2,12 @@
 ghost use Rattle.std.specs.Prelude.{◌≡◌, ℕ, ◌+◌, ◌<◌, ◌≤◌, length, true};
 ghost use Rattle.zr_base.specs.Extents.{unit_count};
 ghost use Rattle.zr_base.specs.declared.space.Policy.{Policy};
+ghost use Rattle.zr_reckon.specs.Base.{base_words, LeavesAlone};
 ghost use Rattle.zr_reckon.specs.Uses.{is_room_role, room, HasLateSets};
 ghost use Rattle.zr_rules.specs.Columns.{role_count, sizes};
 ghost use Rattle.zr_rules.specs.Places.{is_leaving, is_on, part_of, state_of_dev};
 ghost use Rattle.zr_rules.specs.Space.{Space, IsLawful};
-ghost use Rattle.zr_rules.specs.Steps.{Copies, Finishes, Leaves};
+ghost use Rattle.zr_rules.specs.Steps.{Cancels, Copies, Finishes, Leaves};
 
 /// A step of copying adds nine words at most: eight for its entry, and one where its units are held. As many units as it
 /// copies go from the room, and from those that are yet to be copied.
@@ -49,4 +50,15 @@ pub fn a_removal_ends_with_fewer_streams()
     ensures room { (old new : Space) (d txg : ℕ) → Finishes old new d txg → is_leaving (state_of_dev old.parts.devs d) ≡ true → room new ≡ room old }
     ensures past { (old new : Space) (d txg blocks objects : ℕ) → Finishes old new d txg → IsLawful old
         → (sizes new blocks objects).past ≤ (sizes old blocks objects).past }
+{}
+
+/// A removal is given up. Its commit is a reset, so the words of what was freed count nowhere behind it; the others are no
+/// more: an entry gives up eight words, and a mark its own, for two and one that copies which go may add to what is held.
+/// The device has three streams fewer, nothing is left to copy, and units come to the room, or none.
+pub fn giving_up_a_removal_adds_no_word()
+    ensures words { (old new : Space) (d : ℕ) → Cancels old new d → IsLawful old → LeavesAlone old d → base_words new ≤ base_words old }
+    ensures streams { (old new : Space) (d blocks objects : ℕ) → Cancels old new d → IsLawful old → LeavesAlone old d
+        → (sizes new blocks objects).streams + 3 ≡ (sizes old blocks objects).streams }
+    ensures uncopied { (old new : Space) (d blocks objects : ℕ) → Cancels old new d → IsLawful old → LeavesAlone old d → (sizes new blocks objects).uncopied ≡ 0 }
+    ensures room { (old new : Space) (d : ℕ) → Cancels old new d → IsLawful old → LeavesAlone old d → room old ≤ room new }
 {}
