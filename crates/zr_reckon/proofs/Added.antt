@@ -1,26 +1,21 @@
 -- A device more, and the counts behind it.
-use Rattle.std.proofs.Common.{◌≡◌, ◌≢◌, ℕ, zero, suc, ◌+◌, ◌*◌, ◌<◌, ◌≤◌, Bool, true, false, ◌&&◌, ◌==◌, nat_lt, max, List, [], ◌∷◌, ◌++◌, length, refl, ◌∙◌, sym, ap, ap₂, arith, if◌then◌else◌, ⊎_elim}
-use Rattle.std.specs.Prelude.{count_by}
+use Rattle.std.proofs.Common.{◌≡◌, ◌≢◌, ℕ, zero, suc, ◌+◌, ◌<◌, Bool, true, false, ◌&&◌, ◌==◌, nat_lt, max, List, [], ◌∷◌, ◌++◌, length, refl, ◌∙◌, sym, ap, ap₂, arith, if◌then◌else◌, ⊎_elim}
 use Rattle.std.specs.List.{sum_by, range_with_len}
 use Rattle.std.proofs.lemmas.Bool.{cases_eq}
 use Rattle.std.proofs.lemmas.Bool.Decides.{nat_tests}
 use Rattle.std.proofs.lemmas.List.{length_push}
 use Rattle.std.proofs.lemmas.List.Sums.{sum_by-cons, sum_by-append}
-use Rattle.zr_base.specs.declared.space.Extent.{Extent}
 use Rattle.zr_base.specs.declared.space.Dva.{Dva}
-use Rattle.zr_base.specs.declared.space.Entry.{Entry}
 use Rattle.zr_base.specs.declared.space.DevPart.{DevPart}
-use Rattle.zr_base.specs.declared.space.DevState.{DevState}
 use Rattle.zr_base.specs.declared.space.DevState.TheVariants.{On}
-use Rattle.zr_base.specs.Extents.{has_unit, IsMaximal}
 use Rattle.zr_base.proofs.ExtentSets.{same_extents}
 use Rattle.zr_rules.specs.Owed.{set_words}
 use Rattle.zr_rules.specs.Places.{count_below, no_part, is_on, is_leaving, is_gone, part_of, state_of_dev, units_of_dev}
 use Rattle.zr_rules.specs.Mappings.{end_of_last}
 use Rattle.zr_rules.specs.Roles.{Role, is_free_role}
 use Rattle.zr_rules.specs.Roles.Role.{Absent, Free}
-use Rattle.zr_rules.specs.Space.{Space, opened_of, has_place, role_at, frontier, IsLawful}
-use Rattle.zr_rules.specs.Columns.{role_count, on_devices, free_units, device_words, device_streams, late_blocks, late_meta_units, late1_meta, late2_meta, units_from, uncopied_units, sizes}
+use Rattle.zr_rules.specs.Space.{Space, opened_of, role_at, IsLawful}
+use Rattle.zr_rules.specs.Columns.{role_count, on_devices, device_words, device_streams, late_blocks, late_meta_units, late1_meta, late2_meta, units_from, uncopied_units, sizes}
 use Rattle.zr_rules.specs.Steps.{AddsDevice}
 use Rattle.zr_reckon.specs.Uses.{is_room_role, room}
 use Rattle.zr_reckon.proofs.Bits.{is_deferred_block}
@@ -191,11 +186,11 @@ module _ (old new : Space) (units txg : ℕ) (c : AddsDevice old new units txg) 
     each : (d : ℕ) → served new d ≡ served old d + only_at (length old.parts.devs) units d
     each d = ⊎_elim
         (λ here.
-          let x = ap (served new) here in
-          let y = ap (served old) here in
-          let z = here_now in
-          let w = here_before in
-          grind (arith, nat_tests, x, y, z, w, here))
+        let x = ap (served new) here in
+        let y = ap (served old) here in
+        let z = here_now in
+        let w = here_before in
+        grind (arith, nat_tests, x, y, z, w, here))
         (λ away. let x = away_same d away in grind (arith, nat_tests, x, away))
         (cases_eq d (length old.parts.devs))
 

@@ -1,5 +1,5 @@
 -- A removal begins, and the counts behind it.
-use Rattle.std.proofs.Common.{◌≡◌, ◌≢◌, ℕ, ◌+◌, ◌*◌, ◌<◌, ◌≤◌, Bool, true, false, ◌==◌, max, List, [], ◌∷◌, length, refl, ◌∙◌, sym, ap, ap₂, arith, if◌then◌else◌, ⊎_elim}
+use Rattle.std.proofs.Common.{◌≡◌, ℕ, ◌+◌, ◌<◌, ◌≤◌, Bool, true, false, max, List, length, refl, ◌∙◌, sym, ap, ap₂, arith, if◌then◌else◌, ⊎_elim}
 use Rattle.std.specs.List.{sum_by, range_with_len}
 use Rattle.std.proofs.lemmas.Bool.{cases_eq}
 use Rattle.std.proofs.lemmas.Bool.Decides.{nat_tests}
@@ -8,15 +8,14 @@ use Rattle.zr_base.specs.declared.space.Dva.{Dva}
 use Rattle.zr_base.specs.declared.space.Entry.{Entry}
 use Rattle.zr_base.specs.declared.space.DevPart.{DevPart}
 use Rattle.zr_base.specs.declared.space.DevRow.{DevRow}
-use Rattle.zr_base.specs.declared.space.DevState.{DevState}
-use Rattle.zr_base.specs.declared.space.DevState.TheVariants.{On, Leaving, Gone}
+use Rattle.zr_base.specs.declared.space.DevState.TheVariants.{On, Leaving}
 use Rattle.zr_base.specs.Extents.{unit_count}
 use Rattle.zr_rules.specs.Owed.{set_words}
 use Rattle.zr_rules.specs.Places.{is_on, is_leaving, is_gone, part_of, state_of_dev, units_of_dev}
 use Rattle.zr_rules.specs.Mappings.{end_of_last}
 use Rattle.zr_rules.specs.Roles.{Role, is_held_role, is_kept_role}
-use Rattle.zr_rules.specs.Space.{Space, opened_of, role_at, frontier, IsLawful}
-use Rattle.zr_rules.specs.Columns.{role_count, on_devices, device_words, device_streams, late_blocks, late_meta_units, late1_meta, late2_meta, units_from, uncopied_units, sizes}
+use Rattle.zr_rules.specs.Space.{Space, frontier, IsLawful}
+use Rattle.zr_rules.specs.Columns.{role_count, device_words, device_streams, late_meta_units, late1_meta, late2_meta, units_from, sizes}
 use Rattle.zr_rules.specs.Steps.{Leaves}
 use Rattle.zr_reckon.specs.Uses.{is_room_role, room, HasLateSets}
 use Rattle.zr_reckon.proofs.Bits.{is_deferred_block, is_late1_block, is_late2_block, is_late1_meta, is_late2_meta}
@@ -45,18 +44,18 @@ module _ (old new : Space) (d : ℕ) (c : Leaves old new d) where
     entries : (e : ℕ) → length (part_of new.parts.devs e).entries ≤ length (part_of old.parts.devs e).entries + 0
     entries e = ⊎_elim
         (λ here.
-          let x = ap (λ (k : ℕ). length (part_of new.parts.devs k).entries) here in
-          let y = ap (λ (es : List Entry). length es) c.entries in
-          omega (arith, x, y))
+        let x = ap (λ (k : ℕ). length (part_of new.parts.devs k).entries) here in
+        let y = ap (λ (es : List Entry). length es) c.entries in
+        omega (arith, x, y))
         (λ away. let x = ap (λ (es : List Entry). length es) (c.elsewhere.others e away).entries in omega (arith, x))
         (cases_eq e d)
 
     fresh : (v e : ℕ) → set_words v (part_of new.parts.devs e).fresh ≤ set_words v (part_of old.parts.devs e).fresh + 0
     fresh v e = ⊎_elim
         (λ here.
-          let x = ap (λ (k : ℕ). set_words v (part_of new.parts.devs k).fresh) here in
-          let y = ap (set_words v) c.fresh in
-          omega (arith, x, y))
+        let x = ap (λ (k : ℕ). set_words v (part_of new.parts.devs k).fresh) here in
+        let y = ap (set_words v) c.fresh in
+        omega (arith, x, y))
         (λ away. let x = ap (set_words v) (fresh_same old new e l lawful (λ u. c.elsewhere.fresh e u away)) in omega (arith, x))
         (cases_eq e d)
 
@@ -107,14 +106,14 @@ module _ (old new : Space) (d : ℕ) (c : Leaves old new d) where
     each_room : (e : ℕ) → served old (role_count old is_room_role) e ≡ served new (role_count new is_room_role) e + only_at d (role_count old is_room_role d) e
     each_room e = ⊎_elim
         (λ here.
-          let x = ap (λ (k : ℕ). is_on (state_of_dev old.parts.devs k)) here ∙ on in
-          let y : is_on (state_of_dev new.parts.devs e) ≡ false = ap (λ (k : ℕ). is_on (state_of_dev new.parts.devs k)) here ∙ ap is_on leaving_now in
-          let z = ap (role_count old is_room_role) here in
-          grind (arith, nat_tests, x, y, z, here))
+        let x = ap (λ (k : ℕ). is_on (state_of_dev old.parts.devs k)) here ∙ on in
+        let y : is_on (state_of_dev new.parts.devs e) ≡ false = ap (λ (k : ℕ). is_on (state_of_dev new.parts.devs k)) here ∙ ap is_on leaving_now in
+        let z = ap (role_count old is_room_role) here in
+        grind (arith, nat_tests, x, y, z, here))
         (λ away.
-          let x = ap is_on (state_away old new d c.elsewhere e away) in
-          let z = counts is_room_role e in
-          grind (arith, nat_tests, x, z, away))
+        let x = ap is_on (state_away old new d c.elsewhere e away) in
+        let z = counts is_room_role e in
+        grind (arith, nat_tests, x, z, away))
         (cases_eq e d)
 
     pub begin_room : d < length old.parts.devs → room new + role_count old is_room_role d ≡ room old
@@ -151,11 +150,11 @@ module _ (old new : Space) (d : ℕ) (c : Leaves old new d) where
         each : (e : ℕ) → left_of new e ≡ left_of old e + only_at d (unit_count (part_of old.parts.devs d).held) e
         each e = ⊎_elim
             (λ here.
-              let x = ap (left_of new) here in
-              let y = ap (left_of old) here in
-              let z = here_now in
-              let w = none_before in
-              grind (arith, nat_tests, x, y, z, w, here))
+            let x = ap (left_of new) here in
+            let y = ap (left_of old) here in
+            let z = here_now in
+            let w = none_before in
+            grind (arith, nat_tests, x, y, z, w, here))
             (λ away. let x = left_stays old new d c.elsewhere l m e away (held e) in grind (arith, nat_tests, x, away))
             (cases_eq e d)
 

@@ -1,13 +1,11 @@
 -- The role of a unit, by the sets that have it.
-use Rattle.std.proofs.Common.{◌≡◌, ℕ, zero, suc, ◌+◌, ◌-◌, ◌<◌, ◌≤◌, Bool, true, false, not, ◌&&◌, ◌||◌, ◌==◌, nat_le, nat_lt, List, [], ◌∷◌, length, refl, ap, ◌∙◌, sym, arith, ⊎_elim, if◌then◌else◌}
+use Rattle.std.proofs.Common.{◌≡◌, ℕ, ◌+◌, ◌≤◌, Bool, true, false, not, nat_lt, refl, arith, if◌then◌else◌}
 use Rattle.std.proofs.lemmas.Bool.Decides.{nat_tests}
-use Rattle.std.proofs.lemmas.List.Sums.{sum_by-cons}
-use Rattle.zr_base.specs.declared.space.LateRun.{LateRun}
-use Rattle.zr_base.specs.Extents.{in_extent, has_unit}
-use Rattle.zr_rules.specs.Places.{one_if, part_of, is_held, is_kept, hits_late, address_hits}
-use Rattle.zr_rules.specs.Roles.{Role, is_held_role, is_kept_role, is_free_role}
+use Rattle.zr_base.specs.Extents.{has_unit}
+use Rattle.zr_rules.specs.Places.{one_if, part_of, is_held, is_kept, address_hits}
+use Rattle.zr_rules.specs.Roles.{Role, is_held_role, is_kept_role}
 use Rattle.zr_rules.specs.Roles.Role.{Absent, Free, FreshLive, Live, FreshCopy, Copy, Kept, DeferredBlock, DeferredMeta, Late1Block, Late1Meta, Late2Block, Late2Meta, Meta, SavedMeta}
-use Rattle.zr_rules.specs.Space.{Space, opened_of, is_born, copy_hits, has_late, has_place, role_at, set_hits, IsLawful}
+use Rattle.zr_rules.specs.Space.{Space, opened_of, is_born, copy_hits, has_late, has_place, role_at}
 
 abbrev pub is_deferred_block : Role → Bool
 is_deferred_block DeferredBlock = true

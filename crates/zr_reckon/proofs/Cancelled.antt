@@ -1,5 +1,5 @@
 -- A removal is given up, and the counts behind that.
-use Rattle.std.proofs.Common.{◌≡◌, ◌≢◌, ℕ, zero, suc, ◌+◌, ◌*◌, ◌<◌, ◌≤◌, Bool, true, false, not, ◌&&◌, ◌||◌, ◌==◌, nat_lt, List, [], ◌∷◌, length, refl, ◌∙◌, sym, ap, ap₂, arith, if◌then◌else◌, ⊎_elim}
+use Rattle.std.proofs.Common.{◌≡◌, ◌≢◌, ℕ, ◌+◌, ◌*◌, ◌<◌, ◌≤◌, Bool, true, false, not, ◌&&◌, ◌==◌, nat_lt, List, [], ◌∷◌, length, refl, ◌∙◌, sym, ap, arith, if◌then◌else◌, ⊎_elim}
 use Rattle.std.specs.List.{sum_by, range_with_len, list_any}
 use Rattle.std.proofs.lemmas.Bool.{cases_eq}
 use Rattle.std.proofs.lemmas.Bool.Decides.{nat_tests}
@@ -8,25 +8,23 @@ use Rattle.zr_base.specs.declared.space.Extent.{Extent}
 use Rattle.zr_base.specs.declared.space.Entry.{Entry}
 use Rattle.zr_base.specs.declared.space.DevPart.{DevPart}
 use Rattle.zr_base.specs.declared.space.DevRow.{DevRow}
-use Rattle.zr_base.specs.declared.space.DevState.{DevState}
-use Rattle.zr_base.specs.declared.space.DevState.TheVariants.{On, Leaving, Gone}
-use Rattle.zr_base.specs.Extents.{has_unit, IsMaximal}
+use Rattle.zr_base.specs.declared.space.DevState.TheVariants.{On, Leaving}
+use Rattle.zr_base.specs.Extents.{has_unit}
 use Rattle.zr_base.proofs.ExtentSets.{same_extents}
 use Rattle.zr_rules.specs.Owed.{set_words}
 use Rattle.zr_rules.specs.Places.{one_if, count_below, is_on, is_leaving, is_held, is_kept, part_of, state_of_dev, units_of_dev}
-use Rattle.zr_rules.specs.Mappings.{IsRisingFrom}
 use Rattle.zr_rules.specs.Roles.{Role, given_up, is_copy_role, is_held_role, is_kept_role}
 use Rattle.zr_rules.specs.Roles.Role.{Absent, Free, FreshLive, Live, FreshCopy, Copy, Kept, DeferredBlock, DeferredMeta, Late1Block, Late1Meta, Late2Block, Late2Meta, Meta, SavedMeta}
-use Rattle.zr_rules.specs.Space.{Space, is_born, role_at, held_role, has_place, copy_hits, is_copy_by, frontier, IsLawful}
-use Rattle.zr_rules.specs.Columns.{role_count, on_devices, device_streams, sizes}
+use Rattle.zr_rules.specs.Space.{Space, is_born, role_at, held_role, has_place, copy_hits, is_copy_by, IsLawful}
+use Rattle.zr_rules.specs.Columns.{role_count, device_streams, sizes}
 use Rattle.zr_rules.specs.Steps.{Cancels}
 use Rattle.zr_reckon.specs.Base.{device_base, base_words, LeavesAlone}
 use Rattle.zr_reckon.specs.Uses.{is_room_role, room}
 use Rattle.zr_reckon.proofs.RoleSets.{held_is, kept_is}
-use Rattle.zr_reckon.proofs.Counting.{count_as, count_more, sum_as, sum_grows, sum_less, sum_both, sum_passing, sum_at, sum_at_most, only_at, by_index, sum_zero}
-use Rattle.zr_reckon.proofs.Frames.{words_same, kept_same, fresh_same, held_same}
+use Rattle.zr_reckon.proofs.Counting.{count_more, sum_as, sum_grows, sum_less, sum_both, sum_passing, sum_at, sum_at_most, only_at, by_index, sum_zero}
+use Rattle.zr_reckon.proofs.Frames.{words_same, kept_same, fresh_same}
 use Rattle.zr_reckon.proofs.Uncopied.{leaving_known}
-use Rattle.zr_reckon.proofs.Elsewhere.{is_leaving_state, left_of, state_away, state_sum, units_stay, left_stays}
+use Rattle.zr_reckon.proofs.Elsewhere.{is_leaving_state, left_of, state_away, state_sum, units_stay}
 use Rattle.zr_reckon.proofs.Gaps.{is_put_by, entry_words_on, starts_in, give_all, starts_few, full_words}
 
 given_held : (r : Role) → is_held_role (given_up r) ≡ (is_held_role r && not (is_copy_role r))
@@ -140,9 +138,9 @@ module _ (s : Space) (d : ℕ) (a : LeavesAlone s d) where
           ≡ only_at d (sum_by (λ (x : Entry). one_if (is_copy_by (part_of s.parts.devs d) e u x)) (part_of s.parts.devs d).entries) k
       each k = ⊎_elim
           (λ here.
-            let x = ap (λ (j : ℕ). if is_leaving (state_of_dev s.parts.devs j) then sum_by (λ (y : Entry). one_if (is_copy_by (part_of s.parts.devs j) e u y)) (part_of s.parts.devs j).entries else 0) here in
-            let lv = a.leaving in
-            x ∙ (rw lv (let yes : (k == d) ≡ true = grind (arith, nat_tests, here) in rw yes refl)))
+          let x = ap (λ (j : ℕ). if is_leaving (state_of_dev s.parts.devs j) then sum_by (λ (y : Entry). one_if (is_copy_by (part_of s.parts.devs j) e u y)) (part_of s.parts.devs j).entries else 0) here in
+          let lv = a.leaving in
+          x ∙ (rw lv (let yes : (k == d) ≡ true = grind (arith, nat_tests, here) in rw yes refl)))
           (λ away. by_state (is_leaving (state_of_dev s.parts.devs k)) refl away)
           (cases_eq k d)
         where
@@ -222,19 +220,19 @@ module _ (old new : Space) (d : ℕ) (c : Cancels old new d) (l : IsLawful old) 
       let v3 = words_same w v (part_of new.parts.devs e).fresh _ c.elsewhere.version refl in
       ⊎_elim
       (λ here.
-        let n1 = ap (λ (j : ℕ). length (part_of new.parts.devs j).entries) here in
-        let n2 = ap (λ (es : List Entry). length es) c.entries in
-        let o1 = ap (λ (j : ℕ). length (part_of old.parts.devs j).entries) here in
-        let f1 = ap (λ (j : ℕ). set_words v (part_of new.parts.devs j).fresh) here in
-        let f2 = ap (set_words v) c.fresh in
-        let p1 = ap (λ (j : ℕ). set_words v (part_of old.parts.devs j).fresh) here in
-        let only : only_at d spare e ≡ spare = let is : (e == d) ≡ true = grind (arith, nat_tests, here) in rw is refl in
-        omega (arith, held, kept, v1, v2, v3, n1, n2, o1, f1, f2, p1, only))
+      let n1 = ap (λ (j : ℕ). length (part_of new.parts.devs j).entries) here in
+      let n2 = ap (λ (es : List Entry). length es) c.entries in
+      let o1 = ap (λ (j : ℕ). length (part_of old.parts.devs j).entries) here in
+      let f1 = ap (λ (j : ℕ). set_words v (part_of new.parts.devs j).fresh) here in
+      let f2 = ap (set_words v) c.fresh in
+      let p1 = ap (λ (j : ℕ). set_words v (part_of old.parts.devs j).fresh) here in
+      let only : only_at d spare e ≡ spare = let is : (e == d) ≡ true = grind (arith, nat_tests, here) in rw is refl in
+      omega (arith, held, kept, v1, v2, v3, n1, n2, o1, f1, f2, p1, only))
       (λ away.
-        let n1 = ap (λ (es : List Entry). length es) (c.elsewhere.others e away).entries in
-        let f1 = ap (set_words v) (fresh_same old new e l m (λ u. c.elsewhere.fresh e u away)) in
-        let only : only_at d spare e ≡ 0 = let is : (e == d) ≡ false = grind (arith, nat_tests, away) in rw is refl in
-        omega (arith, held, kept, v1, v2, v3, n1, f1, only))
+      let n1 = ap (λ (es : List Entry). length es) (c.elsewhere.others e away).entries in
+      let f1 = ap (set_words v) (fresh_same old new e l m (λ u. c.elsewhere.fresh e u away)) in
+      let only : only_at d spare e ≡ 0 = let is : (e == d) ≡ false = grind (arith, nat_tests, away) in rw is refl in
+      omega (arith, held, kept, v1, v2, v3, n1, f1, only))
       (cases_eq e d)
 
   pub cancel_base : base_words new ≤ base_words old

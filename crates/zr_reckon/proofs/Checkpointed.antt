@@ -1,10 +1,8 @@
 -- A checkpoint is held, and the counts behind it.
-use Rattle.std.proofs.Common.{◌≡◌, ℕ, zero, suc, ◌+◌, ◌*◌, ◌<◌, ◌≤◌, Bool, true, false, nat_lt, max, List, length, refl, ◌∙◌, sym, ap, ap₂, arith, if◌then◌else◌}
+use Rattle.std.proofs.Common.{◌≡◌, ℕ, zero, suc, ◌+◌, ◌≤◌, Bool, true, false, nat_lt, length, refl, ◌∙◌, ap, arith, if◌then◌else◌}
 use Rattle.std.specs.List.{sum_by, range_with_len}
 use Rattle.std.proofs.lemmas.Bool.Decides.{nat_tests}
 use Rattle.zr_base.specs.declared.space.Dva.{Dva}
-use Rattle.zr_base.specs.declared.space.Entry.{Entry}
-use Rattle.zr_base.specs.declared.space.LateRun.{LateRun}
 use Rattle.zr_rules.specs.Owed.{set_words}
 use Rattle.zr_rules.specs.Places.{one_if, count_below, address_hits, is_on, part_of, state_of_dev, units_of_dev}
 use Rattle.zr_rules.specs.Roles.{Role, saved, is_held_role, is_kept_role}

@@ -1,9 +1,8 @@
 -- A step of condensing, and the counts behind it.
-use Rattle.std.proofs.Common.{◌≡◌, ◌≢◌, ℕ, zero, suc, ◌+◌, ◌-◌, ◌*◌, ◌<◌, ◌≤◌, Bool, true, false, ◌&&◌, ◌==◌, min, List, [], ◌∷◌, ◌++◌, length, map, take, drop, refl, ◌∙◌, sym, ap, ap₂, subst, arith, if◌then◌else◌, ⊎_elim, Option, Some, None}
-use Rattle.std.specs.Prelude.{MatchBool, filter}
-use Rattle.std.specs.List.{sum_by, range_with_len, zip, count_by}
+use Rattle.std.proofs.Common.{◌≡◌, ℕ, suc, ◌+◌, ◌-◌, ◌≤◌, Bool, true, false, ◌&&◌, ◌==◌, List, [], ◌∷◌, length, map, take, drop, refl, ◌∙◌, sym, ap, subst, arith, ⊎_elim, Option, Some, None}
+use Rattle.std.specs.Prelude.{MatchBool}
+use Rattle.std.specs.List.{sum_by, range_with_len, zip}
 use Rattle.std.proofs.lemmas.Bool.{cases_eq}
-use Rattle.std.proofs.lemmas.Bool.Decides.{nat_tests}
 use Rattle.std.proofs.lemmas.List.{length-take, length-drop, length-append, length-map}
 use Rattle.std.proofs.lemmas.List.Sums.{count_by-le-length, length-filter}
 use Rattle.std.proofs.lemmas.Slice.Zip.{length-zip}
@@ -20,8 +19,8 @@ use Rattle.zr_rules.specs.Owed.{set_words}
 use Rattle.zr_rules.specs.Places.{part_of, is_leaving, is_gone, state_of_dev}
 use Rattle.zr_rules.specs.Condense.{is_due, is_used, condensed, folded, IsWorked}
 use Rattle.zr_rules.specs.Roles.{Role, is_held_role, is_kept_role}
-use Rattle.zr_rules.specs.Space.{Space, opened_of, role_at, frontier, IsLawful}
-use Rattle.zr_rules.specs.Columns.{device_words, late_blocks, uncopied_units, sizes}
+use Rattle.zr_rules.specs.Space.{Space, role_at, IsLawful}
+use Rattle.zr_rules.specs.Columns.{device_words, uncopied_units, sizes}
 use Rattle.zr_rules.specs.Steps.{Remaps, with_cond, due_from, due_device, next_kept, worked, Condenses, CondensesFrom, CondensesSome}
 use Rattle.zr_reckon.specs.Uses.{is_room_role, room, HasLateSets}
 use Rattle.zr_reckon.specs.Condensing.{IsUnderwayAs, IsUnderway}
@@ -119,21 +118,21 @@ module _ (old new : Space) (d : ℕ) (entries : List Entry) (counts : List ℕ) 
         entries_few : (e : ℕ) → length (part_of new.parts.devs e).entries ≤ length (part_of old.parts.devs e).entries + 0
         entries_few e = ⊎_elim
             (λ here.
-              let x = ap (λ (i : ℕ). length (part_of new.parts.devs i).entries) here in
-              let y = ap (λ (i : ℕ). length (part_of old.parts.devs i).entries) here in
-              let z = ap (λ (es : List Entry). length es) c.entries_are in
-              omega (arith, x, y, z, few))
+            let x = ap (λ (i : ℕ). length (part_of new.parts.devs i).entries) here in
+            let y = ap (λ (i : ℕ). length (part_of old.parts.devs i).entries) here in
+            let z = ap (λ (es : List Entry). length es) c.entries_are in
+            omega (arith, x, y, z, few))
             (λ away. let x = ap (λ (es : List Entry). length es) (c.elsewhere.others e away).entries in omega (arith, x))
             (cases_eq e d)
 
         fresh_few : (e : ℕ) → set_words old.parts.version (part_of new.parts.devs e).fresh ≤ set_words old.parts.version (part_of old.parts.devs e).fresh + 0
         fresh_few e = ⊎_elim
             (λ here.
-              let v = old.parts.version in
-              let x = ap (λ (i : ℕ). set_words v (part_of new.parts.devs i).fresh) here in
-              let y = ap (λ (i : ℕ). set_words v (part_of old.parts.devs i).fresh) here in
-              let z = ap (set_words v) c.fresh_is in
-              omega (arith, x, y, z, less))
+            let v = old.parts.version in
+            let x = ap (λ (i : ℕ). set_words v (part_of new.parts.devs i).fresh) here in
+            let y = ap (λ (i : ℕ). set_words v (part_of old.parts.devs i).fresh) here in
+            let z = ap (set_words v) c.fresh_is in
+            omega (arith, x, y, z, less))
             (λ away. let x = ap (set_words old.parts.version) (fresh_same old new e l m (λ u. c.elsewhere.fresh e u away)) in omega (arith, x))
             (cases_eq e d)
 
@@ -164,9 +163,9 @@ module _ (old new : Space) (d : ℕ) (entries : List Entry) (counts : List ℕ) 
         left : (e : ℕ) → left_of new e ≡ left_of old e
         left e = ⊎_elim
             (λ here.
-              let was : is_leaving (state_of_dev old.parts.devs e) ≡ false = ap (λ (i : ℕ). is_leaving (state_of_dev old.parts.devs i)) here ∙ gone_stays (state_of_dev old.parts.devs d) gone in
-              let now : is_leaving (state_of_dev new.parts.devs e) ≡ false = ap (λ (r : DevRow). is_leaving r.state) (rows e) ∙ was in
-              rw was rw now refl)
+            let was : is_leaving (state_of_dev old.parts.devs e) ≡ false = ap (λ (i : ℕ). is_leaving (state_of_dev old.parts.devs i)) here ∙ gone_stays (state_of_dev old.parts.devs d) gone in
+            let now : is_leaving (state_of_dev new.parts.devs e) ≡ false = ap (λ (r : DevRow). is_leaving r.state) (rows e) ∙ was in
+            rw was rw now refl)
             (λ away. left_stays (with_cond old cond) new d c.elsewhere with_law m e away (held_same old new e e l m (same is_held_role e)))
             (cases_eq e d)
 
@@ -182,8 +181,8 @@ match_both true A B P f g h = f h
 match_both false A B P f g h = g h
 
 module _ (old new : Space) (outcome : Condensed) (P : Type 0) (stays : new ≡ old → P)
-  (given : (d : ℕ) (entries : List Entry) (ns : List ℕ) (fresh : List Extent) (cond : Option CondPart) → is_gone (state_of_dev old.parts.devs d) ≡ true → length entries ≤ length (part_of old.parts.devs d).entries
-      → set_words old.parts.version fresh ≤ set_words old.parts.version (part_of old.parts.devs d).fresh → Remaps old new d entries ns fresh cond → P) where
+    (given : (d : ℕ) (entries : List Entry) (ns : List ℕ) (fresh : List Extent) (cond : Option CondPart) → is_gone (state_of_dev old.parts.devs d) ≡ true → length entries ≤ length (part_of old.parts.devs d).entries
+    → set_words old.parts.version fresh ≤ set_words old.parts.version (part_of old.parts.devs d).fresh → Remaps old new d entries ns fresh cond → P) where
   -- a fact that each mapping which takes the place of another gives
   by_end : (counts : List ℕ) (fresh : List Extent) (c : CondPart) → is_gone (state_of_dev old.parts.devs c.dev) ≡ true → set_words old.parts.version fresh ≤ set_words old.parts.version (part_of old.parts.devs c.dev).fresh
       → c.at ≤ length (part_of old.parts.devs c.dev).entries → length c.entries ≤ c.at → Condenses old counts fresh c outcome new → P

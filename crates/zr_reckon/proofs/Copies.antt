@@ -1,6 +1,5 @@
 -- The copies of a block, as runs.
-use Rattle.std.proofs.Common.{◌≡◌, ℕ, zero, suc, ◌+◌, ◌-◌, ◌<◌, ◌≤◌, max, min, Bool, true, false, not, ◌&&◌, ◌||◌, ◌==◌, nat_le, nat_lt, List, [], ◌∷◌, ◌++◌, length, map, refl, ◌∙◌, sym, ap, arith, if◌then◌else◌, ⊎_elim}
-use Rattle.std.specs.Prelude.{filter}
+use Rattle.std.proofs.Common.{◌≡◌, ℕ, zero, suc, ◌+◌, ◌-◌, ◌<◌, ◌≤◌, Bool, true, false, ◌&&◌, ◌||◌, nat_lt, List, [], ◌∷◌, refl, ◌∙◌, sym, ap, arith, ⊎_elim}
 use Rattle.std.specs.List.{flat_map, list_any}
 use Rattle.std.proofs.lemmas.Bool.{cases_lt}
 use Rattle.std.proofs.lemmas.Bool.Decides.{nat_tests}
@@ -8,8 +7,8 @@ use Rattle.zr_base.specs.declared.space.Dva.{Dva}
 use Rattle.zr_base.specs.declared.space.Entry.{Entry}
 use Rattle.zr_base.specs.declared.space.DevPart.{DevPart}
 use Rattle.zr_base.specs.Extents.{has_unit}
-use Rattle.zr_rules.specs.Places.{in_address, is_gone, is_leaving, is_fresh, part_of, state_of_dev}
-use Rattle.zr_rules.specs.Devices.{Devices, state_at}
+use Rattle.zr_rules.specs.Places.{in_address, is_leaving, is_fresh, part_of, state_of_dev}
+use Rattle.zr_rules.specs.Devices.{state_at}
 use Rattle.zr_rules.specs.Mappings.{IsRisingFrom, IsRising, end_of_last}
 use Rattle.zr_rules.specs.Resolve.{is_there, leads_to, passes}
 use Rattle.zr_rules.specs.Space.{Space, frontier, is_copy_by}
@@ -152,7 +151,7 @@ module _ (s : Space) (a : Dva) (d u : ℕ) where
       flat_is (copies_at ds) (ends_of ds a) d u ∙ m.put (λ (x : Dva). in_any (copies_at ds x) d u) copied
 
   module _ (known : (e v : ℕ) → in_any (ends_of (devices_in s) a) e v ≡ true → is_there (devices_in s) e v ≡ true) (rising : (e : ℕ) → IsRising (part_of s.parts.devs e).entries)
-    (unmarked : (e v : ℕ) → marks s a e v ≡ true → is_fresh s.parts.devs e v ≡ false) where
+      (unmarked : (e v : ℕ) → marks s a e v ≡ true → is_fresh s.parts.devs e v ≡ false) where
     of_run : (m : Dva) → ((v : ℕ) → in_address m m.dev v ≡ true → in_any (ends_of (devices_in s) a) m.dev v ≡ true) → is_leaving (state_at (devices_in s) m.dev) ≡ true
         → in_any (parts_of m.start m.len ((devices_in s).entries m.dev)) d u ≡ true → is_copy_of s a d u ≡ true
     of_run m ends leaving is =
@@ -167,10 +166,10 @@ module _ (s : Space) (a : Dva) (d u : ℕ) where
         let led : leads_to ds a m.dev v ≡ true = into_leads ds a m.dev v (known m.dev v there) rising there in
         let low : v < frontier s m.dev = ⊎_elim
         (λ past.
-          let none = none_past 0 p.entries (rising m.dev) in
-          let some = e.put (λ (x : Entry). nat_lt (end_of_last p.entries) (x.src + x.len)) (grind (arith, nat_tests, past)) in
-          let x = sym none ∙ some in
-          absurd (cc))
+        let none = none_past 0 p.entries (rising m.dev) in
+        let some = e.put (λ (x : Entry). nat_lt (end_of_last p.entries) (x.src + x.len)) (grind (arith, nat_tests, past)) in
+        let x = sym none ∙ some in
+        absurd (cc))
         (λ within. grind (arith, nat_tests, hit, within))
         (cases_lt (end_of_last p.entries) (e.it.src + e.it.len)) in
         let mark : marks s a m.dev v ≡ true = marked v (passes ds a m.dev v) leaving led low in

@@ -1,5 +1,5 @@
 -- A step of copying, and the counts behind it.
-use Rattle.std.proofs.Common.{◌≡◌, ◌≢◌, ℕ, ◌+◌, ◌*◌, ◌<◌, ◌≤◌, Bool, true, false, ◌==◌, min, List, [], ◌∷◌, ◌++◌, length, refl, ◌∙◌, sym, ap, ap₂, arith, if◌then◌else◌, ⊎_elim}
+use Rattle.std.proofs.Common.{◌≡◌, ◌≢◌, ℕ, ◌+◌, ◌*◌, ◌≤◌, Bool, true, false, min, List, length, refl, ◌∙◌, sym, ap, ap₂, arith, if◌then◌else◌, ⊎_elim}
 use Rattle.std.specs.List.{sum_by, range_with_len}
 use Rattle.std.proofs.lemmas.Bool.{cases_eq}
 use Rattle.std.proofs.lemmas.Bool.Decides.{nat_tests}
@@ -7,15 +7,13 @@ use Rattle.std.proofs.lemmas.List.{length_push}
 use Rattle.zr_base.specs.declared.space.Extent.{Extent}
 use Rattle.zr_base.specs.declared.space.Entry.{Entry}
 use Rattle.zr_base.specs.declared.space.Policy.{Policy}
-use Rattle.zr_base.specs.declared.space.DevState.{DevState}
-use Rattle.zr_base.specs.declared.space.DevState.TheVariants.{On, Leaving, Gone}
 use Rattle.zr_rules.specs.Owed.{set_words}
-use Rattle.zr_rules.specs.Places.{is_on, is_leaving, part_of, is_fresh, state_of_dev}
+use Rattle.zr_rules.specs.Places.{is_leaving, part_of, state_of_dev}
 use Rattle.zr_rules.specs.Roles.{Role, is_held_role, is_kept_role}
 use Rattle.zr_rules.specs.Roles.Role.{Free, FreshCopy}
 use Rattle.zr_rules.specs.Mappings.{end_of_last}
-use Rattle.zr_rules.specs.Space.{Space, opened_of, role_at, frontier, IsLawful}
-use Rattle.zr_rules.specs.Columns.{device_words, late_blocks, units_from, uncopied_units, sizes}
+use Rattle.zr_rules.specs.Space.{Space, role_at, frontier, IsLawful}
+use Rattle.zr_rules.specs.Columns.{device_words, units_from, uncopied_units, sizes}
 use Rattle.zr_rules.specs.Steps.{Copies}
 use Rattle.zr_reckon.specs.Uses.{is_room_role, room, HasLateSets}
 use Rattle.zr_reckon.proofs.Bits.{is_deferred_block, is_late1_block, is_late2_block, is_late1_meta, is_late2_meta}
@@ -45,11 +43,11 @@ module _ (policy : Policy) (old new : Space) (d n : ℕ) (c : Copies policy old 
   entries : (e : ℕ) → length (part_of new.parts.devs e).entries ≤ length (part_of old.parts.devs e).entries + only_at d 1 e
   entries e = ⊎_elim
       (λ here.
-        let x = ap (λ (k : ℕ). length (part_of new.parts.devs k).entries) here in
-        let y = ap (λ (k : ℕ). length (part_of old.parts.devs k).entries) here in
-        let z = ap (λ (es : List Entry). length es) c.entries in
-        let m = length_push (part_of old.parts.devs d).entries (record { src = c.front.start; dev = c.at.dev; dst = c.at.start; len = n }) in
-        grind (arith, nat_tests, x, y, z, m, here))
+      let x = ap (λ (k : ℕ). length (part_of new.parts.devs k).entries) here in
+      let y = ap (λ (k : ℕ). length (part_of old.parts.devs k).entries) here in
+      let z = ap (λ (es : List Entry). length es) c.entries in
+      let m = length_push (part_of old.parts.devs d).entries (record { src = c.front.start; dev = c.at.dev; dst = c.at.start; len = n }) in
+      grind (arith, nat_tests, x, y, z, m, here))
       (λ away. let x = ap (λ (es : List Entry). length es) (c.elsewhere.others e away).entries in grind (arith, nat_tests, x, away))
       (cases_eq e d)
 
@@ -131,10 +129,10 @@ module _ (policy : Policy) (old new : Space) (d n : ℕ) (c : Copies policy old 
     left : (e : ℕ) → left_of old e ≡ left_of new e + only_at d n e
     left e = ⊎_elim
         (λ here.
-          let h = left_here in
-          let x = ap (left_of old) here in
-          let y = ap (left_of new) here in
-          grind (arith, nat_tests, h, x, y, here))
+        let h = left_here in
+        let x = ap (left_of old) here in
+        let y = ap (left_of new) here in
+        grind (arith, nat_tests, h, x, y, here))
         (λ away. let a = left_away e away in grind (arith, nat_tests, a, away))
         (cases_eq e d)
 

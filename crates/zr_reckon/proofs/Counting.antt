@@ -117,13 +117,13 @@ sum_only : (k c a n : ℕ) → a ≤ k → k < a + n → sum_by (only_at k c) (r
 sum_only k c a zero le lt = absurd (omega (arith, le, lt))
 sum_only k c a (suc n) le lt = ⊎_elim
     (λ later.
-      let r = sum_only k c (a + 1) n (omega (arith, later)) (omega (arith, lt)) in
-      let m = sum_by-cons (only_at k c) a (range_with_len (a + 1) n) in
-      grind (arith, nat_tests, r, m, later))
+    let r = sum_only k c (a + 1) n (omega (arith, later)) (omega (arith, lt)) in
+    let m = sum_by-cons (only_at k c) a (range_with_len (a + 1) n) in
+    grind (arith, nat_tests, r, m, later))
     (λ here.
-      let r = sum_past k c (a + 1) n (omega (arith, here)) in
-      let m = sum_by-cons (only_at k c) a (range_with_len (a + 1) n) in
-      grind (arith, nat_tests, r, m, le, here))
+    let r = sum_past k c (a + 1) n (omega (arith, here)) in
+    let m = sum_by-cons (only_at k c) a (range_with_len (a + 1) n) in
+    grind (arith, nat_tests, r, m, le, here))
     (cases_lt a k)
 
 pub sum_at : (k c n : ℕ) → k < n → sum_by (only_at k c) (range_with_len 0 n) ≡ c

@@ -1,29 +1,28 @@
 -- A step of discarding, and the counts behind it.
-use Rattle.std.proofs.Common.{◌≡◌, ◌≢◌, ℕ, zero, suc, ◌+◌, ◌-◌, ◌*◌, ◌<◌, ◌≤◌, ◌^◌, Bool, true, false, not, ◌&&◌, ◌||◌, ◌==◌, nat_le, List, [], ◌∷◌, ◌++◌, length, map, take, drop, refl, ◌∙◌, sym, ap, ap₂, subst, arith, cond, if◌then◌else◌, ⊎_elim}
+use Rattle.std.proofs.Common.{◌≡◌, ◌≢◌, ℕ, zero, suc, ◌+◌, ◌<◌, ◌≤◌, ◌^◌, Bool, true, false, not, ◌&&◌, ◌||◌, ◌==◌, nat_le, List, [], ◌∷◌, ◌++◌, length, map, take, drop, refl, ◌∙◌, sym, ap, ap₂, subst, arith, if◌then◌else◌, ⊎_elim}
 use Rattle.std.specs.Prelude.{MatchBool}
-use Rattle.std.specs.List.{sum_by, range_with_len, flat_map, enumerate_from, list_any}
+use Rattle.std.specs.List.{sum_by, range_with_len, flat_map, enumerate_from}
 use Rattle.std.proofs.lemmas.Bool.{cases_eq}
 use Rattle.std.proofs.lemmas.Bool.Decides.{nat_tests}
 use Rattle.zr_base.specs.declared.space.Extent.{Extent}
-use Rattle.zr_base.specs.declared.space.Entry.{Entry}
 use Rattle.zr_base.specs.declared.space.DevPart.{DevPart}
 use Rattle.zr_base.specs.declared.space.DevRow.{DevRow}
 use Rattle.zr_base.specs.declared.space.CkptPart.TheVariants as ckpt
-use Rattle.zr_base.specs.Extents.{in_extent, has_unit, IsMaximal}
+use Rattle.zr_base.specs.Extents.{has_unit, IsMaximal}
 use Rattle.zr_base.proofs.ExtentSets.{same_extents}
 use Rattle.zr_rules.specs.Owed.{set_words}
-use Rattle.zr_rules.specs.Places.{count_below, part_of, is_leaving, is_kept, state_of_dev}
+use Rattle.zr_rules.specs.Places.{part_of, is_leaving, is_kept, state_of_dev}
 use Rattle.zr_rules.specs.Mappings.{end_of_last}
 use Rattle.zr_rules.specs.Roles.{Role, discarded, is_held_role, is_kept_role}
 use Rattle.zr_rules.specs.Roles.Role.{Absent, Free, FreshLive, Live, FreshCopy, Copy, Kept, DeferredBlock, DeferredMeta, Late1Block, Late1Meta, Late2Block, Late2Meta, Meta, SavedMeta}
 use Rattle.zr_rules.specs.Space.{Space, opened_of, role_at, frontier, IsLawful}
-use Rattle.zr_rules.specs.Columns.{device_words, units_from, uncopied_units, sizes}
+use Rattle.zr_rules.specs.Columns.{device_words, units_from, sizes}
 use Rattle.zr_rules.specs.Steps.{kept_extents, is_among, Discards, DiscardsSome, with_ckpt}
 use Rattle.zr_reckon.specs.Uses.{is_room_role, room}
 use Rattle.zr_reckon.proofs.Bits.{is_deferred_block, is_late1_meta, is_late2_meta}
 use Rattle.zr_reckon.proofs.RoleSets.{held_is, kept_is, deferred_is}
 use Rattle.zr_reckon.proofs.MoreSets.{all_come, all_go, words_append, front_words, rest_maximal, has_append, front_apart}
-use Rattle.zr_reckon.proofs.Counting.{count_as, count_more, sum_less}
+use Rattle.zr_reckon.proofs.Counting.{count_more, sum_less}
 use Rattle.zr_reckon.proofs.Frames.{fresh_same, words_move, sized, streams_same, gone_same, room_same}
 use Rattle.zr_reckon.proofs.Lates.{turning_same, past_same}
 use Rattle.zr_reckon.proofs.Uncopied.{from_counted}
@@ -187,11 +186,11 @@ module _ (old new : Space) (c : Discards old new (take 64 (kept_extents old))) (
   kept_stays : (d : ℕ) → (part_of new.parts.devs d).kept ≡ stay d
   kept_stays d = same_extents 0 0 _ _ (m.sets d).kept.maximal (rest_maximal 0 (went d) (stay d) (together d))
       (λ u.
-        let a = kept_is new d u m ∙ (goes is_kept_role refl refl d u ∙ ap (λ (b : Bool). b && not (has_unit (went d) u)) (sym (kept_is old d u l))) in
-        let b = has_append (went d) (stay d) u in
-        let e = ap (λ (es : List Extent). has_unit es u) (parts d) in
-        let f = front_apart 0 (went d) (stay d) (together d) u in
-        three _ (has_unit (went d) u) (has_unit (stay d) u) _ a (sym e ∙ b) f)
+      let a = kept_is new d u m ∙ (goes is_kept_role refl refl d u ∙ ap (λ (b : Bool). b && not (has_unit (went d) u)) (sym (kept_is old d u l))) in
+      let b = has_append (went d) (stay d) u in
+      let e = ap (λ (es : List Extent). has_unit es u) (parts d) in
+      let f = front_apart 0 (went d) (stay d) (together d) u in
+      three _ (has_unit (went d) u) (has_unit (stay d) u) _ a (sym e ∙ b) f)
     where
       three : (a w s k : Bool) → a ≡ (k && not w) → k ≡ (w || s) → (w ≡ true → s ≡ false) → a ≡ s
       three a true s k p q f = let z = f refl in grind (arith, p, q, z)

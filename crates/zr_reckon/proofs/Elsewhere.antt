@@ -1,6 +1,5 @@
 -- Where one device changes its state, and the others stay.
-use Rattle.std.proofs.Common.{◌≡◌, ◌≢◌, ℕ, ◌+◌, ◌*◌, ◌<◌, ◌≤◌, Bool, true, false, ◌==◌, max, List, [], ◌∷◌, length, refl, ◌∙◌, sym, ap, ap₂, arith, if◌then◌else◌, ⊎_elim}
-use Rattle.std.specs.Prelude.{count_by}
+use Rattle.std.proofs.Common.{◌≡◌, ◌≢◌, ℕ, ◌+◌, ◌<◌, Bool, true, false, List, [], ◌∷◌, length, refl, ◌∙◌, sym, ap, ap₂, arith, if◌then◌else◌, ⊎_elim}
 use Rattle.std.specs.List.{sum_by, range_with_len}
 use Rattle.std.proofs.lemmas.Bool.{cases_eq}
 use Rattle.std.proofs.lemmas.Bool.Decides.{nat_tests}
@@ -11,17 +10,14 @@ use Rattle.zr_base.specs.declared.space.DevPart.{DevPart}
 use Rattle.zr_base.specs.declared.space.DevRow.{DevRow}
 use Rattle.zr_base.specs.declared.space.DevState.{DevState}
 use Rattle.zr_base.specs.declared.space.DevState.TheVariants.{On, Leaving, Gone}
-use Rattle.zr_base.specs.Extents.{has_unit, unit_count, IsMaximal, IsMaximalFrom}
-use Rattle.zr_base.proofs.ExtentSets.{same_extents}
-use Rattle.zr_rules.specs.Owed.{set_words}
-use Rattle.zr_rules.specs.Places.{count_below, is_on, is_leaving, is_gone, part_of, is_fresh, state_of_dev, units_of_dev}
+use Rattle.zr_base.specs.Extents.{unit_count}
+use Rattle.zr_rules.specs.Places.{count_below, is_on, is_leaving, part_of, state_of_dev, units_of_dev}
 use Rattle.zr_rules.specs.Mappings.{end_of_last}
-use Rattle.zr_rules.specs.Roles.{Role, is_held_role, is_kept_role}
-use Rattle.zr_rules.specs.Space.{Space, opened_of, role_at, frontier, IsLawful}
-use Rattle.zr_rules.specs.Columns.{role_count, on_devices, device_words, device_streams, late_blocks, late_meta_units, late1_meta, late2_meta, units_from, uncopied_units, sizes}
+use Rattle.zr_rules.specs.Roles.{Role}
+use Rattle.zr_rules.specs.Space.{Space, role_at, frontier, IsLawful}
+use Rattle.zr_rules.specs.Columns.{role_count, units_from}
 use Rattle.zr_rules.specs.Steps.{IsSameElsewhere}
-use Rattle.zr_reckon.proofs.Counting.{count_as, sum_as, sum_less, sum_both, sum_passing, sum_at, only_at, by_index}
-use Rattle.zr_reckon.proofs.Frames.{fresh_same}
+use Rattle.zr_reckon.proofs.Counting.{count_as, sum_both, sum_at, only_at, by_index}
 
 -- a device in service is not leaving, and one that is leaving is not in service
 pub on_not_leaving : (st : DevState) → is_on st ≡ true → is_leaving st ≡ false
@@ -85,9 +81,9 @@ module _ (old new : Space) (d : ℕ) (c : IsSameElsewhere old new d) where
       each : (e : ℕ) → f (state_of_dev old.parts.devs e) ≡ f (state_of_dev new.parts.devs e) + only_at d more e
       each e = ⊎_elim
           (λ here.
-            let x = ap (λ (k : ℕ). f (state_of_dev old.parts.devs k)) here in
-            let y = ap (λ (k : ℕ). f (state_of_dev new.parts.devs k)) here in
-            grind (arith, nat_tests, x, y, is, here))
+          let x = ap (λ (k : ℕ). f (state_of_dev old.parts.devs k)) here in
+          let y = ap (λ (k : ℕ). f (state_of_dev new.parts.devs k)) here in
+          grind (arith, nat_tests, x, y, is, here))
           (λ away. let x = ap f (state_away e away) in grind (arith, nat_tests, x, away))
           (cases_eq e d)
 
@@ -106,9 +102,9 @@ module _ (old new : Space) (d : ℕ) (c : IsSameElsewhere old new d) where
       each : (e : ℕ) → f (state_of_dev new.parts.devs e) ≡ f (state_of_dev old.parts.devs e) + only_at d more e
       each e = ⊎_elim
           (λ here.
-            let x = ap (λ (k : ℕ). f (state_of_dev old.parts.devs k)) here in
-            let y = ap (λ (k : ℕ). f (state_of_dev new.parts.devs k)) here in
-            grind (arith, nat_tests, x, y, is, here))
+          let x = ap (λ (k : ℕ). f (state_of_dev old.parts.devs k)) here in
+          let y = ap (λ (k : ℕ). f (state_of_dev new.parts.devs k)) here in
+          grind (arith, nat_tests, x, y, is, here))
           (λ away. let x = ap f (state_away e away) in grind (arith, nat_tests, x, away))
           (cases_eq e d)
 

@@ -1,10 +1,8 @@
 -- The end of a group, and the counts behind it.
-use Rattle.std.proofs.Common.{◌≡◌, ℕ, ◌+◌, ◌*◌, ◌<◌, ◌≤◌, Bool, true, false, List, [], ◌∷◌, length, refl, ◌∙◌, sym, ap, ap₂, arith, if◌then◌else◌}
+use Rattle.std.proofs.Common.{◌≡◌, ℕ, ◌+◌, ◌≤◌, Bool, true, false, List, [], length, refl, ◌∙◌, sym, ap, arith, if◌then◌else◌}
 use Rattle.std.specs.List.{sum_by, range_with_len}
-use Rattle.zr_base.specs.declared.space.Extent.{Extent}
 use Rattle.zr_base.specs.declared.space.Entry.{Entry}
 use Rattle.zr_base.specs.declared.space.DevPart.{DevPart}
-use Rattle.zr_base.specs.Extents.{has_unit, IsMaximal}
 use Rattle.zr_base.proofs.ExtentSets.{same_extents}
 use Rattle.zr_rules.specs.Owed.{set_words}
 use Rattle.zr_rules.specs.Places.{count_below, part_of, units_of_dev}
@@ -13,7 +11,7 @@ use Rattle.zr_rules.specs.Space.{Space, OpenSets, opened_of, role_at, IsLawful}
 use Rattle.zr_rules.specs.Columns.{role_count, device_words, late_blocks, late_meta_units, late1_meta, late2_meta, sizes}
 use Rattle.zr_rules.specs.Steps.{Commits}
 use Rattle.zr_reckon.specs.Uses.{is_room_role, room, is_dropped_role, dropped_units, freed_words, second_late_words, HasLateSets}
-use Rattle.zr_reckon.proofs.Bits.{is_deferred_block, is_late1_block, is_late2_block, is_late1_meta, is_late2_meta}
+use Rattle.zr_reckon.proofs.Bits.{is_late1_block, is_late2_block, is_late1_meta, is_late2_meta}
 use Rattle.zr_reckon.proofs.RoleKinds.{aged_held, aged_kept, aged_late1, aged_late2, aged_late1_meta, aged_late2_meta, aged_room, cleared_held, cleared_kept, cleared_late1_block, cleared_late2_block, cleared_late1_meta, cleared_late2_meta, cleared_room}
 use Rattle.zr_reckon.proofs.RoleSets.{deferred_is}
 use Rattle.zr_reckon.proofs.Counting.{count_as, count_none, sum_as, sum_both, sum_zero, by_index}

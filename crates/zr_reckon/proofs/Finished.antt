@@ -1,5 +1,5 @@
 -- A device is gone, and the counts behind that.
-use Rattle.std.proofs.Common.{◌≡◌, ◌≢◌, ℕ, ◌+◌, ◌*◌, ◌<◌, ◌≤◌, Bool, true, false, ◌==◌, max, List, [], ◌∷◌, length, refl, ◌∙◌, sym, ap, ap₂, arith, if◌then◌else◌, ⊎_elim}
+use Rattle.std.proofs.Common.{◌≡◌, ◌≢◌, ℕ, ◌+◌, ◌≤◌, Bool, true, false, ◌==◌, List, [], length, refl, ◌∙◌, sym, ap, ap₂, arith, if◌then◌else◌, ⊎_elim}
 use Rattle.std.specs.List.{sum_by, range_with_len}
 use Rattle.std.proofs.lemmas.Bool.{cases_eq}
 use Rattle.std.proofs.lemmas.Bool.Decides.{nat_tests}
@@ -9,15 +9,15 @@ use Rattle.zr_base.specs.declared.space.Entry.{Entry}
 use Rattle.zr_base.specs.declared.space.DevPart.{DevPart}
 use Rattle.zr_base.specs.declared.space.DevRow.{DevRow}
 use Rattle.zr_base.specs.declared.space.DevState.{DevState}
-use Rattle.zr_base.specs.declared.space.DevState.TheVariants.{On, Leaving, Gone}
+use Rattle.zr_base.specs.declared.space.DevState.TheVariants.{Leaving, Gone}
 use Rattle.zr_base.specs.Extents.{has_unit, IsMaximal}
 use Rattle.zr_base.proofs.ExtentSets.{same_extents}
 use Rattle.zr_rules.specs.Owed.{set_words}
 use Rattle.zr_rules.specs.Places.{count_below, is_on, is_leaving, is_gone, part_of, state_of_dev, units_of_dev}
 use Rattle.zr_rules.specs.Roles.{Role, taken_over, is_held_role, is_kept_role}
 use Rattle.zr_rules.specs.Roles.Role.{Absent}
-use Rattle.zr_rules.specs.Space.{Space, opened_of, role_at, frontier, IsLawful}
-use Rattle.zr_rules.specs.Columns.{role_count, on_devices, device_words, device_streams, late_blocks, late_meta_units, late1_meta, late2_meta, uncopied_units, sizes}
+use Rattle.zr_rules.specs.Space.{Space, opened_of, role_at, IsLawful}
+use Rattle.zr_rules.specs.Columns.{role_count, device_words, device_streams, late_blocks, late_meta_units, late1_meta, late2_meta, sizes}
 use Rattle.zr_rules.specs.Steps.{Finishes}
 use Rattle.zr_reckon.specs.Uses.{is_room_role, room, HasLateSets}
 use Rattle.zr_reckon.proofs.Bits.{is_deferred_block, is_late1_block, is_late2_block, is_late1_meta, is_late2_meta}
@@ -27,7 +27,7 @@ use Rattle.zr_reckon.proofs.Counting.{count_as, count_none, sum_as, sum_less, su
 use Rattle.zr_reckon.proofs.Frames.{held_same, kept_same, deferred_same, fresh_same}
 use Rattle.zr_reckon.proofs.Lates.{late1_unit, late2_unit, late1_same, late2_same, late1_count, late2_count, compare}
 use Rattle.zr_reckon.proofs.Uncopied.{leaving_known}
-use Rattle.zr_reckon.proofs.Elsewhere.{is_leaving_state, leaving_not_on, left_of, state_away, state_sum, state_sum_up, units_stay, left_stays}
+use Rattle.zr_reckon.proofs.Elsewhere.{is_leaving_state, left_of, state_away, state_sum, state_sum_up, units_stay, left_stays}
 
 no_words : (v : ℕ) (es : List Extent) → IsMaximal es → ((u : ℕ) → has_unit es u ≡ false) → set_words v es ≡ 0
 no_words v es m none = ap (set_words v) (same_extents 0 0 es [] m tt none)
@@ -105,9 +105,9 @@ module _ (old new : Space) (d txg : ℕ) (c : Finishes old new d txg) where
         each : (e : ℕ) → left_of new e ≤ left_of old e
         each e = ⊎_elim
             (λ here.
-              let is : is_leaving (state_of_dev new.parts.devs e) ≡ false = ap (λ (j : ℕ). is_leaving (state_of_dev new.parts.devs j)) here ∙ ap is_leaving gone_now in
-              let none : left_of new e ≡ 0 = rw is refl in
-              omega (arith, none))
+            let is : is_leaving (state_of_dev new.parts.devs e) ≡ false = ap (λ (j : ℕ). is_leaving (state_of_dev new.parts.devs j)) here ∙ ap is_leaving gone_now in
+            let none : left_of new e ≡ 0 = rw is refl in
+            omega (arith, none))
             (λ away. let x = left_stays old new d c.elsewhere l m e away (held_same old new e e l m (λ u. kind_away is_held_role taken_held e u away)) in omega (arith, x))
             (cases_eq e d)
 
@@ -126,9 +126,9 @@ module _ (old new : Space) (d txg : ℕ) (c : Finishes old new d txg) where
             let s = ap (λ (n : ℕ). sum_by (λ (e : ℕ). g (part_of new.parts.devs e)) (range_with_len 0 n)) count in
             let less = sum_less (λ (e : ℕ). g (part_of new.parts.devs e)) (λ (e : ℕ). g (part_of old.parts.devs e)) (range_with_len 0 (length old.parts.devs))
             (λ e. let x = now e in let y = was e in ⊎_elim
-              (λ here. let z = count_here kind none e here in omega (arith, x, y, z))
-              (λ away. let z = count_away kind same e away in omega (arith, x, y, z))
-              (cases_eq e d)) in
+            (λ here. let z = count_here kind none e here in omega (arith, x, y, z))
+            (λ away. let z = count_away kind same e away in omega (arith, x, y, z))
+            (cases_eq e d)) in
             omega (arith, a, b, s, less)
 
   module _ (leaving : is_leaving (state_of_dev old.parts.devs d) ≡ true) where
@@ -148,9 +148,9 @@ module _ (old new : Space) (d txg : ℕ) (c : Finishes old new d txg) where
     each_room : (e : ℕ) → (if is_on (state_of_dev new.parts.devs e) then role_count new is_room_role e else 0) ≡ (if is_on (state_of_dev old.parts.devs e) then role_count old is_room_role e else 0)
     each_room e = ⊎_elim
         (λ here.
-          let x : is_on (state_of_dev old.parts.devs e) ≡ false = ap (λ (k : ℕ). is_on (state_of_dev old.parts.devs k)) here ∙ ap is_on was_leaving in
-          let y : is_on (state_of_dev new.parts.devs e) ≡ false = ap (λ (k : ℕ). is_on (state_of_dev new.parts.devs k)) here ∙ ap is_on gone_now in
-          rw x rw y refl)
+        let x : is_on (state_of_dev old.parts.devs e) ≡ false = ap (λ (k : ℕ). is_on (state_of_dev old.parts.devs k)) here ∙ ap is_on was_leaving in
+        let y : is_on (state_of_dev new.parts.devs e) ≡ false = ap (λ (k : ℕ). is_on (state_of_dev new.parts.devs k)) here ∙ ap is_on gone_now in
+        rw x rw y refl)
         (λ away. ap₂ (λ (b : Bool) (n : ℕ). if b then n else 0) (ap is_on (state_away old new d c.elsewhere e away)) (count_away is_room_role taken_room e away))
         (cases_eq e d)
 

@@ -1,29 +1,27 @@
 -- What stays of the counts where only some roles change.
-use Rattle.std.proofs.Common.{◌≡◌, ℕ, zero, suc, ◌+◌, ◌-◌, ◌*◌, ◌<◌, ◌≤◌, Bool, true, false, ◌&&◌, ◌||◌, ◌==◌, max, List, [], ◌∷◌, length, refl, ◌∙◌, sym, ap, ap₂, arith, if◌then◌else◌}
+use Rattle.std.proofs.Common.{◌≡◌, ℕ, ◌+◌, ◌*◌, ◌≤◌, Bool, true, false, max, List, length, refl, ◌∙◌, sym, ap, ap₂, arith, if◌then◌else◌}
 use Rattle.std.specs.Prelude.{filter, count_by}
 use Rattle.std.specs.List.{sum_by, range_with_len}
 use Rattle.std.proofs.Math.Path.{fun_ext}
 use Rattle.zr_base.specs.declared.space.Extent.{Extent}
 use Rattle.zr_base.specs.declared.space.Dva.{Dva}
 use Rattle.zr_base.specs.declared.space.Entry.{Entry}
-use Rattle.zr_base.specs.declared.space.LateRun.{LateRun}
 use Rattle.zr_base.specs.declared.space.DevPart.{DevPart}
 use Rattle.zr_base.specs.declared.space.DevRow.{DevRow}
 use Rattle.zr_base.specs.declared.space.DevState.{DevState}
 use Rattle.zr_base.specs.declared.space.Sizes.{Sizes}
-use Rattle.zr_base.specs.Extents.{has_unit, IsMaximal}
 use Rattle.zr_base.proofs.ExtentSets.{same_extents}
 use Rattle.zr_rules.specs.Owed.{set_words}
 use Rattle.zr_rules.specs.Places.{count_below, part_of, is_on, is_leaving, is_gone, is_fresh, state_of_dev, units_of_dev}
 use Rattle.zr_rules.specs.Mappings.{end_of_last}
 use Rattle.zr_rules.specs.Roles.{Role, is_held_role, is_kept_role}
-use Rattle.zr_rules.specs.Space.{Space, opened_of, role_at, frontier, IsLawful}
-use Rattle.zr_rules.specs.Columns.{role_count, on_devices, units_from, uncopied_units, late_blocks, late_meta_units, device_words, device_streams, units_on, late1_meta, late2_meta, on_parts, sizes, free_units}
-use Rattle.zr_rules.specs.Frees.{IsSamePart, IsSameFrame, MarksNothing}
+use Rattle.zr_rules.specs.Space.{Space, opened_of, role_at, IsLawful}
+use Rattle.zr_rules.specs.Columns.{role_count, on_devices, units_from, uncopied_units, late_blocks, late_meta_units, device_words, device_streams, units_on, late1_meta, late2_meta, on_parts, sizes}
+use Rattle.zr_rules.specs.Frees.{IsSamePart, IsSameFrame}
 use Rattle.zr_reckon.proofs.Bits.{is_deferred_block}
 use Rattle.zr_reckon.proofs.RoleSets.{held_is, kept_is, deferred_is}
 use Rattle.zr_reckon.specs.Uses.{is_room_role, room}
-use Rattle.zr_reckon.proofs.Counting.{count_as, count_more, sum_as, sum_less, sum_passing, by_index}
+use Rattle.zr_reckon.proofs.Counting.{count_as, count_more, sum_less, sum_passing, by_index}
 
 -- ---- sets with the same units
 

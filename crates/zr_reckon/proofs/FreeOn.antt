@@ -1,8 +1,7 @@
 -- A free while all devices are in service.
-use Rattle.std.proofs.Common.{◌≡◌, ◌≢◌, ◌⊎◌, inl, inr, ℕ, zero, suc, ◌+◌, ◌-◌, ◌*◌, ◌<◌, ◌≤◌, Bool, true, false, not, ◌&&◌, ◌||◌, ◌==◌, nat_le, nat_lt, List, [], ◌∷◌, length, map, refl, ◌∙◌, sym, ap, ap₂, arith, if◌then◌else◌, ⊎_elim, Option, Some, None}
+use Rattle.std.proofs.Common.{◌≡◌, inl, inr, ℕ, zero, suc, ◌+◌, ◌*◌, ◌<◌, ◌≤◌, Bool, true, false, List, [], ◌∷◌, length, map, refl, ◌∙◌, sym, ap, arith, if◌then◌else◌, Option, Some}
 use Rattle.std.specs.List.{sum_by, range_with_len, list_any}
 use Rattle.std.proofs.lemmas.Bool.Decides.{nat_tests}
-use Rattle.zr_base.specs.declared.space.Extent.{Extent}
 use Rattle.zr_base.specs.declared.space.Dva.{Dva}
 use Rattle.zr_base.specs.declared.space.DevPart.{DevPart}
 use Rattle.zr_base.specs.declared.space.DevState.{DevState}
@@ -13,7 +12,7 @@ use Rattle.zr_rules.specs.Devices.{Devices, state_at}
 use Rattle.zr_rules.specs.Resolve.{is_there, is_at, resolve, resolved, passed, passed_units, pass_hits, passes, leads_to}
 use Rattle.zr_rules.specs.Roles.{Role, freed, kept_of, is_held_role, is_kept_role}
 use Rattle.zr_rules.specs.Roles.Role.{Absent, Free, FreshLive, Live, Kept, DeferredBlock}
-use Rattle.zr_rules.specs.Space.{Space, opened_of, has_place, role_at, frontier, IsLawful}
+use Rattle.zr_rules.specs.Space.{Space, opened_of, has_place, role_at, IsLawful}
 use Rattle.zr_rules.specs.Equation.{devices_in}
 use Rattle.zr_rules.specs.Columns.{device_words, sizes}
 use Rattle.zr_rules.specs.Frees.{Frees, keeps, is_copy_of, copy_from, freed_role, marks}

@@ -1,7 +1,7 @@
 -- A free, piece by piece, and the counts behind it.
-use Rattle.std.proofs.Common.{◌≡◌, ◌≢◌, ◌⊎◌, inl, inr, ℕ, zero, suc, ◌+◌, ◌-◌, ◌*◌, ◌<◌, ◌≤◌, Bool, true, false, not, ◌&&◌, ◌||◌, ◌==◌, nat_le, nat_lt, max, min, List, [], ◌∷◌, ◌++◌, length, map, refl, ◌∙◌, sym, ap, ap₂, arith, if◌then◌else◌, ⊎_elim}
+use Rattle.std.proofs.Common.{◌≡◌, inl, inr, ℕ, suc, ◌+◌, ◌-◌, ◌*◌, ◌≤◌, Bool, true, false, not, ◌&&◌, ◌||◌, ◌==◌, max, min, List, [], ◌∷◌, ◌++◌, length, refl, ◌∙◌, sym, ap, ap₂, arith, if◌then◌else◌, ⊎_elim}
 use Rattle.std.specs.Prelude.{filter}
-use Rattle.std.specs.List.{All, sum_by, range_with_len, flat_map}
+use Rattle.std.specs.List.{All, sum_by, range_with_len}
 use Rattle.std.proofs.lemmas.Bool.{cases_eq}
 use Rattle.std.proofs.lemmas.Bool.Decides.{nat_tests}
 use Rattle.std.proofs.lemmas.List.{length-append, length-map}
@@ -9,33 +9,32 @@ use Rattle.std.proofs.lemmas.List.Elements.{All-head, All-tail}
 use Rattle.std.proofs.lemmas.List.Sums.{sum_by-cons}
 use Rattle.zr_base.specs.declared.space.Extent.{Extent}
 use Rattle.zr_base.specs.declared.space.Dva.{Dva}
-use Rattle.zr_base.specs.declared.space.Entry.{Entry}
 use Rattle.zr_base.specs.declared.space.DevRow.{DevRow}
 use Rattle.zr_base.specs.Extents.{has_unit}
 use Rattle.zr_rules.specs.Owed.{set_words}
-use Rattle.zr_rules.specs.Places.{in_address, is_leaving, is_fresh, part_of, state_of_dev}
+use Rattle.zr_rules.specs.Places.{in_address, is_leaving, part_of, state_of_dev}
 use Rattle.zr_rules.specs.Mappings.{end_of_last}
 use Rattle.zr_rules.specs.Resolve.{is_there, leads_to, passes}
 use Rattle.zr_rules.specs.Roles.{Role, freed, kept_of, is_live_role, is_copy_role, is_held_role, is_kept_role}
-use Rattle.zr_rules.specs.Roles.Role.{Absent, FreshLive, Live, FreshCopy, Copy}
+use Rattle.zr_rules.specs.Roles.Role.{FreshLive, Live, FreshCopy, Copy}
 use Rattle.zr_rules.specs.Space.{Space, opened_of, has_place, role_at, frontier, IsLawful}
 use Rattle.zr_rules.specs.Equation.{devices_in}
 use Rattle.zr_rules.specs.Columns.{device_words, units_from, late_meta_units, late1_meta, late2_meta, on_parts, on_devices, units_on, sizes}
-use Rattle.zr_rules.specs.Frees.{Frees, in_any, keeps, is_copy_of, freed_role, marks}
+use Rattle.zr_rules.specs.Frees.{Frees, in_any, keeps, is_copy_of, freed_role}
 use Rattle.zr_rules.specs.Steps.{touch}
 use Rattle.zr_reckon.specs.Uses.{is_room_role, room, AllAre, IsWhole}
-use Rattle.zr_reckon.specs.Pieces.{ends_of, copies_at, copies_of, IsWholeCopy, IsFreeable}
+use Rattle.zr_reckon.specs.Pieces.{ends_of, copies_of, IsWholeCopy, IsFreeable}
 use Rattle.zr_reckon.proofs.Bits.{is_deferred_block}
 use Rattle.zr_reckon.proofs.RoleSets.{held_is, kept_is, deferred_is}
 use Rattle.zr_reckon.proofs.MoreSets.{all_come, all_go, has_append}
 use Rattle.zr_reckon.proofs.Counting.{sum_grows, sum_less}
 use Rattle.zr_reckon.proofs.Frames.{words_move, kept_same, room_grows, sized, streams_same, gone_same, sum_same, on_sum_same, on_same}
 use Rattle.zr_reckon.proofs.Placed.{beyond}
-use Rattle.zr_reckon.proofs.FreedKinds.{is_old_live, is_new_live, is_old_copy, live_held, copy_held, freed_live_held, freed_copy_held, kept_live_held, freed_kept, kept_live_kept, live_not_kept, freed_live_deferred, live_not_deferred, kept_live_deferred, freed_copy_deferred, copy_not_deferred, live_split, live_no_copy, freed_room, kept_room, freed_from_held, kept_from_held}
+use Rattle.zr_reckon.proofs.FreedKinds.{is_old_live, is_new_live, is_old_copy, live_held, freed_live_held, freed_copy_held, kept_live_held, freed_kept, kept_live_kept, live_not_kept, freed_live_deferred, live_not_deferred, kept_live_deferred, freed_copy_deferred, copy_not_deferred, live_split, live_no_copy, freed_room, kept_room, freed_from_held, kept_from_held}
 use Rattle.zr_reckon.proofs.Leads.{ways, leads_into, into_leads, passes_into, into_passes}
 use Rattle.zr_reckon.proofs.Copies.{copy_into, into_copy}
 use Rattle.zr_reckon.proofs.Discarded.{left_less}
-use Rattle.zr_reckon.proofs.Runs.{on_dev, has_on, on_count, sum_on, AreShort, AreShortExtents, short_set, short_on, short_both, short_ends, short_ways, short_copies, pieces_most, cut_at, has_cut, short_cut}
+use Rattle.zr_reckon.proofs.Runs.{on_dev, has_on, on_count, sum_on, AreShort, short_set, short_on, short_both, short_ends, short_ways, short_copies, pieces_most, cut_at, has_cut, short_cut}
 
 -- ---- runs by the role of their units
 
@@ -391,14 +390,14 @@ module _ (old new : Space) (a : Dva) (birth : ℕ) (f : Frees old new a birth) w
             let below = cut_at (frontier old d) (on_dev d blocks) in
             let w = all_come v (part_of old.parts.devs d).fresh (part_of new.parts.devs d).fresh (on_dev d passed ++ below) (l.sets d).fresh.maximal (n.sets d).fresh.maximal
             (λ u.
-              let g = f.fresh d u in
-              let x = has_append (on_dev d passed) below u in
-              let y = has_on passed d u in
-              let z = has_cut (frontier old d) u (on_dev d blocks) in
-              let b = has_on blocks d u in
-              let p = passes_is d u in
-              let q = leads_is d u in
-              grind (arith, g, x, y, z, b, p, q, is)) in
+            let g = f.fresh d u in
+            let x = has_append (on_dev d passed) below u in
+            let y = has_on passed d u in
+            let z = has_cut (frontier old d) u (on_dev d blocks) in
+            let b = has_on blocks d u in
+            let p = passes_is d u in
+            let q = leads_is d u in
+            grind (arith, g, x, y, z, b, p, q, is)) in
             let few = short_set v (on_dev d passed ++ below) (short_both (on_dev d passed) below (short_on passed d short_passed) (short_cut (frontier old d) (on_dev d blocks) (short_on blocks d short_blocks))) in
             let k = length-append (on_dev d passed) below in
             let c = length-map (on_dev d blocks) (λ (e : Extent). let r : Extent = record { start = e.start; len = min (e.start + e.len) (frontier old d) - e.start } in r) in
@@ -407,10 +406,10 @@ module _ (old new : Space) (a : Dva) (birth : ℕ) (f : Frees old new a birth) w
             let v = old.parts.version in
             let w = all_come v (part_of old.parts.devs d).fresh (part_of new.parts.devs d).fresh (on_dev d passed) (l.sets d).fresh.maximal (n.sets d).fresh.maximal
             (λ u.
-              let g = f.fresh d u in
-              let y = has_on passed d u in
-              let p = passes_is d u in
-              grind (arith, g, y, p, is)) in
+            let g = f.fresh d u in
+            let y = has_on passed d u in
+            let p = passes_is d u in
+            grind (arith, g, y, p, is)) in
             let few = short_set v (on_dev d passed) (short_on passed d short_passed) in
             omega (arith, w, few)
 
@@ -426,12 +425,12 @@ module _ (old new : Space) (a : Dva) (birth : ℕ) (f : Frees old new a birth) w
           let fresh = fresh_words d in
           let held = all_go v (part_of old.parts.devs d).held (part_of new.parts.devs d).held (on_dev d blocks ++ on_dev d copies) (l.sets d).held.maximal (n.sets d).held.maximal
           (λ u. held_bits _ _ _ _ _ (in_any blocks d u) (in_any copies d u) (held_is new d u n ∙ kind_freed is_held_role d u) (held_is old d u l) (has_here d u blocks copies)
-            (λ x. freed_live_held (role_at old d u) (live_is d u x)) (λ x. freed_copy_held (role_at old d u) (copy_is d u x))) in
+          (λ x. freed_live_held (role_at old d u) (live_is d u x)) (λ x. freed_copy_held (role_at old d u) (copy_is d u x))) in
           let deferred = all_come v (opened_of old d).deferred (opened_of new d).deferred (on_dev d old_blocks ++ on_dev d old_copies) (l.sets d).deferred.maximal (n.sets d).deferred.maximal
           (λ u. deferred_bits _ _ _ _ _ (in_any blocks d u) (in_any copies d u) (is_old_live (role_at old d u)) (is_old_copy (role_at old d u))
-            (deferred_is new d u n ∙ kind_freed is_deferred_block d u) (deferred_is old d u l) (has_here d u old_blocks old_copies ∙ ap₂ (λ (x y : Bool). x || y) (old_blocks_is d u) (old_copies_is d u))
-            (λ x. freed_live_deferred (role_at old d u) (live_is d u x)) (λ x. freed_copy_deferred (role_at old d u) (copy_is d u x))
-            (λ x. live_not_deferred (role_at old d u) (live_is d u x)) (λ x. copy_not_deferred (role_at old d u) (copy_is d u x)) (apart d u)) in
+          (deferred_is new d u n ∙ kind_freed is_deferred_block d u) (deferred_is old d u l) (has_here d u old_blocks old_copies ∙ ap₂ (λ (x y : Bool). x || y) (old_blocks_is d u) (old_copies_is d u))
+          (λ x. freed_live_deferred (role_at old d u) (live_is d u x)) (λ x. freed_copy_deferred (role_at old d u) (copy_is d u x))
+          (λ x. live_not_deferred (role_at old d u) (live_is d u x)) (λ x. copy_not_deferred (role_at old d u) (copy_is d u x)) (apart d u)) in
           let kept = ap (set_words v) (kept_same old new d d l n (λ u. kind_freed is_kept_role d u ∙ steady_bits (in_any blocks d u) (in_any copies d u) _ _ (freed_kept (role_at old d u)))) in
           let few = few_words d old_blocks old_copies (short_pass old is_old_live blocks short_blocks) (short_pass old is_old_copy copies short_copied) in
           let a1 = two_passes old is_old_live is_new_live d blocks old_not_new in
@@ -451,18 +450,18 @@ module _ (old new : Space) (a : Dva) (birth : ℕ) (f : Frees old new a birth) w
           let fresh = fresh_words d in
           let held = all_go v (part_of old.parts.devs d).held (part_of new.parts.devs d).held (on_dev d new_blocks ++ on_dev d copies) (l.sets d).held.maximal (n.sets d).held.maximal
           (λ u. kept_held_bits _ _ _ _ _ _ (in_any blocks d u) (in_any copies d u) (is_old_live (role_at old d u)) (is_new_live (role_at old d u))
-            (held_is new d u n ∙ kind_kept is_held_role d u) (held_is old d u l) (has_here d u new_blocks copies ∙ ap (λ (x : Bool). x || in_any copies d u) (new_blocks_is d u))
-            (λ x. kept_live_held (role_at old d u) (live_is d u x)) (λ x. live_split (role_at old d u) (live_is d u x)) (λ x. live_held (role_at old d u) (live_is d u x))
-            (λ x. freed_copy_held (role_at old d u) (copy_is d u x)) (apart d u)) in
+          (held_is new d u n ∙ kind_kept is_held_role d u) (held_is old d u l) (has_here d u new_blocks copies ∙ ap (λ (x : Bool). x || in_any copies d u) (new_blocks_is d u))
+          (λ x. kept_live_held (role_at old d u) (live_is d u x)) (λ x. live_split (role_at old d u) (live_is d u x)) (λ x. live_held (role_at old d u) (live_is d u x))
+          (λ x. freed_copy_held (role_at old d u) (copy_is d u x)) (apart d u)) in
           let kept = all_come v (part_of old.parts.devs d).kept (part_of new.parts.devs d).kept (on_dev d old_blocks) (l.sets d).kept.maximal (n.sets d).kept.maximal
           (λ u. kept_kept_bits _ _ _ _ _ _ (in_any blocks d u) (in_any copies d u) (is_old_live (role_at old d u))
-            (kept_is new d u n ∙ kind_kept is_kept_role d u) (kept_is old d u l) (has_on old_blocks d u ∙ old_blocks_is d u)
-            (λ x. kept_live_kept (role_at old d u) (live_is d u x)) (λ x. live_not_kept (role_at old d u) (live_is d u x)) (freed_kept (role_at old d u))) in
+          (kept_is new d u n ∙ kind_kept is_kept_role d u) (kept_is old d u l) (has_on old_blocks d u ∙ old_blocks_is d u)
+          (λ x. kept_live_kept (role_at old d u) (live_is d u x)) (λ x. live_not_kept (role_at old d u) (live_is d u x)) (freed_kept (role_at old d u))) in
           let deferred = all_come v (opened_of old d).deferred (opened_of new d).deferred (on_dev d old_copies) (l.sets d).deferred.maximal (n.sets d).deferred.maximal
           (λ u. kept_deferred_bits _ _ _ _ _ _ (in_any blocks d u) (in_any copies d u) (is_old_copy (role_at old d u))
-            (deferred_is new d u n ∙ kind_kept is_deferred_block d u) (deferred_is old d u l) (has_on old_copies d u ∙ old_copies_is d u)
-            (λ x. kept_live_deferred (role_at old d u) (live_is d u x)) (λ x. live_not_deferred (role_at old d u) (live_is d u x))
-            (λ x. freed_copy_deferred (role_at old d u) (copy_is d u x)) (λ x. copy_not_deferred (role_at old d u) (copy_is d u x)) (apart d u)) in
+          (deferred_is new d u n ∙ kind_kept is_deferred_block d u) (deferred_is old d u l) (has_on old_copies d u ∙ old_copies_is d u)
+          (λ x. kept_live_deferred (role_at old d u) (live_is d u x)) (λ x. live_not_deferred (role_at old d u) (live_is d u x))
+          (λ x. freed_copy_deferred (role_at old d u) (copy_is d u x)) (λ x. copy_not_deferred (role_at old d u) (copy_is d u x)) (apart d u)) in
           let few1 = short_set v (on_dev d old_blocks) (short_on old_blocks d (short_pass old is_old_live blocks short_blocks)) in
           let few2 = short_set v (on_dev d old_copies) (short_on old_copies d (short_pass old is_old_copy copies short_copied)) in
           let a1 = two_passes old is_old_live is_new_live d blocks old_not_new in

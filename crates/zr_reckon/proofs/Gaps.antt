@@ -1,6 +1,6 @@
 -- The units of an entry's copy that are not marked, as runs, and the words of a set from which they go.
-use Rattle.std.proofs.Common.{◌≡◌, ◌≢◌, ℕ, zero, suc, ◌+◌, ◌-◌, ◌*◌, ◌<◌, ◌≤◌, ◌^◌, Bool, true, false, not, ◌&&◌, ◌||◌, ◌==◌, nat_le, nat_lt, min, List, [], ◌∷◌, length, map, refl, ◌∙◌, sym, ap, arith, if◌then◌else◌, ⊎_elim}
-use Rattle.std.specs.List.{sum_by, range_with_len, list_any, count_by}
+use Rattle.std.proofs.Common.{◌≡◌, ℕ, ◌+◌, ◌-◌, ◌<◌, ◌≤◌, Bool, true, false, not, ◌&&◌, ◌||◌, ◌==◌, nat_le, nat_lt, min, List, [], ◌∷◌, length, map, refl, arith, if◌then◌else◌, ⊎_elim}
+use Rattle.std.specs.List.{sum_by, list_any}
 use Rattle.std.proofs.lemmas.Bool.{cases_lt, cases_eq}
 use Rattle.std.proofs.lemmas.Bool.Decides.{nat_tests}
 use Rattle.std.proofs.lemmas.List.{length-map}
@@ -8,11 +8,11 @@ use Rattle.std.proofs.lemmas.List.Sums.{sum_by-cons}
 use Rattle.zr_base.specs.declared.space.Extent.{Extent}
 use Rattle.zr_base.specs.declared.space.Entry.{Entry}
 use Rattle.zr_base.specs.Extents.{in_extent, has_unit, IsMaximalFrom, IsMaximal}
-use Rattle.zr_base.proofs.ExtentSets.{has_unit-below, same_extents}
+use Rattle.zr_base.proofs.ExtentSets.{has_unit-below}
 use Rattle.zr_rules.specs.Owed.{set_words}
 use Rattle.zr_rules.specs.Places.{one_if}
-use Rattle.zr_rules.specs.Mappings.{IsRisingFrom, IsRising}
-use Rattle.zr_reckon.proofs.SetWords.{run_words, run_words-mono, run_words-short, words-cons, lowered, Parted, cut_front, part, cut_words, cut_words-two, some_words, extent_words-is}
+use Rattle.zr_rules.specs.Mappings.{IsRisingFrom}
+use Rattle.zr_reckon.proofs.SetWords.{run_words-mono, run_words-short, words-cons, lowered, Parted, cut_front, part, cut_words-two, some_words, extent_words-is}
 
 -- ---- a cut behind a unit that the set has not
 
@@ -25,49 +25,49 @@ part_next version low z e (x ∷ xs) m n before near hole =
     ⊎_elim
     (λ after. ⊎_elim
     (λ meets.
-      let from : z < x.start = ⊎_elim (λ lt. lt) (λ ge. absurd (grind (arith, nat_tests, hole, ge, before, meets))) (cases_lt z x.start) in
-      ⊎_elim
+    let from : z < x.start = ⊎_elim (λ lt. lt) (λ ge. absurd (grind (arith, nat_tests, hole, ge, before, meets))) (cases_lt z x.start) in
+    ⊎_elim
     (λ inside.
-      let y : Extent = record { start = x.start; len = e.start - x.start } in
-      let q : Extent = record { start = e.start + e.len; len = x.start + x.len - (e.start + e.len) } in
-      let a = words-cons version y (q ∷ xs) in
-      let b = words-cons version q xs in
-      let c = run_words-short version y.len (omega (arith, near, from)) in
-      let d = run_words-mono version x.len q.len (omega (arith, inside)) in
-      record {
-        all = y ∷ (q ∷ xs);
-        maximal = (x0, omega (arith, after), omega (arith, meets, x2), (omega (arith, n, after), omega (arith, inside), omega (arith, inside, x2), lowered _ (x.start + x.len + 1) xs (omega (arith, inside)) m.3));
-        members = λ u. let below = has_unit-below (x.start + x.len + 1) u xs m.3 in grind (arith, nat_tests, below, inside, after, meets);
-        words = omega (arith, a, b, c, d, there);
-      })
+    let y : Extent = record { start = x.start; len = e.start - x.start } in
+    let q : Extent = record { start = e.start + e.len; len = x.start + x.len - (e.start + e.len) } in
+    let a = words-cons version y (q ∷ xs) in
+    let b = words-cons version q xs in
+    let c = run_words-short version y.len (omega (arith, near, from)) in
+    let d = run_words-mono version x.len q.len (omega (arith, inside)) in
+    record {
+      all = y ∷ (q ∷ xs);
+      maximal = (x0, omega (arith, after), omega (arith, meets, x2), (omega (arith, n, after), omega (arith, inside), omega (arith, inside, x2), lowered _ (x.start + x.len + 1) xs (omega (arith, inside)) m.3));
+      members = λ u. let below = has_unit-below (x.start + x.len + 1) u xs m.3 in grind (arith, nat_tests, below, inside, after, meets);
+      words = omega (arith, a, b, c, d, there);
+    })
     (λ past.
-      let y : Extent = record { start = x.start; len = e.start - x.start } in
-      let rest = cut_front version (x.start + x.len + 1) e xs m.3 (omega (arith, meets)) in
-      let r = rest.words in
-      let a = words-cons version y rest.all in
-      let less = run_words-mono version x.len y.len (omega (arith, meets)) in
-      record {
-        all = y ∷ rest.all;
-        maximal = (x0, omega (arith, after), omega (arith, meets, x2), lowered _ (x.start + x.len + 1) rest.all (omega (arith, meets, after)) rest.maximal);
-        members = λ u. let s = rest.members u in grind (arith, nat_tests, s, after, meets, past);
-        words = omega (arith, r, a, less, there);
-      })
+    let y : Extent = record { start = x.start; len = e.start - x.start } in
+    let rest = cut_front version (x.start + x.len + 1) e xs m.3 (omega (arith, meets)) in
+    let r = rest.words in
+    let a = words-cons version y rest.all in
+    let less = run_words-mono version x.len y.len (omega (arith, meets)) in
+    record {
+      all = y ∷ rest.all;
+      maximal = (x0, omega (arith, after), omega (arith, meets, x2), lowered _ (x.start + x.len + 1) rest.all (omega (arith, meets, after)) rest.maximal);
+      members = λ u. let s = rest.members u in grind (arith, nat_tests, s, after, meets, past);
+      words = omega (arith, r, a, less, there);
+    })
     (cases_lt (e.start + e.len) (x.start + x.len)))
     (λ ends.
-      let rest = part_next version (x.start + x.len + 1) z e xs m.3 n before near (grind (arith, hole)) in
-      let r = rest.words in
-      let a = words-cons version x rest.all in
-      record {
-        all = x ∷ rest.all;
-        maximal = (x0, x1, x2, rest.maximal);
-        members = λ u. let s = rest.members u in grind (arith, nat_tests, s, ends);
-        words = omega (arith, r, a, there);
-      })
+    let rest = part_next version (x.start + x.len + 1) z e xs m.3 n before near (grind (arith, hole)) in
+    let r = rest.words in
+    let a = words-cons version x rest.all in
+    record {
+      all = x ∷ rest.all;
+      maximal = (x0, x1, x2, rest.maximal);
+      members = λ u. let s = rest.members u in grind (arith, nat_tests, s, ends);
+      words = omega (arith, r, a, there);
+    })
     (cases_lt e.start (x.start + x.len)))
     (λ front.
-      let rest = cut_front version x.start e (x ∷ xs) (omega arith, x1, x2, m.3) front in
-      let r = rest.words in
-      record { all = rest.all; maximal = lowered low x.start rest.all x0 rest.maximal; members = rest.members; words = omega (arith, r) })
+    let rest = cut_front version x.start e (x ∷ xs) (omega arith, x1, x2, m.3) front in
+    let r = rest.words in
+    record { all = rest.all; maximal = lowered low x.start rest.all x0 rest.maximal; members = rest.members; words = omega (arith, r) })
     (cases_lt x.start e.start)
 
 -- ---- runs in order go
@@ -100,27 +100,27 @@ strip_next version z high es (g ∷ gs) m hole r near =
     let g0 = r.0 in let g1 = r.1 in
     ⊎_elim
     (λ some.
-      let p = part_next version 0 z g es m some (omega (arith, g0)) (omega (arith, g1, near)) hole in
-      let w = p.words in
-      let last = g.start + g.len - 1 in
-      let out = p.members last in
-      let rest = strip_next version last high p.all gs p.maximal (grind (arith, nat_tests, out, some)) (rises_lower (last + 1) (g.start + g.len) high gs (omega (arith, some)) r.2) (omega (arith, g0, near, some)) in
-      let v = rest.words in
-      record {
-        all = rest.all;
-        maximal = rest.maximal;
-        members = λ u. three (has_unit rest.all u) (has_unit p.all u) (has_unit es u) (in_extent g u) (has_unit gs u) (rest.members u) (p.members u);
-        words = omega (arith, v, w);
-      })
+    let p = part_next version 0 z g es m some (omega (arith, g0)) (omega (arith, g1, near)) hole in
+    let w = p.words in
+    let last = g.start + g.len - 1 in
+    let out = p.members last in
+    let rest = strip_next version last high p.all gs p.maximal (grind (arith, nat_tests, out, some)) (rises_lower (last + 1) (g.start + g.len) high gs (omega (arith, some)) r.2) (omega (arith, g0, near, some)) in
+    let v = rest.words in
+    record {
+      all = rest.all;
+      maximal = rest.maximal;
+      members = λ u. three (has_unit rest.all u) (has_unit p.all u) (has_unit es u) (in_extent g u) (has_unit gs u) (rest.members u) (p.members u);
+      words = omega (arith, v, w);
+    })
     (λ none.
-      let rest = strip_next version z high es gs m hole (rises_lower (z + 1) (g.start + g.len) high gs (omega (arith, g0)) r.2) near in
-      let v = rest.words in
-      record {
-        all = rest.all;
-        maximal = rest.maximal;
-        members = λ u. let s = rest.members u in grind (arith, nat_tests, s, none);
-        words = omega (arith, v);
-      })
+    let rest = strip_next version z high es gs m hole (rises_lower (z + 1) (g.start + g.len) high gs (omega (arith, g0)) r.2) near in
+    let v = rest.words in
+    record {
+      all = rest.all;
+      maximal = rest.maximal;
+      members = λ u. let s = rest.members u in grind (arith, nat_tests, s, none);
+      words = omega (arith, v);
+    })
     (cases_lt 0 g.len)
 
 -- the first cut may add two words, and each other one
@@ -130,28 +130,28 @@ strip version low high es (g ∷ gs) m r near =
     let g0 = r.0 in
     ⊎_elim
     (λ some.
-      let p = part version 0 g es m some in
-      let w = p.words in
-      let two = cut_words-two version in
-      let last = g.start + g.len - 1 in
-      let out = p.members last in
-      let rest = strip_next version last high p.all gs p.maximal (grind (arith, nat_tests, out, some)) (rises_lower (last + 1) (g.start + g.len) high gs (omega (arith, some)) r.2) (omega (arith, g0, near, some)) in
-      let v = rest.words in
-      record {
-        all = rest.all;
-        maximal = rest.maximal;
-        members = λ u. three (has_unit rest.all u) (has_unit p.all u) (has_unit es u) (in_extent g u) (has_unit gs u) (rest.members u) (p.members u);
-        words = omega (arith, v, w, two);
-      })
+    let p = part version 0 g es m some in
+    let w = p.words in
+    let two = cut_words-two version in
+    let last = g.start + g.len - 1 in
+    let out = p.members last in
+    let rest = strip_next version last high p.all gs p.maximal (grind (arith, nat_tests, out, some)) (rises_lower (last + 1) (g.start + g.len) high gs (omega (arith, some)) r.2) (omega (arith, g0, near, some)) in
+    let v = rest.words in
+    record {
+      all = rest.all;
+      maximal = rest.maximal;
+      members = λ u. three (has_unit rest.all u) (has_unit p.all u) (has_unit es u) (in_extent g u) (has_unit gs u) (rest.members u) (p.members u);
+      words = omega (arith, v, w, two);
+    })
     (λ none.
-      let rest = strip version low high es gs m (rises_lower low (g.start + g.len) high gs (omega (arith, g0)) r.2) near in
-      let v = rest.words in
-      record {
-        all = rest.all;
-        maximal = rest.maximal;
-        members = λ u. let s = rest.members u in grind (arith, nat_tests, s, none);
-        words = omega (arith, v);
-      })
+    let rest = strip version low high es gs m (rises_lower low (g.start + g.len) high gs (omega (arith, g0)) r.2) near in
+    let v = rest.words in
+    record {
+      all = rest.all;
+      maximal = rest.maximal;
+      members = λ u. let s = rest.members u in grind (arith, nat_tests, s, none);
+      words = omega (arith, v);
+    })
     (cases_lt 0 g.len)
 
 -- ---- the runs of an entry outside of a set
@@ -190,46 +190,46 @@ gaps_of low from to (f ∷ fs) m le =
     (λ beyond. ⊎_elim
     (λ starts. ⊎_elim
     (λ inside.
-      let next : ℕ = min (f.start + f.len) to in
-      let rest = gaps_of (f.start + f.len + 1) next to fs m.3 (omega arith) in
-      let r = rest.few in
-      let later = starts_later from next to fs (omega (arith, beyond, le)) in
-      let one : one_if (nat_lt from f.start && nat_lt f.start to) ≡ 1 = grind (arith, nat_tests, inside, starts) in
-      record {
-        all = gap from f.start ∷ rest.all;
-        rises = (omega arith, omega (arith, starts, inside), rises_lower (from + (f.start - from)) next to rest.all (omega (arith, inside, starts)) rest.rises);
-        members = λ v. let s = rest.members v in let below = has_unit-below (f.start + f.len + 1) v fs m.3 in grind (arith, nat_tests, s, below, inside, starts, beyond);
-        few = omega (arith, a, r, later, one);
-      })
+    let next : ℕ = min (f.start + f.len) to in
+    let rest = gaps_of (f.start + f.len + 1) next to fs m.3 (omega arith) in
+    let r = rest.few in
+    let later = starts_later from next to fs (omega (arith, beyond, le)) in
+    let one : one_if (nat_lt from f.start && nat_lt f.start to) ≡ 1 = grind (arith, nat_tests, inside, starts) in
+    record {
+      all = gap from f.start ∷ rest.all;
+      rises = (omega arith, omega (arith, starts, inside), rises_lower (from + (f.start - from)) next to rest.all (omega (arith, inside, starts)) rest.rises);
+      members = λ v. let s = rest.members v in let below = has_unit-below (f.start + f.len + 1) v fs m.3 in grind (arith, nat_tests, s, below, inside, starts, beyond);
+      few = omega (arith, a, r, later, one);
+    })
     (λ before.
-      let next : ℕ = min (f.start + f.len) to in
-      let rest = gaps_of (f.start + f.len + 1) next to fs m.3 (omega arith) in
-      let r = rest.few in
-      let later = starts_later from next to fs (omega (arith, beyond, le)) in
-      record {
-        all = rest.all;
-        rises = rises_lower from next to rest.all (omega (arith, beyond, le)) rest.rises;
-        members = λ v. let s = rest.members v in grind (arith, nat_tests, s, before, starts, beyond);
-        few = omega (arith, a, r, later);
-      })
+    let next : ℕ = min (f.start + f.len) to in
+    let rest = gaps_of (f.start + f.len + 1) next to fs m.3 (omega arith) in
+    let r = rest.few in
+    let later = starts_later from next to fs (omega (arith, beyond, le)) in
+    record {
+      all = rest.all;
+      rises = rises_lower from next to rest.all (omega (arith, beyond, le)) rest.rises;
+      members = λ v. let s = rest.members v in grind (arith, nat_tests, s, before, starts, beyond);
+      few = omega (arith, a, r, later);
+    })
     (cases_lt from f.start))
     (λ past.
-      record {
-        all = gap from to ∷ [];
-        rises = (omega arith, omega (arith, le), tt);
-        members = λ v. let below = has_unit-below (f.start + f.len + 1) v fs m.3 in grind (arith, nat_tests, below, past, le);
-        few = omega arith;
-      })
+    record {
+      all = gap from to ∷ [];
+      rises = (omega arith, omega (arith, le), tt);
+      members = λ v. let below = has_unit-below (f.start + f.len + 1) v fs m.3 in grind (arith, nat_tests, below, past, le);
+      few = omega arith;
+    })
     (cases_lt f.start to))
     (λ ended.
-      let rest = gaps_of (f.start + f.len + 1) from to fs m.3 le in
-      let r = rest.few in
-      record {
-        all = rest.all;
-        rises = rest.rises;
-        members = λ v. let s = rest.members v in grind (arith, nat_tests, s, ended);
-        few = omega (arith, a, r);
-      })
+    let rest = gaps_of (f.start + f.len + 1) from to fs m.3 le in
+    let r = rest.few in
+    record {
+      all = rest.all;
+      rises = rest.rises;
+      members = λ v. let s = rest.members v in grind (arith, nat_tests, s, ended);
+      few = omega (arith, a, r);
+    })
     (cases_lt from (f.start + f.len))
 
 -- ---- the unmarked part of an entry's copy
@@ -269,22 +269,22 @@ entry_words_on e fresh x = if x.dev == e then 2 + starts_in x.src (x.src + x.len
 give_one : (version e : ℕ) (fresh es : List Extent) (x : Entry) → IsMaximal fresh → IsMaximal es → x.len ≤ 256 → Given version (entry_words_on e fresh x) e fresh es (λ u. is_put_by e fresh u x)
 give_one version e fresh es x f m short = ⊎_elim
     (λ here.
-      let g = gaps_of 0 x.src (x.src + x.len) fresh f (omega arith) in
-      let rise = moved_rise x x.src (x.src + x.len) g.all (omega arith) (omega arith) g.rises in
-      let s = strip version (x.dst + (x.src - x.src)) (x.dst + (x.src + x.len - x.src)) es (moved x g.all) m rise (omega (arith, short)) in
-      let w = s.words in
-      let few = g.few in
-      let k = length-map g.all (λ (y : Extent). let q : Extent = record { start = x.dst + (y.start - x.src); len = y.len } in q) in
-      record {
-        all = s.all;
-        maximal = s.maximal;
-        members = λ u.
+    let g = gaps_of 0 x.src (x.src + x.len) fresh f (omega arith) in
+    let rise = moved_rise x x.src (x.src + x.len) g.all (omega arith) (omega arith) g.rises in
+    let s = strip version (x.dst + (x.src - x.src)) (x.dst + (x.src + x.len - x.src)) es (moved x g.all) m rise (omega (arith, short)) in
+    let w = s.words in
+    let few = g.few in
+    let k = length-map g.all (λ (y : Extent). let q : Extent = record { start = x.dst + (y.start - x.src); len = y.len } in q) in
+    record {
+      all = s.all;
+      maximal = s.maximal;
+      members = λ u.
           let a = s.members u in
           let b = moved_unit x u (x.src + x.len) g.all x.src (omega arith) g.rises in
           let c = g.members (x.src + (u - x.dst)) in
           given_bits u (has_unit s.all u) (has_unit es u) (has_unit (moved x g.all) u) (has_unit g.all (x.src + (u - x.dst))) (has_unit fresh (x.src + (u - x.dst))) here a b c;
-        words = let one : entry_words_on e fresh x ≡ 2 + starts_in x.src (x.src + x.len) fresh = grind (arith, nat_tests, here) in omega (arith, w, few, k, one);
-      })
+      words = let one : entry_words_on e fresh x ≡ 2 + starts_in x.src (x.src + x.len) fresh = grind (arith, nat_tests, here) in omega (arith, w, few, k, one);
+    })
     (λ away. record { all = es; maximal = m; members = λ u. grind (arith, nat_tests, away); words = omega arith })
     (cases_eq x.dev e)
   where
@@ -325,13 +325,13 @@ starts_once at low (x ∷ xs) r =
     let s = sum_by-cons (λ (y : Entry). one_if (nat_lt y.src at && nat_lt at (y.src + y.len))) x xs in
     ⊎_elim
     (λ within.
-      let none = starts_below at (x.src + x.len) xs r.2 within in
-      let one : one_if (nat_lt x.src at && nat_lt at (x.src + x.len)) ≤ 1 = grind (arith, nat_tests) in
-      omega (arith, s, none, one))
+    let none = starts_below at (x.src + x.len) xs r.2 within in
+    let one : one_if (nat_lt x.src at && nat_lt at (x.src + x.len)) ≤ 1 = grind (arith, nat_tests) in
+    omega (arith, s, none, one))
     (λ past.
-      let rest = starts_once at (x.src + x.len) xs r.2 in
-      let none : one_if (nat_lt x.src at && nat_lt at (x.src + x.len)) ≡ 0 = grind (arith, nat_tests, past) in
-      omega (arith, s, rest, none))
+    let rest = starts_once at (x.src + x.len) xs r.2 in
+    let none : one_if (nat_lt x.src at && nat_lt at (x.src + x.len)) ≡ 0 = grind (arith, nat_tests, past) in
+    omega (arith, s, rest, none))
     (cases_lt at (x.src + x.len))
 
 starts_split : (f : Extent) (fs : List Extent) (xs : List Entry) → sum_by (λ (x : Entry). starts_in x.src (x.src + x.len) (f ∷ fs)) xs ≡ sum_by (λ (x : Entry). one_if (nat_lt x.src f.start && nat_lt f.start (x.src + x.len))) xs + sum_by (λ (x : Entry). starts_in x.src (x.src + x.len) fs) xs

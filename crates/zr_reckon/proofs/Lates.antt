@@ -1,18 +1,13 @@
 -- Late sets by roles, and the words of a device from those of its sets.
-use Rattle.std.proofs.Common.{◌≡◌, ℕ, ◌+◌, ◌*◌, ◌<◌, ◌≤◌, Bool, true, false, not, ◌&&◌, ◌||◌, nat_lt, max, List, [], ◌∷◌, length, refl, ◌∙◌, sym, ap, ap₂, arith, if◌then◌else◌}
-use Rattle.std.specs.Prelude.{filter, map}
-use Rattle.std.specs.List.{sum_by, range_with_len}
+use Rattle.std.proofs.Common.{◌≡◌, ℕ, ◌+◌, ◌*◌, ◌≤◌, Bool, true, false, ◌||◌, max, List, [], ◌∷◌, length, refl, ◌∙◌, sym, ap, ap₂, arith}
+use Rattle.std.specs.List.{sum_by}
 use Rattle.std.proofs.lemmas.Bool.Decides.{nat_tests}
-use Rattle.zr_base.specs.declared.space.Extent.{Extent}
 use Rattle.zr_base.specs.declared.space.Dva.{Dva}
-use Rattle.zr_base.specs.declared.space.Entry.{Entry}
 use Rattle.zr_base.specs.declared.space.LateRun.{LateRun}
-use Rattle.zr_base.specs.declared.space.DevPart.{DevPart}
-use Rattle.zr_base.specs.declared.space.DevRow.{DevRow}
-use Rattle.zr_base.specs.Extents.{in_extent, has_unit, IsMaximal}
+use Rattle.zr_base.specs.Extents.{in_extent, has_unit}
 use Rattle.zr_base.proofs.ExtentSets.{same_extents}
 use Rattle.zr_rules.specs.Owed.{set_words}
-use Rattle.zr_rules.specs.Places.{one_if, part_of, units_of_dev}
+use Rattle.zr_rules.specs.Places.{part_of, units_of_dev}
 use Rattle.zr_rules.specs.Space.{Space, opened_of, has_late, role_at, IsLawful}
 use Rattle.zr_rules.specs.Columns.{role_count, late_blocks, late_meta_units, late1_meta, late2_meta, on_parts, on_devices, units_on, device_words, sizes}
 use Rattle.zr_reckon.specs.Uses.{HasLateSets}
@@ -57,7 +52,7 @@ module _ (old new : Space) (l : IsLawful old) (m : IsLawful new) (h : HasLateSet
 
 -- the counts of metadata, where no unit's role changes that is metadata of a late set
 module _ (old new : Space) (l : IsLawful old) (m : IsLawful new) (count : length new.parts.devs ≡ length old.parts.devs) (rows : (d : ℕ) → (part_of new.parts.devs d).row ≡ (part_of old.parts.devs d).row) (meta : new.meta ≡ old.meta)
-  (first : (d u : ℕ) → is_late1_meta (role_at new d u) ≡ is_late1_meta (role_at old d u)) (second : (d u : ℕ) → is_late2_meta (role_at new d u) ≡ is_late2_meta (role_at old d u)) where
+    (first : (d u : ℕ) → is_late1_meta (role_at new d u) ≡ is_late1_meta (role_at old d u)) (second : (d u : ℕ) → is_late2_meta (role_at new d u) ≡ is_late2_meta (role_at old d u)) where
   first_same : (d : ℕ) → late_meta_units (part_of new.parts.devs d).late1 ≡ late_meta_units (part_of old.parts.devs d).late1
   first_same d = late1_count new d m ∙ (count_same old new count rows is_late1_meta d (first d) ∙ sym (late1_count old d l))
 

@@ -1,5 +1,5 @@
 -- Where an address leads, and what it passes, as runs.
-use Rattle.std.proofs.Common.{◌≡◌, ℕ, zero, suc, ◌+◌, ◌-◌, ◌<◌, ◌≤◌, max, min, Bool, true, false, ◌&&◌, ◌||◌, ◌==◌, nat_le, nat_lt, List, [], ◌∷◌, ◌++◌, length, map, refl, ◌∙◌, sym, ap, ap₂, arith, if◌then◌else◌, ⊎_elim, Option, Some, None}
+use Rattle.std.proofs.Common.{◌≡◌, ℕ, zero, suc, ◌+◌, ◌-◌, ◌<◌, ◌≤◌, Bool, true, false, ◌&&◌, ◌||◌, nat_lt, List, [], ◌∷◌, ◌++◌, map, refl, ◌∙◌, sym, ap, ap₂, arith, if◌then◌else◌, ⊎_elim, Option, Some, None}
 use Rattle.std.specs.Prelude.{filter}
 use Rattle.std.specs.Option.{option_and_then}
 use Rattle.std.specs.List.{sum_by, range_with_len, list_any, flat_map}
@@ -13,7 +13,7 @@ use Rattle.zr_base.specs.declared.space.Entry.{Entry}
 use Rattle.zr_rules.specs.Places.{Place, one_if, in_address, is_gone, is_place}
 use Rattle.zr_rules.specs.Devices.{Devices, state_at}
 use Rattle.zr_rules.specs.Mappings.{in_source, target, IsRisingFrom, IsRising}
-use Rattle.zr_rules.specs.Resolve.{is_there, is_at, resolve, resolved, passed, passed_units, leads_to, pass_hits, passes}
+use Rattle.zr_rules.specs.Resolve.{is_there, is_at, resolve, resolved, passed, passed_units, leads_to, passes}
 use Rattle.zr_rules.specs.Frees.{in_any}
 use Rattle.zr_rules.specs.Steps.{moved_part, meets}
 use Rattle.zr_reckon.specs.Pieces.{ends, ends_of}
@@ -289,11 +289,10 @@ module _ (ds : Devices) (dev d u : ℕ) where
       ⊎_elim
       (λ later. let r = hit_sum (s + 1) n v (omega (arith, later)) (omega (arith, to)) is in grind (arith, nat_tests, r, more))
       (λ here.
-        let same : v ≡ s = omega (arith, from, here) in
-        let h = some_hit d u (passed_units ds dev s) ∙ (ap (λ (k : ℕ). list_any (λ (q : Place). is_place q d u) (passed_units ds dev k)) (sym same) ∙ is) in
-        grind (arith, nat_tests, h, more))
+      let same : v ≡ s = omega (arith, from, here) in
+      let h = some_hit d u (passed_units ds dev s) ∙ (ap (λ (k : ℕ). list_any (λ (q : Place). is_place q d u) (passed_units ds dev k)) (sym same) ∙ is) in
+      grind (arith, nat_tests, h, more))
       (cases_lt s v)
-
 
 pub passes_into : (ds : Devices) (a : Dva) (d u : ℕ) → passes ds a d u ≡ true → in_any (ways ds.count ds a.dev a.start a.len) d u ≡ true
 passes_into ds a d u is =

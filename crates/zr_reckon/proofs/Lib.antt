@@ -1,4 +1,5 @@
 pub mod Added
+pub mod BaseWords
 pub mod Begun
 pub mod Bits
 pub mod Cancelled

@@ -1,14 +1,13 @@
 -- An allocation for metadata, and the counts behind it.
-use Rattle.std.proofs.Common.{◌≡◌, ◌≢◌, ℕ, ◌+◌, ◌*◌, ◌<◌, ◌≤◌, Bool, true, false, not, ◌&&◌, ◌||◌, ◌==◌, nat_le, nat_lt, max, List, length, refl, ◌∙◌, sym, ap, ap₂, arith, if◌then◌else◌, ⊎_elim}
+use Rattle.std.proofs.Common.{◌≡◌, ℕ, ◌+◌, ◌<◌, ◌≤◌, Bool, nat_lt, length, refl, ◌∙◌, ap, arith, ⊎_elim}
 use Rattle.std.specs.List.{sum_by, range_with_len}
 use Rattle.std.proofs.lemmas.Bool.{cases_eq}
 use Rattle.std.proofs.lemmas.Bool.Decides.{nat_tests}
-use Rattle.zr_base.specs.declared.space.Extent.{Extent}
 use Rattle.zr_base.specs.declared.space.Dva.{Dva}
 use Rattle.zr_base.specs.declared.space.Policy.{Policy}
 use Rattle.zr_rules.specs.Owed.{set_words}
-use Rattle.zr_rules.specs.Places.{one_if, count_below, in_address, address_hits, part_of, is_leaving, state_of_dev, units_of_dev}
-use Rattle.zr_rules.specs.Roles.{Role, is_held_role, is_kept_role, is_free_role}
+use Rattle.zr_rules.specs.Places.{count_below, address_hits, units_of_dev}
+use Rattle.zr_rules.specs.Roles.{Role, is_held_role, is_kept_role}
 use Rattle.zr_rules.specs.Roles.Role.{Free, Meta}
 use Rattle.zr_rules.specs.Space.{Space, role_at, IsLawful}
 use Rattle.zr_rules.specs.Columns.{free_units, device_words, units_on, sizes}
@@ -77,14 +76,14 @@ module _ (policy : Policy) (want : ℕ) (old new : Space) (at : Dva) (a : Alloca
       let z = ap (λ (i : ℕ). count_below i (λ u. nat_lt 0 (address_hits new.meta d u))) is in
       ⊎_elim
       (λ here.
-        let fit : 0 < at.len → at.start + at.len ≤ n = λ some. let f = fits_device old policy want at a.place some in let e : units_of_dev old.parts.devs d ≡ units_of_dev old.parts.devs at.dev = ap (units_of_dev old.parts.devs) here in omega (arith, f, e) in
-        let w = count_with n (λ u. nat_lt 0 (address_hits old.meta d u)) (λ u. nat_lt 0 (address_hits new.meta d u)) (extent_of at) fit
-        (λ u inside. meta_is old d u l ∙ ap is_current_meta (was_free_at old policy want at a.place d u (grind (arith, nat_tests, inside, here))))
-        (λ u lt. let m = a.meta d u in grind (arith, nat_tests, m, here)) in
-        grind (arith, nat_tests, x, y, z, w, here))
+      let fit : 0 < at.len → at.start + at.len ≤ n = λ some. let f = fits_device old policy want at a.place some in let e : units_of_dev old.parts.devs d ≡ units_of_dev old.parts.devs at.dev = ap (units_of_dev old.parts.devs) here in omega (arith, f, e) in
+      let w = count_with n (λ u. nat_lt 0 (address_hits old.meta d u)) (λ u. nat_lt 0 (address_hits new.meta d u)) (extent_of at) fit
+      (λ u inside. meta_is old d u l ∙ ap is_current_meta (was_free_at old policy want at a.place d u (grind (arith, nat_tests, inside, here))))
+      (λ u lt. let m = a.meta d u in grind (arith, nat_tests, m, here)) in
+      grind (arith, nat_tests, x, y, z, w, here))
       (λ away.
-        let w = count_as n (λ u. nat_lt 0 (address_hits new.meta d u)) (λ u. nat_lt 0 (address_hits old.meta d u)) (λ u lt. let m = a.meta d u in grind (arith, nat_tests, m, away)) in
-        grind (arith, nat_tests, x, y, z, w, away))
+      let w = count_as n (λ u. nat_lt 0 (address_hits new.meta d u)) (λ u. nat_lt 0 (address_hits old.meta d u)) (λ u lt. let m = a.meta d u in grind (arith, nat_tests, m, away)) in
+      grind (arith, nat_tests, x, y, z, w, away))
       (cases_eq d at.dev)
 
   pub meta_lens : sum_by (λ (x : Dva). x.len) new.meta ≡ sum_by (λ (x : Dva). x.len) old.meta + want

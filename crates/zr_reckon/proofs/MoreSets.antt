@@ -1,12 +1,12 @@
 -- The words of a set to which several extents come, or from which they go.
-use Rattle.std.proofs.Common.{◌≡◌, ℕ, zero, suc, ◌+◌, ◌-◌, ◌*◌, ◌<◌, ◌≤◌, ◌^◌, Bool, true, false, not, ◌&&◌, ◌||◌, nat_le, nat_lt, List, [], ◌∷◌, ◌++◌, length, refl, ap, ◌∙◌, sym, arith, ⊎_elim}
+use Rattle.std.proofs.Common.{◌≡◌, ℕ, ◌+◌, ◌-◌, ◌*◌, ◌≤◌, ◌^◌, Bool, true, false, not, ◌&&◌, ◌||◌, List, [], ◌∷◌, ◌++◌, length, refl, ◌∙◌, sym, arith, ⊎_elim}
 use Rattle.std.proofs.lemmas.Bool.{cases_lt}
 use Rattle.std.proofs.lemmas.Bool.Decides.{nat_tests}
 use Rattle.zr_base.specs.declared.space.Extent.{Extent}
 use Rattle.zr_base.specs.Extents.{in_extent, has_unit, IsMaximalFrom, IsMaximal}
 use Rattle.zr_base.proofs.ExtentSets.{same_extents, has_unit-below}
 use Rattle.zr_rules.specs.Owed.{set_words}
-use Rattle.zr_reckon.proofs.SetWords.{run_words, words-cons, has_unit-high, join, part, cut_words, cut_words-two, some_words, extent_words-is, lowered}
+use Rattle.zr_reckon.proofs.SetWords.{words-cons, has_unit-high, join, part, cut_words-two, some_words, extent_words-is, lowered}
 
 -- a list of the set with all of the extents
 record AllJoined (version : ℕ) (es xs : List Extent) : Type 0 where
@@ -27,22 +27,22 @@ join_all version es (x ∷ xs) m low =
     let there = words-cons version x xs in
     ⊎_elim
     (λ some.
-      let fits : x.start + x.len ≤ 2 ^ 62 = ⊎_elim (λ high. let h = low (x.start + x.len - 1) (omega (arith, high)) in absurd (grind (arith, nat_tests, h, some, high))) (λ le. le) (cases_lt (2 ^ 62) (x.start + x.len)) in
-      let j = join version 0 x rest.all rest.maximal (omega arith) some fits in
-      let w = j.words in
-      record {
-        all = j.all;
-        maximal = j.maximal;
-        members = λ u. let a = j.members u in let b = rest.members u in three (has_unit j.all u) (has_unit rest.all u) (has_unit es u) (in_extent x u) (has_unit xs u) a b;
-        words = omega (arith, r, w, there);
-      })
+    let fits : x.start + x.len ≤ 2 ^ 62 = ⊎_elim (λ high. let h = low (x.start + x.len - 1) (omega (arith, high)) in absurd (grind (arith, nat_tests, h, some, high))) (λ le. le) (cases_lt (2 ^ 62) (x.start + x.len)) in
+    let j = join version 0 x rest.all rest.maximal (omega arith) some fits in
+    let w = j.words in
+    record {
+      all = j.all;
+      maximal = j.maximal;
+      members = λ u. let a = j.members u in let b = rest.members u in three (has_unit j.all u) (has_unit rest.all u) (has_unit es u) (in_extent x u) (has_unit xs u) a b;
+      words = omega (arith, r, w, there);
+    })
     (λ none.
-      record {
-        all = rest.all;
-        maximal = rest.maximal;
-        members = λ u. let b = rest.members u in grind (arith, nat_tests, b, none);
-        words = omega (arith, r, there);
-      })
+    record {
+      all = rest.all;
+      maximal = rest.maximal;
+      members = λ u. let b = rest.members u in grind (arith, nat_tests, b, none);
+      words = omega (arith, r, there);
+    })
     (cases_lt 0 x.len)
   where
     three : (a r e x y : Bool) → a ≡ (r || x) → r ≡ (e || y) → a ≡ (e || (x || y))
@@ -66,22 +66,22 @@ part_all version es (x ∷ xs) m =
     let r = rest.words in
     ⊎_elim
     (λ some.
-      let p = part version 0 x rest.all rest.maximal some in
-      let w = p.words in
-      let two = cut_words-two version in
-      record {
-        all = p.all;
-        maximal = p.maximal;
-        members = λ u. let a = p.members u in let b = rest.members u in three (has_unit p.all u) (has_unit rest.all u) (has_unit es u) (in_extent x u) (has_unit xs u) a b;
-        words = omega (arith, r, w, two);
-      })
+    let p = part version 0 x rest.all rest.maximal some in
+    let w = p.words in
+    let two = cut_words-two version in
+    record {
+      all = p.all;
+      maximal = p.maximal;
+      members = λ u. let a = p.members u in let b = rest.members u in three (has_unit p.all u) (has_unit rest.all u) (has_unit es u) (in_extent x u) (has_unit xs u) a b;
+      words = omega (arith, r, w, two);
+    })
     (λ none.
-      record {
-        all = rest.all;
-        maximal = rest.maximal;
-        members = λ u. let b = rest.members u in grind (arith, nat_tests, b, none);
-        words = omega (arith, r);
-      })
+    record {
+      all = rest.all;
+      maximal = rest.maximal;
+      members = λ u. let b = rest.members u in grind (arith, nat_tests, b, none);
+      words = omega (arith, r);
+    })
     (cases_lt 0 x.len)
   where
     three : (a r e x y : Bool) → a ≡ (r && not x) → r ≡ (e && not y) → a ≡ (e && not (x || y))

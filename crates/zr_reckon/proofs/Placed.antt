@@ -1,6 +1,5 @@
 -- The units of an allocation, and the counts behind it.
-use Rattle.std.proofs.Common.{◌≡◌, ◌≢◌, ℕ, zero, suc, ◌+◌, ◌-◌, ◌*◌, ◌<◌, ◌≤◌, Bool, true, false, not, ◌&&◌, ◌||◌, ◌==◌, nat_le, nat_lt, List, [], ◌∷◌, length, refl, ◌∙◌, sym, ap, ap₂, subst, arith, if◌then◌else◌, ⊎_elim}
-use Rattle.std.specs.Prelude.{filter}
+use Rattle.std.proofs.Common.{◌≡◌, ◌≢◌, ℕ, ◌+◌, ◌-◌, ◌<◌, ◌≤◌, Bool, true, false, ◌&&◌, ◌||◌, List, length, refl, ◌∙◌, sym, ap, arith, if◌then◌else◌, ⊎_elim}
 use Rattle.std.specs.List.{sum_by, range_with_len}
 use Rattle.std.proofs.lemmas.Bool.{cases_lt, cases_eq}
 use Rattle.std.proofs.lemmas.Bool.Decides.{nat_tests}
@@ -9,22 +8,22 @@ use Rattle.zr_base.specs.declared.space.Dva.{Dva}
 use Rattle.zr_base.specs.declared.space.Policy.{Policy}
 use Rattle.zr_base.specs.declared.space.DevState.{DevState}
 use Rattle.zr_base.specs.declared.space.DevState.TheVariants.{On, Leaving, Gone}
-use Rattle.zr_base.specs.Extents.{extent_at, in_extent, has_unit, IsMaximal}
+use Rattle.zr_base.specs.Extents.{in_extent, has_unit}
 use Rattle.zr_base.proofs.ExtentSets.{has_unit-at}
-use Rattle.zr_rules.specs.Owed.{set_words, extent_words}
-use Rattle.zr_rules.specs.Places.{one_if, count_below, in_address, is_held, is_on, is_leaving, part_of, state_of_dev, units_of_dev}
-use Rattle.zr_rules.specs.Placement.{IsPlacement, Free as FreeUnits, in_metaslab}
+use Rattle.zr_rules.specs.Owed.{set_words}
+use Rattle.zr_rules.specs.Places.{count_below, in_address, is_on, is_leaving, part_of, state_of_dev, units_of_dev}
+use Rattle.zr_rules.specs.Placement.{IsPlacement, in_metaslab}
 use Rattle.zr_rules.specs.Roles.{Role, is_held_role, is_kept_role, is_free_role}
 use Rattle.zr_rules.specs.Roles.Role.{Absent, Free, FreshLive, Live, FreshCopy, Copy, Kept, DeferredBlock, DeferredMeta, Late1Block, Late1Meta, Late2Block, Late2Meta, Meta, SavedMeta}
-use Rattle.zr_rules.specs.Space.{Space, opened_of, has_place, role_at, IsLawful}
+use Rattle.zr_rules.specs.Space.{Space, has_place, role_at, IsLawful}
 use Rattle.zr_rules.specs.Columns.{role_count, free_of, on_devices, free_units, device_words, sizes}
-use Rattle.zr_rules.specs.Frees.{Allocates, AllocatesMeta, IsSameFrame, MarksNothing}
+use Rattle.zr_rules.specs.Frees.{Allocates, IsSameFrame}
 use Rattle.zr_reckon.specs.Sets.{IsWith}
 use Rattle.zr_reckon.proofs.Bits.{is_deferred_block}
 use Rattle.zr_reckon.proofs.RoleSets.{held_is}
 use Rattle.zr_reckon.proofs.SetWords.{more_words, short_words}
 use Rattle.zr_reckon.proofs.Counting.{count_as, count_with, sum_grows, sum_both, sum_passing, sum_at, sum_at_most, only_at}
-use Rattle.zr_reckon.proofs.Frames.{held_same, kept_same, deferred_same, fresh_same, words_move, moving_words, on_same, others_same}
+use Rattle.zr_reckon.proofs.Frames.{held_same, kept_same, deferred_same, fresh_same, words_move, on_same, others_same}
 
 pub free_is : (r : Role) → is_free_role r ≡ true → r ≡ Free
 free_is Free is = refl
@@ -79,9 +78,9 @@ module _ (s : Space) (policy : Policy) (want : ℕ) (at : Dva) (p : IsPlacement 
   pub is_short : at.len ≤ 32768
   is_short = ⊎_elim
       (λ some.
-        let a = in_run at.start (omega arith) (omega (arith, some)) in
-        let b = in_run (at.start + at.len - 1) (omega (arith, some)) (omega (arith, some)) in
-        grind (arith, nat_tests, a, b, some))
+      let a = in_run at.start (omega arith) (omega (arith, some)) in
+      let b = in_run (at.start + at.len - 1) (omega (arith, some)) (omega (arith, some)) in
+      grind (arith, nat_tests, a, b, some))
       (λ none. omega (arith, none))
       (cases_lt 0 at.len)
 
@@ -106,20 +105,20 @@ module _ (s : Space) (policy : Policy) (want : ℕ) (at : Dva) (p : IsPlacement 
       counts : (d : ℕ) → role_count s kind d ≡ role_count new kind d + only_at at.dev at.len d
       counts d = ⊎_elim
           (λ here.
-            let n = units_of_dev s.parts.devs d in
-            let u : units_of_dev new.parts.devs d ≡ n = ap (λ r. r.units) (rows d) in
-            let fit : 0 < at.len → at.start + at.len ≤ n = λ some. let x = fits_device some in let y : units_of_dev s.parts.devs d ≡ units_of_dev s.parts.devs at.dev = ap (units_of_dev s.parts.devs) here in omega (arith, x, y) in
-            let w = count_with n (λ u. kind (role_at new d u)) (λ u. kind (role_at s d u)) (extent_of at) fit
-            (λ u is. ap kind (roles d u) ∙ taken d u here is)
-            (λ u lt. left d u here) in
-            let m = ap (λ (k : ℕ). count_below k (λ u. kind (role_at new d u))) u in
-            grind (arith, nat_tests, w, m, here))
+          let n = units_of_dev s.parts.devs d in
+          let u : units_of_dev new.parts.devs d ≡ n = ap (λ r. r.units) (rows d) in
+          let fit : 0 < at.len → at.start + at.len ≤ n = λ some. let x = fits_device some in let y : units_of_dev s.parts.devs d ≡ units_of_dev s.parts.devs at.dev = ap (units_of_dev s.parts.devs) here in omega (arith, x, y) in
+          let w = count_with n (λ u. kind (role_at new d u)) (λ u. kind (role_at s d u)) (extent_of at) fit
+          (λ u is. ap kind (roles d u) ∙ taken d u here is)
+          (λ u lt. left d u here) in
+          let m = ap (λ (k : ℕ). count_below k (λ u. kind (role_at new d u))) u in
+          grind (arith, nat_tests, w, m, here))
           (λ away.
-            let n = units_of_dev s.parts.devs d in
-            let u : units_of_dev new.parts.devs d ≡ n = ap (λ r. r.units) (rows d) in
-            let w = count_as n (λ u. kind (role_at new d u)) (λ u. kind (role_at s d u)) (λ u lt. ap kind (roles d u) ∙ stays d u away) in
-            let m = ap (λ (k : ℕ). count_below k (λ u. kind (role_at new d u))) u in
-            grind (arith, nat_tests, w, m, away))
+          let n = units_of_dev s.parts.devs d in
+          let u : units_of_dev new.parts.devs d ≡ n = ap (λ r. r.units) (rows d) in
+          let w = count_as n (λ u. kind (role_at new d u)) (λ u. kind (role_at s d u)) (λ u lt. ap kind (roles d u) ∙ stays d u away) in
+          let m = ap (λ (k : ℕ). count_below k (λ u. kind (role_at new d u))) u in
+          grind (arith, nat_tests, w, m, away))
           (cases_eq d at.dev)
         where
           taken : (d u : ℕ) → d ≡ at.dev → in_extent (extent_of at) u ≡ true → kind (if in_address at d u then role else role_at s d u) ≡ false
@@ -199,9 +198,9 @@ module _ (policy : Policy) (want : ℕ) (old new : Space) (at : Dva) (a : Alloca
   held_words : (d : ℕ) → set_words old.parts.version (part_of new.parts.devs d).held ≤ set_words old.parts.version (part_of old.parts.devs d).held + only_at at.dev 1 d
   held_words d = ⊎_elim
       (λ here.
-        let m = more_words old.parts.version _ _ (extent_of at) (held_here d here) in
-        let s = short_words old.parts.version (extent_of at) (is_short old policy want at a.place) in
-        grind (arith, nat_tests, m, s, here))
+      let m = more_words old.parts.version _ _ (extent_of at) (held_here d here) in
+      let s = short_words old.parts.version (extent_of at) (is_short old policy want at a.place) in
+      grind (arith, nat_tests, m, s, here))
       (λ away. let m = ap (set_words old.parts.version) (held_away d away) in grind (arith, nat_tests, m, away))
       (cases_eq d at.dev)
 

@@ -1,6 +1,6 @@
 -- What the maps of roles keep of a role's kind.
-use Rattle.std.proofs.Common.{◌≡◌, Bool, true, false, refl}
-use Rattle.zr_rules.specs.Roles.{Role, aged, cleared, taken_over, discarded, is_held_role, is_kept_role, is_free_role}
+use Rattle.std.proofs.Common.{◌≡◌, true, false, refl}
+use Rattle.zr_rules.specs.Roles.{Role, aged, cleared, taken_over, is_held_role, is_kept_role, is_free_role}
 use Rattle.zr_rules.specs.Roles.Role.{Absent, Free, FreshLive, Live, FreshCopy, Copy, Kept, DeferredBlock, DeferredMeta, Late1Block, Late1Meta, Late2Block, Late2Meta, Meta, SavedMeta}
 use Rattle.zr_reckon.specs.Uses.{is_room_role, is_dropped_role}
 use Rattle.zr_reckon.proofs.Bits.{is_deferred_block, is_late1_block, is_late2_block, is_late1_meta, is_late2_meta}

@@ -1,18 +1,13 @@
 -- The sets of a device, by the roles of its units.
-use Rattle.std.proofs.Common.{◌≡◌, ℕ, zero, suc, ◌+◌, ◌-◌, ◌<◌, ◌≤◌, Bool, true, false, not, ◌&&◌, ◌||◌, ◌==◌, nat_le, nat_lt, List, [], ◌∷◌, length, refl, ap, ◌∙◌, sym, arith, ⊎_elim, if◌then◌else◌}
-use Rattle.std.specs.List.{sum_by}
+use Rattle.std.proofs.Common.{◌≡◌, ℕ, ◌+◌, ◌<◌, ◌≤◌, Bool, true, false, not, ◌&&◌, ◌||◌, nat_lt, List, [], ◌∷◌, ap, ◌∙◌, sym, arith, if◌then◌else◌}
 use Rattle.std.proofs.lemmas.Bool.Decides.{nat_tests}
 use Rattle.std.proofs.lemmas.List.Sums.{sum_by-cons}
 use Rattle.zr_base.specs.declared.space.LateRun.{LateRun}
-use Rattle.zr_base.specs.declared.space.DevPart.{DevPart}
-use Rattle.zr_base.specs.declared.space.Entry.{Entry}
-use Rattle.zr_base.specs.Extents.{in_extent, has_unit, IsMaximal}
-use Rattle.zr_base.proofs.ExtentSets.{same_extents}
+use Rattle.zr_base.specs.Extents.{in_extent, has_unit}
 use Rattle.zr_rules.specs.Places.{one_if, part_of, is_held, is_kept, hits_late, address_hits}
-use Rattle.zr_rules.specs.Roles.{Role, is_held_role, is_kept_role, is_free_role}
-use Rattle.zr_rules.specs.Roles.Role.{Absent, Free, FreshLive, Live, FreshCopy, Copy, Kept, DeferredBlock, DeferredMeta, Late1Block, Late1Meta, Late2Block, Late2Meta, Meta, SavedMeta}
-use Rattle.zr_rules.specs.Space.{Space, opened_of, is_born, copy_hits, has_late, has_place, role_at, set_hits, IsLawful}
-use Rattle.zr_reckon.proofs.Bits.{Bits, IsOnce, bits, role_of, role_is, is_deferred_block, is_late1_block, is_late2_block, is_late1_meta, is_late2_meta, is_current_meta, held_bit, kept_bit, deferred_bit, late1_bit, late2_bit, meta_bit, late1_meta_bit, late2_meta_bit}
+use Rattle.zr_rules.specs.Roles.{is_held_role, is_kept_role}
+use Rattle.zr_rules.specs.Space.{Space, opened_of, has_late, has_place, role_at, set_hits, IsLawful}
+use Rattle.zr_reckon.proofs.Bits.{IsOnce, bits, role_is, is_deferred_block, is_late1_block, is_late2_block, is_late1_meta, is_late2_meta, is_current_meta, held_bit, kept_bit, deferred_bit, late1_bit, late2_bit, meta_bit, late1_meta_bit, late2_meta_bit}
 
 some_hits : (n : ℕ) → one_if (nat_lt 0 n) ≤ n
 some_hits n = grind (arith, nat_tests)
@@ -32,12 +27,12 @@ pub once : (s : Space) (d u : ℕ) → IsLawful s → IsOnce (bits s d u)
 unfolding bits
 once s d u l = record {
   once =
-    let o = l.once d u in
-    let a = late_hits_most (part_of s.parts.devs d).late1 u in
-    let b = late_hits_most (part_of s.parts.devs d).late2 u in
-    let m = some_hits (address_hits s.meta d u) in
-    let v = some_hits (address_hits s.saved_meta d u) in
-    omega (arith, o, a, b, m, v);
+      let o = l.once d u in
+      let a = late_hits_most (part_of s.parts.devs d).late1 u in
+      let b = late_hits_most (part_of s.parts.devs d).late2 u in
+      let m = some_hits (address_hits s.meta d u) in
+      let v = some_hits (address_hits s.saved_meta d u) in
+      omega (arith, o, a, b, m, v);
   kept = let c = l.copies d u in omega (arith, c);
 }
 

@@ -1,5 +1,5 @@
 -- The free units and the metadata that comes back, by roles.
-use Rattle.std.proofs.Common.{◌≡◌, ◌≢◌, ℕ, zero, suc, ◌+◌, ◌-◌, ◌*◌, ◌<◌, ◌≤◌, Bool, true, false, not, ◌&&◌, ◌||◌, ◌==◌, nat_le, nat_lt, List, [], ◌∷◌, length, refl, ◌∙◌, sym, ap, ap₂, arith, if◌then◌else◌, ⊎_elim}
+use Rattle.std.proofs.Common.{◌≡◌, ℕ, ◌+◌, ◌-◌, ◌<◌, ◌≤◌, Bool, true, false, ◌==◌, nat_lt, List, [], ◌∷◌, length, refl, ◌∙◌, sym, arith, if◌then◌else◌, ⊎_elim}
 use Rattle.std.specs.List.{sum_by, range_with_len}
 use Rattle.std.proofs.lemmas.Bool.{cases_lt, cases_eq}
 use Rattle.std.proofs.lemmas.Bool.Decides.{nat_tests}
@@ -12,12 +12,12 @@ use Rattle.zr_base.specs.Extents.{in_extent}
 use Rattle.zr_rules.specs.Places.{one_if, count_below, in_address, address_hits, hits_late, part_of, is_on, state_of_dev, units_of_dev}
 use Rattle.zr_rules.specs.Roles.{Role, is_free_role}
 use Rattle.zr_rules.specs.Roles.Role.{Free, Meta, Late1Meta, Late2Meta}
-use Rattle.zr_rules.specs.Space.{Space, has_late, has_place, role_at, set_hits, IsLawful}
-use Rattle.zr_rules.specs.Columns.{role_count, on_devices, on_parts, units_on, late_meta_units, late1_meta, late2_meta, free_units, sizes}
+use Rattle.zr_rules.specs.Space.{Space, has_late, role_at, set_hits, IsLawful}
+use Rattle.zr_rules.specs.Columns.{role_count, on_devices, on_parts, units_on, late_meta_units, free_units, sizes}
 use Rattle.zr_reckon.specs.Uses.{is_room_role, room}
 use Rattle.zr_reckon.proofs.Bits.{is_current_meta, is_late1_meta, is_late2_meta}
 use Rattle.zr_reckon.proofs.RoleSets.{late_hits_most, meta_is, late1_meta_is, late2_meta_is}
-use Rattle.zr_reckon.proofs.Counting.{count_as, count_with, count_none, count_four, count_more, sum_as, sum_both, sum_grows, sum_passing, sum_zero, sum_at, sum_at_most, only_at, by_index}
+use Rattle.zr_reckon.proofs.Counting.{count_as, count_with, count_none, count_four, sum_both, sum_passing, sum_zero, sum_at, sum_at_most, only_at, by_index}
 
 abbrev address_extent : Dva → Extent
 address_extent a = record { start = a.start; len = a.len }
@@ -30,14 +30,14 @@ units_counted (a ∷ list) d n le =
     let sum = sum_by-cons (λ (x : Dva). if x.dev == d then x.len else 0) a list in
     ⊎_elim
     (λ here.
-      let w = count_with n (λ u. nat_lt 0 (address_hits list d u)) (λ u. nat_lt 0 (address_hits (a ∷ list) d u)) (address_extent a)
-      (λ some. let b = le (a.start + a.len - 1) in let m = more (a.start + a.len - 1) in grind (arith, nat_tests, b, m, here, some))
-      (λ u is. let b = le u in let m = more u in grind (arith, nat_tests, b, m, here, is))
-      (λ u lt. let m = more u in grind (arith, nat_tests, m, here)) in
-      grind (arith, nat_tests, w, rest, sum, here))
+    let w = count_with n (λ u. nat_lt 0 (address_hits list d u)) (λ u. nat_lt 0 (address_hits (a ∷ list) d u)) (address_extent a)
+    (λ some. let b = le (a.start + a.len - 1) in let m = more (a.start + a.len - 1) in grind (arith, nat_tests, b, m, here, some))
+    (λ u is. let b = le u in let m = more u in grind (arith, nat_tests, b, m, here, is))
+    (λ u lt. let m = more u in grind (arith, nat_tests, m, here)) in
+    grind (arith, nat_tests, w, rest, sum, here))
     (λ away.
-      let w = count_as n (λ u. nat_lt 0 (address_hits (a ∷ list) d u)) (λ u. nat_lt 0 (address_hits list d u)) (λ u lt. let m = more u in grind (arith, nat_tests, m, away)) in
-      grind (arith, nat_tests, w, rest, sum, away))
+    let w = count_as n (λ u. nat_lt 0 (address_hits (a ∷ list) d u)) (λ u. nat_lt 0 (address_hits list d u)) (λ u lt. let m = more u in grind (arith, nat_tests, m, away)) in
+    grind (arith, nat_tests, w, rest, sum, away))
     (cases_eq a.dev d)
   where
     more : (u : ℕ) → address_hits (a ∷ list) d u ≡ one_if (in_address a d u) + address_hits list d u
@@ -120,12 +120,12 @@ lens_counted (a ∷ list) n known =
     let both = sum_both (units_on (a ∷ list)) (units_on list) (only_at a.dev a.len) (range_with_len 0 n) (λ d. let m = sum_by-cons (λ (x : Dva). if x.dev == d then x.len else 0) a list in grind (arith, nat_tests, m)) in
     ⊎_elim
     (λ some.
-      let lt = known a.dev a.start (let m = more a.dev a.start in grind (arith, nat_tests, m, some)) in
-      let one = sum_at a.dev a.len n lt in
-      omega (arith, rest, sum, both, one))
+    let lt = known a.dev a.start (let m = more a.dev a.start in grind (arith, nat_tests, m, some)) in
+    let one = sum_at a.dev a.len n lt in
+    omega (arith, rest, sum, both, one))
     (λ none.
-      let one = sum_at_most a.dev a.len n in
-      omega (arith, rest, sum, both, one, none))
+    let one = sum_at_most a.dev a.len n in
+    omega (arith, rest, sum, both, one, none))
     (cases_lt 0 a.len)
   where
     more : (d u : ℕ) → address_hits (a ∷ list) d u ≡ one_if (in_address a d u) + address_hits list d u

@@ -1,7 +1,7 @@
 -- Runs of units of several devices, by device.
-use Rattle.std.proofs.Common.{◌≡◌, ℕ, zero, suc, ◌+◌, ◌-◌, ◌*◌, ◌<◌, ◌≤◌, max, min, Bool, true, false, not, ◌&&◌, ◌||◌, ◌==◌, nat_le, nat_lt, List, [], ◌∷◌, ◌++◌, length, map, refl, ◌∙◌, sym, ap, ap₂, arith, if◌then◌else◌, ⊎_elim}
+use Rattle.std.proofs.Common.{◌≡◌, ℕ, zero, suc, ◌+◌, ◌-◌, ◌≤◌, min, Bool, true, false, ◌&&◌, ◌==◌, nat_lt, List, [], ◌∷◌, ◌++◌, length, map, refl, arith, if◌then◌else◌, ⊎_elim}
 use Rattle.std.specs.Prelude.{filter, count_by}
-use Rattle.std.specs.List.{sum_by, range_with_len, flat_map, list_any}
+use Rattle.std.specs.List.{sum_by, range_with_len, flat_map}
 use Rattle.std.proofs.lemmas.Bool.{cases_eq}
 use Rattle.std.proofs.lemmas.Bool.Decides.{nat_tests}
 use Rattle.std.proofs.lemmas.List.{length-append, length-map}
@@ -9,15 +9,15 @@ use Rattle.std.proofs.lemmas.List.Sums.{sum_by-cons, length-filter}
 use Rattle.zr_base.specs.declared.space.Extent.{Extent}
 use Rattle.zr_base.specs.declared.space.Dva.{Dva}
 use Rattle.zr_base.specs.declared.space.Entry.{Entry}
-use Rattle.zr_base.specs.Extents.{in_extent, has_unit}
+use Rattle.zr_base.specs.Extents.{has_unit}
 use Rattle.zr_rules.specs.Owed.{set_words}
-use Rattle.zr_rules.specs.Places.{in_address, is_gone, is_leaving}
+use Rattle.zr_rules.specs.Places.{is_gone, is_leaving}
 use Rattle.zr_rules.specs.Devices.{Devices, state_at}
 use Rattle.zr_rules.specs.Frees.{in_any}
 use Rattle.zr_rules.specs.Steps.{moved_part, meets, pieces}
-use Rattle.zr_reckon.specs.Pieces.{ends, ends_of, copies_at, copies_of}
-use Rattle.zr_reckon.proofs.Counting.{sum_grows, sum_both, sum_zero, sum_at_most, only_at}
-use Rattle.zr_reckon.proofs.Leads.{parts_of, ways, any_append}
+use Rattle.zr_reckon.specs.Pieces.{ends, copies_at}
+use Rattle.zr_reckon.proofs.Counting.{sum_both, sum_zero, sum_at_most, only_at}
+use Rattle.zr_reckon.proofs.Leads.{parts_of, ways}
 use Rattle.zr_reckon.proofs.SetWords.{words-cons, short_words, extent_words-is}
 use Rattle.zr_reckon.proofs.Turned.{extent_of}
 

@@ -1,12 +1,12 @@
 -- The words of a set to which the units of an extent come, or from which they go.
-use Rattle.std.proofs.Common.{◌≡◌, ℕ, zero, suc, ◌+◌, ◌-◌, ◌*◌, ◌<◌, ◌≤◌, ◌^◌, Bool, true, false, not, ◌&&◌, ◌||◌, ◌==◌, nat_le, nat_lt, List, [], ◌∷◌, length, get_or, max, min, refl, ap, ◌∙◌, sym, subst, arith, ⊎_elim, if◌then◌else◌}
+use Rattle.std.proofs.Common.{◌≡◌, ℕ, zero, suc, ◌+◌, ◌-◌, ◌*◌, ◌<◌, ◌≤◌, ◌^◌, false, not, ◌&&◌, ◌||◌, ◌==◌, nat_le, List, [], ◌∷◌, length, max, min, refl, ◌∙◌, sym, arith, ⊎_elim, if◌then◌else◌}
 use Rattle.std.proofs.lemmas.Bool.{cases_lt, cases_eq}
 use Rattle.std.specs.Int.{div_ceil}
 use Rattle.std.proofs.lemmas.Grind.{div_ceil_times}
 use Rattle.std.proofs.lemmas.Bool.Decides.{nat_tests}
 use Rattle.std.proofs.lemmas.List.Sums.{sum_by-cons}
 use Rattle.zr_base.specs.declared.space.Extent.{Extent}
-use Rattle.zr_base.specs.Extents.{extent_at, in_extent, has_unit, unit_count, IsMaximalFrom, IsMaximal}
+use Rattle.zr_base.specs.Extents.{extent_at, in_extent, has_unit, unit_count, IsMaximalFrom}
 use Rattle.zr_base.proofs.ExtentSets.{has_unit-below, same_extents}
 use Rattle.zr_rules.specs.Owed.{set_words, extent_words}
 use Rattle.zr_reckon.specs.Sets.{IsWith, IsWithout}

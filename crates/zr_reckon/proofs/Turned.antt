@@ -1,12 +1,12 @@
 -- The units of one address turn from one role to another.
-use Rattle.std.proofs.Common.{◌≡◌, ◌≢◌, ℕ, ◌+◌, ◌*◌, ◌<◌, ◌≤◌, Bool, true, false, not, ◌&&◌, ◌||◌, ◌==◌, nat_le, nat_lt, List, refl, ◌∙◌, sym, ap, arith, if◌then◌else◌, ⊎_elim}
+use Rattle.std.proofs.Common.{◌≡◌, ◌≢◌, ℕ, ◌+◌, ◌≤◌, Bool, true, false, not, ◌&&◌, ◌||◌, List, refl, ◌∙◌, sym, ap, arith, if◌then◌else◌, ⊎_elim}
 use Rattle.std.proofs.lemmas.Bool.{cases_eq}
 use Rattle.std.proofs.lemmas.Bool.Decides.{nat_tests}
 use Rattle.zr_base.specs.declared.space.Extent.{Extent}
 use Rattle.zr_base.specs.declared.space.Dva.{Dva}
-use Rattle.zr_base.specs.Extents.{in_extent, has_unit, IsMaximal}
+use Rattle.zr_base.specs.Extents.{has_unit, IsMaximal}
 use Rattle.zr_base.proofs.ExtentSets.{same_extents}
-use Rattle.zr_rules.specs.Owed.{set_words, extent_words}
+use Rattle.zr_rules.specs.Owed.{set_words}
 use Rattle.zr_rules.specs.Places.{in_address, part_of}
 use Rattle.zr_rules.specs.Roles.{Role, is_held_role, is_kept_role}
 use Rattle.zr_rules.specs.Space.{Space, opened_of, role_at, IsLawful}
@@ -23,27 +23,27 @@ extent_of a = record { start = a.start; len = a.len }
 pub words_with : (v d : ℕ) (es fs : List Extent) (a : Dva) → IsMaximal es → IsMaximal fs → a.len ≤ 32768 → ((u : ℕ) → has_unit fs u ≡ (has_unit es u || in_address a d u)) → set_words v fs ≤ set_words v es + only_at a.dev 1 d
 words_with v d es fs a m n short same = ⊎_elim
     (λ here.
-      let w : IsWith es fs (extent_of a) = record { old_maximal = m; new_maximal = n; members = λ u. let s = same u in grind (arith, nat_tests, s, here) } in
-      let more = more_words v es fs (extent_of a) w in
-      let one = short_words v (extent_of a) short in
-      grind (arith, nat_tests, more, one, here))
+    let w : IsWith es fs (extent_of a) = record { old_maximal = m; new_maximal = n; members = λ u. let s = same u in grind (arith, nat_tests, s, here) } in
+    let more = more_words v es fs (extent_of a) w in
+    let one = short_words v (extent_of a) short in
+    grind (arith, nat_tests, more, one, here))
     (λ away.
-      let e = same_extents 0 0 fs es n m (λ u. let s = same u in grind (arith, nat_tests, s, away)) in
-      let w = ap (set_words v) e in
-      grind (arith, nat_tests, w, away))
+    let e = same_extents 0 0 fs es n m (λ u. let s = same u in grind (arith, nat_tests, s, away)) in
+    let w = ap (set_words v) e in
+    grind (arith, nat_tests, w, away))
     (cases_eq d a.dev)
 
 -- .. or from which they go
 pub words_without : (v d : ℕ) (es fs : List Extent) (a : Dva) → IsMaximal es → IsMaximal fs → ((u : ℕ) → has_unit fs u ≡ (has_unit es u && not (in_address a d u))) → set_words v fs ≤ set_words v es + only_at a.dev 2 d
 words_without v d es fs a m n same = ⊎_elim
     (λ here.
-      let w : IsWithout es fs (extent_of a) = record { old_maximal = m; new_maximal = n; members = λ u. let s = same u in grind (arith, nat_tests, s, here) } in
-      let less = less_words v es fs (extent_of a) w in
-      grind (arith, nat_tests, less, here))
+    let w : IsWithout es fs (extent_of a) = record { old_maximal = m; new_maximal = n; members = λ u. let s = same u in grind (arith, nat_tests, s, here) } in
+    let less = less_words v es fs (extent_of a) w in
+    grind (arith, nat_tests, less, here))
     (λ away.
-      let e = same_extents 0 0 fs es n m (λ u. let s = same u in grind (arith, nat_tests, s, away)) in
-      let w = ap (set_words v) e in
-      grind (arith, nat_tests, w, away))
+    let e = same_extents 0 0 fs es n m (λ u. let s = same u in grind (arith, nat_tests, s, away)) in
+    let w = ap (set_words v) e in
+    grind (arith, nat_tests, w, away))
     (cases_eq d a.dev)
 
 pub record Turns (old new : Space) (a : Dva) (before after : Role) : Type 0 where

@@ -1,5 +1,6 @@
 //! What the end of a group does to the counts.
 ghost use Rattle.std.specs.Prelude.{◌≡◌, ℕ, ◌+◌, ◌≤◌, Bool, false, true, sum_by};
+ghost use Rattle.zr_reckon.specs.Base.{base_words};
 ghost use Rattle.zr_reckon.specs.Uses.{room, dropped_units, freed_words, second_late_words, HasLateSets};
 ghost use Rattle.zr_rules.specs.Columns.{late1_meta, late2_meta, sizes};
 ghost use Rattle.zr_rules.specs.Space.{Space, IsLawful};
@@ -29,4 +30,10 @@ pub fn a_checkpoint_takes_the_metadata_from_the_room()
     ensures past { (old new : Space) (txg blocks objects : ℕ) → HoldsCheckpoint old new txg → (sizes new blocks objects).past ≤ (sizes old blocks objects).past }
     ensures others { (old new : Space) (txg blocks objects : ℕ) → HoldsCheckpoint old new txg → IsLawful old
         → sizes new blocks objects ≡ record (sizes old blocks objects) { turning = (sizes new blocks objects).turning; past = (sizes new blocks objects).past } }
+{}
+
+/// The words are those that a reset keeps and those of what was freed, and behind a reset they are the first.
+pub fn a_reset_keeps_the_base_words()
+    ensures split { (s : Space) (blocks objects : ℕ) → (sizes s blocks objects).words ≡ base_words s + freed_words s }
+    ensures reset { (old new : Space) (blocks objects : ℕ) → Commits true old new → IsLawful old → HasLateSets new → (sizes new blocks objects).words ≡ base_words old }
 {}

@@ -1,4 +1,4 @@
-use Rattle.zr_reckon.proofs.RoomUnits.{room_is, lens_counted}
+use Rattle.zr_reckon.proofs.RoomUnits.{room_is}
 use Rattle.zr_reckon.proofs.rooms.the_room_counts_roles.Goals as goal
 
 pub returns : goal.returns
