@@ -1,0 +1,11 @@
+use Rattle.zr_reckon.proofs.Placed.{allocation_words, allocation_frees, allocation_others}
+use Rattle.zr_reckon.proofs.allocations.an_allocation_adds_a_word.Goals as goal
+
+pub returns-clause-words : goal.returns-clause-words
+returns-clause-words c = λ policy want old new at blocks objects a l. allocation_words policy want old new at a l blocks objects
+
+pub returns-clause-free : goal.returns-clause-free
+returns-clause-free c = allocation_frees
+
+pub returns-clause-others : goal.returns-clause-others
+returns-clause-others c = λ policy want old new at blocks objects a l. allocation_others policy want old new at a l blocks objects

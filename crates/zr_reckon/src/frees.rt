@@ -1,0 +1,32 @@
+//! What a free of a block does to the counts.
+ghost use Rattle.std.specs.Prelude.{◌≡◌, ℕ, ◌+◌, ◌*◌, ◌≤◌};
+ghost use Rattle.zr_base.specs.declared.space.Dva.{Dva};
+ghost use Rattle.zr_reckon.specs.Pieces.{IsFreeable};
+ghost use Rattle.zr_reckon.specs.Uses.{room, AreInService, IsWhole};
+ghost use Rattle.zr_rules.specs.Columns.{sizes};
+ghost use Rattle.zr_rules.specs.Equation.{devices_in};
+ghost use Rattle.zr_rules.specs.Frees.{Frees};
+ghost use Rattle.zr_rules.specs.Space.{Space, IsLawful};
+ghost use Rattle.zr_rules.specs.Steps.{touch};
+
+/// While all devices are in service, a free adds three words at most: two where it cuts what is held, one where it adds to
+/// what is deferred; or three for what is kept. Units come to the room, or none, and all other counts stay.
+pub fn a_free_in_service_adds_three_words()
+    ensures words { (old new : Space) (a : Dva) (birth blocks objects : ℕ) → Frees old new a birth → IsLawful old → AreInService old → IsWhole old a → a.len ≤ 32768
+        → (sizes new blocks objects).words ≤ (sizes old blocks objects).words + 3 }
+    ensures room { (old new : Space) (a : Dva) (birth : ℕ) → Frees old new a birth → IsLawful old → AreInService old → IsWhole old a → room old ≤ room new }
+    ensures others { (old new : Space) (a : Dva) (birth blocks objects : ℕ) → Frees old new a birth → IsLawful old → AreInService old
+        → sizes new blocks objects ≡ record (sizes old blocks objects) { words = (sizes new blocks objects).words } }
+{}
+
+/// A free adds four words at most for each piece that it touches: for a piece on a device that is leaving two where it cuts
+/// what is held, one where it adds to what is deferred, and one for its marks. Units come to the room, or none.
+pub fn a_free_adds_four_words_a_piece()
+    ensures words { (old new : Space) (a : Dva) (birth blocks objects : ℕ) → Frees old new a birth → IsLawful old → IsFreeable old a → a.len ≤ 32768
+        → (sizes new blocks objects).words ≤ (sizes old blocks objects).words + 4 * touch (devices_in old) a }
+    ensures uncopied { (old new : Space) (a : Dva) (birth blocks objects : ℕ) → Frees old new a birth → IsLawful old
+        → (sizes new blocks objects).uncopied ≤ (sizes old blocks objects).uncopied }
+    ensures room { (old new : Space) (a : Dva) (birth : ℕ) → Frees old new a birth → room old ≤ room new }
+    ensures others { (old new : Space) (a : Dva) (birth blocks objects : ℕ) → Frees old new a birth
+        → sizes new blocks objects ≡ record (sizes old blocks objects) { words = (sizes new blocks objects).words; uncopied = (sizes new blocks objects).uncopied } }
+{}
