@@ -1,4 +1,5 @@
 pub mod Raised
 pub mod Openings
 pub mod Paths
+pub mod Devices
 pub mod Desk

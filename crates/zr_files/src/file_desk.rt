@@ -8,8 +8,9 @@
 //! No contract can say what a file holds. What one can say is how much was moved: so beside the faults the desk counts
 //! the bytes that the calls of the system answered, and the calls that take or make durable. A call of the desk that
 //! answers Ok has raised its count by all that it was asked for, and a body that asks the system for less is not
-//! proved. A read or write also tests that the system began where it was asked to. Nothing else reads these counts. All
-//! counts stand still at the end of `u64`.
+//! proved. Each device has counts of its own, which stand beside its file and are raised where that is used: so a read,
+//! write or flush of another device's file is not proved either. A read or write also tests that the system began where it
+//! was asked to, and keeps that place. Nothing else reads these counts. All counts stand still at the end of `u64`.
 //!
 //! Nor can a contract say which file the system opened, or how. So one function alone asks the system to open a path, one
 //! to give a file its size, and each answers what it asked for with what it got. The clauses lead from there up to
@@ -20,6 +21,7 @@ ghost use Rattle.zr_shelf.specs.declared.desk.DeskErr.TheVariants.{Failed};
 ghost use Rattle.zr_files.specs.Raised.{raised, CountsFault, CountsMissing};
 ghost use Rattle.zr_files.specs.Openings.{options_for, IsThereOrMade};
 ghost use Rattle.zr_files.specs.Paths.{folder_of};
+ghost use Rattle.zr_files.specs.Devices.{AreSameFiles, no_traffic, is_synced};
 
 use std::alloc::Global;
 use std::fs::{self, File, OpenFile, OpenOptions};
@@ -38,14 +40,25 @@ pub enum Opening {
     Folder,
 }
 
-/// An open device file: its bytes when it was attached, the path that it was opened by and how, and the size in bytes that
-/// a new one was to have, if the call had one.
+/// What was moved of one device: bytes read of it and written to it, where the last read or write began, and how often it
+/// was made durable.
+#[derive(Clone, Copy)]
+struct Traffic {
+    read: u64,
+    written: u64,
+    began: u64,
+    synced: u64,
+}
+
+/// An open device file: its bytes when it was attached, the path that it was opened by and how, the size in bytes that a
+/// new one was to have, if the call had one, and what was moved of it.
 #[derive(Drop)]
 pub struct DeviceFile {
     pub size: u64,
     path: Vec<u8>,
     opening: Opening,
     make: Option<u64>,
+    traffic: Traffic,
     file: File,
 }
 
@@ -72,12 +85,10 @@ struct Found<'p> {
     make: Option<u64>,
 }
 
-/// How much was moved: bytes read of and written to devices, files made durable, files that the system was asked to open
-/// and did not have, bytes of the input and the calls that answered them, and bytes sent.
+/// How much was moved beside the traffic of the devices: new files and their folders made durable, files that the system
+/// was asked to open and did not have, bytes of the input and the calls that answered them, and bytes sent.
 #[derive(Clone, Copy)]
 struct Moved {
-    read: u64,
-    written: u64,
     synced: u64,
     missing: u64,
     taken: u64,
@@ -106,15 +117,13 @@ impl FileDesk {
     pub fn new(rt: HostRuntime) -> FileDesk
         ensures none { result.devices.items ≡ [] }
         ensures faults { faults_of result ≡ record { disk = 0; attach = 0; input = 0; output = 0 } }
-        ensures moved { result.moved ≡ record { read = 0; written = 0; synced = 0; missing = 0; taken = 0; takes = 0; given = 0 } }
+        ensures moved { result.moved ≡ record { synced = 0; missing = 0; taken = 0; takes = 0; given = 0 } }
     {
         let alloc: Global = rt.alloc();
         FileDesk {
             rt,
             devices: Vec::new(alloc),
             moved: Moved {
-                read: 0,
-                written: 0,
                 synced: 0,
                 missing: 0,
                 taken: 0,
@@ -235,15 +244,48 @@ fn sync_file(file: &File, synced: &mut u64, faults: &mut u64) -> Result<(), Desk
     Ok(())
 }
 
-/// Makes every file durable, and counts the files.
-fn sync_each(devices: &[DeviceFile], synced: &mut u64, faults: &mut u64) -> Result<(), DeskErr>
-    ensures moved { OnOk result (synced.new ≡ raised synced.old (length devices.now)) }
+impl DeviceFile {
+    ghost use Rattle.zr_files.specs.Devices.{IsSameFile, has_read, has_written, is_synced};
+
+    /// Reads of this file, and counts it.
+    fn read(&mut self, at: u64, out: &mut [u8], faults: &mut u64) -> Result<(), DeskErr>
+        ensures moved { OnOk result (self.new.traffic ≡ has_read self.old.traffic at (length out.old)) }
+        ensures same { IsSameFile self.old self.new }
+        ensures faults { CountsFault result faults.old faults.new }
+    {
+        self.traffic.began = read_at(&mut self.file, at, out, &mut self.traffic.read, faults)?;
+        Ok(())
+    }
+
+    /// Writes to this file, and counts it.
+    fn write(&mut self, at: u64, bytes: &[u8], faults: &mut u64) -> Result<(), DeskErr>
+        ensures moved { OnOk result (self.new.traffic ≡ has_written self.old.traffic at (length bytes.now)) }
+        ensures same { IsSameFile self.old self.new }
+        ensures faults { CountsFault result faults.old faults.new }
+    {
+        let written = &mut self.traffic.written;
+        self.traffic.began = write_at(&mut self.file, at, bytes, written, faults)?;
+        Ok(())
+    }
+
+    /// Makes this file durable, and counts it.
+    fn sync(&mut self, faults: &mut u64) -> Result<(), DeskErr>
+        ensures moved { OnOk result (self.new.traffic ≡ is_synced self.old.traffic) }
+        ensures same { IsSameFile self.old self.new }
+        ensures faults { CountsFault result faults.old faults.new }
+    {
+        sync_file(&self.file, &mut self.traffic.synced, faults)
+    }
+}
+
+/// Makes every file durable, and counts that of each.
+fn sync_each(devices: &mut [DeviceFile], faults: &mut u64) -> Result<(), DeskErr>
+    ensures moved { OnOk result (map (λ f. f.traffic) devices.new ≡ map is_synced (map (λ f. f.traffic) devices.old)) }
+    ensures same { AreSameFiles devices.old devices.new }
     ensures faults { CountsFault result faults.old faults.new }
 {
-    // A count that was read is known to be one of 64 bits.
-    let _before = *synced;
-    for device in devices {
-        sync_file(&device.file, synced, faults)?;
+    for device in devices.iter_mut() {
+        device.sync(faults)?;
     }
     Ok(())
 }
@@ -429,12 +471,19 @@ fn device_of(found: Found<'_>, path: Vec<u8>) -> DeviceFile
     ensures opening { result.opening ≡ found.entry.opened.opening }
     ensures make { result.make ≡ found.entry.make }
     ensures size { result.size ≡ found.entry.size }
+    ensures traffic { result.traffic ≡ no_traffic }
 {
     DeviceFile {
         size: found.size,
         path,
         opening: found.opened.opening,
         make: found.make,
+        traffic: Traffic {
+            read: 0,
+            written: 0,
+            began: 0,
+            synced: 0,
+        },
         file: found.opened.file,
     }
 }
@@ -444,7 +493,8 @@ impl Shelf for FileDesk {
     ghost use Rattle.zr_base.specs.Counts.{HasRisen};
     ghost use Rattle.zr_shelf.specs.Counts.{Counts, NoneFell};
     ghost use Rattle.zr_shelf.specs.declared.desk.DeskErr.TheVariants.{NoMemory};
-    ghost use Rattle.zr_files.specs.Desk.{sizes_of, faults_of};
+    ghost use Rattle.zr_files.specs.Devices.{ChangesOne, has_read, has_written};
+    ghost use Rattle.zr_files.specs.Desk.{sizes_of, faults_of, traffic_of};
 
     ghost sizes = { sizes_of };
 
@@ -473,16 +523,11 @@ impl Shelf for FileDesk {
         ensures none_fell { NoneFell (faults_of self.old) (faults_of self.new) }
         ensures failed { IsErrOf result Failed → HasRisen (faults_of self.old).disk (faults_of self.new).disk }
         ensures memory { IsErrOf result NoMemory → ⊥ }
-        ensures moved { OnOk result (self.new.moved.read ≡ raised self.old.moved.read (length out.old)) }
+        // Just this device was read of, from there on.
+        ensures moved { OnOk result (ChangesOne (λ traffic. has_read traffic at (length out.old)) slot (traffic_of self.old) (traffic_of self.new)) }
+        ensures same { AreSameFiles self.old.devices.items self.new.devices.items }
     {
-        read_at(
-            &mut self.devices[slot as usize].file,
-            at,
-            out,
-            &mut self.moved.read,
-            &mut self.disk_faults,
-        )?;
-        Ok(())
+        self.devices[slot as usize].read(at, out, &mut self.disk_faults)
     }
 
     fn write(&mut self, slot: u32, at: u64, bytes: &[u8]) -> Result<(), DeskErr>
@@ -492,16 +537,11 @@ impl Shelf for FileDesk {
         ensures none_fell { NoneFell (faults_of self.old) (faults_of self.new) }
         ensures failed { IsErrOf result Failed → HasRisen (faults_of self.old).disk (faults_of self.new).disk }
         ensures memory { IsErrOf result NoMemory → ⊥ }
-        ensures moved { OnOk result (self.new.moved.written ≡ raised self.old.moved.written (length bytes.now)) }
+        // Just this device was written to, from there on.
+        ensures moved { OnOk result (ChangesOne (λ traffic. has_written traffic at (length bytes.now)) slot (traffic_of self.old) (traffic_of self.new)) }
+        ensures same { AreSameFiles self.old.devices.items self.new.devices.items }
     {
-        write_at(
-            &mut self.devices[slot as usize].file,
-            at,
-            bytes,
-            &mut self.moved.written,
-            &mut self.disk_faults,
-        )?;
-        Ok(())
+        self.devices[slot as usize].write(at, bytes, &mut self.disk_faults)
     }
 
     fn flush(&mut self) -> Result<(), DeskErr>
@@ -509,9 +549,11 @@ impl Shelf for FileDesk {
         ensures none_fell { NoneFell (faults_of self.old) (faults_of self.new) }
         ensures failed { IsErrOf result Failed → HasRisen (faults_of self.old).disk (faults_of self.new).disk }
         ensures memory { IsErrOf result NoMemory → ⊥ }
-        ensures moved { OnOk result (self.new.moved.synced ≡ raised self.old.moved.synced (length (sizes_of self.old))) }
+        // Each device was made durable.
+        ensures moved { OnOk result (traffic_of self.new ≡ map is_synced (traffic_of self.old)) }
+        ensures same { AreSameFiles self.old.devices.items self.new.devices.items }
     {
-        sync_each(&self.devices, &mut self.moved.synced, &mut self.disk_faults)
+        sync_each(&mut self.devices, &mut self.disk_faults)
     }
 }
 
@@ -520,7 +562,7 @@ impl Desk for FileDesk {
     ghost use Rattle.zr_base.specs.Counts.{HasRisen};
     ghost use Rattle.zr_shelf.specs.Counts.{NoneFell};
     ghost use Rattle.zr_shelf.specs.declared.desk.DeskErr.TheVariants.{NoMemory};
-    ghost use Rattle.zr_files.specs.Desk.{sizes_of, faults_of, paths_of, makes_of, openings_of};
+    ghost use Rattle.zr_files.specs.Desk.{sizes_of, faults_of, paths_of, makes_of, openings_of, traffic_of};
     ghost use Rattle.zr_files.specs.declared.file_desk.Opening.{Opening};
 
     fn attach(&mut self, path: &str, make: Option<u64>) -> Result<u32, DeskErr>
@@ -532,6 +574,8 @@ impl Desk for FileDesk {
         // What is kept was opened by the path of the call, and by its size where there was no file.
         ensures paths { OnOk result (paths_of self.new ≡ paths_of self.old ++ path.now ∷ []) }
         ensures makes { OnOk result (makes_of self.new ≡ makes_of self.old ++ make ∷ []) }
+        // Nothing was moved of it yet, and nothing more of the others.
+        ensures traffic { OnOk result (traffic_of self.new ≡ traffic_of self.old ++ no_traffic ∷ []) }
         // A file that was there is opened as it is, and not made.
         ensures made { OnOk result ((opening : Opening) × (openings_of self.new ≡ openings_of self.old ++ opening ∷ []) × IsThereOrMade opening make self.old.moved.missing self.new.moved.missing self.old.moved.synced self.new.moved.synced) }
     {

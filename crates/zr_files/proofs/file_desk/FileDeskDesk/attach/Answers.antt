@@ -3,6 +3,7 @@ use Rattle.std.specs.Prelude.{Option}
 use Rattle.std.proofs.lemmas.List.{map_push}
 use Rattle.zr_files.specs.declared.file_desk.DeviceFile.{DeviceFile}
 use Rattle.zr_files.specs.declared.file_desk.Opening.{Opening}
+use Rattle.zr_files.specs.declared.file_desk.Traffic.{Traffic}
 use Rattle.zr_files.proofs.file_desk.FileDeskDesk.attach.Goals as goal
 
 pub returns-clause-sizes : goal.returns-clause-sizes
@@ -31,6 +32,14 @@ returns-clause-makes c =
     ∙ map_push f c.reserve.new.self.items c.device_of.result
     ∙ ap (λ (xs : List DeviceFile). map f xs ++ c.device_of.result.make ∷ []) c.reserve.ensures.items
     ∙ ap (λ (m : Option ℕ). map f c.args.self.now.devices.items ++ m ∷ []) make
+
+pub returns-clause-traffic : goal.returns-clause-traffic
+returns-clause-traffic c =
+    let f : DeviceFile → Traffic = λ d. d.traffic in
+    ap (map f) c.push_reserved.ensures.items
+    ∙ map_push f c.reserve.new.self.items c.device_of.result
+    ∙ ap (λ (xs : List DeviceFile). map f xs ++ c.device_of.result.traffic ∷ []) c.reserve.ensures.items
+    ∙ ap (λ (t : Traffic). map f c.args.self.now.devices.items ++ t ∷ []) c.device_of.ensures.traffic
 
 pub returns-clause-made : goal.returns-clause-made
 returns-clause-made c =

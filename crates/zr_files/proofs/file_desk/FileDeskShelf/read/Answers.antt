@@ -1,11 +1,20 @@
-use Rattle.std.proofs.Common.{refl}
-use Rattle.zr_files.proofs.Sizes.{same_sizes}
+use Rattle.std.proofs.Common.{◌<◌, length, arith}
+use Rattle.std.proofs.lemmas.Result.{on_ok_weaker}
+use Rattle.std.proofs.lemmas.List.{length-map}
+use Rattle.zr_files.specs.Devices.{has_read}
+use Rattle.zr_files.proofs.SameFiles.{same_files, one_changed}
 use Rattle.zr_files.proofs.file_desk.FileDeskShelf.read.Goals as goal
-
-pub returns-in_err-read_at-clause-sizes : goal.returns-in_err-read_at-clause-sizes
-returns-in_err-read_at-clause-sizes c =
-    same_sizes c.args.self.now.devices.items c.args.slot c.index_mut.result.now (record { size = c.index_mut.result.now.size; path = c.index_mut.result.now.path; opening = c.index_mut.result.now.opening; make = c.index_mut.result.now.make; file = c.read_at.new.file }) c.index_mut.ensures.value refl
 
 pub returns-clause-sizes : goal.returns-clause-sizes
 returns-clause-sizes c =
-    same_sizes c.args.self.now.devices.items c.args.slot c.index_mut.result.now (record { size = c.index_mut.result.now.size; path = c.index_mut.result.now.path; opening = c.index_mut.result.now.opening; make = c.index_mut.result.now.make; file = c.read_at.new.file }) c.index_mut.ensures.value refl
+    (same_files c.args.self.now.devices.items c.args.slot c.index_mut.result.now c.read.new.self c.index_mut.ensures.value c.read.ensures.same).sizes
+
+pub returns-clause-moved : goal.returns-clause-moved
+returns-clause-moved c =
+    let there : c.args.slot < length c.args.self.now.devices.items = omega (arith, length-map c.args.self.now.devices.items (λ f. f.size), c.requires.exists) in
+    on_ok_weaker c.read.result
+    (one_changed (λ t. has_read t c.args.at (length c.args.out.now)) c.args.self.now.devices.items c.args.slot c.index_mut.result.now c.read.new.self there c.index_mut.ensures.value)
+    c.read.ensures.moved
+
+pub returns-clause-same : goal.returns-clause-same
+returns-clause-same c = same_files c.args.self.now.devices.items c.args.slot c.index_mut.result.now c.read.new.self c.index_mut.ensures.value c.read.ensures.same
