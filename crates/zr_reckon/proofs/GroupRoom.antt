@@ -1,5 +1,5 @@
 -- The room from the begin of a group to its end.
-use Rattle.std.proofs.Common.{◌≡◌, ℕ, ◌+◌, ◌*◌, ◌<◌, ◌≤◌, Bool, true, false, List, [], length, refl, ◌∙◌, sym, ap, ap₂, arith, if◌then◌else◌}
+use Rattle.std.proofs.Common.{◌≡◌, ℕ, ◌+◌, ◌≤◌, Bool, true, false, List, [], length, refl, ◌∙◌, ap, arith, if◌then◌else◌}
 use Rattle.std.specs.List.{sum_by, range_with_len}
 use Rattle.std.proofs.lemmas.Bool.Decides.{nat_tests}
 use Rattle.zr_base.specs.declared.space.Extent.{Extent}
@@ -7,12 +7,12 @@ use Rattle.zr_base.specs.declared.space.Dva.{Dva}
 use Rattle.zr_base.specs.declared.space.Policy.{Policy}
 use Rattle.zr_base.specs.Extents.{has_unit}
 use Rattle.zr_rules.specs.Owed.{set_words}
-use Rattle.zr_rules.specs.Places.{count_below, part_of, is_fresh, units_of_dev}
+use Rattle.zr_rules.specs.Places.{count_below, part_of, units_of_dev}
 use Rattle.zr_rules.specs.Roles.{Role, freed, kept_of, dropped, aged, cleared, is_held_role, is_kept_role, is_free_role}
 use Rattle.zr_rules.specs.Roles.Role.{Absent, Free, FreshLive, Live, FreshCopy, Copy, Kept, DeferredBlock, DeferredMeta, Late1Block, Late1Meta, Late2Block, Late2Meta, Meta, SavedMeta}
 use Rattle.zr_rules.specs.Space.{Space, opened_of, role_at, IsLawful}
 use Rattle.zr_rules.specs.Columns.{role_count, on_devices, free_units, device_words, sizes}
-use Rattle.zr_rules.specs.Frees.{Allocates, AllocatesMeta, DropsMeta, Frees, in_any, freed_role}
+use Rattle.zr_rules.specs.Frees.{Allocates, AllocatesMeta, DropsMeta, Frees, in_any}
 use Rattle.zr_rules.specs.Steps.{Commits}
 use Rattle.zr_reckon.specs.Coming.{is_coming_role, room_to_come, KeepsRecords}
 use Rattle.zr_reckon.specs.Uses.{is_room_role, is_dropped_role, room}
