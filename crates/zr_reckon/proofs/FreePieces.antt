@@ -237,7 +237,7 @@ module _ (old new : Space) (a : Dva) (birth : ℕ) (f : Frees old new a birth) w
   rows d = (f.frame.each d).row
 
   -- a unit stays what it is, or is freed, or is kept
-  by_use : (d u : ℕ) (P : Role → Type 0) → P (role_at old d u) → P (freed (role_at old d u)) → P (kept_of (role_at old d u)) → P (freed_role old a birth d u)
+  pub by_use : (d u : ℕ) (P : Role → Type 0) → P (role_at old d u) → P (freed (role_at old d u)) → P (kept_of (role_at old d u)) → P (freed_role old a birth d u)
   by_use d u P stays goes keep = choose (leads_to (devices_in old) a d u) (keeps old.parts.ckpt birth) (is_copy_of old a d u)
     where
       choose : (x y z : Bool) → P (if x then (if y then kept_of (role_at old d u) else freed (role_at old d u)) else (if z then freed (role_at old d u) else role_at old d u))

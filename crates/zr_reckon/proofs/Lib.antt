@@ -17,6 +17,7 @@ pub mod FreePieces
 pub mod FreedKinds
 pub mod FreeOn
 pub mod Gaps
+pub mod GroupRoom
 pub mod Lates
 pub mod Leads
 pub mod MetaPlaced

@@ -1,4 +1,5 @@
 pub mod Base
+pub mod Coming
 pub mod Condensing
 pub mod Examples
 pub mod Pieces

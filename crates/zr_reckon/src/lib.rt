@@ -11,6 +11,7 @@ pub mod allocations;
 pub mod bounds;
 pub mod commits;
 pub mod frees;
+pub mod groups;
 pub mod removals;
 pub mod rooms;
 pub mod sets;
