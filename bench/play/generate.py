@@ -3,6 +3,7 @@
 generate.py > stdin          those of this folder's stdin
 generate.py removals         those in which devices are given up
 generate.py checkpoints      those in which pools go back: to a checkpoint, or to a recent group
+generate.py reads            those in which devices are given up, each to be looked at for reads of a device that is gone
 generate.py sums < answers   a line for each script that was answered: the SHA-256 of its answers
 """
 import hashlib, random, sys
@@ -312,6 +313,18 @@ def checkpoints_and_condensing(s):
     return words, L
 
 
+def written_out(words, lines):
+    """A script without rounds: their steps stand behind each line, so that each line has one answer."""
+    if words[0] != '--auto': return words, lines
+    steps = ['step evac', 'step discard', 'step condense'] * int(words[1])
+    return words[2:], [it for line in lines for it in [line, *steps]]
+
+
+def removal_scripts():
+    """The scripts in which devices are given up."""
+    return (removals(s) if s % 25 else condensing(s) for s in range(1001, 1301))
+
+
 def sums(answers):
     """The SHA-256 of the answers to each script: its replies, its status, and the digest of each device."""
     found, ended = [], False
@@ -331,10 +344,12 @@ if __name__ == '__main__':
         sys.exit(0)
     made = {
         'checkpoints': (checkpoints(s) if s % 25 else checkpoints_and_condensing(s) for s in range(2001, 2301)),
-        'removals': (removals(s) if s % 25 else condensing(s) for s in range(1001, 1301)),
+        'removals': removal_scripts(),
+        'reads': (written_out(*it) for it in removal_scripts()),
         '': (script(s, 40) if s <= 200 else short_runs(s) for s in [*range(1, 201), 201, 202, 204]),
     }
     for words, lines in made[''.join(sys.argv[1:])]:
+        if sys.argv[1:] == ['reads']: print('@reads')
         print(' '.join(words))
         print('\n'.join(lines))
         print('====')
