@@ -232,12 +232,12 @@ fn write_at(
     Ok(place)
 }
 
-/// Makes a file durable, and counts it.
+/// Makes the bytes of a file durable, as fdatasync(2) does, and counts it. Its size goes with them where it changed; times do not.
 fn sync_file(file: &File, synced: &mut u64, faults: &mut u64) -> Result<(), DeskErr>
     ensures moved { OnOk result (synced.new ≡ raised synced.old 1) }
     ensures faults { CountsFault result faults.old faults.new }
 {
-    if file.sync_all().is_err() {
+    if file.sync_data().is_err() {
         return Err(fault(faults));
     }
     *synced = synced.saturating_add(1);
