@@ -1,0 +1,89 @@
+-- Roots on disks whose labels stay.
+use Rattle.std.proofs.Common.{◌≡◌, ◌⊎◌, inl, inr, ℕ, ◌<◌, ◌≤◌, List, length, Option, Some, None, refl, sym, ◌∙◌, ap, subst, arith, ⊎_elim}
+use Rattle.zr_image.specs.Current.{seen_at}
+use Rattle.zr_label.proofs.Ubers.{one_uber}
+use Rattle.zr_label.specs.Blocks.{IsUber, SpellsUber, uber_block}
+use Rattle.zr_label.specs.Geometry.{slot_of as ring_of}
+use Rattle.zr_label.specs.declared.root.Label.{Label}
+use Rattle.zr_label.specs.declared.root.Seen.{Seen}
+use Rattle.zr_label.specs.declared.root.Uber.{Uber}
+use Rattle.zr_scan.proofs.Gathering.{slot_small}
+use Rattle.zr_scan.specs.Scan.{HasNoLabel, IsFirstLabel, IsLabelOf, ShowsLabel, Stands, block_of, ring_block}
+use Rattle.zr_shelf.specs.Disks.{disk}
+use Rattle.zr_newest.specs.Newest.{HaveLabels, KeepsLabels, KeepsRings, PutsRoot, ShowsRoot, StandsAtDevice}
+
+-- ---- one disk
+
+module _ (size : ℕ) (b a : List ℕ) (labels : (n : ℕ) → n < 4 → block_of size a n ≡ block_of size b n) where
+  no_label : (n : ℕ) → n ≤ 4 → HasNoLabel size b n → HasNoLabel size a n
+  no_label n few none k lt l is = none k lt l (subst (λ (block : List ℕ). IsLabelOf size block l) (labels k (omega (arith, lt, few))) is)
+
+  first_still : (l : Label) → IsFirstLabel size b l → IsFirstLabel size a l
+  first_still l first = record {
+    label = first.label;
+    four = first.four;
+    here = subst (λ (block : List ℕ). IsLabelOf size block l) (sym (labels first.label first.four)) first.here;
+    before = no_label first.label (let lt = first.four in omega (arith, lt)) first.before;
+  }
+
+  label_still : (o : Option Label) → ShowsLabel size b o → ShowsLabel size a o
+  label_still None none = no_label 4 (omega arith) none
+  label_still (Some l) first = first_still l first
+
+-- ---- all disks
+
+module _ (before after : List (List ℕ)) (keeps : KeepsLabels before after) where
+  pub first_on : (slot : ℕ) (l : Label) → IsFirstLabel (length (disk before slot)) (disk before slot) l → IsFirstLabel (length (disk after slot)) (disk after slot) l
+  first_on slot l is =
+      subst (λ (size : ℕ). IsFirstLabel size (disk after slot) l) (sym (keeps.sizes slot))
+      (first_still (length (disk before slot)) (disk before slot) (disk after slot) (λ n few. keeps.labels slot n few) l is)
+
+  pub first_back : (slot : ℕ) (l : Label) → IsFirstLabel (length (disk after slot)) (disk after slot) l → IsFirstLabel (length (disk before slot)) (disk before slot) l
+  first_back slot l is =
+      first_still (length (disk before slot)) (disk after slot) (disk before slot) (λ n few. sym (keeps.labels slot n few)) l
+      (subst (λ (size : ℕ). IsFirstLabel size (disk after slot) l) (keeps.sizes slot) is)
+
+  pub labels_on : (seen : List Seen) → HaveLabels before seen → HaveLabels after seen
+  labels_on seen h = record {
+    count = h.count ∙ sym keeps.count;
+    each = λ slot lt.
+        subst (λ (size : ℕ). ShowsLabel size (disk after slot) (seen_at seen slot).label) (sym (keeps.sizes slot))
+        (label_still (length (disk before slot)) (disk before slot) (disk after slot) (λ n few. keeps.labels slot n few) (seen_at seen slot).label (h.each slot (let c = keeps.count in omega (arith, lt, c))));
+  }
+
+  -- a root that stands behind where its ring slot has the block of before stood there before
+  pub root_was : (slot : ℕ) (u : Uber) (h : ShowsRoot after slot u)
+      → ring_block (length (disk before slot)) (disk after slot) h.ring (ring_of u.txg) ≡ ring_block (length (disk before slot)) (disk before slot) h.ring (ring_of u.txg) → ShowsRoot before slot u
+  root_was slot u h same = record {
+    known = (let c = keeps.count in let lt = h.known in omega (arith, lt, c));
+    label = h.label;
+    first = first_back slot h.label h.first;
+    suits = h.suits;
+    ring = h.ring;
+    four = h.four;
+    stands = subst (λ (block : List ℕ). SpellsUber block u) same (subst (λ (size : ℕ). Stands size (disk after slot) h.ring u) (keeps.sizes slot) h.stands);
+  }
+
+-- where rings stay too, a root that stands on its device stays
+pub device_on : (before after : List (List ℕ)) → KeepsRings before after → (u : Uber) (slots : List (Option ℕ)) → StandsAtDevice before u slots → StandsAtDevice after u slots
+device_on before after keeps u slots h = record {
+  device = h.device;
+  known = h.known;
+  there = h.there;
+  slot = h.slot;
+  here = h.here;
+  ring = h.ring;
+  four = h.four;
+  stands = subst (λ (size : ℕ). Stands size (disk after h.slot) h.ring u) (sym (keeps.labels.sizes h.slot))
+      (subst (λ (block : List ℕ). SpellsUber block u) (sym (keeps.rings h.slot h.ring (ring_of u.txg) h.four (slot_small u.txg))) h.stands);
+}
+
+-- a root that stands behind one that was put stood there before, or is that one
+pub stood_or_put : (before after : List (List ℕ)) (next : Uber) → IsUber next → PutsRoot before after next → (slot : ℕ) (v : Uber) → ShowsRoot after slot v → ShowsRoot before slot v ⊎ (v ≡ next)
+stood_or_put before after next lawful puts slot v h =
+    ⊎_elim
+    (λ same. inl (root_was before after puts.labels slot v h same))
+    (λ put. inr (one_uber (uber_block next) v next
+    (subst (λ (block : List ℕ). SpellsUber block v) put.1 (subst (λ (size : ℕ). Stands size (disk after slot) h.ring v) (puts.labels.sizes slot) h.stands))
+    (record { lawful = lawful; spelling = refl })))
+    (puts.rings slot h.ring (ring_of v.txg) h.four (slot_small v.txg))

@@ -1,0 +1,4 @@
+pub mod Kept
+pub mod Seen
+pub mod Found
+pub mod Newest
