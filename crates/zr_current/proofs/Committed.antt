@@ -54,7 +54,7 @@ place_parts : (s : Space) (d u : ℕ) → has_place s d u ≡ true → (d < leng
 place_parts s d u is = (grind (arith, nat_tests, is), grind (arith, nat_tests, is))
 
 -- the bytes lie before all units, or behind the units of the slot's device
-abbrev IsAside : ℕ → ℕ → Type 0
+abbrev pub IsAside : ℕ → ℕ → Type 0
 IsAside size at = (at + 4096 ≤ 4194304) ⊎ (label_at size 2 ≤ at)
 
 high_label : (w a b n : ℕ) → a ≡ w - 262144 * (4 - n) → b ≡ w - 524288 → 2 ≤ n → b ≤ a
@@ -93,7 +93,7 @@ module _ (sizes : List ℕ) (pool : OpenPool) (ready : IsOpen sizes pool) where
   below : (d slot : ℕ) → d < pool.table.count → slot_of slots d ≡ Some slot → unit_at (units_of_dev pool.space.parts.devs d) ≤ label_at (slice_index sizes slot) 2
   below d slot lt is = subst (λ (r : DevRow). unit_at r.units ≤ label_at (slice_index sizes slot) 2) (sym (ready.rows d lt)) (units_below (slice_index sizes slot) _ (ready.disks d slot lt is))
 
-  into_clear : (sl at : ℕ) → IsAside (slice_index sizes sl) at → (w : PendingWrite) → IsWriteInto Block slots pool.space w → ¬ Meets w sl at 4096
+  pub into_clear : (sl at : ℕ) → IsAside (slice_index sizes sl) at → (w : PendingWrite) → IsWriteInto Block slots pool.space w → ¬ Meets w sl at 4096
   into_clear sl at aside w h met =
       let last = h.at.start + (h.at.len - 1) in
       let inside : in_address h.at h.at.dev last ≡ true = grind (arith, nat_tests, h.some) in

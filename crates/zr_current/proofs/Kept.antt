@@ -60,12 +60,12 @@ module _ (size : ℕ) (b a : List ℕ) (labels : (n : ℕ) → n < 4 → block_o
   newer_is x None none = none
   newer_is x (Some l) is = newer_of l.guid x is
 
-  shows_still : (x : Seen) → Shows size b x → Shows size a x
+  pub shows_still : (x : Seen) → Shows size b x → Shows size a x
   shows_still x is = record { label = label_is x.label is.label; roots = roots_are x.ubers x.label is.roots; newer = newer_is x.newer x.label is.newer }
 
 -- ---- all slots
 
-all_shown : (disks : List (List ℕ)) (seen : List Seen) → length seen ≡ length disks → ((slot : ℕ) → slot < length seen → Shows (length (disk disks slot)) (disk disks slot) (seen_at seen slot)) → ShowsAll disks seen
+pub all_shown : (disks : List (List ℕ)) (seen : List Seen) → length seen ≡ length disks → ((slot : ℕ) → slot < length seen → Shows (length (disk disks slot)) (disk disks slot) (seen_at seen slot)) → ShowsAll disks seen
 all_shown [] [] same each = tt
 all_shown [] (x ∷ seen) same each = absurd (omega (arith, same))
 all_shown (bytes ∷ disks) [] same each = absurd (omega (arith, same))

@@ -96,8 +96,8 @@ module _ (s : Stored) (t : Tree) (table other : List DevRow) (h k : Head) (lawfu
 
 -- ---- what is shown
 
-module _ (paths disks : List (List ℕ)) (sizes : List ℕ) (u : Uber) (pool : OpenPool) (objects : Objects) (p : PoolState) (ready : IsOpen sizes pool) (on : AreInService (devices_in pool.space)) (from : GoesOnFrom u pool) (empty : pool.group.objects ≡ [])
-    (only : IsCurrentOn disks u pool) (head : HasHead disks pool u.root u.len) (held : HoldsObjects (Unit {0}) disks pool objects) (shows : Shows paths disks p) where
+module _ (paths disks : List (List ℕ)) (sizes : List ℕ) (u : Uber) (pool : OpenPool) (p : PoolState) (ready : IsOpen sizes pool) (on : AreInService (devices_in pool.space)) (from : GoesOnFrom u pool) (only : IsCurrentOn disks u pool)
+    (head : HasHead disks pool u.root u.len) (shows : Shows paths disks p) where
   abbrev root : image.Root
   root = shows.root
 
@@ -130,11 +130,15 @@ module _ (paths disks : List (List ℕ)) (sizes : List ℕ) (u : Uber) (pool : O
       ap (λ (ps : SpaceParts). rows_in ps.devs) reads.counted_is
       ∙ (counted_rows (reset_of u == u.txg) reads.parts ∙ parts_rows u.version root.head.form root.head.ckpt 0 (rows_of u) _ reads.parts.devs reads.spelled.devices)
 
-  shown_objects : AreObjects (store_of (view_of disks pool.table.slots pool.space)) pool.dir p.objects
+  -- the objects that are shown are those of the pool's directory
+  pub shown_objects : AreObjects (store_of (view_of disks pool.table.slots pool.space)) pool.dir p.objects
   shown_objects =
       subst (λ (t : Tree). AreObjects (store_of (view_of disks pool.table.slots pool.space)) t p.objects) same_dir
       (subst (λ (s : Stored). AreObjects s root.head.dir p.objects)
       (sym (read_image sizes u pool ready on from root.parts.devs rows_are disks ∙ store_same disks these pool.table.slots (devices_of root.parts.devs) (only.slots shows.seen shows.shown))) objects_are)
 
-  pub shown_is_held : p.objects ≡ objects
-  shown_is_held = one_meaning (store_of (view_of disks pool.table.slots pool.space)) pool.dir p.objects objects shown_objects (objects_meant (Unit {0}) disks pool objects empty held)
+-- so they are those that the pool holds
+pub shown_is_held : (paths disks : List (List ℕ)) (sizes : List ℕ) (u : Uber) (pool : OpenPool) (objects : Objects) (p : PoolState) → IsOpen sizes pool → AreInService (devices_in pool.space) → GoesOnFrom u pool → pool.group.objects ≡ []
+    → IsCurrentOn disks u pool → HasHead disks pool u.root u.len → HoldsObjects (Unit {0}) disks pool objects → Shows paths disks p → p.objects ≡ objects
+shown_is_held paths disks sizes u pool objects p ready on from empty only head held shows =
+    one_meaning (store_of (view_of disks pool.table.slots pool.space)) pool.dir p.objects objects (shown_objects paths disks sizes u pool p ready on from only head shows) (objects_meant (Unit {0}) disks pool objects empty held)
