@@ -37,7 +37,7 @@ use Rattle.zr_tree.specs.Trees.{slot}
 use Rattle.zr_vdev.specs.Runs.{view_of}
 use Rattle.zr_open.proofs.Left.{counted_rows, head_read, objects_meant, parts_rows, read_image, rows_in}
 use Rattle.zr_open.proofs.Views.{store_same}
-use Rattle.zr_current.specs.Current.{GoesOnFrom, IsCurrentOn}
+use Rattle.zr_current.specs.Current.{GoesOnFrom, HasSlots, IsCurrentOn}
 use Rattle.zr_roots.specs.Standing.{image_of}
 use Rattle.zr_open.specs.Shown.{Shows}
 
@@ -96,19 +96,16 @@ module _ (s : Stored) (t : Tree) (table other : List DevRow) (h k : Head) (lawfu
 
 -- ---- what is shown
 
-module _ (paths disks : List (List ℕ)) (sizes : List ℕ) (u : Uber) (pool : OpenPool) (p : PoolState) (ready : IsOpen sizes pool) (on : AreInService (devices_in pool.space)) (from : GoesOnFrom u pool) (only : IsCurrentOn disks u pool)
-    (head : HasHead disks pool u.root u.len) (shows : Shows paths disks p) where
+module _ (paths disks : List (List ℕ)) (sizes : List ℕ) (u : Uber) (pool : OpenPool) (p : PoolState) (ready : IsOpen sizes pool) (on : AreInService (devices_in pool.space)) (from : GoesOnFrom u pool) (head : HasHead disks pool u.root u.len) (shows : Shows paths disks p)
+    (same_root : shows.root.uber ≡ u) (slots : HasSlots (slots_of u shows.seen) pool.table.slots) where
   abbrev root : image.Root
   root = shows.root
 
   abbrev these : List (Option ℕ)
   these = slots_of u shows.seen
 
-  same_root : root.uber ≡ u
-  same_root = only.alone shows.seen shows.shown root.uber shows.current
-
   here : image_of disks pool.table.slots u ≡ image_of disks these u
-  here = store_same disks these pool.table.slots (bare_devices u) (only.slots shows.seen shows.shown)
+  here = store_same disks these pool.table.slots (bare_devices u) slots
 
   read_head : IsHead (rows_of u) root.head
   read_head = subst (λ (v : Uber). IsHead (rows_of v) root.head) same_root shows.stands.head
@@ -135,10 +132,11 @@ module _ (paths disks : List (List ℕ)) (sizes : List ℕ) (u : Uber) (pool : O
   shown_objects =
       subst (λ (t : Tree). AreObjects (store_of (view_of disks pool.table.slots pool.space)) t p.objects) same_dir
       (subst (λ (s : Stored). AreObjects s root.head.dir p.objects)
-      (sym (read_image sizes u pool ready on from root.parts.devs rows_are disks ∙ store_same disks these pool.table.slots (devices_of root.parts.devs) (only.slots shows.seen shows.shown))) objects_are)
+      (sym (read_image sizes u pool ready on from root.parts.devs rows_are disks ∙ store_same disks these pool.table.slots (devices_of root.parts.devs) slots)) objects_are)
 
 -- so they are those that the pool holds
 pub shown_is_held : (paths disks : List (List ℕ)) (sizes : List ℕ) (u : Uber) (pool : OpenPool) (objects : Objects) (p : PoolState) → IsOpen sizes pool → AreInService (devices_in pool.space) → GoesOnFrom u pool → pool.group.objects ≡ []
     → IsCurrentOn disks u pool → HasHead disks pool u.root u.len → HoldsObjects (Unit {0}) disks pool objects → Shows paths disks p → p.objects ≡ objects
 shown_is_held paths disks sizes u pool objects p ready on from empty only head held shows =
-    one_meaning (store_of (view_of disks pool.table.slots pool.space)) pool.dir p.objects objects (shown_objects paths disks sizes u pool p ready on from only head shows) (objects_meant (Unit {0}) disks pool objects empty held)
+    one_meaning (store_of (view_of disks pool.table.slots pool.space)) pool.dir p.objects objects
+    (shown_objects paths disks sizes u pool p ready on from head shows (only.alone shows.seen shows.shown shows.root.uber shows.current) (only.slots shows.seen shows.shown)) (objects_meant (Unit {0}) disks pool objects empty held)
