@@ -30,59 +30,62 @@ module _ (size : ℕ) (b a : List ℕ) (labels : (n : ℕ) → n < 4 → block_o
   label_still None none = no_label 4 (omega arith) none
   label_still (Some l) first = first_still l first
 
--- ---- all disks
+-- ---- one slot
 
-module _ (before after : List (List ℕ)) (keeps : KeepsLabels before after) where
-  pub first_on : (slot : ℕ) (l : Label) → IsFirstLabel (length (disk before slot)) (disk before slot) l → IsFirstLabel (length (disk after slot)) (disk after slot) l
-  first_on slot l is =
-      subst (λ (size : ℕ). IsFirstLabel size (disk after slot) l) (sym (keeps.sizes slot))
-      (first_still (length (disk before slot)) (disk before slot) (disk after slot) (λ n few. keeps.labels slot n few) l is)
+module _ (before after : List (List ℕ)) (slot : ℕ) (sizes : length (disk after slot) ≡ length (disk before slot)) (labels : (n : ℕ) → n < 4 → block_of (length (disk before slot)) (disk after slot) n ≡ block_of (length (disk before slot)) (disk before slot) n) where
+  first_on : (l : Label) → IsFirstLabel (length (disk before slot)) (disk before slot) l → IsFirstLabel (length (disk after slot)) (disk after slot) l
+  first_on l is = subst (λ (size : ℕ). IsFirstLabel size (disk after slot) l) (sym sizes) (first_still (length (disk before slot)) (disk before slot) (disk after slot) labels l is)
 
-  pub first_back : (slot : ℕ) (l : Label) → IsFirstLabel (length (disk after slot)) (disk after slot) l → IsFirstLabel (length (disk before slot)) (disk before slot) l
-  first_back slot l is =
-      first_still (length (disk before slot)) (disk after slot) (disk before slot) (λ n few. sym (keeps.labels slot n few)) l
-      (subst (λ (size : ℕ). IsFirstLabel size (disk after slot) l) (keeps.sizes slot) is)
+  first_back : (l : Label) → IsFirstLabel (length (disk after slot)) (disk after slot) l → IsFirstLabel (length (disk before slot)) (disk before slot) l
+  first_back l is = first_still (length (disk before slot)) (disk after slot) (disk before slot) (λ n few. sym (labels n few)) l (subst (λ (size : ℕ). IsFirstLabel size (disk after slot) l) sizes is)
 
-  pub labels_on : (seen : List Seen) → HaveLabels before seen → HaveLabels after seen
-  labels_on seen h = record {
-    count = h.count ∙ sym keeps.count;
-    each = λ slot lt.
-        subst (λ (size : ℕ). ShowsLabel size (disk after slot) (seen_at seen slot).label) (sym (keeps.sizes slot))
-        (label_still (length (disk before slot)) (disk before slot) (disk after slot) (λ n few. keeps.labels slot n few) (seen_at seen slot).label (h.each slot (let c = keeps.count in omega (arith, lt, c))));
-  }
+  pub label_on : (o : Option Label) → ShowsLabel (length (disk before slot)) (disk before slot) o → ShowsLabel (length (disk after slot)) (disk after slot) o
+  label_on o is = subst (λ (size : ℕ). ShowsLabel size (disk after slot) o) (sym sizes) (label_still (length (disk before slot)) (disk before slot) (disk after slot) labels o is)
 
   -- a root that stands behind where its ring slot has the block of before stood there before
-  pub root_was : (slot : ℕ) (u : Uber) (h : ShowsRoot after slot u)
+  pub root_was : length after ≡ length before → (u : Uber) (h : ShowsRoot after slot u)
       → ring_block (length (disk before slot)) (disk after slot) h.ring (ring_of u.txg) ≡ ring_block (length (disk before slot)) (disk before slot) h.ring (ring_of u.txg) → ShowsRoot before slot u
-  root_was slot u h same = record {
-    known = (let c = keeps.count in let lt = h.known in omega (arith, lt, c));
+  root_was count u h same = record {
+    known = (let lt = h.known in omega (arith, lt, count));
     label = h.label;
-    first = first_back slot h.label h.first;
+    first = first_back h.label h.first;
     suits = h.suits;
     ring = h.ring;
     four = h.four;
-    stands = subst (λ (block : List ℕ). SpellsUber block u) same (subst (λ (size : ℕ). Stands size (disk after slot) h.ring u) (keeps.sizes slot) h.stands);
+    stands = subst (λ (block : List ℕ). SpellsUber block u) same (subst (λ (size : ℕ). Stands size (disk after slot) h.ring u) sizes h.stands);
   }
 
--- where rings stay too, a root that stands on its device stays
-pub device_on : (before after : List (List ℕ)) → KeepsRings before after → (u : Uber) (slots : List (Option ℕ)) → StandsAtDevice before u slots → StandsAtDevice after u slots
-device_on before after keeps u slots h = record {
-  device = h.device;
-  known = h.known;
-  there = h.there;
-  slot = h.slot;
-  here = h.here;
-  ring = h.ring;
-  four = h.four;
-  stands = subst (λ (size : ℕ). Stands size (disk after h.slot) h.ring u) (sym (keeps.labels.sizes h.slot))
-      (subst (λ (block : List ℕ). SpellsUber block u) (sym (keeps.rings h.slot h.ring (ring_of u.txg) h.four (slot_small u.txg))) h.stands);
+-- a root stands still where its ring slot has the block of before
+stands_on : (before after : List (List ℕ)) (slot n : ℕ) (u : Uber) → length (disk after slot) ≡ length (disk before slot)
+    → ring_block (length (disk before slot)) (disk after slot) n (ring_of u.txg) ≡ ring_block (length (disk before slot)) (disk before slot) n (ring_of u.txg) → Stands (length (disk before slot)) (disk before slot) n u → Stands (length (disk after slot)) (disk after slot) n u
+stands_on before after slot n u sizes same stands = subst (λ (size : ℕ). Stands size (disk after slot) n u) (sym sizes) (subst (λ (block : List ℕ). SpellsUber block u) (sym same) stands)
+
+-- so does one that stands on its device
+pub device_on : (before after : List (List ℕ)) (u : Uber) (slots : List (Option ℕ)) (h : StandsAtDevice before u slots) → length (disk after h.slot) ≡ length (disk before h.slot)
+    → ring_block (length (disk before h.slot)) (disk after h.slot) h.ring (ring_of u.txg) ≡ ring_block (length (disk before h.slot)) (disk before h.slot) h.ring (ring_of u.txg) → StandsAtDevice after u slots
+device_on before after u slots h sizes same = record { device = h.device; known = h.known; there = h.there; slot = h.slot; here = h.here; ring = h.ring; four = h.four; stands = stands_on before after h.slot h.ring u sizes same h.stands }
+
+-- ---- all disks
+
+pub labels_on : (before after : List (List ℕ)) → KeepsLabels before after → (seen : List Seen) → HaveLabels before seen → HaveLabels after seen
+labels_on before after keeps seen h = record {
+  count = h.count ∙ sym keeps.count;
+  each = λ slot lt. label_on before after slot (keeps.sizes slot) (λ n few. keeps.labels slot n few) (seen_at seen slot).label (h.each slot (let c = keeps.count in omega (arith, lt, c)));
 }
+
+-- where rings stay too, a root that stands stood there
+pub root_kept : (before after : List (List ℕ)) → KeepsRings before after → (slot : ℕ) (u : Uber) → ShowsRoot after slot u → ShowsRoot before slot u
+root_kept before after keeps slot u h =
+    root_was before after slot (keeps.labels.sizes slot) (λ n few. keeps.labels.labels slot n few) keeps.labels.count u h (keeps.rings slot h.ring (ring_of u.txg) h.four (slot_small u.txg))
+
+pub device_kept : (before after : List (List ℕ)) → KeepsRings before after → (u : Uber) (slots : List (Option ℕ)) → StandsAtDevice before u slots → StandsAtDevice after u slots
+device_kept before after keeps u slots h = device_on before after u slots h (keeps.labels.sizes h.slot) (keeps.rings h.slot h.ring (ring_of u.txg) h.four (slot_small u.txg))
 
 -- a root that stands behind one that was put stood there before, or is that one
 pub stood_or_put : (before after : List (List ℕ)) (next : Uber) → IsUber next → PutsRoot before after next → (slot : ℕ) (v : Uber) → ShowsRoot after slot v → ShowsRoot before slot v ⊎ (v ≡ next)
 stood_or_put before after next lawful puts slot v h =
     ⊎_elim
-    (λ same. inl (root_was before after puts.labels slot v h same))
+    (λ same. inl (root_was before after slot (puts.labels.sizes slot) (λ n few. puts.labels.labels slot n few) puts.labels.count v h same))
     (λ put. inr (one_uber (uber_block next) v next
     (subst (λ (block : List ℕ). SpellsUber block v) put.1 (subst (λ (size : ℕ). Stands size (disk after slot) h.ring v) (puts.labels.sizes slot) h.stands))
     (record { lawful = lawful; spelling = refl })))

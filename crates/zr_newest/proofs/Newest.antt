@@ -10,12 +10,11 @@ use Rattle.zr_label.specs.declared.root.Label.{Label}
 use Rattle.zr_label.specs.declared.root.Seen.{Seen}
 use Rattle.zr_label.specs.declared.root.Uber.{Uber}
 use Rattle.zr_scan.proofs.Fresh.{same_label}
-use Rattle.zr_scan.proofs.Gathering.{slot_small}
 use Rattle.zr_scan.specs.Scan.{ShowsLabel}
 use Rattle.zr_shelf.specs.Disks.{disk}
 use Rattle.zr_view.specs.Views.{slot_of}
 use Rattle.zr_newest.proofs.Found.{Found, finds, found, found_too, has_slot, one_pool}
-use Rattle.zr_newest.proofs.Kept.{device_on, labels_on, root_was, stood_or_put}
+use Rattle.zr_newest.proofs.Kept.{device_kept, labels_on, root_kept, stood_or_put}
 use Rattle.zr_newest.proofs.Seen.{listed, long_seen, one_label_at, placed_at, root_of_shown, same_slots, seen_labels, shown_of_root, slots_same}
 use Rattle.zr_newest.specs.Newest.{AreAt, HaveLabels, IsAbove, IsNewestOn, KeepsRings, PutsRoot, ShowsRoot, StandsAtDevice}
 
@@ -112,8 +111,8 @@ current_newest disks seen u slots shown finds_it devices =
 
 pub newest_still : (before after : List (List ℕ)) (u : Uber) (slots : List (Option ℕ)) → KeepsRings before after → IsNewestOn before u slots → IsNewestOn after u slots
 newest_still before after u slots keeps h = record {
-  stands = device_on before after keeps u slots h.stands;
-  newest = λ slot v is same. h.newest slot v (root_was before after keeps.labels slot v is (keeps.rings slot is.ring _ is.four (slot_small v.txg))) same;
+  stands = device_kept before after keeps u slots h.stands;
+  newest = λ slot v is same. h.newest slot v (root_kept before after keeps slot v is) same;
   seen = h.seen;
   labels = labels_on before after keeps.labels h.seen h.labels;
   devices = h.devices;

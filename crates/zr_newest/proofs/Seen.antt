@@ -3,7 +3,7 @@ use Rattle.std.proofs.Common.{◌≡◌, ◌⊎◌, inl, inr, ℕ, zero, suc, �
 use Rattle.std.specs.Prelude.{Contains, MatchOption, ◌==◌, ◌&&◌, if◌then◌else◌}
 use Rattle.std.specs.List.{position, position_or_len, range_with_len}
 use Rattle.std.proofs.lemmas.Bool.{cases_lt, eqb-true}
-use Rattle.std.proofs.lemmas.List.FromFn.{get_or-map-range_with_len}
+use Rattle.std.proofs.lemmas.List.FromFn.{get_or-map-range_with_len, length-map-range_with_len}
 use Rattle.std.proofs.lemmas.List.Quantifiers.{position-Some}
 use Rattle.std.proofs.Math.ListN.{get_or-eq_default}
 use Rattle.std.proofs.Math.Path.{fun_ext}
@@ -157,3 +157,6 @@ placed_at u d seen slot some there at =
 -- the slot of a device is that of the list of all
 pub listed : (u : Uber) (seen : List Seen) (d : ℕ) → d < u.count → slot_of (slots_of u seen) d ≡ slot_of_device u seen d
 listed u seen d some = get_or-map-range_with_len (slot_of_device u seen) 0 u.count d d None some (omega arith)
+
+pub past_device : (u : Uber) (seen : List Seen) (d : ℕ) → u.count ≤ d → slot_of (slots_of u seen) d ≡ None
+past_device u seen d le = get_or-eq_default (slots_of u seen) None (let long = length-map-range_with_len (slot_of_device u seen) 0 u.count in omega (arith, long, le))

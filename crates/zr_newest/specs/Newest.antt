@@ -1,7 +1,7 @@
 -- The newest root of a pool on the disks, and what keeps it so.
-use Rattle.std.specs.Prelude.{◌≡◌, ◌⊎◌, ℕ, ◌<◌, false, List, length, Option, Some}
-use Rattle.zr_image.specs.Current.{row_at, seen_at, slots_of}
-use Rattle.zr_label.specs.Blocks.{uber_block}
+use Rattle.std.specs.Prelude.{◌≡◌, ◌≢◌, ◌⊎◌, ℕ, ◌+◌, ◌<◌, true, false, List, length, Option, Some}
+use Rattle.zr_image.specs.Current.{is_device, row_at, seen_at, slots_of}
+use Rattle.zr_label.specs.Blocks.{padding, uber_block}
 use Rattle.zr_label.specs.Geometry.{slot_of as ring_of}
 use Rattle.zr_label.specs.declared.root.Label.{Label}
 use Rattle.zr_label.specs.declared.root.Seen.{Seen}
@@ -73,3 +73,26 @@ pub record PutsRoot (before after : List (List ℕ)) (u : Uber) : Type 0 where
   pub labels : KeepsLabels before after
   pub rings : (slot n k : ℕ) → n < 4 → k < 32
       → (ring_block (length (disk before slot)) (disk after slot) n k ≡ ring_block (length (disk before slot)) (disk before slot) n k) ⊎ ((k ≡ ring_of u.txg) × (ring_block (length (disk before slot)) (disk after slot) n k ≡ uber_block u))
+
+-- One slot was prepared: its disk has this label, and no root stands in its rings. All other disks have their labels and their rings.
+pub record PreparesSlot (before after : List (List ℕ)) (slot : ℕ) (l : Label) : Type 0 where
+  pub known : slot < length before
+  pub count : length after ≡ length before
+  pub sizes : (other : ℕ) → length (disk after other) ≡ length (disk before other)
+  pub label : IsFirstLabel (length (disk after slot)) (disk after slot) l
+  pub blank : (n k : ℕ) → n < 4 → k < 32 → ring_block (length (disk after slot)) (disk after slot) n k ≡ padding 4096
+  pub labels : (other n : ℕ) → other ≢ slot → n < 4 → block_of (length (disk before other)) (disk after other) n ≡ block_of (length (disk before other)) (disk before other) n
+  pub rings : (other n k : ℕ) → other ≢ slot → n < 4 → k < 32 → ring_block (length (disk before other)) (disk after other) n k ≡ ring_block (length (disk before other)) (disk before other) n k
+
+-- the next device of a root has this slot, and its label names no other device; all else is as before
+pub record JoinsDevice (before : List (List ℕ)) (u next : Uber) (slots mine : List (Option ℕ)) (slot : ℕ) (l : Label) : Type 0 where
+  pub guid : next.guid ≡ u.guid
+  pub count : next.count ≡ u.count + 1
+  pub rows : (d : ℕ) → d < u.count → row_at next d ≡ row_at u d
+  pub others : (d : ℕ) → d ≢ u.count → slot_of mine d ≡ slot_of slots d
+  pub own : slot_of mine u.count ≡ Some slot
+  pub there : is_gone (row_at next u.count).state ≡ false
+  pub named : is_device next u.count (Some l) ≡ true
+  pub alone : (other : ℕ) (m : Label) → other ≢ slot → other < length before → IsFirstLabel (length (disk before other)) (disk before other) m → is_device next u.count (Some m) ≡ false
+  pub free : (d : ℕ) → slot_of slots d ≢ Some slot
+  pub apart : (d : ℕ) → d < u.count → is_device u d (Some l) ≡ false
