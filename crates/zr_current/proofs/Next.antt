@@ -18,7 +18,7 @@ use Rattle.zr_current.specs.Next.{IsNextOf, ShowsNext}
 -- ---- what is found
 
 -- what it says that a root is found
-record Found (seen : List Seen) (u : Uber) : Type 0 where
+pub record Found (seen : List Seen) (u : Uber) : Type 0 where
   pub known : (p : ℕ × Newer) → IsUnknown seen p.0 p.1 → ⊥
   pub current : IsCurrent seen u
   pub pools : (p : ℕ × ℕ) → IsPair (AreTwoPools seen) p → ⊥
@@ -27,7 +27,7 @@ record Found (seen : List Seen) (u : Uber) : Type 0 where
   pub copies : (p : ℕ × ℕ) → IsPair (AreTwoCopies u seen) p → ⊥
   pub there : (index : ℕ) → missing_device u seen ≡ Some index → ⊥
 
-found : (seen : List Seen) (u : Uber) → FindsCurrent seen (Ok u) → Found seen u
+pub found : (seen : List Seen) (u : Uber) → FindsCurrent seen (Ok u) → Found seen u
 found seen u (inl (k, known, inl (v, current, inl (one, inl (a, pools, inl (b, roots, inl (c, twice, copies))), inl (e, there, gives))))) =
     let same : v ≡ u = cc in
     subst (λ (w : Uber). Found seen w) same (record { known = known; current = current; pools = pools; roots = roots; twice = twice; copies = copies; there = there })
@@ -62,7 +62,7 @@ own_roots (bytes ∷ disks) (x ∷ seen) shows (suc slot) v has = own_roots disk
 -- ---- devices
 
 -- a place that is told by labels
-first_same : (p : Option Label → Bool) (xs ys : List Seen) → length xs ≡ length ys → ((slot : ℕ) → (seen_at xs slot).label ≡ (seen_at ys slot).label) → position_or_len (λ (s : Seen). p s.label) xs ≡ position_or_len (λ (s : Seen). p s.label) ys
+pub first_same : (p : Option Label → Bool) (xs ys : List Seen) → length xs ≡ length ys → ((slot : ℕ) → (seen_at xs slot).label ≡ (seen_at ys slot).label) → position_or_len (λ (s : Seen). p s.label) xs ≡ position_or_len (λ (s : Seen). p s.label) ys
 first_same p [] [] count labels = refl
 first_same p [] (y ∷ ys) count labels = absurd (omega (arith, count))
 first_same p (x ∷ xs) [] count labels = absurd (omega (arith, count))

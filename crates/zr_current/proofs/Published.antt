@@ -86,7 +86,7 @@ module _ (size : ℕ) (big : 8388608 ≤ whole size) (n m k j : ℕ) (few : n < 
 
 -- ---- what is written
 
-has_or : (xs : List ℕ) (x : ℕ) → Contains xs x ⊎ (Contains xs x → ⊥)
+pub has_or : (xs : List ℕ) (x : ℕ) → Contains xs x ⊎ (Contains xs x → ⊥)
 has_or [] x = inr (λ has. let lt = has.1 in omega (arith, lt))
 has_or (y ∷ xs) x = elim (cases_eq y x) [
   | inl same ↦ inl (0, omega arith, same)
@@ -102,7 +102,7 @@ has_or (y ∷ xs) x = elim (cases_eq y x) [
 
 module _ (sizes : List ℕ) (u : Uber) (long : length (uber_block u) ≡ 4096) where
   -- a write of the root meets no bytes that lie apart from both its places
-  clear : (places : List ℕ) (first sl at : ℕ)
+  pub clear : (places : List ℕ) (first sl at : ℕ)
       → (Contains places sl → (m : ℕ) → (m ≡ first) ⊎ (m ≡ first + 2) → (ring_slot_at (slice_index sizes sl) m (slot_of u.txg) + 4096 ≤ at) ⊎ (at + 4096 ≤ ring_slot_at (slice_index sizes sl) m (slot_of u.txg)))
       → (w : PendingWrite) → IsRootPut sizes places first u w → ¬ Meets w sl at 4096
   clear places first sl at apart w put =
@@ -136,10 +136,10 @@ module _ (sizes : List ℕ) (u : Uber) (long : length (uber_block u) ≡ 4096) w
       step a b (added_none is) same = ap (λ (s : Stand). map length s.seen) is ∙ same
       step a b (added w may written) same = written.seen.sizes ∙ same
 
-flush_seen : (old new : World) → IsFlushed old new → new.now.seen ≡ old.now.seen
+pub flush_seen : (old new : World) → IsFlushed old new → new.now.seen ≡ old.now.seen
 flush_seen old new flush = ap (λ (s : Stand). s.seen) flush.step
 
-flush_durable : (old new : World) → IsFlushed old new → new.now.durable ≡ old.now.seen
+pub flush_durable : (old new : World) → IsFlushed old new → new.now.durable ≡ old.now.seen
 flush_durable old new flush = ap (λ (s : Stand). s.durable) flush.step
 
 -- ---- a root that is published
@@ -186,10 +186,10 @@ module _ (sizes both all : List ℕ) (u : Uber) (long : length (uber_block u) �
       ∙ (keeps sizes u long all 1 sl at p.second p.whole (λ w put. clear sizes u long all 1 sl at apart_from w put) p.rest
       ∙ ap (λ (ds : List (List ℕ)). part (disk ds sl) at 4096) second_seen)
 
-  low_place : place < 32
+  pub low_place : place < 32
   low_place = omega arith
 
-  below_four : (m f : ℕ) → f ≤ 1 → (m ≡ f) ⊎ (m ≡ f + 2) → m < 4
+  pub below_four : (m f : ℕ) → f ≤ 1 → (m ≡ f) ⊎ (m ≡ f + 2) → m < 4
   below_four m f le (inl is) = omega (arith, is, le)
   below_four m f le (inr is) = omega (arith, is, le)
 
@@ -207,13 +207,13 @@ module _ (sizes both all : List ℕ) (u : Uber) (long : length (uber_block u) �
   ring_rest sl n k few low differ =
       rest_keeps sl (ring_slot_at (size_at sl) n k) (λ has m is. rings_apart (size_at sl) (big_all sl has) n m k place few (below_four m 1 (omega arith) is) low low_place (differ has m is))
 
-  not_odd : (n m : ℕ) → (n ≡ 0) ⊎ (n ≡ 2) → (m ≡ 1) ⊎ (m ≡ 3) → n ≢ m
+  pub not_odd : (n m : ℕ) → (n ≡ 0) ⊎ (n ≡ 2) → (m ≡ 1) ⊎ (m ≡ 3) → n ≢ m
   not_odd n m (inl is) (inl at) same = omega (arith, is, at, same)
   not_odd n m (inl is) (inr at) same = omega (arith, is, at, same)
   not_odd n m (inr is) (inl at) same = omega (arith, is, at, same)
   not_odd n m (inr is) (inr at) same = omega (arith, is, at, same)
 
-  even_or_odd : (n : ℕ) → n < 4 → ((n ≡ 0) ⊎ (n ≡ 2)) ⊎ ((n ≡ 1) ⊎ (n ≡ 3))
+  pub even_or_odd : (n : ℕ) → n < 4 → ((n ≡ 0) ⊎ (n ≡ 2)) ⊎ ((n ≡ 1) ⊎ (n ≡ 3))
   even_or_odd n few = elim (cases_eq n 0) [
     | inl zero_is ↦ inl (inl zero_is)
     | inr not_zero ↦ (elim (cases_eq n 1) [

@@ -1,6 +1,7 @@
 -- What the slots show once the next root of a pool was published.
 use Rattle.std.specs.Prelude.{◌≡◌, ◌⊎◌, ℕ, ◌+◌, ◌<◌, ◌≤◌, List, length, Some}
 use Rattle.zr_image.specs.Current.{IsShown, IsShownAt, seen_at}
+use Rattle.zr_image.specs.Honest.{IsMark, Mark}
 use Rattle.zr_label.specs.Blocks.{uber_block}
 use Rattle.zr_label.specs.Geometry.{slot_of}
 use Rattle.zr_label.specs.declared.root.Label.{Label}
@@ -16,6 +17,14 @@ pub record IsNextOf (last u : Uber) : Type 0 where
   pub guid : u.guid ≡ last.guid
   pub count : u.count ≡ last.count
   pub rows : u.rows ≡ last.rows
+
+-- the block is no label and no root
+abbrev pub IsNoMark : List ℕ → Type 0
+IsNoMark block = (m : Mark) → ¬ IsMark block m
+
+-- a ring slot keeps its block, or it is the place of the root, which stands there, or no root does
+abbrev pub IsRingOf : Uber → ℕ → List ℕ → List ℕ → Type 0
+IsRingOf u k old new = (new ≡ old) ⊎ ((k ≡ slot_of u.txg) × ((new ≡ uber_block u) ⊎ IsNoMark new))
 
 -- The disks keep their label blocks. A ring slot keeps its block, or it has that of the root, in the place of the root's group.
 pub record PutsRoot (before after : List (List ℕ)) (u : Uber) : Type 0 where

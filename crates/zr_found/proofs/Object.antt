@@ -25,7 +25,7 @@ use Rattle.zr_found.proofs.Tables.{set_upto, upto_is, upto_has}
 
 -- ---- whether a leaf is lost
 
-same_or : (xs ys : List ℕ) → (xs ≡ ys) ⊎ (xs ≢ ys)
+pub same_or : (xs ys : List ℕ) → (xs ≡ ys) ⊎ (xs ≢ ys)
 same_or [] [] = inl refl
 same_or [] (y ∷ ys) = inr (λ e. cc)
 same_or (x ∷ xs) [] = inr (λ e. cc)

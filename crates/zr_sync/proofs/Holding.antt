@@ -62,7 +62,7 @@ metadata_written n1 n2 c1 c2 t1 t2 w1 w2 x y z s o wrote t disks held stored wri
 -- ---- a root
 
 -- the units of an open pool's devices end before the last two labels of their disks
-below_labels : (sizes : List ℕ) (pool : OpenPool) → IsOpen sizes pool → EndBelowLabels sizes pool.table.slots (devices_in pool.space)
+pub below_labels : (sizes : List ℕ) (pool : OpenPool) → IsOpen sizes pool → EndBelowLabels sizes pool.table.slots (devices_in pool.space)
 below_labels sizes pool o d slot lt is =
     let inside : d < pool.table.count = let n = o.devices in omega (arith, lt, n) in
     subst (λ (r : DevRow). unit_at r.units ≤ label_at (slice_index sizes slot) 2) (sym (o.rows d inside)) (units_below (slice_index sizes slot) _ (o.disks d slot inside is))

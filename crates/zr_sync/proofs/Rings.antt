@@ -102,7 +102,7 @@ end_clear : (size n txg u units slot sl : ℕ) (block : List ℕ) → u < units 
 end_clear size n txg u units slot sl block lt below low met = let begins = met.begins in omega (arith, lt, below, low, begins)
 
 module _ (sizes : List ℕ) (slots : List (Option ℕ)) (ds : Devices) (below : EndBelowLabels sizes slots ds) (u : Uber) (lawful : IsUber u) where
-  put_clear : (places : List ℕ) (first : ℕ) → ((size : ℕ) → label_at size first + 262144 ≤ 4194304) → ((size : ℕ) → label_at size 2 ≤ label_at size (first + 2))
+  pub put_clear : (places : List ℕ) (first : ℕ) → ((size : ℕ) → label_at size first + 262144 ≤ 4194304) → ((size : ℕ) → label_at size 2 ≤ label_at size (first + 2))
       → (d unit sl : ℕ) → d < ds.count → unit < (ds.row d).units → views.slot_of slots d ≡ Some sl → (w : PendingWrite) → IsRootPut sizes places first u w → ¬ Meets w sl (unit_at unit) 4096
   put_clear places first front end d unit sl known inside there w put =
       let block = uber_block u in
@@ -115,7 +115,7 @@ module _ (sizes : List ℕ) (slots : List (Option ℕ)) (ds : Devices) (below : 
   -- ---- units that stay
 
   -- each unit of each device has its bytes
-  abbrev KeepsUnits : List (List ℕ) → List (List ℕ) → Type 0
+  abbrev pub KeepsUnits : List (List ℕ) → List (List ℕ) → Type 0
   KeepsUnits before now = (d unit sl : ℕ) → d < ds.count → unit < (ds.row d).units → views.slot_of slots d ≡ Some sl → part (disk now sl) (unit_at unit) 4096 ≡ part (disk before sl) (unit_at unit) 4096
 
   puts_keep : (places : List ℕ) (first : ℕ) → ((size : ℕ) → label_at size first + 262144 ≤ 4194304) → ((size : ℕ) → label_at size 2 ≤ label_at size (first + 2)) → (old new : World) → WritesOnly (IsRootPut sizes places first u) old new → KeepsUnits old.now.seen new.now.seen
@@ -158,7 +158,7 @@ module _ (sizes : List ℕ) (slots : List (Option ℕ)) (ds : Devices) (below : 
 
   -- ---- addresses
 
-  address_keeps : (before now : List (List ℕ)) → KeepsUnits before now → (a : Dva) → views.address_bytes (record { disks = now; slots = slots; devices = ds }) a ≡ views.address_bytes (record { disks = before; slots = slots; devices = ds }) a
+  pub address_keeps : (before now : List (List ℕ)) → KeepsUnits before now → (a : Dva) → views.address_bytes (record { disks = now; slots = slots; devices = ds }) a ≡ views.address_bytes (record { disks = before; slots = slots; devices = ds }) a
   address_keeps before now kept a = each (places_of a)
     where
       unit_same : (d unit : ℕ) → (d < ds.count) × (unit < (ds.row d).units) → views.unit_bytes now (views.slot_of slots d) unit ≡ views.unit_bytes before (views.slot_of slots d) unit
