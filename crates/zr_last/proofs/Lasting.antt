@@ -1,15 +1,17 @@
 -- The disks show the last root of a pool, behind each of its steps.
-use Rattle.std.proofs.Common.{◌≡◌, ℕ, Bool, List, Option, Some, Ok, length, map, sym, ◌∙◌, ap, subst, arith}
+use Rattle.std.proofs.Common.{◌≡◌, ℕ, ◌+◌, Bool, List, Option, Some, None, Ok, length, map, refl, sym, ◌∙◌, ap, subst, arith}
+use Rattle.std.specs.Prelude.{IfSome}
 use Rattle.zr_image.specs.Current.{FindsCurrent, ShowsAll, slots_of}
 use Rattle.zr_label.specs.Blocks.{IsUber}
 use Rattle.zr_label.specs.declared.root.Seen.{Seen}
 use Rattle.zr_label.specs.declared.root.Uber.{Uber}
 use Rattle.zr_newest.proofs.Newest.{above_newest, current_newest, devices_stay, newest_still, published_newest}
 use Rattle.zr_newest.specs.Newest.{AreAt, HaveLabels, IsAbove, IsNewestOn}
+use Rattle.zr_shelf.specs.Counts.{Counts}
 use Rattle.zr_shelf.specs.Moments.{World}
 use Rattle.zr_sync.specs.Commits.{IsNextRoot, IsShownFrom}
-use Rattle.zr_sync.specs.Pools.{IsAfter, IsOpen, IsSameIdentity}
-use Rattle.zr_sync.specs.Writes.{WritesIntoFree}
+use Rattle.zr_sync.specs.Pools.{IsAfter, IsOpen}
+use Rattle.zr_sync.specs.Writes.{WritesBlocks, WritesIntoFree}
 use Rattle.zr_sync.specs.declared.open.OpenPool.{OpenPool}
 use Rattle.zr_sync.specs.declared.open.Table.{Table}
 use Rattle.zr_current.specs.Current.{GoesOnFrom, HasSlots}
@@ -42,10 +44,16 @@ pub publishes : (sizes : List ℕ) (pool : OpenPool) (last : Option Uber) (u : U
 publishes sizes pool last u before now seen ready sized lawful count rows shown above labels devices =
     published_newest before.now.seen now.now.seen u pool.table.slots seen lawful above (root_put sizes pool last u before now ready sized lawful count rows shown) labels devices (root_stands sizes pool last u before now ready sized lawful count rows shown)
 
+-- blocks of objects are units
+pub blocks_last : {n1 n2 : List ℕ} {c1 c2 : Counts} {t1 t2 : Type 0} {w1 w2 : World} {x y : OpenPool} → IsOpen n1 x → map length w1.now.seen ≡ n1 → t1 → WritesBlocks n1 n2 c1 c2 t1 t2 w1 w2 x y → KeepsLast w1 w2 x y
+blocks_last {n1} {n2} {c1} {c2} {t1} {t2} {w1} {w2} {x} {y} ready sized told wrote h =
+    units_last n1 x y w1 w2 ready sized (wrote.goes.written told)
+    (record { last = ap (λ (p : OpenPool). p.last) wrote.rest; guid = ap (λ (p : OpenPool). p.guid) wrote.rest; table = ap (λ (p : OpenPool). p.table) wrote.rest }) h
+
 -- ---- a commit
 
 module _ (sizes : List ℕ) (old new : OpenPool) (reset : Bool) (u : Uber) (before mid now : World) (ready : IsOpen sizes old) (lawful : IsUber u) (sized : map length before.now.seen ≡ sizes) (wrote : WritesIntoFree old before mid) (shown : IsShownFrom sizes old u mid now)
-    (next : IsNextRoot old reset u) (same : IsSameIdentity old new) (is_last : new.last ≡ Some u) (h : ShowsLast before.now.seen old) where
+    (next : IsNextRoot old reset u) (guid_is : new.guid ≡ old.guid) (table_is : new.table ≡ old.table) (is_last : new.last ≡ Some u) (h : ShowsLast before.now.seen old) where
   stays : IsNewestOn mid.now.seen h.root old.table.slots
   stays = newest_still before.now.seen mid.now.seen h.root old.table.slots (rings_kept sizes old before mid ready sized wrote) h.newest
 
@@ -63,14 +71,22 @@ module _ (sizes : List ℕ) (old new : OpenPool) (reset : Bool) (u : Uber) (befo
       publishes sizes old old.last u mid now stays.seen ready (sized_now sizes old before mid ready sized wrote) lawful next.count next.rows shown above stays.labels
       (devices_stay mid.now.seen h.root u old.table.slots stays guid (next.count ∙ h.from.count) (next.rows ∙ h.from.rows) stays.seen stays.labels)
 
-  pub commit_last : ShowsLast now.now.seen new
-  commit_last = record {
+  commit_shows : ShowsLast now.now.seen new
+  commit_shows = record {
     root = u;
     from = record {
       last = is_last;
-      guid = same.guid ∙ sym next.guid;
-      count = ap (λ (t : Table). t.count) same.table ∙ sym next.count;
-      rows = ap (λ (t : Table). t.rows) same.table ∙ sym next.rows;
+      guid = guid_is ∙ sym next.guid;
+      count = ap (λ (t : Table). t.count) table_is ∙ sym next.count;
+      rows = ap (λ (t : Table). t.rows) table_is ∙ sym next.rows;
     };
-    newest = subst (λ (t : Table). IsNewestOn now.now.seen u t.slots) (sym same.table) newest;
+    newest = subst (λ (t : Table). IsNewestOn now.now.seen u t.slots) (sym table_is) newest;
   }
+
+pub commit_last : (sizes behind : List ℕ) (old new : OpenPool) (reset : Bool) (before now : World) → IsOpen sizes old → IsOpen behind new → map length before.now.seen ≡ sizes → new.group.txg ≡ old.group.txg + 1 → IfSome new.last (IsNextRoot old reset)
+    → IfSome new.last (λ u. (mid : World) × WritesIntoFree old before mid × IsShownFrom sizes old u mid now) → new.guid ≡ old.guid → new.table ≡ old.table → KeepsLast before now old new
+commit_last sizes behind old new reset before now ready later sized txg next wrote guid table h = by_last new.last refl next wrote later.after
+  where
+    by_last : (o : Option Uber) → new.last ≡ o → IfSome o (IsNextRoot old reset) → IfSome o (λ u. (mid : World) × WritesIntoFree old before mid × IsShownFrom sizes old u mid now) → IsAfter o new.group.txg → ShowsLast now.now.seen new
+    by_last None is next wrote after = absurd (let first = ready.first in omega (arith, after, txg, first))
+    by_last (Some u) is next wrote after = commit_shows sizes old new reset u before wrote.0 now ready after.0 sized wrote.1 wrote.2 next guid table is h

@@ -1,5 +1,5 @@
 //! The laws, as calls that do nothing: a caller learns them by their contracts.
-ghost use Rattle.std.specs.Prelude.{◌≡◌, ℕ, Bool, List, Option, Some, Ok, map, length};
+ghost use Rattle.std.specs.Prelude.{◌≡◌, ℕ, ◌+◌, Bool, List, Option, Ok, IfSome, map, length};
 ghost use Rattle.zr_current.specs.Current.{GoesOnFrom, HasSlots};
 ghost use Rattle.zr_image.specs.Current.{FindsCurrent, ShowsAll, slots_of};
 ghost use Rattle.zr_label.specs.Blocks.{IsUber};
@@ -8,7 +8,7 @@ ghost use Rattle.zr_label.specs.declared.root.Uber.{Uber};
 ghost use Rattle.zr_newest.specs.Newest.{AreAt, HaveLabels, IsAbove, IsNewestOn};
 ghost use Rattle.zr_shelf.specs.Moments.{World};
 ghost use Rattle.zr_sync.specs.Commits.{IsNextRoot, IsShownFrom};
-ghost use Rattle.zr_sync.specs.Pools.{IsOpen, IsSameIdentity};
+ghost use Rattle.zr_sync.specs.Pools.{IsOpen};
 ghost use Rattle.zr_sync.specs.Writes.{WritesIntoFree};
 ghost use Rattle.zr_sync.specs.declared.open.OpenPool.{OpenPool};
 ghost use Rattle.zr_last.specs.Last.{KeepsLast, KeepsRoot, ShowsLast};
@@ -23,10 +23,10 @@ pub fn units_keep_last()
     ensures { (sizes : List ℕ) (old new : OpenPool) (before now : World) → IsOpen sizes old → map length before.now.seen ≡ sizes → WritesIntoFree old before now → KeepsRoot old new → KeepsLast before now old new }
 {}
 
-/// Behind a commit the disks show its root.
+/// Behind a commit, as its clauses tell it, the disks show its root.
 pub fn commit_keeps_last()
-    ensures { (sizes : List ℕ) (old new : OpenPool) (reset : Bool) (u : Uber) (before mid now : World) → IsOpen sizes old → IsUber u → map length before.now.seen ≡ sizes → WritesIntoFree old before mid → IsShownFrom sizes old u mid now
-        → IsNextRoot old reset u → IsSameIdentity old new → new.last ≡ Some u → KeepsLast before now old new }
+    ensures { (sizes behind : List ℕ) (old new : OpenPool) (reset : Bool) (before now : World) → IsOpen sizes old → IsOpen behind new → map length before.now.seen ≡ sizes → new.group.txg ≡ old.group.txg + 1 → IfSome new.last (IsNextRoot old reset)
+        → IfSome new.last (λ u. (mid : World) × WritesIntoFree old before mid × IsShownFrom sizes old u mid now) → new.guid ≡ old.guid → new.table ≡ old.table → KeepsLast before now old new }
 {}
 
 /// A root that is published above all that stand is the newest, whichever root its slots had before, and wherever the labels say that its devices are.

@@ -1,9 +1,11 @@
 -- The newest root of a pool, found, kept and followed by the next.
-use Rattle.std.proofs.Common.{◌≡◌, ◌≢◌, ◌⊎◌, inl, inr, ℕ, ◌<◌, ◌≤◌, Bool, true, false, List, length, Option, Some, Ok, refl, sym, ◌∙◌, ap, subst, arith, ⊎_elim}
+use Rattle.std.proofs.Common.{◌≡◌, ◌≢◌, ◌⊎◌, inl, inr, ℕ, ◌<◌, ◌≤◌, Bool, true, false, List, length, Option, Some, None, Ok, refl, sym, ◌∙◌, ap, subst, arith, ⊎_elim}
+use Rattle.std.specs.Prelude.{if◌then◌else◌}
+use Rattle.std.specs.List.{position}
 use Rattle.std.specs.Str.{bytes_eq}
 use Rattle.std.proofs.lemmas.Bool.{cases_lt}
 use Rattle.std.proofs.lemmas.Slice.Eq.{bytes_eq-Decides}
-use Rattle.zr_image.specs.Current.{AreTwoCopies, AreTwoRoots, FindsCurrent, IsShown, ShowsAll, seen_at}
+use Rattle.zr_image.specs.Current.{AreTwoCopies, AreTwoRoots, FindsCurrent, IsShown, ShowsAll, is_device, row_at, seen_at, slots_of}
 use Rattle.zr_label.proofs.Ubers.{one_uber}
 use Rattle.zr_label.specs.Blocks.{IsUber, uber_block}
 use Rattle.zr_label.specs.declared.root.Label.{Label}
@@ -11,12 +13,13 @@ use Rattle.zr_label.specs.declared.root.Seen.{Seen}
 use Rattle.zr_label.specs.declared.root.Uber.{Uber}
 use Rattle.zr_scan.proofs.Fresh.{same_label}
 use Rattle.zr_scan.specs.Scan.{ShowsLabel}
+use Rattle.zr_rules.specs.Places.{is_gone}
 use Rattle.zr_shelf.specs.Disks.{disk}
 use Rattle.zr_view.specs.Views.{slot_of}
 use Rattle.zr_newest.proofs.Found.{Found, finds, found, found_too, has_slot, one_pool}
 use Rattle.zr_newest.proofs.Kept.{device_kept, labels_on, root_kept, stood_or_put}
-use Rattle.zr_newest.proofs.Seen.{listed, long_seen, one_label_at, placed_at, root_of_shown, same_slots, seen_labels, shown_of_root, slots_same}
-use Rattle.zr_newest.specs.Newest.{AreAt, HaveLabels, IsAbove, IsNewestOn, KeepsRings, PutsRoot, ShowsRoot, StandsAtDevice}
+use Rattle.zr_newest.proofs.Seen.{listed, long_seen, one_label_at, past_device, place_by_row, placed_at, root_of_shown, same_slots, seen_labels, shown_of_root, slots_same}
+use Rattle.zr_newest.specs.Newest.{AreAt, HasOwnDevices, HaveLabels, IsAbove, IsNewestOn, KeepsRings, PutsRoot, ShowsRoot, StandsAtDevice}
 
 -- ---- what is found
 
@@ -127,6 +130,13 @@ above_newest disks u next slots h guid later = λ slot v is same.
     (λ (lt : v.txg < u.txg). omega (arith, lt, later))
     (h.newest slot v is (same ∙ guid))
 
+-- so is one of a later group than the current root's
+pub above_current : (disks : List (List ℕ)) (seen : List Seen) (u next : Uber) → ShowsAll disks seen → FindsCurrent seen (Ok u) → u.txg < next.txg → IsAbove disks next
+above_current disks seen u next shown finds_it later = λ slot v is same.
+    let f = found seen u finds_it in
+    let low = f.current.highest v (slot, shown_of_root disks seen shown slot v is) in
+    omega (arith, low, later)
+
 pub published_newest : (before after : List (List ℕ)) (u : Uber) (slots : List (Option ℕ)) (seen : List Seen) → IsUber u → IsAbove before u → PutsRoot before after u → HaveLabels before seen → AreAt slots u seen → StandsAtDevice after u slots → IsNewestOn after u slots
 published_newest before after u slots seen lawful above puts labels devices at = record {
   stands = at;
@@ -143,6 +153,17 @@ devices_stay disks u next slots h guid count rows seen labels =
     let n = h.labels.count ∙ sym labels.count in
     let same = slots_same h.seen seen n (one_label_at disks h.seen seen h.labels labels) u ∙ sym (same_slots u next seen guid count rows) in
     λ d. h.devices d ∙ ap (λ (these : List (Option ℕ)). slot_of these d) same
+
+-- one with some of its devices has these there, and no others
+pub devices_own : (u next : Uber) (slots mine : List (Option ℕ)) (seen : List Seen) → AreAt slots u seen → HasOwnDevices u next slots mine → AreAt mine next seen
+devices_own u next slots mine seen devices own d =
+    ⊎_elim (λ (lt : d < next.count). by_state lt (is_gone (row_at next d).state) refl) (λ (ge : next.count ≤ d). own.past d ge ∙ sym (past_device next seen d ge)) (cases_lt d next.count)
+  where
+    by_state : d < next.count → (gone : Bool) → is_gone (row_at next d).state ≡ gone → slot_of mine d ≡ slot_of (slots_of next seen) d
+    by_state lt true is = own.gone d lt is ∙ (sym (ap (λ (b : Bool). if b then None else position (λ (s : Seen). is_device next d s.label) seen) is) ∙ sym (listed next seen d lt))
+    by_state lt false is =
+        let h = own.there d lt is in
+        h.2 ∙ (devices d ∙ (listed u seen d h.0 ∙ (sym (place_by_row u next d own.guid (sym h.1) seen) ∙ sym (listed next seen d lt))))
 
 -- ---- what is found by it
 

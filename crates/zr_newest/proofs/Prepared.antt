@@ -1,12 +1,10 @@
 -- A slot that is prepared, beside a pool and for it.
 use Rattle.std.proofs.Common.{◌≡◌, ◌≢◌, ◌⊎◌, inl, inr, ℕ, zero, suc, ◌+◌, ◌<◌, ◌≤◌, Bool, true, false, nat_lt, cond, not, List, [], ◌∷◌, length, Option, Some, None, refl, sym, ◌∙◌, ap, subst, arith, ⊎_elim}
-use Rattle.std.specs.Prelude.{◌==◌, ◌&&◌, slice_set, if◌then◌else◌}
+use Rattle.std.specs.Prelude.{slice_set, if◌then◌else◌}
 use Rattle.std.specs.List.{position, position_or_len}
-use Rattle.std.proofs.Math.Path.{fun_ext}
 use Rattle.std.proofs.lemmas.Bool.{cases_lt, cases_eq}
 use Rattle.std.proofs.lemmas.Bool.Decides.{nat_tests}
 use Rattle.std.proofs.lemmas.List.{get_or-set_other, get_or-set_same, length-set}
-use Rattle.zr_base.specs.declared.space.DevRow.{DevRow}
 use Rattle.zr_image.specs.Current.{is_device, row_at, seen_at, slot_of_device}
 use Rattle.zr_label.specs.Blocks.{SpellsUber}
 use Rattle.zr_label.specs.Geometry.{slot_of as ring_of}
@@ -20,7 +18,7 @@ use Rattle.zr_scan.specs.Scan.{ShowsLabel, Stands}
 use Rattle.zr_shelf.specs.Disks.{disk}
 use Rattle.zr_view.specs.Views.{slot_of}
 use Rattle.zr_newest.proofs.Kept.{device_on, label_on, root_was}
-use Rattle.zr_newest.proofs.Seen.{listed, past_device}
+use Rattle.zr_newest.proofs.Seen.{listed, past_device, place_by_row}
 use Rattle.zr_newest.specs.Newest.{AreAt, HaveLabels, IsNewestOn, JoinsDevice, PreparesSlot, ShowsRoot}
 
 -- ---- what is seen
@@ -128,16 +126,8 @@ module _ (before after : List (List ℕ)) (slot : ℕ) (l : Label) (prepares : P
 
   -- the next device has the slot
   module _ (u next : Uber) (slots mine : List (Option ℕ)) (devices : AreAt slots u seen) (joins : JoinsDevice before u next slots mine slot l) where
-    same_test : (d : ℕ) → row_at next d ≡ row_at u d → (o : Option Label) → is_device next d o ≡ is_device u d o
-    same_test d row None = refl
-    same_test d row (Some m) =
-        ap (λ (n : ℕ). m.guid == n && (m.index == d && (m.added == (row_at next d).added && m.units == (row_at next d).units))) joins.guid
-        ∙ ap (λ (r : DevRow). m.guid == u.guid && (m.index == d && (m.added == r.added && m.units == r.units))) row
-
     same_place : (d : ℕ) → d < u.count → slot_of_device next behind d ≡ slot_of_device u behind d
-    same_place d lt =
-        ap (λ (r : DevRow). if is_gone r.state then None else position (λ (s : Seen). is_device next d s.label) behind) (joins.rows d lt)
-        ∙ ap (λ (q : Seen → Bool). if is_gone (row_at u d).state then None else position q behind) (fun_ext (λ (s : Seen). same_test d (joins.rows d lt) s.label))
+    same_place d lt = place_by_row u next d joins.guid (joins.rows d lt) behind
 
     no_other : (k : ℕ) → k ≢ slot → k < length seen → is_device next u.count (seen_at seen k).label ≡ false
     no_other k differ lt = by_label (seen_at seen k).label (labels.each k (let n = labels.count in omega (arith, lt, n)))

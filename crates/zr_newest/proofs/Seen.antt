@@ -110,6 +110,19 @@ same_slots u next seen guid count rows =
     ∙ (ap (λ (n : ℕ). slots_of (record next { guid = u.guid; count = n }) seen) count
     ∙ ap (λ (rs : List DevRow). slots_of (record next { guid = u.guid; count = u.count; rows = rs }) seen) rows)
 
+-- a device with the row of another root's is where that is
+module _ (u next : Uber) (d : ℕ) (guid : next.guid ≡ u.guid) (row : row_at next d ≡ row_at u d) where
+  same_test : (o : Option Label) → is_device next d o ≡ is_device u d o
+  same_test None = refl
+  same_test (Some m) =
+      ap (λ (n : ℕ). m.guid == n && (m.index == d && (m.added == (row_at next d).added && m.units == (row_at next d).units))) guid
+      ∙ ap (λ (r : DevRow). m.guid == u.guid && (m.index == d && (m.added == r.added && m.units == r.units))) row
+
+  pub place_by_row : (seen : List Seen) → slot_of_device next seen d ≡ slot_of_device u seen d
+  place_by_row seen =
+      ap (λ (r : DevRow). if is_gone r.state then None else position (λ (s : Seen). is_device next d s.label) seen) row
+      ∙ ap (λ (q : Seen → Bool). if is_gone (row_at u d).state then None else position q seen) (fun_ext (λ (s : Seen). same_test s.label))
+
 -- the label of a device of the root
 pub device_label : (u : Uber) (d : ℕ) (o : Option Label) → d < u.count → is_gone (row_at u d).state ≡ false → is_device u d o ≡ true → (l : Label) × (o ≡ Some l) × IsRootFor l u × (l.index ≡ d)
 device_label u d None some there is = absurd cc

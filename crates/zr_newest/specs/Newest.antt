@@ -1,5 +1,5 @@
 -- The newest root of a pool on the disks, and what keeps it so.
-use Rattle.std.specs.Prelude.{◌≡◌, ◌≢◌, ◌⊎◌, ℕ, ◌+◌, ◌<◌, true, false, List, length, Option, Some}
+use Rattle.std.specs.Prelude.{◌≡◌, ◌≢◌, ◌⊎◌, ℕ, ◌+◌, ◌<◌, ◌≤◌, true, false, List, length, Option, Some, None}
 use Rattle.zr_image.specs.Current.{is_device, row_at, seen_at, slots_of}
 use Rattle.zr_label.specs.Blocks.{padding, uber_block}
 use Rattle.zr_label.specs.Geometry.{slot_of as ring_of}
@@ -54,6 +54,13 @@ pub record IsNewestOn (disks : List (List ℕ)) (u : Uber) (slots : List (Option
   pub seen : List Seen
   pub labels : HaveLabels disks seen
   pub devices : AreAt slots u seen
+
+-- the root has the devices of the other that it names and that are not gone by it, each with its row and in its slot, and no other device has a slot
+pub record HasOwnDevices (u own : Uber) (slots mine : List (Option ℕ)) : Type 0 where
+  pub guid : own.guid ≡ u.guid
+  pub there : (d : ℕ) → d < own.count → is_gone (row_at own d).state ≡ false → (d < u.count) × (row_at u d ≡ row_at own d) × (slot_of mine d ≡ slot_of slots d)
+  pub gone : (d : ℕ) → d < own.count → is_gone (row_at own d).state ≡ true → slot_of mine d ≡ None
+  pub past : (d : ℕ) → own.count ≤ d → slot_of mine d ≡ None
 
 -- ---- what is written
 

@@ -6,7 +6,7 @@ ghost use Rattle.zr_label.specs.declared.root.Label.{Label};
 ghost use Rattle.zr_label.specs.declared.root.Seen.{Seen};
 ghost use Rattle.zr_label.specs.declared.root.Uber.{Uber};
 ghost use Rattle.zr_view.specs.Views.{slot_of};
-ghost use Rattle.zr_newest.specs.Newest.{AreAt, HaveLabels, IsAbove, IsNewestOn, JoinsDevice, KeepsRings, PreparesSlot, PutsRoot, ShowsRoot, StandsAtDevice};
+ghost use Rattle.zr_newest.specs.Newest.{AreAt, HasOwnDevices, HaveLabels, IsAbove, IsNewestOn, JoinsDevice, KeepsRings, PreparesSlot, PutsRoot, ShowsRoot, StandsAtDevice};
 
 /// The current root that the slots show is the newest of its pool, with the devices that it has by their labels.
 pub fn current_is_newest()
@@ -18,9 +18,10 @@ pub fn newest_stays()
     ensures { (before after : List (List ℕ)) (u : Uber) (slots : List (Option ℕ)) → KeepsRings before after → IsNewestOn before u slots → IsNewestOn after u slots }
 {}
 
-/// A root of a later group of the pool is above all that stand.
+/// A root of a later group of the pool is above all that stand, and so is one of a later group than the current root's.
 pub fn later_is_above()
-    ensures { (disks : List (List ℕ)) (u next : Uber) (slots : List (Option ℕ)) → IsNewestOn disks u slots → next.guid ≡ u.guid → u.txg < next.txg → IsAbove disks next }
+    ensures current { (disks : List (List ℕ)) (seen : List Seen) (u next : Uber) → ShowsAll disks seen → FindsCurrent seen (Ok u) → u.txg < next.txg → IsAbove disks next }
+    ensures newest { (disks : List (List ℕ)) (u next : Uber) (slots : List (Option ℕ)) → IsNewestOn disks u slots → next.guid ≡ u.guid → u.txg < next.txg → IsAbove disks next }
 {}
 
 /// A root above all that stood, which was put into ring slots, one of them at a device of it, is the newest from then on.
@@ -28,9 +29,10 @@ pub fn published_is_newest()
     ensures { (before after : List (List ℕ)) (u : Uber) (slots : List (Option ℕ)) (seen : List Seen) → IsUber u → IsAbove before u → PutsRoot before after u → HaveLabels before seen → AreAt slots u seen → StandsAtDevice after u slots → IsNewestOn after u slots }
 {}
 
-/// A root with the devices of the newest has them where that has them.
+/// A root with the devices of the newest has them where that has them. So has one with some of them, as their labels tell.
 pub fn same_devices_stay()
-    ensures { (disks : List (List ℕ)) (u next : Uber) (slots : List (Option ℕ)) → IsNewestOn disks u slots → next.guid ≡ u.guid → next.count ≡ u.count → next.rows ≡ u.rows → (seen : List Seen) → HaveLabels disks seen → AreAt slots next seen }
+    ensures own { (u next : Uber) (slots mine : List (Option ℕ)) (seen : List Seen) → AreAt slots u seen → HasOwnDevices u next slots mine → AreAt mine next seen }
+    ensures all { (disks : List (List ℕ)) (u next : Uber) (slots : List (Option ℕ)) → IsNewestOn disks u slots → next.guid ≡ u.guid → next.count ≡ u.count → next.rows ≡ u.rows → (seen : List Seen) → HaveLabels disks seen → AreAt slots next seen }
 {}
 
 /// A slot that is prepared beside a pool, with a label that names no device of its newest root, leaves that root the newest.
