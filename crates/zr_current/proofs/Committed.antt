@@ -87,7 +87,7 @@ module _ (sizes : List ℕ) (pool : OpenPool) (ready : IsOpen sizes pool) where
   abbrev slots : List (Option ℕ)
   slots = pool.table.slots
 
-  large : (d slot : ℕ) → d < pool.table.count → slot_of slots d ≡ Some slot → 8388608 ≤ whole (slice_index sizes slot)
+  pub large : (d slot : ℕ) → d < pool.table.count → slot_of slots d ≡ Some slot → 8388608 ≤ whole (slice_index sizes slot)
   large d slot lt is = let used = disk_used (slice_index sizes slot) _ (ready.disks d slot lt is) in grind (arith, nat_tests, used)
 
   below : (d slot : ℕ) → d < pool.table.count → slot_of slots d ≡ Some slot → unit_at (units_of_dev pool.space.parts.devs d) ≤ label_at (slice_index sizes slot) 2

@@ -146,13 +146,13 @@ flush_durable old new flush = ap (λ (s : Stand). s.durable) flush.step
 
 module _ (sizes both all : List ℕ) (u : Uber) (long : length (uber_block u) ≡ 4096) (a b : World) (whole_disks : map length a.now.seen ≡ sizes)
     (big_both : (sl : ℕ) → Contains both sl → 8388608 ≤ whole (slice_index sizes sl)) (big_all : (sl : ℕ) → Contains all sl → 8388608 ≤ whole (slice_index sizes sl)) (p : IsPublished sizes both all u a b) where
-  abbrev place : ℕ
+  abbrev pub place : ℕ
   place = slot_of u.txg
 
-  abbrev size_at : ℕ → ℕ
+  abbrev pub size_at : ℕ → ℕ
   size_at sl = slice_index sizes sl
 
-  long_disk : (sl : ℕ) → length (disk a.now.seen sl) ≡ size_at sl
+  pub long_disk : (sl : ℕ) → length (disk a.now.seen sl) ≡ size_at sl
   long_disk sl = sym (get_or-map (λ (bytes : List ℕ). length bytes) a.now.seen sl []) ∙ ap (λ (ns : List ℕ). get_or ns sl 0) whole_disks
 
   first_seen : p.first.now.seen ≡ a.now.seen
@@ -173,7 +173,7 @@ module _ (sizes both all : List ℕ) (u : Uber) (long : length (uber_block u) �
       ∙ ap (λ (ds : List (List ℕ)). map length ds) first_seen)))
 
   -- bytes that the first writes leave, and that the others do
-  first_keeps : (sl at : ℕ) → (Contains both sl → (m : ℕ) → (m ≡ 0) ⊎ (m ≡ 2) → (ring_slot_at (size_at sl) m place + 4096 ≤ at) ⊎ (at + 4096 ≤ ring_slot_at (size_at sl) m place))
+  pub first_keeps : (sl at : ℕ) → (Contains both sl → (m : ℕ) → (m ≡ 0) ⊎ (m ≡ 2) → (ring_slot_at (size_at sl) m place + 4096 ≤ at) ⊎ (at + 4096 ≤ ring_slot_at (size_at sl) m place))
       → part (disk p.half.now.seen sl) at 4096 ≡ part (disk a.now.seen sl) at 4096
   first_keeps sl at apart_from =
       keeps sizes u long both 0 sl at p.first p.half (λ w put. clear sizes u long both 0 sl at apart_from w put) p.wrote
@@ -199,7 +199,7 @@ module _ (sizes both all : List ℕ) (u : Uber) (long : length (uber_block u) �
       ∙ first_keeps sl (label_block_at (size_at sl) n) (λ has m is. label_clear (size_at sl) (big_both sl has) n m 0 place few (below_four m 0 (omega arith) is) (omega arith) low_place)
 
   -- a slot of a ring that none of these writes has
-  ring_first : (sl n k : ℕ) → n < 4 → k < 32 → (Contains both sl → (m : ℕ) → (m ≡ 0) ⊎ (m ≡ 2) → (n ≢ m) ⊎ (k ≢ place)) → ring_block (size_at sl) (disk p.half.now.seen sl) n k ≡ ring_block (size_at sl) (disk a.now.seen sl) n k
+  pub ring_first : (sl n k : ℕ) → n < 4 → k < 32 → (Contains both sl → (m : ℕ) → (m ≡ 0) ⊎ (m ≡ 2) → (n ≢ m) ⊎ (k ≢ place)) → ring_block (size_at sl) (disk p.half.now.seen sl) n k ≡ ring_block (size_at sl) (disk a.now.seen sl) n k
   ring_first sl n k few low differ =
       first_keeps sl (ring_slot_at (size_at sl) n k) (λ has m is. rings_apart (size_at sl) (big_both sl has) n m k place few (below_four m 0 (omega arith) is) low low_place (differ has m is))
 
@@ -226,7 +226,7 @@ module _ (sizes both all : List ℕ) (u : Uber) (long : length (uber_block u) �
   ]
 
   -- the root stands in the first labels of the one slots, and in the others of all
-  stands_first : (sl n : ℕ) → (n ≡ 0) ⊎ (n ≡ 2) → Contains both sl → ring_block (size_at sl) (disk p.half.now.seen sl) n place ≡ uber_block u
+  pub stands_first : (sl n : ℕ) → (n ≡ 0) ⊎ (n ≡ 2) → Contains both sl → ring_block (size_at sl) (disk p.half.now.seen sl) n place ≡ uber_block u
   stands_first sl n is has =
       let durable = flush_durable p.half p.second p.between in
       ap (λ (ds : List (List ℕ)). ring_block (size_at sl) (disk ds sl) n place) (sym durable) ∙ by_label n is
