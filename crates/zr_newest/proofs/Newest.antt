@@ -181,8 +181,7 @@ module _ (disks : List (List ℕ)) (u : Uber) (slots : List (Option ℕ)) (seen 
       let place = placed_at u at.device seen at.slot at.known at.there (sym (listed u seen at.device at.known) ∙ (sym (devices_seen at.device) ∙ at.here)) in
       let n = long_seen disks seen shown in
       let lt = place.known in
-      let labels = (seen_labels disks seen shown).each at.slot (omega (arith, n, lt)) in
-      (
+      let labels = (seen_labels disks seen shown).each at.slot (omega (arith, n, lt)) in (
         at.slot,
         shown_of_root disks seen shown at.slot u (record {
           known = omega (arith, n, lt);

@@ -35,7 +35,7 @@ module _ (before after : List (List ℕ)) (slot : ℕ) (l : Label) (prepares : P
       | inl same ↦
           let n = h.count in
           let here : seen_at (with_label seen slot l) other ≡ record { label = Some l; ubers = []; newer = None } =
-              ap (λ (k : ℕ). seen_at (with_label seen slot l) k) same ∙ get_or-set_same seen slot (record { label = Some l; ubers = []; newer = None }) (record { label = None; ubers = []; newer = None }) (let known = prepares.known in omega (arith, known, n)) in
+          ap (λ (k : ℕ). seen_at (with_label seen slot l) k) same ∙ get_or-set_same seen slot (record { label = Some l; ubers = []; newer = None }) (record { label = None; ubers = []; newer = None }) (let known = prepares.known in omega (arith, known, n)) in
           subst (λ (x : Seen). ShowsLabel (length (disk after other)) (disk after other) x.label) (sym here)
           (subst (λ (k : ℕ). ShowsLabel (length (disk after k)) (disk after k) (Some l)) (sym same) prepares.label)
       | inr differ ↦
@@ -114,7 +114,7 @@ module _ (before after : List (List ℕ)) (slot : ℕ) (l : Label) (prepares : P
         by_state true gone = ap (λ (b : Bool). if b then None else position (λ (s : Seen). is_device u d s.label) behind) gone ∙ sym (ap (λ (b : Bool). if b then None else position (λ (s : Seen). is_device u d s.label) seen) gone)
         by_state false there =
             let same = position_stays (λ (s : Seen). is_device u d s.label) seen slot (record { label = Some l; ubers = []; newer = None }) known (apart d lt)
-                (λ at. free d (devices d ∙ (listed u seen d lt ∙ (ap (λ (b : Bool). if b then None else position (λ (s : Seen). is_device u d s.label) seen) there ∙ at)))) in
+            (λ at. free d (devices d ∙ (listed u seen d lt ∙ (ap (λ (b : Bool). if b then None else position (λ (s : Seen). is_device u d s.label) seen) there ∙ at)))) in
             ap (λ (o : Option ℕ). if is_gone (row_at u d).state then None else o) same
 
     pub devices_with : AreAt slots u behind
