@@ -5,8 +5,9 @@ use Rattle.zr_image.specs.Current.{FindsCurrent, ShowsAll, slots_of}
 use Rattle.zr_label.specs.Blocks.{IsUber}
 use Rattle.zr_label.specs.declared.root.Seen.{Seen}
 use Rattle.zr_label.specs.declared.root.Uber.{Uber}
+use Rattle.zr_newest.proofs.Kept.{labels_more, labels_on, root_kept}
 use Rattle.zr_newest.proofs.Newest.{above_newest, current_newest, devices_stay, newest_still, published_newest}
-use Rattle.zr_newest.specs.Newest.{AreAt, HaveLabels, IsAbove, IsNewestOn}
+use Rattle.zr_newest.specs.Newest.{AreAt, HaveLabels, IsAbove, IsNewestOn, KeepsLabels}
 use Rattle.zr_shelf.specs.Counts.{Counts}
 use Rattle.zr_shelf.specs.Moments.{World}
 use Rattle.zr_sync.specs.Commits.{IsNextRoot, IsShownFrom}
@@ -52,41 +53,58 @@ blocks_last {n1} {n2} {c1} {c2} {t1} {t2} {w1} {w2} {x} {y} ready sized told wro
 
 -- ---- a commit
 
-module _ (sizes : List ℕ) (old new : OpenPool) (reset : Bool) (u : Uber) (before mid now : World) (ready : IsOpen sizes old) (lawful : IsUber u) (sized : map length before.now.seen ≡ sizes) (wrote : WritesIntoFree old before mid) (shown : IsShownFrom sizes old u mid now)
-    (next : IsNextRoot old reset u) (guid_is : new.guid ≡ old.guid) (table_is : new.table ≡ old.table) (is_last : new.last ≡ Some u) (h : ShowsLast before.now.seen old) where
-  stays : IsNewestOn mid.now.seen h.root old.table.slots
-  stays = newest_still before.now.seen mid.now.seen h.root old.table.slots (rings_kept sizes old before mid ready sized wrote) h.newest
+-- where units were written, roots that stand stood there
+above_mid : (sizes : List ℕ) (pool : OpenPool) (before mid : World) (u : Uber) → IsOpen sizes pool → map length before.now.seen ≡ sizes → WritesIntoFree pool before mid → IsAbove before.now.seen u → IsAbove mid.now.seen u
+above_mid sizes pool before mid u ready sized wrote above = λ slot v is same. above slot v (root_kept before.now.seen mid.now.seen (rings_kept sizes pool before mid ready sized wrote) slot v is) same
 
-  guid : u.guid ≡ h.root.guid
-  guid = next.guid ∙ h.from.guid
+-- A commit of a pool whose next root is above all that stand, with its devices where the labels say.
+module _ (sizes behind : List ℕ) (old new : OpenPool) (reset : Bool) (before now : World) (ready : IsOpen sizes old) (later : IsOpen behind new) (sized : map length before.now.seen ≡ sizes) (txg : new.group.txg ≡ old.group.txg + 1) (next : IfSome new.last (IsNextRoot old reset))
+    (wrote : IfSome new.last (λ u. (mid : World) × WritesIntoFree old before mid × IsShownFrom sizes old u mid now)) (guid : new.guid ≡ old.guid) (table : new.table ≡ old.table) where
+  -- the root, and what was written for it
+  record Root : Type 0 where
+    pub root : Uber
+    pub is : new.last ≡ Some root
+    pub lawful : IsUber root
+    pub next_is : IsNextRoot old reset root
+    pub mid : World
+    pub into : WritesIntoFree old before mid
+    pub shown : IsShownFrom sizes old root mid now
 
-  above : IsAbove mid.now.seen u
-  above =
-      let txg = next.txg in
-      let after = (subst (λ (o : Option Uber). IsAfter o old.group.txg) h.from.last ready.after).1 in
-      above_newest mid.now.seen h.root u old.table.slots stays guid (omega (arith, txg, after))
+  the_root : Root
+  the_root = by_last new.last refl next wrote later.after
+    where
+      by_last : (o : Option Uber) → new.last ≡ o → IfSome o (IsNextRoot old reset) → IfSome o (λ u. (mid : World) × WritesIntoFree old before mid × IsShownFrom sizes old u mid now) → IsAfter o new.group.txg → Root
+      by_last None is h w after = absurd (let first = ready.first in omega (arith, after, txg, first))
+      by_last (Some u) is h w after = record { root = u; is = is; lawful = after.0; next_is = h; mid = w.0; into = w.1; shown = w.2 }
 
-  newest : IsNewestOn now.now.seen u old.table.slots
-  newest =
-      publishes sizes old old.last u mid now stays.seen ready (sized_now sizes old before mid ready sized wrote) lawful next.count next.rows shown above stays.labels
-      (devices_stay mid.now.seen h.root u old.table.slots stays guid (next.count ∙ h.from.count) (next.rows ∙ h.from.rows) stays.seen stays.labels)
+  -- the labels are as they were
+  pub commit_labels : KeepsLabels before.now.seen now.now.seen
+  commit_labels =
+      let r = the_root in
+      let first = (rings_kept sizes old before r.mid ready sized r.into).labels in
+      let last = (root_put sizes old old.last r.root r.mid now ready (sized_now sizes old before r.mid ready sized r.into) r.lawful r.next_is.count r.next_is.rows r.shown).labels in
+      labels_more before.now.seen r.mid.now.seen now.now.seen first last
 
-  commit_shows : ShowsLast now.now.seen new
-  commit_shows = record {
-    root = u;
-    from = record {
-      last = is_last;
-      guid = guid_is ∙ sym next.guid;
-      count = ap (λ (t : Table). t.count) table_is ∙ sym next.count;
-      rows = ap (λ (t : Table). t.rows) table_is ∙ sym next.rows;
-    };
-    newest = subst (λ (t : Table). IsNewestOn now.now.seen u t.slots) (sym table_is) newest;
-  }
+  pub commit_places : ((u : Uber) → IsNextRoot old reset u → IsAbove before.now.seen u) → (seen : List Seen) → HaveLabels before.now.seen seen → ((u : Uber) → IsNextRoot old reset u → AreAt old.table.slots u seen) → ShowsLast now.now.seen new
+  commit_places above seen labels devices =
+      let r = the_root in
+      let u = r.root in
+      let keeps = rings_kept sizes old before r.mid ready sized r.into in
+      record {
+        root = u;
+        from = record {
+          last = r.is;
+          guid = guid ∙ sym r.next_is.guid;
+          count = ap (λ (t : Table). t.count) table ∙ sym r.next_is.count;
+          rows = ap (λ (t : Table). t.rows) table ∙ sym r.next_is.rows;
+        };
+        newest = subst (λ (t : Table). IsNewestOn now.now.seen u t.slots) (sym table)
+            (publishes sizes old old.last u r.mid now seen ready (sized_now sizes old before r.mid ready sized r.into) r.lawful r.next_is.count r.next_is.rows r.shown (above_mid sizes old before r.mid u ready sized r.into (above u r.next_is))
+            (labels_on before.now.seen r.mid.now.seen keeps.labels seen labels) (devices u r.next_is));
+      }
 
-pub commit_last : (sizes behind : List ℕ) (old new : OpenPool) (reset : Bool) (before now : World) → IsOpen sizes old → IsOpen behind new → map length before.now.seen ≡ sizes → new.group.txg ≡ old.group.txg + 1 → IfSome new.last (IsNextRoot old reset)
-    → IfSome new.last (λ u. (mid : World) × WritesIntoFree old before mid × IsShownFrom sizes old u mid now) → new.guid ≡ old.guid → new.table ≡ old.table → KeepsLast before now old new
-commit_last sizes behind old new reset before now ready later sized txg next wrote guid table h = by_last new.last refl next wrote later.after
-  where
-    by_last : (o : Option Uber) → new.last ≡ o → IfSome o (IsNextRoot old reset) → IfSome o (λ u. (mid : World) × WritesIntoFree old before mid × IsShownFrom sizes old u mid now) → IsAfter o new.group.txg → ShowsLast now.now.seen new
-    by_last None is next wrote after = absurd (let first = ready.first in omega (arith, after, txg, first))
-    by_last (Some u) is next wrote after = commit_shows sizes old new reset u before wrote.0 now ready after.0 sized wrote.1 wrote.2 next guid table is h
+  pub commit_last : KeepsLast before now old new
+  commit_last h =
+      let mine = h.newest in
+      commit_places (λ u is. above_newest before.now.seen h.root u old.table.slots mine (is.guid ∙ h.from.guid) (let group = is.txg in let after = (subst (λ (o : Option Uber). IsAfter o old.group.txg) h.from.last ready.after).1 in omega (arith, group, after))) mine.seen mine.labels
+      (λ u is. devices_stay before.now.seen h.root u old.table.slots mine (is.guid ∙ h.from.guid) (is.count ∙ h.from.count) (is.rows ∙ h.from.rows) mine.seen mine.labels)

@@ -73,6 +73,13 @@ labels_on before after keeps seen h = record {
   each = λ slot lt. label_on before after slot (keeps.sizes slot) (λ n few. keeps.labels slot n few) (seen_at seen slot).label (h.each slot (let c = keeps.count in omega (arith, lt, c)));
 }
 
+pub labels_more : (a b c : List (List ℕ)) → KeepsLabels a b → KeepsLabels b c → KeepsLabels a c
+labels_more a b c h k = record {
+  count = k.count ∙ h.count;
+  sizes = λ slot. k.sizes slot ∙ h.sizes slot;
+  labels = λ slot n few. subst (λ (size : ℕ). block_of size (disk c slot) n ≡ block_of size (disk b slot) n) (h.sizes slot) (k.labels slot n few) ∙ h.labels slot n few;
+}
+
 -- where rings stay too, a root that stands stood there
 pub root_kept : (before after : List (List ℕ)) → KeepsRings before after → (slot : ℕ) (u : Uber) → ShowsRoot after slot u → ShowsRoot before slot u
 root_kept before after keeps slot u h =
