@@ -1,21 +1,23 @@
 -- A slot that is prepared, beside a pool and for it.
-use Rattle.std.proofs.Common.{◌≡◌, ◌≢◌, ◌⊎◌, inl, inr, ℕ, zero, suc, ◌+◌, ◌<◌, ◌≤◌, Bool, true, false, nat_lt, cond, not, List, [], ◌∷◌, length, Option, Some, None, refl, sym, ◌∙◌, ap, subst, arith, ⊎_elim}
-use Rattle.std.specs.Prelude.{slice_set, if◌then◌else◌}
+use Rattle.std.proofs.Common.{◌≡◌, ◌≢◌, ◌⊎◌, inl, inr, ℕ, zero, suc, ◌+◌, ◌<◌, ◌≤◌, Bool, true, false, nat_lt, cond, get_or, map, not, List, [], ◌∷◌, length, Option, Some, None, refl, sym, ◌∙◌, ap, subst, arith, ⊎_elim}
+use Rattle.std.specs.Prelude.{◌==◌, ◌&&◌, slice_index_or, slice_set, if◌then◌else◌}
 use Rattle.std.specs.List.{position, position_or_len}
-use Rattle.std.proofs.lemmas.Bool.{cases_lt, cases_eq}
+use Rattle.std.proofs.lemmas.Bool.{cases_lt, cases_eq, eqb-true}
 use Rattle.std.proofs.lemmas.Bool.Decides.{nat_tests}
-use Rattle.std.proofs.lemmas.List.{get_or-set_other, get_or-set_same, length-set}
+use Rattle.std.proofs.lemmas.List.{get_or-set_other, get_or-set_same, length-map, length-set}
+use Rattle.std.proofs.Math.ListN.{get_or-map}
+use Rattle.zr_base.specs.declared.space.DevRow.{DevRow}
 use Rattle.zr_image.specs.Current.{is_device, row_at, seen_at, slot_of_device}
-use Rattle.zr_label.specs.Blocks.{SpellsUber}
-use Rattle.zr_label.specs.Geometry.{slot_of as ring_of}
+use Rattle.zr_label.specs.Blocks.{SpellsLabel, SpellsUber, no_row, padding}
+use Rattle.zr_label.specs.Geometry.{label_block_at, ring_slot_at, slot_of as ring_of, units_of_size}
 use Rattle.zr_label.specs.declared.root.Label.{Label}
 use Rattle.zr_label.specs.declared.root.Seen.{Seen}
 use Rattle.zr_label.specs.declared.root.Uber.{Uber}
 use Rattle.zr_rules.specs.Places.{is_gone}
 use Rattle.zr_scan.proofs.Blocks.{zeros_no_root}
 use Rattle.zr_scan.proofs.Gathering.{slot_small}
-use Rattle.zr_scan.specs.Scan.{ShowsLabel, Stands}
-use Rattle.zr_shelf.specs.Disks.{disk}
+use Rattle.zr_scan.specs.Scan.{IsFirstLabel, ShowsLabel, Stands, block_of, ring_block}
+use Rattle.zr_shelf.specs.Disks.{disk, part}
 use Rattle.zr_view.specs.Views.{slot_of}
 use Rattle.zr_newest.proofs.Kept.{device_on, label_on, root_was}
 use Rattle.zr_newest.proofs.Seen.{listed, past_device, place_by_row}
@@ -165,4 +167,56 @@ newest_beside before after slot l u slots prepares free apart h =
       seen = with_label h.seen slot l;
       labels = labels_with before after slot l prepares h.seen h.labels;
       devices = devices_with before after slot l prepares h.seen h.labels u slots h.devices free apart;
+    }
+
+-- ---- what is written makes it so
+
+-- a slot with labels and blank rings, beside disks that have their bytes
+pub prepared_from : (before after : List (List ℕ)) (slot size : ℕ) (l : Label) → slot < length before → map length after ≡ map length before → length (disk after slot) ≡ size → units_of_size size 2 ≡ Some l.units → ((other at n : ℕ) → other ≢ slot → part (disk after other) at n ≡ part (disk before other) at n)
+    → ((n : ℕ) → n < 4 → SpellsLabel (block_of size (disk after slot) n) l) → ((n k : ℕ) → n < 4 → k < 32 → ring_block size (disk after slot) n k ≡ padding 4096) → PreparesSlot before after slot l
+prepared_from before after slot size l known lengths long units others labels rings = record {
+  known = known;
+  count = sym (length-map after length) ∙ (ap (λ (ns : List ℕ). length ns) lengths ∙ length-map before length);
+  sizes = λ other. sym (get_or-map (λ (bytes : List ℕ). length bytes) after other []) ∙ (ap (λ (ns : List ℕ). get_or ns other 0) lengths ∙ get_or-map (λ (bytes : List ℕ). length bytes) before other []);
+  label = subst (λ (n : ℕ). IsFirstLabel n (disk after slot) l) (sym long) (record { label = 0; four = omega arith; here = record { spelled = labels 0 (omega arith); units = units }; before = λ k lt m is. absurd (omega (arith, lt)) });
+  blank = λ n k few low. subst (λ (m : ℕ). ring_block m (disk after slot) n k ≡ padding 4096) (sym long) (rings n k few low);
+  labels = λ other n differ few. others other (label_block_at (length (disk before other)) n) 4096 differ;
+  rings = λ other n k differ few low. others other (ring_slot_at (length (disk before other)) n k) 4096 differ;
+}
+
+-- the label of a device is that of the next root's row
+own_label : (index : ℕ) (l : Label) (next : Uber) (row : DevRow) → row_at next index ≡ row → l.guid ≡ next.guid → l.index ≡ index → l.added ≡ row.added → l.units ≡ row.units → is_device next index (Some l) ≡ true
+own_label index l next row is same at since long =
+    let first = ap (λ (r : DevRow). r.added) is in
+    let second = ap (λ (r : DevRow). r.units) is in
+    grind (arith, nat_tests, same, at, since, long, first, second)
+
+-- a label of another identity is not
+other_label : (index : ℕ) (m : Label) (next : Uber) → (m.guid ≡ next.guid → m.index ≡ index → m.added ≡ (row_at next index).added → ⊥) → is_device next index (Some m) ≡ false
+other_label index m next differs = by_test (m.guid == next.guid) (m.index == index) (m.added == (row_at next index).added) (m.units == (row_at next index).units) refl refl refl
+  where
+    by_test : (a b c d : Bool) → (m.guid == next.guid) ≡ a → (m.index == index) ≡ b → (m.added == (row_at next index).added) ≡ c → (a && (b && (c && d))) ≡ false
+    by_test true true true d p q r = absurd (differs (eqb-true m.guid next.guid p) (eqb-true m.index index q) (eqb-true m.added (row_at next index).added r))
+    by_test false b c d p q r = refl
+    by_test true false c d p q r = refl
+    by_test true true false d p q r = refl
+
+-- a root with a row more, whose device has the slot of the label
+pub joins_next : (before : List (List ℕ)) (u next : Uber) (slots : List (Option ℕ)) (slot : ℕ) (l : Label) (row : DevRow) → next.guid ≡ u.guid → next.count ≡ u.count + 1 → next.rows ≡ slice_set u.rows u.count row → u.count < length u.rows → u.count < length slots → is_gone row.state ≡ false
+    → l.guid ≡ u.guid → l.index ≡ u.count → l.added ≡ row.added → l.units ≡ row.units → ((d : ℕ) → slot_of slots d ≢ Some slot)
+    → ((other : ℕ) (m : Label) → other ≢ slot → other < length before → IsFirstLabel (length (disk before other)) (disk before other) m → m.guid ≡ l.guid → m.index ≡ l.index → m.added ≡ l.added → ⊥)
+    → JoinsDevice before u next slots (slice_set slots u.count (Some slot)) slot l
+joins_next before u next slots slot l row guid count rows room places there same at since long free alone =
+    let own_row : row_at next u.count ≡ row = ap (λ (rs : List DevRow). slice_index_or rs u.count no_row) rows ∙ get_or-set_same u.rows u.count row no_row room in
+    record {
+      guid = guid;
+      count = count;
+      rows = λ d lt. ap (λ (rs : List DevRow). slice_index_or rs d no_row) rows ∙ get_or-set_other u.rows u.count d row no_row (λ e. omega (arith, lt, e));
+      others = λ d differ. get_or-set_other slots u.count d (Some slot) None differ;
+      own = get_or-set_same slots u.count (Some slot) None places;
+      there = ap (λ (r : DevRow). is_gone r.state) own_row ∙ there;
+      named = own_label u.count l next row own_row (same ∙ sym guid) at since long;
+      alone = λ other m differ lt first. other_label u.count m next (λ g i a. alone other m differ lt first (g ∙ (guid ∙ sym same)) (i ∙ sym at) (a ∙ (ap (λ (r : DevRow). r.added) own_row ∙ sym since)));
+      free = free;
+      apart = λ d lt. other_label d l u (λ g i a. (omega (arith, i, at, lt)));
     }

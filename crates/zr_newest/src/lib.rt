@@ -9,6 +9,6 @@
 mod laws;
 
 pub use laws::{
-    current_is_newest, later_is_above, newest_is_current, newest_stays, prepared_is_beside,
-    prepared_joins, published_is_newest, same_devices_stay,
+    a_slot_is_prepared, current_is_newest, later_is_above, newest_is_current, newest_stays,
+    prepared_is_beside, prepared_joins, published_is_newest, same_devices_stay,
 };
