@@ -36,7 +36,7 @@ module _ (before after : List (List ℕ)) (slot : ℕ) (sizes : length (disk aft
   first_on : (l : Label) → IsFirstLabel (length (disk before slot)) (disk before slot) l → IsFirstLabel (length (disk after slot)) (disk after slot) l
   first_on l is = subst (λ (size : ℕ). IsFirstLabel size (disk after slot) l) (sym sizes) (first_still (length (disk before slot)) (disk before slot) (disk after slot) labels l is)
 
-  first_back : (l : Label) → IsFirstLabel (length (disk after slot)) (disk after slot) l → IsFirstLabel (length (disk before slot)) (disk before slot) l
+  pub first_back : (l : Label) → IsFirstLabel (length (disk after slot)) (disk after slot) l → IsFirstLabel (length (disk before slot)) (disk before slot) l
   first_back l is = first_still (length (disk before slot)) (disk after slot) (disk before slot) (λ n few. sym (labels n few)) l (subst (λ (size : ℕ). IsFirstLabel size (disk after slot) l) sizes is)
 
   pub label_on : (o : Option Label) → ShowsLabel (length (disk before slot)) (disk before slot) o → ShowsLabel (length (disk after slot)) (disk after slot) o
