@@ -33,7 +33,7 @@ module _ (size : ℕ) (b a : List ℕ) (labels : (n : ℕ) → n < 4 → block_o
 -- ---- one slot
 
 module _ (before after : List (List ℕ)) (slot : ℕ) (sizes : length (disk after slot) ≡ length (disk before slot)) (labels : (n : ℕ) → n < 4 → block_of (length (disk before slot)) (disk after slot) n ≡ block_of (length (disk before slot)) (disk before slot) n) where
-  first_on : (l : Label) → IsFirstLabel (length (disk before slot)) (disk before slot) l → IsFirstLabel (length (disk after slot)) (disk after slot) l
+  pub first_on : (l : Label) → IsFirstLabel (length (disk before slot)) (disk before slot) l → IsFirstLabel (length (disk after slot)) (disk after slot) l
   first_on l is = subst (λ (size : ℕ). IsFirstLabel size (disk after slot) l) (sym sizes) (first_still (length (disk before slot)) (disk before slot) (disk after slot) labels l is)
 
   pub first_back : (l : Label) → IsFirstLabel (length (disk after slot)) (disk after slot) l → IsFirstLabel (length (disk before slot)) (disk before slot) l

@@ -185,14 +185,14 @@ prepared_from before after slot size l known lengths long units others labels ri
 }
 
 -- the label of a device is that of the next root's row
-own_label : (index : ℕ) (l : Label) (next : Uber) (row : DevRow) → row_at next index ≡ row → l.guid ≡ next.guid → l.index ≡ index → l.added ≡ row.added → l.units ≡ row.units → is_device next index (Some l) ≡ true
+pub own_label : (index : ℕ) (l : Label) (next : Uber) (row : DevRow) → row_at next index ≡ row → l.guid ≡ next.guid → l.index ≡ index → l.added ≡ row.added → l.units ≡ row.units → is_device next index (Some l) ≡ true
 own_label index l next row is same at since long =
     let first = ap (λ (r : DevRow). r.added) is in
     let second = ap (λ (r : DevRow). r.units) is in
     grind (arith, nat_tests, same, at, since, long, first, second)
 
 -- a label of another identity is not
-other_label : (index : ℕ) (m : Label) (next : Uber) → (m.guid ≡ next.guid → m.index ≡ index → m.added ≡ (row_at next index).added → ⊥) → is_device next index (Some m) ≡ false
+pub other_label : (index : ℕ) (m : Label) (next : Uber) → (m.guid ≡ next.guid → m.index ≡ index → m.added ≡ (row_at next index).added → ⊥) → is_device next index (Some m) ≡ false
 other_label index m next differs = by_test (m.guid == next.guid) (m.index == index) (m.added == (row_at next index).added) (m.units == (row_at next index).units) refl refl refl
   where
     by_test : (a b c d : Bool) → (m.guid == next.guid) ≡ a → (m.index == index) ≡ b → (m.added == (row_at next index).added) ≡ c → (a && (b && (c && d))) ≡ false
