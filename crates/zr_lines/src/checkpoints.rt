@@ -13,6 +13,7 @@ ghost use Rattle.zr_sync.specs.Pools.{IsOpen};
 ghost use Rattle.zr_sync.specs.Writes.{WorksOnDisks};
 ghost use Rattle.zr_sync.specs.declared.fault.Fault.TheVariants.{No, Stops};
 ghost use Rattle.zr_sync.specs.declared.stop.Stop.TheVariants.{DiskFault};
+ghost use Rattle.zr_last.specs.Last.{KeepsRoot};
 ghost use Rattle.zr_lines.specs.Refusals.{AllStay, IsGiveRefusal, IsRemovalRefusal, IsStepRefusal, IsTakeRefusal, checkpoint_needs};
 
 use std::alloc::Global;
@@ -144,6 +145,7 @@ pub fn step(pool: &mut OpenPool) -> Result<u64, Fault>
     requires pool { (sizes : List ℕ) × IsOpen sizes pool.old }
     ensures was { OnOk result (pool.old.space.parts.ckpt ≡ Discarding) }
     ensures ended { IfOk result (λ units. pool.new.space.parts.ckpt ≡ (if units == 0 then Clear else Discarding)) }
+    ensures root { OnOk result (KeepsRoot pool.old pool.new) }
     ensures steps { IfOk result (λ units. DiscardsSome pool.old.space units pool.new.space) }
     ensures pool { (sizes : List ℕ) → IsOpen sizes pool.old → OnOk result (IsOpen sizes pool.new) }
     ensures objects { (disks : List (List ℕ)) (objects : Objects) → HoldsObjects (Unit {0}) disks pool.old objects → OnOk result (HoldsObjects (Unit {0}) disks pool.new objects) }

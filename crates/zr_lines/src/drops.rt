@@ -26,6 +26,7 @@ ghost use Rattle.zr_sync.specs.declared.stop.Stop.TheVariants.{DiskFault, NoMemo
 ghost use Rattle.zr_txg.specs.Changes.{block_count, changes_in};
 ghost use Rattle.zr_vdev.specs.Mounts.{AreMounted};
 ghost use Rattle.zr_vdev.specs.Stores.{Continues, HoldsBlocks};
+ghost use Rattle.zr_last.specs.Last.{KeepsLast};
 ghost use Rattle.zr_lines.specs.Answers.{IsAnswered, IsDropRefusal, IsSumRefusal};
 ghost use Rattle.zr_lines.specs.Counts.{new_object};
 ghost use Rattle.std.specs.FinMap as map;
@@ -137,6 +138,7 @@ fn make_way_for<S: Shelf, P: Place>(
     ensures fault { IsErrOf result (Stops DiskFault) → HasRisen (S.counts shelf.old).disk (S.counts shelf.new).disk }
     ensures pool { IsAnswered result → IsOpen (S.sizes shelf.new) pool.new }
     ensures same { IsAnswered result → IsSamePool pool.old pool.new }
+    ensures shown { S.tells shelf.old → IsAnswered result → KeepsLast (S.world shelf.old) (S.world shelf.new) pool.old pool.new }
     ensures refused { (r : Refusal) → IsErrOf result (No r) → IsSumRefusal r }
     ensures none { (s : Stored) → HasBlocks (S.tells shelf.old) (S.world shelf.old).now.seen pool.old s → IsErrOf result (No NoSuchObject) → record_now s pool.old.dir pool.old.group id ≡ None }
     ensures group { IsAnswered result → IsReadyGroup id pool.old.group pool.new.group }
@@ -252,6 +254,7 @@ fn drop_ready<S: Shelf, P: Place>(
     ensures fault { IsErrOf result (Stops DiskFault) → HasRisen (S.counts shelf.old).disk (S.counts shelf.new).disk }
     ensures pool { IsAnswered result → IsOpen (S.sizes shelf.new) pool.new }
     ensures same { IsSamePool pool.old pool.new }
+    ensures shown { S.tells shelf.old → KeepsLast (S.world shelf.old) (S.world shelf.new) pool.old pool.new }
     ensures refused { (r : Refusal) → IsErrOf result (No r) → IsDropRefusal r }
     ensures none { (s : Stored) → HasBlocks (S.tells shelf.old) (S.world shelf.old).now.seen pool.old s → IsErrOf result (No NoSuchObject) → record_now s pool.old.dir pool.old.group id ≡ None }
     ensures lacks { (needed free : ℕ) → IsErrOf result (No (NoRoom needed free)) → (blocks : List Bptr) × AreFoundIn (S.tells shelf.old) (S.world shelf.old).now.seen pool.old id blocks × LacksRoom pool.new.space (room_to_drop pool.new.space pool.new.group id blocks) needed free }
@@ -284,6 +287,7 @@ pub fn drop<S: Shelf, P: Place>(
     ensures fault { IsErrOf result (Stops DiskFault) → HasRisen (S.counts shelf.old).disk (S.counts shelf.new).disk }
     ensures pool { IsAnswered result → IsOpen (S.sizes shelf.new) pool.new }
     ensures same { IsAnswered result → IsSamePool pool.old pool.new }
+    ensures shown { S.tells shelf.old → IsAnswered result → KeepsLast (S.world shelf.old) (S.world shelf.new) pool.old pool.new }
     ensures refused { (r : Refusal) → IsErrOf result (No r) → IsDropRefusal r }
     ensures none { (s : Stored) → HasBlocks (S.tells shelf.old) (S.world shelf.old).now.seen pool.old s → IsErrOf result (No NoSuchObject) → (record_now s pool.old.dir pool.old.group id ≡ None) ⊎ (CanTake 0 (new_object pool.old.group id) pool.old.group → ⊥) }
     ensures lacks { (needed free : ℕ) → IsErrOf result (No (NoRoom needed free)) → (blocks : List Bptr) × AreFoundIn (S.tells shelf.old) (S.world shelf.old).now.seen pool.old id blocks × LacksRoom pool.new.space (room_to_drop pool.new.space pool.new.group id blocks) needed free }

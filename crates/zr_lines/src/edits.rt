@@ -13,6 +13,7 @@ ghost use Rattle.zr_sync.specs.Pools.{IsOpen, IsSamePool};
 ghost use Rattle.zr_sync.specs.Writes.{WorksOnDisks};
 ghost use Rattle.zr_sync.specs.declared.fault.Fault.TheVariants.{No, Stops};
 ghost use Rattle.zr_sync.specs.declared.stop.Stop.TheVariants.{DiskFault};
+ghost use Rattle.zr_last.specs.Last.{KeepsLast};
 ghost use Rattle.zr_lines.specs.Causes.{IsLookRefusal, IsAbsent, IsTooFar, IsUndone};
 ghost use Rattle.zr_lines.specs.Changes.{IsDone};
 ghost use Rattle.zr_lines.specs.Intents.{IsBehindCommit, IsReadyFor, Means};
@@ -50,6 +51,8 @@ fn mean<S: Shelf, P: Place>(
     ensures same { OnOk result (IsSamePool pool.old pool.new) }
     ensures pool_no { (r : Refusal) → IsErrOf result (No r) → IsOpen (S.sizes shelf.new) pool.new }
     ensures same_no { (r : Refusal) → IsErrOf result (No r) → IsSamePool pool.old pool.new }
+    ensures shown { S.tells shelf.old → OnOk result (KeepsLast (S.world shelf.old) (S.world shelf.new) pool.old pool.new) }
+    ensures shown_no { S.tells shelf.old → (r : Refusal) → IsErrOf result (No r) → KeepsLast (S.world shelf.old) (S.world shelf.new) pool.old pool.new }
     ensures refused { (r : Refusal) → IsErrOf result (No r) → IsLookRefusal r }
     ensures absent { IsErrOf result (No NoSuchObject) → IsAbsent (S.tells shelf.old) reach id edit.now pool.old (S.world shelf.old).now.seen }
     ensures too_far { IsErrOf result (No OutOfRange) → IsTooFar (S.tells shelf.old) reach id edit.now pool.old (S.world shelf.old).now.seen }
@@ -95,6 +98,8 @@ pub fn change<S: Shelf, P: Place>(
     ensures same { OnOk result (IsSamePool pool.old pool.new) }
     ensures pool_no { (r : Refusal) → IsErrOf result (No r) → IsOpen (S.sizes shelf.new) pool.new }
     ensures same_no { (r : Refusal) → IsErrOf result (No r) → IsSamePool pool.old pool.new }
+    ensures shown { S.tells shelf.old → OnOk result (KeepsLast (S.world shelf.old) (S.world shelf.new) pool.old pool.new) }
+    ensures shown_no { S.tells shelf.old → (r : Refusal) → IsErrOf result (No r) → KeepsLast (S.world shelf.old) (S.world shelf.new) pool.old pool.new }
     ensures refused { (r : Refusal) → IsErrOf result (No r) → IsLookRefusal r ⊎ IsUndone (S.tells shelf.old) reach id edit.now pool.old (S.world shelf.old).now.seen pool.new r }
     ensures absent { IsErrOf result (No NoSuchObject) → IsAbsent (S.tells shelf.old) reach id edit.now pool.old (S.world shelf.old).now.seen }
     ensures too_far { IsErrOf result (No OutOfRange) → IsTooFar (S.tells shelf.old) reach id edit.now pool.old (S.world shelf.old).now.seen }

@@ -21,6 +21,7 @@ ghost use Rattle.std.specs.FinMap as map;
 ghost use Rattle.zr_held.specs.Steps.{IsObjectOf};
 ghost use Rattle.zr_model.specs.Objects.{Objects, blank as blank_object};
 ghost use Rattle.zr_sync.specs.Objects.{HoldsObjects};
+ghost use Rattle.zr_last.specs.Last.{KeepsLast};
 ghost use Rattle.zr_lines.specs.Answers.{IsAnswered, IsMakeRefusal, IsNoRoom};
 ghost use Rattle.zr_lines.specs.Groups.{IsReadyGroup, SetsInGroup, blank, can_make};
 ghost use Rattle.zr_lines.specs.Room.{LacksRoom, room_for_group, room_to_make};
@@ -89,6 +90,7 @@ fn make_absent<S: Shelf, P: Place>(
     ensures fault { IsErrOf result (Stops DiskFault) → HasRisen (S.counts shelf.old).disk (S.counts shelf.new).disk }
     ensures pool { IsAnswered result → IsOpen (S.sizes shelf.new) pool.new }
     ensures same { IsAnswered result → IsSamePool pool.old pool.new }
+    ensures shown { S.tells shelf.old → IsAnswered result → KeepsLast (S.world shelf.old) (S.world shelf.new) pool.old pool.new }
     ensures refused { (r : Refusal) → IsErrOf result (No r) → IsNoRoom r }
     ensures objects { (objects : Objects) → HoldsObjects (S.tells shelf.old) (S.world shelf.old).now.seen pool.old objects → (r : Refusal) → IsErrOf result (No r) → HoldsObjects (S.tells shelf.new) (S.world shelf.new).now.seen pool.new objects }
     ensures comes { (objects : Objects) → HoldsObjects (S.tells shelf.old) (S.world shelf.old).now.seen pool.old objects → map.get objects id ≡ None → OnOk result (HoldsObjects (S.tells shelf.new) (S.world shelf.new).now.seen pool.new (map.insert objects id (blank_object units))) }
@@ -123,6 +125,7 @@ pub fn make<S: Shelf, P: Place>(
     ensures fault { IsErrOf result (Stops DiskFault) → HasRisen (S.counts shelf.old).disk (S.counts shelf.new).disk }
     ensures pool { IsAnswered result → IsOpen (S.sizes shelf.new) pool.new }
     ensures same { IsAnswered result → IsSamePool pool.old pool.new }
+    ensures shown { S.tells shelf.old → IsAnswered result → KeepsLast (S.world shelf.old) (S.world shelf.new) pool.old pool.new }
     ensures refused { (r : Refusal) → IsErrOf result (No r) → IsMakeRefusal r }
     ensures range { IsErrOf result (No OutOfRange) ↔ (can_make id units ≡ false) }
     ensures there { (s : Stored) → HasBlocks (S.tells shelf.old) (S.world shelf.old).now.seen pool.old s → IsErrOf result (No ObjectExists) → (object : ObjRec) × (record_now s pool.old.dir pool.old.group id ≡ Some object) }

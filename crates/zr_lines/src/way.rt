@@ -10,6 +10,7 @@ ghost use Rattle.zr_sync.specs.declared.stop.Stop.TheVariants.{DiskFault};
 ghost use Rattle.zr_txg.specs.Changes.{Changes, block_count};
 ghost use Rattle.zr_model.specs.Objects.{Objects};
 ghost use Rattle.zr_sync.specs.Objects.{HoldsObjects};
+ghost use Rattle.zr_last.specs.Last.{KeepsLast};
 ghost use Rattle.zr_lines.specs.Sought.{CanTake};
 
 use std::alloc::Global;
@@ -40,6 +41,7 @@ pub fn make_way<S: Shelf, P: Place>(
     ensures same { OnOk result (IsSamePool pool.old pool.new) }
     ensures takes { OnOk result (CanTake blocks objects pool.new.group) }
     ensures objects { (held : Objects) → HoldsObjects (S.tells shelf.old) (S.world shelf.old).now.seen pool.old held → OnOk result (HoldsObjects (S.tells shelf.new) (S.world shelf.new).now.seen pool.new held) }
+    ensures shown { S.tells shelf.old → OnOk result (KeepsLast (S.world shelf.old) (S.world shelf.new) pool.old pool.new) }
     ensures stays { IfOk result (λ done. done ≡ false → (pool.new ≡ pool.old) × (shelf.new ≡ shelf.old)) }
     ensures due { IfOk result (λ done. done ≡ true → CanTake blocks objects pool.old.group → ⊥) }
     ensures empty { IfOk result (λ done. done ≡ true → pool.new.group.objects ≡ []) }

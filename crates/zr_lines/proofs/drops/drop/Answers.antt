@@ -1,10 +1,13 @@
-use Rattle.std.proofs.Common.{◌≡◌, None, inl, inr, sym, subst}
+use Rattle.std.proofs.Common.{◌∙◌, ◌≡◌, None, Result, inl, inr, sym, subst}
+use Rattle.std.proofs.lemmas.Result.{err_from_is_err_and}
 use Rattle.zr_lookup.specs.Objects.{record_now}
 use Rattle.zr_sync.specs.Holds.{HasBlocks}
+use Rattle.zr_sync.specs.declared.fault.Fault.{Fault}
 use Rattle.zr_sync.specs.declared.open.OpenPool.{OpenPool}
 use Rattle.zr_sync.proofs.Disks.{works_more}
 use Rattle.zr_lines.specs.Counts.{new_object}
-use Rattle.zr_lines.proofs.Giving.{can_take, found_back, on_ok_map, wrote_back}
+use Rattle.zr_lines.specs.Answers.{IsAnswered}
+use Rattle.zr_lines.proofs.Giving.{can_take, err_same, found_back, on_ok_map, wrote_back}
 use Rattle.zr_lines.proofs.drops.drop.Goals as goal
 
 pub returns-clause-disks : goal.returns-clause-disks
@@ -47,3 +50,15 @@ returns-clause-none g c = λ s h is.
           inl (subst (λ (p : OpenPool). record_now s p.dir p.group c.args.id ≡ None) st.1 (c.drop_ready.ensures.none s then is))
       | inr full ↦ inr full
     ]
+
+-- ---- the last root
+
+pub returns-in_err-make_way_for-clause-shown : goal.returns-in_err-make_way_for-clause-shown
+returns-in_err-make_way_for-clause-shown g c = λ told answered.
+    let x = c.from_residual in
+    let gives = err_from_is_err_and x.result x.ensures.1 in
+    let asked = c.in_err-make_way_for in
+    asked.ensures.shown told (subst (λ (r : Result (Unit {0}) Fault). IsAnswered r) (gives.1 ∙ err_same gives.0 _ gives.2) answered)
+
+pub returns-clause-shown : goal.returns-clause-shown
+returns-clause-shown g c = λ told answered h. c.drop_ready.ensures.shown (c.make_way_for.ensures.told told) (c.in_ok-make_way_for.ensures.shown told tt h)

@@ -9,6 +9,7 @@ use Rattle.zr_sync.proofs.Disks.{works_more, works_writes}
 use Rattle.zr_lines.specs.Drops.{GivesUp}
 use Rattle.zr_lines.specs.Room.{LacksRoom, room_to_drop}
 use Rattle.zr_lines.proofs.Giving.{err_same, lacks_of, on_ok_map}
+use Rattle.zr_last.proofs.Lasting.{blocks_last}
 use Rattle.zr_lines.proofs.drops.drop_ready.Goals as goal
 
 pub returns-in_err-blocks-clause-disks : goal.returns-in_err-blocks-clause-disks
@@ -60,3 +61,17 @@ returns-clause-gone g c = λ objects h.
     (c.in_ok-blocks.ensures.blocks h.stored h.held) (c.object_blocks.ensures.held h.stored h.held) c.free_object.ensures.sets
     (on_ok_map c.free_object.result c.free_object.ensures.gives (λ gives.
     subst (λ (bs : List Bptr). GivesUp bs (g.S.Shelf.tells c.object_blocks.new.shelf) (g.S.Shelf.world c.object_blocks.new.shelf).now.seen found (g.S.Shelf.tells c.free_object.new.shelf) (g.S.Shelf.world c.free_object.new.shelf).now.seen c.free_object.new.pool) c.as_slice-2.ensures.value gives))
+
+-- ---- the last root
+
+pub returns-in_err-blocks-clause-shown : goal.returns-in_err-blocks-clause-shown
+returns-in_err-blocks-clause-shown g c = λ told. blocks_last c.requires.pool (g.S.Shelf.sound c.args.shelf.now told).sized told c.object_blocks.ensures.wrote
+
+pub returns-in_err-demand_to_drop-clause-shown : goal.returns-in_err-demand_to_drop-clause-shown
+returns-in_err-demand_to_drop-clause-shown g c = λ told. blocks_last c.requires.pool (g.S.Shelf.sound c.args.shelf.now told).sized told c.object_blocks.ensures.wrote
+
+pub returns-clause-shown : goal.returns-clause-shown
+returns-clause-shown g c = λ told h.
+    let found = c.object_blocks.new.shelf in
+    let there = c.object_blocks.ensures.wrote.goes.told told in
+    blocks_last c.object_blocks.ensures.pool (g.S.Shelf.sound found there).sized there c.free_object.ensures.wrote (blocks_last c.requires.pool (g.S.Shelf.sound c.args.shelf.now told).sized told c.object_blocks.ensures.wrote h)

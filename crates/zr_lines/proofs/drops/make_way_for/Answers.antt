@@ -1,4 +1,5 @@
 use Rattle.zr_sync.proofs.Disks.{works_more, works_writes}
+use Rattle.zr_last.proofs.Lasting.{blocks_last}
 use Rattle.zr_lines.proofs.drops.make_way_for.Goals as goal
 
 pub returns-in_err-need-clause-disks : goal.returns-in_err-need-clause-disks
@@ -16,3 +17,12 @@ returns-clause-disks g c = λ told.
 
 pub returns-clause-objects : goal.returns-clause-objects
 returns-clause-objects g c = λ objects h answered. c.in_ok-make_way.ensures.objects objects (c.need.ensures.stays objects h)
+
+-- ---- the last root
+
+pub returns-in_err-need-clause-shown : goal.returns-in_err-need-clause-shown
+returns-in_err-need-clause-shown g c = λ told answered. blocks_last c.requires.pool (g.S.Shelf.sound c.args.shelf.now told).sized told c.need.ensures.wrote
+
+pub returns-clause-shown : goal.returns-clause-shown
+returns-clause-shown g c = λ told answered h.
+    c.in_ok-make_way.ensures.shown (c.need.ensures.wrote.goes.told told) (blocks_last c.requires.pool (g.S.Shelf.sound c.args.shelf.now told).sized told c.need.ensures.wrote h)

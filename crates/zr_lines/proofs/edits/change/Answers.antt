@@ -8,6 +8,7 @@ use Rattle.zr_lines.specs.Intents.{IsIntent}
 use Rattle.zr_lines.proofs.Edited.{held_when_ready, ready_stored, edited_ok}
 use Rattle.zr_lines.proofs.Locating.{kept_by, done_by, not_absent, not_far}
 use Rattle.zr_lines.proofs.Pools.{same_by, same_more}
+use Rattle.zr_last.proofs.Lasting.{blocks_last}
 use Rattle.zr_lines.proofs.edits.change.Goals as goal
 
 pub returns-in_err-intent-clause-absent : goal.returns-in_err-intent-clause-absent
@@ -109,3 +110,17 @@ returns-clause-edited g c = λ objects bytes h size each.
     let stored = ready_stored c.args.reach id e i mid objects means.0.fits ready in
     edited_ok (g.S.Shelf.tells c.carry_out.new.shelf) (g.S.Shelf.world c.carry_out.new.shelf).now.seen c.args.reach id e i mid new objects bytes intent means.0.fits ready c.carry_out.result (on_ok_weaker c.carry_out.result (λ wrote. ap (λ (o : OpenPool). o.dir) wrote.rest) c.carry_out.ensures.wrote) size each
     (c.carry_out.ensures.changed ready.stored ready.held stored)
+
+-- ---- the last root
+
+pub returns-clause-shown : goal.returns-clause-shown
+returns-clause-shown g c = λ told.
+    let meant = c.mean.new.shelf in
+    let there = c.in_ok-intent.ensures.told told in
+    on_ok_weaker c.carry_out.result (λ wrote h. blocks_last c.in_ok-intent.ensures.pool (g.S.Shelf.sound meant there).sized there wrote (c.in_ok-intent.ensures.shown told h)) c.carry_out.ensures.wrote
+
+pub returns-clause-shown_no : goal.returns-clause-shown_no
+returns-clause-shown_no g c = λ told r is h.
+    let meant = c.mean.new.shelf in
+    let there = c.in_ok-intent.ensures.told told in
+    blocks_last c.in_ok-intent.ensures.pool (g.S.Shelf.sound meant there).sized there (c.carry_out.ensures.wrote_no r is) (c.in_ok-intent.ensures.shown told h)

@@ -1,4 +1,4 @@
-use Rattle.std.proofs.Common.{Option, subst}
+use Rattle.std.proofs.Common.{Option, false, subst}
 use Rattle.std.specs.Prelude.{IfSome}
 use Rattle.std.proofs.lemmas.Result.{err_from_is_err_and}
 use Rattle.zr_sync.proofs.Disks.{works_more}
@@ -7,6 +7,7 @@ use Rattle.zr_lines.specs.declared.intent.Intent.{Intent}
 use Rattle.zr_lines.proofs.Locating.{behind_commit, absent_here, far_here, means_here, absent_behind, far_behind, means_behind, none_by}
 use Rattle.zr_lines.proofs.Places.{takes_all}
 use Rattle.zr_lines.proofs.Pools.{same_by, works_by}
+use Rattle.zr_last.proofs.Lasting.{blocks_last, commit_last}
 use Rattle.zr_lines.proofs.edits.mean.Goals as goal
 
 -- ---- the first look
@@ -151,3 +152,33 @@ pub returns-clause-ready : goal.returns-clause-ready
 returns-clause-ready g c = λ objects h.
     let new = c.look_over-2.new in
     subst (λ (o : Option Intent). IfSome o (IsReadyFor (g.S.Shelf.tells new.shelf) (g.S.Shelf.world new.shelf).now.seen new.pool c.args.id c.args.edit.now objects)) c.in-Some-2.is (c.in_ok-intent-2.ensures.ready objects (c.in_ok-commit.ensures.stays objects (c.look_over.ensures.stays objects h)))
+
+-- ---- the last root
+
+pub returns-in_err-intent-clause-shown_no : goal.returns-in_err-intent-clause-shown_no
+returns-in_err-intent-clause-shown_no g c = λ told r is. blocks_last c.requires.pool (g.S.Shelf.sound c.args.shelf.now told).sized told c.look_over.ensures.wrote
+
+pub returns-in-Some-clause-shown : goal.returns-in-Some-clause-shown
+returns-in-Some-clause-shown g c = λ told. blocks_last c.requires.pool (g.S.Shelf.sound c.args.shelf.now told).sized told c.look_over.ensures.wrote
+
+pub returns-in_err-intent-2-clause-shown_no : goal.returns-in_err-intent-2-clause-shown_no
+returns-in_err-intent-2-clause-shown_no g c = λ told r is h.
+    let looked = c.look_over.new.shelf in
+    let committed = c.commit.new.shelf in
+    let there = c.look_over.ensures.wrote.goes.told told in
+    let behind = c.commit.ensures.told there in
+    let done = c.in_ok-commit.ensures in
+    blocks_last done.pool (g.S.Shelf.sound committed behind).sized behind c.look_over-2.ensures.wrote
+    (commit_last (g.S.Shelf.sizes looked) (g.S.Shelf.sizes committed) c.look_over.new.pool c.commit.new.pool false (g.S.Shelf.world looked) (g.S.Shelf.world committed) c.look_over.ensures.pool done.pool (g.S.Shelf.sound looked there).sized done.txg done.last (done.written there) done.same.guid done.same.table
+    (blocks_last c.requires.pool (g.S.Shelf.sound c.args.shelf.now told).sized told c.look_over.ensures.wrote h))
+
+pub returns-clause-shown : goal.returns-clause-shown
+returns-clause-shown g c = λ told h.
+    let looked = c.look_over.new.shelf in
+    let committed = c.commit.new.shelf in
+    let there = c.look_over.ensures.wrote.goes.told told in
+    let behind = c.commit.ensures.told there in
+    let done = c.in_ok-commit.ensures in
+    blocks_last done.pool (g.S.Shelf.sound committed behind).sized behind c.look_over-2.ensures.wrote
+    (commit_last (g.S.Shelf.sizes looked) (g.S.Shelf.sizes committed) c.look_over.new.pool c.commit.new.pool false (g.S.Shelf.world looked) (g.S.Shelf.world committed) c.look_over.ensures.pool done.pool (g.S.Shelf.sound looked there).sized done.txg done.last (done.written there) done.same.guid done.same.table
+    (blocks_last c.requires.pool (g.S.Shelf.sound c.args.shelf.now told).sized told c.look_over.ensures.wrote h))

@@ -8,6 +8,7 @@ use Rattle.zr_bptr.specs.declared.ObjRec.{ObjRec}
 use Rattle.zr_txg.specs.Changes.{Changes}
 use Rattle.zr_sync.proofs.Disks.{works_more, works_writes}
 use Rattle.zr_lines.specs.Groups.{IsReadyGroup}
+use Rattle.zr_last.proofs.Lasting.{blocks_last}
 use Rattle.zr_lines.proofs.makes.make.Goals as goal
 
 no_yes : false ≡ true → ⊥
@@ -52,3 +53,15 @@ pub returns-clause-comes : goal.returns-clause-comes
 returns-clause-comes g c = λ objects h.
     let none = none_there objects c.args.id c.in_ok-find.field-0 (search rules) (c.in_ok-find.ensures.object objects h) in
     on_ok_map c.make_absent.result (c.make_absent.ensures.comes objects (c.find.ensures.stays objects h) none) (λ held. (none, held))
+
+-- ---- the last root
+
+pub returns-in_err-find-clause-shown : goal.returns-in_err-find-clause-shown
+returns-in_err-find-clause-shown g c = λ told answered. blocks_last c.requires.pool (g.S.Shelf.sound c.args.shelf.now told).sized told c.find.ensures.wrote
+
+pub returns-then-is_some-clause-shown : goal.returns-then-is_some-clause-shown
+returns-then-is_some-clause-shown g c = λ told answered. blocks_last c.requires.pool (g.S.Shelf.sound c.args.shelf.now told).sized told c.find.ensures.wrote
+
+pub returns-clause-shown : goal.returns-clause-shown
+returns-clause-shown g c = λ told answered h.
+    c.make_absent.ensures.shown (c.find.ensures.wrote.goes.told told) answered (blocks_last c.requires.pool (g.S.Shelf.sound c.args.shelf.now told).sized told c.find.ensures.wrote h)

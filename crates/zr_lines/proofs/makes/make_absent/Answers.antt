@@ -1,7 +1,9 @@
 use Rattle.zr_lines.proofs.Coming.{comes_of}
-use Rattle.std.proofs.Common.{Some, arith}
+use Rattle.std.proofs.Common.{Some, ap, arith}
 use Rattle.zr_lines.specs.Groups.{blank}
 use Rattle.zr_lines.proofs.Ways.{group_open, ready_group, ready_takes, set_limits}
+use Rattle.zr_last.proofs.Lasting.{same_last}
+use Rattle.zr_sync.specs.declared.open.OpenPool.{OpenPool}
 use Rattle.zr_lines.proofs.makes.make_absent.Goals as goal
 
 pub returns-in_err-demand_to_make-clause-group : goal.returns-in_err-demand_to_make-clause-group
@@ -34,3 +36,14 @@ pub returns-clause-comes : goal.returns-clause-comes
 returns-clause-comes g c = λ objects h none.
     comes_of (g.S.Shelf.tells c.make_way.new.shelf) (g.S.Shelf.world c.make_way.new.shelf).now.seen c.make_way.new.pool c.record_new.new.pool objects c.args.id c.args.units c.requires.id c.record_new.ensures.rest c.in_ok-record_new.ensures.sets none
     (c.in_ok-make_way.ensures.objects objects h)
+
+-- ---- the last root
+
+pub returns-in_err-demand_to_make-clause-shown : goal.returns-in_err-demand_to_make-clause-shown
+returns-in_err-demand_to_make-clause-shown g c = λ told answered. c.in_ok-make_way.ensures.shown told
+
+pub returns-clause-shown : goal.returns-clause-shown
+returns-clause-shown g c = λ told answered h.
+    let rest = c.record_new.ensures.rest in
+    same_last (g.S.Shelf.world c.make_way.new.shelf).now.seen c.make_way.new.pool c.record_new.new.pool
+    (record { last = ap (λ (p : OpenPool). p.last) rest; guid = ap (λ (p : OpenPool). p.guid) rest; table = ap (λ (p : OpenPool). p.table) rest }) (c.in_ok-make_way.ensures.shown told h)

@@ -1,7 +1,8 @@
-use Rattle.std.proofs.Common.{sym, subst}
+use Rattle.std.proofs.Common.{true, ap, sym, subst}
 use Rattle.zr_sync.specs.Objects.{HoldsObjects}
 use Rattle.zr_sync.specs.declared.open.OpenPool.{OpenPool}
 use Rattle.zr_lines.proofs.Versions.{renewed_objects, upgrades_from}
+use Rattle.zr_last.proofs.Lasting.{commit_last, same_last}
 use Rattle.zr_lines.proofs.upgrades.upgrade.Goals as goal
 
 pub commit_anew-requires : goal.commit_anew-requires
@@ -20,3 +21,15 @@ returns-clause-objects g c = λ objects h.
     let disks = (g.S.Shelf.world old).now.seen in
     c.in_ok-commit_anew.ensures.stays objects
     (subst (λ (x : OpenPool). HoldsObjects tells disks x objects) (sym c.renew.ensures.value) (renewed_objects (g.S.Shelf.sizes old) tells disks c.args.pool.now objects c.requires.pool h))
+
+-- ---- the last root
+
+pub returns-clause-shown : goal.returns-clause-shown
+returns-clause-shown g c = λ told h.
+    let old = c.args.shelf.now in
+    let new = c.commit_anew.new.shelf in
+    let renewed = c.renew.new.pool in
+    let is = c.renew.ensures.value in
+    let done = c.in_ok-commit_anew.ensures in
+    commit_last (g.S.Shelf.sizes old) (g.S.Shelf.sizes new) renewed c.commit_anew.new.pool true (g.S.Shelf.world old) (g.S.Shelf.world new) (c.renew.ensures.pool (g.S.Shelf.sizes old) c.requires.pool) done.pool (g.S.Shelf.sound old told).sized done.txg done.last (done.written told) done.same.guid done.same.table
+    (same_last (g.S.Shelf.world old).now.seen c.args.pool.now renewed (record { last = ap (λ (p : OpenPool). p.last) is; guid = ap (λ (p : OpenPool). p.guid) is; table = ap (λ (p : OpenPool). p.table) is }) h)
