@@ -1,16 +1,15 @@
 //! A pool as a run over lines sees it.
 //!
 //! A run takes a line, hands its command to the pool and sends the reply. What a command means is the pool's own to say,
-//! between the shelf and the state before and after: to plain objects it is their step (`plain`). Objects may lie on the
-//! disks, so a pool has no state of its own: it stands for one together with what the disks hold (`stands`). A pool works
-//! on the desk as a shelf alone, so it takes nothing of the input and sends nothing.
+//! between the shelf and the state before and after, and what a state is: to plain objects it is their step (`plain`).
+//! Objects may lie on the disks, so a pool stands for a state together with what the disks hold (`stands`). A pool works on
+//! the desk as a shelf alone, so it takes nothing of the input and sends nothing.
 ghost use Rattle.std.specs.Prelude.{◌≡◌, ◌∷◌, ◌≤◌, List, ℕ, length, IfOk, IfSome, IfNone, IsErrOf, IsTrue};
 ghost use Rattle.zr_base.specs.Counts.{HasRisen};
 ghost use Rattle.zr_base.specs.declared.refusal.Refusal.TheVariants as refusal;
 ghost use Rattle.zr_base.specs.declared.space.Dva.{Dva};
 ghost use Rattle.zr_script.specs.Grammar.{IsLine};
 ghost use Rattle.zr_shelf.specs.Counts.{NoneFell};
-ghost use Rattle.zr_model.specs.State.{State, no_pool};
 ghost use Rattle.zr_model.specs.Runs.{Meaning, point, TurnsTo, MayBeDamaged, KeepsOutside, step_of};
 ghost use Rattle.zr_model.specs.declared.pool.Stop.TheVariants.{DiskFault, Damaged};
 
@@ -72,11 +71,12 @@ pub trait Pool {
     /// The paths of the words, one for each slot.
     ghost paths: { Self → List (List ℕ) };
 
-    /// The pool as one of plain objects: what its disks hold, as they read, together with what it keeps of them in memory.
-    ghost stands: { Self → List (List ℕ) → State → Type 0 };
-
-    /// What commands mean to a pool of this kind.
+    /// What commands mean to a pool of this kind, and what its states are.
     ghost meaning: { Meaning };
+
+    /// The state for which the pool stands: of what its disks hold, as they read, together with what it keeps of them in
+    /// memory.
+    ghost stands: { Self → List (List ℕ) → meaning.State → Type 0 };
 
     /// The pool is one on disks of these sizes.
     ghost fits: { Self → List ℕ → Type 0 };
@@ -86,7 +86,7 @@ pub trait Pool {
         requires few { length devs ≤ 32 }
         ensures paths { IfOk result (λ pool. paths pool ≡ devs) }
         ensures fits { (sizes : List ℕ) → length sizes ≡ length devs → IfOk result (λ pool. fits pool sizes) }
-        ensures stands { (disks : List (List ℕ)) → IfOk result (λ pool. stands pool disks no_pool) };
+        ensures stands { (disks : List (List ℕ)) → IfOk result (λ pool. stands pool disks meaning.none) };
 
     /// Does a command, with a chooser of free runs. None where it may not stand here. The command is that of a line: its
     /// names, paths and bytes are as a line may have them.
@@ -99,11 +99,11 @@ pub trait Pool {
     ) -> Result<Option<Reply>, Stop>
         requires fits { fits self.old (S.sizes shelf.old) }
         requires grammar { (line : List ℕ) × IsLine line command.now }
-        ensures step { S.tells shelf.old → (S.world shelf.old).now.paths ≡ paths self.old → (before : State) → stands self.old (S.world shelf.old).now.seen before → IfOk result (λ found. IfSome found (λ reply.
+        ensures step { S.tells shelf.old → (S.world shelf.old).now.paths ≡ paths self.old → (before : meaning.State) → stands self.old (S.world shelf.old).now.seen before → IfOk result (λ found. IfSome found (λ reply.
             TurnsTo meaning (stands self.new) before (S.world shelf.old).now command.now reply (S.world shelf.new).now)) }
-        ensures none { (disks : List (List ℕ)) (before : State) → stands self.old disks before → IfOk result (λ found. IfNone found (meaning.serves (paths self.old) before command.now → ⊥)) }
+        ensures none { (disks : List (List ℕ)) (before : meaning.State) → stands self.old disks before → IfOk result (λ found. IfNone found (meaning.serves (paths self.old) before command.now → ⊥)) }
         ensures failed { IsErrOf result DiskFault → HasRisen (S.counts shelf.old).disk (S.counts shelf.new).disk }
-        ensures damaged { S.tells shelf.old → (before : State) → stands self.old (S.world shelf.old).now.seen before → (at : Dva) (expected found : List ℕ) → IsErrOf result (Damaged at expected found) → meaning.damages (point (S.world shelf.old).now before) command.now (refusal.Damaged at expected found) }
+        ensures damaged { S.tells shelf.old → (before : meaning.State) → stands self.old (S.world shelf.old).now.seen before → (at : Dva) (expected found : List ℕ) → IsErrOf result (Damaged at expected found) → meaning.damages (point (S.world shelf.old).now before) command.now (refusal.Damaged at expected found) }
         ensures may_damage { (at : Dva) (expected found : List ℕ) → IsErrOf result (Damaged at expected found) → MayBeDamaged meaning }
         ensures fits { fits self.new (S.sizes shelf.new) }
         ensures paths { paths self.new ≡ paths self.old }
@@ -114,6 +114,6 @@ pub trait Pool {
 
     /// Whether a step of this actor has work to do, so that it is not refused for want of it. A step that has is served.
     fn has_work(&self, actor: Actor) -> bool
-        ensures works { (disks : List (List ℕ)) (state : State) → stands self.now disks state → result ≡ meaning.works state actor }
-        ensures served { (disks : List (List ℕ)) (state : State) → stands self.now disks state → IsTrue result → meaning.serves (paths self.now) state (step_of actor) };
+        ensures works { (disks : List (List ℕ)) (state : meaning.State) → stands self.now disks state → result ≡ meaning.works state actor }
+        ensures served { (disks : List (List ℕ)) (state : meaning.State) → stands self.now disks state → IsTrue result → meaning.serves (paths self.now) state (step_of actor) };
 }
