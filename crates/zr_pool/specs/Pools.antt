@@ -3,7 +3,7 @@ use Rattle.std.specs.Prelude.{◌≡◌, ℕ, Bool, true, false, ◌≤◌, List
 use Rattle.std.specs.List.{list_any}
 use Rattle.zr_base.specs.declared.space.DevPart.{DevPart}
 use Rattle.zr_image.specs.StateOf.{is_discarding}
-use Rattle.zr_model.specs.State.{State, ShelfPart, Empty, Refused, Is, Work}
+use Rattle.zr_model.specs.State.{State, ShelfPart, Empty, Refused, Is, Work, no_pool}
 use Rattle.zr_rules.specs.Places.{is_leaving}
 use Rattle.zr_rules.specs.Space.{Space}
 use Rattle.zr_rules.specs.Steps.{has_condensing}
@@ -41,3 +41,17 @@ pub record IsOnShelf (paths : List (List ℕ)) (pool : Option OpenPool) (sizes :
   pub slots : length sizes ≡ length paths
   pub few : length paths ≤ 32
   pub is_open : IfSome pool (IsOpen sizes)
+
+-- What is told of a pool on devices between two commands: its objects, as far as these are told, and what it holds beside its disks while it is open.
+pub record DeviceState : Type 0 where
+  pub told : State
+  pub account : Option OpenPool
+
+-- no pool yet
+abbrev pub no_device_state : DeviceState
+no_device_state = record { told = no_pool; account = None }
+
+-- what is told of the pool and its disks is so, and the account is the pool's own
+pub record Stands (pool : Option OpenPool) (disks : List (List ℕ)) (state : DeviceState) : Type 0 where
+  pub told : StandsFor pool disks state.told
+  pub account : state.account ≡ pool

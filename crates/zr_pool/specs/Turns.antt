@@ -1,11 +1,7 @@
 -- What the pool on devices says of its answers so far: each is one to its line, and the pool is open where it should be.
-use Rattle.std.specs.Prelude.{◌≡◌, ◌⊎◌, ℕ, ◌<◌, ◌≤◌, ◌==◌, if◌then◌else◌, Bool, true, false, List, length}
+use Rattle.std.specs.Prelude.{◌≡◌, ◌⊎◌, ℕ, ◌<◌, ◌≤◌, if◌then◌else◌, Bool, true, false, List, length, map, Option, Some, None, IfSome, IsSomeAnd}
 use Rattle.zr_base.specs.declared.refusal.Refusal.{Refusal}
 use Rattle.zr_base.specs.declared.refusal.Refusal.TheVariants as refusal
-use Rattle.zr_base.specs.declared.space.Condensed.{Condensed}
-use Rattle.zr_base.specs.declared.space.Condensed.TheVariants as condensed
-use Rattle.zr_removal.specs.declared.evacuate.Evacuated.{Evacuated}
-use Rattle.zr_removal.specs.declared.evacuate.Evacuated.TheVariants.{Copied, Gone, Cancelled}
 use Rattle.zr_script.specs.declared.command.Command.{Command}
 use Rattle.zr_script.specs.declared.command.Command.TheVariants as cmd
 use Rattle.zr_script.specs.declared.reply.Reply.{Reply}
@@ -13,11 +9,15 @@ use Rattle.zr_script.specs.declared.reply.Reply.TheVariants as reply
 use Rattle.zr_lines.specs.Sought.{IsDamaged}
 use Rattle.zr_open.specs.Opened.{IsImportRefusal}
 use Rattle.zr_lines.specs.Answers.{IsNoRoom, IsSumRefusal, IsReadRefusal, IsMakeRefusal, IsDropRefusal}
-use Rattle.zr_model.specs.State.{Work}
+use Rattle.zr_model.specs.State.{State, Work, no_pool}
 use Rattle.zr_model.specs.declared.pool.Actor.{Actor}
 use Rattle.zr_model.specs.declared.pool.Actor.TheVariants.{Evac, Discard, Condense}
-use Rattle.zr_model.specs.Runs.{Meaning}
+use Rattle.zr_model.specs.Runs.{Meaning, Point, Shelf, Turn}
+use Rattle.zr_sync.specs.Pools.{IsOpen}
+use Rattle.zr_sync.specs.declared.open.OpenPool.{OpenPool}
+use Rattle.zr_pool.specs.Accounts.{Turns, Begins, BeginsNone}
 use Rattle.zr_pool.specs.Plain.{IsObjectsTurn, is_of_removal}
+use Rattle.zr_pool.specs.Pools.{DeviceState, no_device_state}
 
 -- the lines on objects
 abbrev pub is_on_objects : Command → Bool
@@ -30,37 +30,25 @@ is_on_objects (cmd.Read id off len) = true
 is_on_objects (cmd.Sum id) = true
 is_on_objects _ = false
 
--- the reply to a step of discarding
-abbrev pub step_reply : ℕ → Reply
-step_reply units = if units == 0 then reply.Ended else reply.Freed units
-
--- the reply to a step of a removal
-abbrev pub evac_reply : Evacuated → Reply
-evac_reply (Copied units) = reply.Copied units
-evac_reply (Gone index) = reply.Gone index
-evac_reply (Cancelled index) = reply.Cancelled index
-
--- and to one of condensing
-abbrev pub condense_reply : Condensed → Reply
-condense_reply (condensed.Kept entries) = reply.Kept entries
-condense_reply condensed.Done = reply.Ended
-condense_reply condensed.Nothing = reply.Ended
-
 -- the lines on a whole pool that is open
 abbrev pub is_on_pool : Command → Bool
 is_on_pool cmd.Sync = true
 is_on_pool cmd.Export = true
 is_on_pool (cmd.Add dev) = true
-is_on_pool cmd.List = true
-is_on_pool cmd.Status = true
-is_on_pool cmd.Audit = true
 is_on_pool cmd.Checkpoint = true
 is_on_pool cmd.Discard = true
 is_on_pool cmd.StepDiscard = true
 is_on_pool cmd.Upgrade = true
-is_on_pool (cmd.Estimate dev) = true
-is_on_pool (cmd.Map index) = true
 is_on_pool _ = false
+
+-- the lines that tell how an open pool stands
+abbrev pub is_table : Command → Bool
+is_table cmd.List = true
+is_table cmd.Status = true
+is_table cmd.Audit = true
+is_table (cmd.Estimate dev) = true
+is_table (cmd.Map index) = true
+is_table _ = false
 
 -- the lines that make a pool or open one
 abbrev pub is_opener : Command → Bool
@@ -75,14 +63,7 @@ is_opener _ = false
 abbrev pub IsServed : Command → Type 0
 IsServed (cmd.Create name guid devs) = Unit {0}
 IsServed (cmd.CreateOld name guid devs) = Unit {0}
-IsServed command = (is_on_objects command ≡ true) ⊎ ((is_on_pool command ≡ true) ⊎ (is_of_removal command ≡ true))
-
--- a pool that is made or upgraded is of the version that the line asks for
-abbrev pub IsOfVersion : Command → ℕ → Type 0
-IsOfVersion (cmd.Create name guid devs) version = version ≡ 2
-IsOfVersion (cmd.CreateOld name guid devs) version = version ≡ 1
-IsOfVersion cmd.Upgrade version = version ≡ 2
-IsOfVersion command version = Unit {0}
+IsServed command = (is_on_objects command ≡ true) ⊎ ((is_on_pool command ≡ true) ⊎ ((is_table command ≡ true) ⊎ (is_of_removal command ≡ true)))
 
 -- there is no room, or no run
 abbrev pub IsFull : Refusal → Type 0
@@ -222,12 +203,49 @@ works_on true work Discard = work.discard
 works_on true work Condense = work.condense
 works_on false work actor = false
 
--- What commands mean to the pool on devices, so far as it is claimed: each answer is one to its line, the pool is open where it should be, and the objects that are told are those of a
--- pool of plain objects. Of damage that ends a run nothing is said yet.
-abbrev pub on_devices : Meaning
-on_devices = record {
+-- What commands mean to the objects that are told: each answer is one to its line, the pool is open where it should be, and the objects are those of a pool of
+-- plain objects. Of damage that ends a run nothing is said yet.
+abbrev pub on_objects_told : Meaning
+on_objects_told = record {
+  State = State;
+  none = no_pool;
   takes = λ p t. IsTurn p.state.is_open t.command t.answer t.point.state.is_open × IsObjectsTurn p.state.is_open p.state.shelf p.shelf p.state t.command t.answer t.point.state;
   serves = λ paths state command. IsServed command;
   damages = λ p command found. Unit {0};
   works = λ state actor. works_on state.is_open state.work actor;
+}
+
+-- how many bytes each disk has
+abbrev pub sizes_of : List (List ℕ) → List ℕ
+sizes_of disks = map length disks
+
+-- What a line makes of the account, and why it is refused: of a pool that is open, and where none is.
+abbrev pub IsAccountTurn : Shelf → Option OpenPool → Command → Reply → Shelf → Option OpenPool → Type 0
+IsAccountTurn shelf (Some old) command answer after new =
+    (left : OpenPool) × Turns shelf.paths (sizes_of shelf.disks) shelf.disks old command answer after.disks left × (new ≡ (if stays_open command answer then Some left else None))
+IsAccountTurn shelf None command (reply.No r) after new = (new ≡ None) × BeginsNone shelf.paths (sizes_of shelf.disks) shelf.disks command r
+IsAccountTurn shelf None command answer after new = IsSomeAnd new (Begins shelf.paths (sizes_of shelf.disks) shelf.disks command)
+
+-- the point, as far as its objects are told
+abbrev pub told_point : Point DeviceState → Point State
+told_point p = record { shelf = p.shelf; state = p.state.told }
+
+abbrev pub told_turn : Turn DeviceState → Turn State
+told_turn t = record { command = t.command; answer = t.answer; point = told_point t.point }
+
+-- One line to the pool on devices: what it makes of the objects and of the account, which is that of a lawful pool on these disks.
+pub record IsDeviceTurn (p : Point DeviceState) (t : Turn DeviceState) : Type 0 where
+  pub objects : on_objects_told.takes (told_point p) (told_turn t)
+  pub account : IsAccountTurn p.shelf p.state.account t.command t.answer t.point.shelf t.point.state.account
+  pub lawful : IfSome t.point.state.account (IsOpen (sizes_of t.point.shelf.disks))
+
+-- What commands mean to the pool on devices.
+abbrev pub on_devices : Meaning
+on_devices = record {
+  State = DeviceState;
+  none = no_device_state;
+  takes = IsDeviceTurn;
+  serves = λ paths state command. IsServed command;
+  damages = λ p command found. Unit {0};
+  works = λ state actor. works_on state.told.is_open state.told.work actor;
 }

@@ -10,11 +10,13 @@ ghost use Rattle.zr_sync.specs.declared.fault.Fault.TheVariants.{No, Stops};
 ghost use Rattle.zr_sync.specs.declared.stop.Stop.TheVariants.{DiskFault};
 ghost use Rattle.zr_sync.specs.States.{HoldsState};
 ghost use Rattle.zr_pool.specs.Plain.{IsMade, IsOpeningCause, shelf_of};
-ghost use Rattle.zr_pool.specs.Turns.{IsServed, IsClosedRefusal, IsOfVersion, is_opener};
+ghost use Rattle.zr_pool.specs.Accounts.{Begins, BeginsNone};
+ghost use Rattle.zr_pool.specs.Turns.{IsServed, IsClosedRefusal, is_opener};
 
 use crate::lines::{is_on_objects, is_on_pool};
 use crate::names::name_of;
 use crate::removals::is_of_removal;
+use crate::tables::is_table;
 use std::alloc::Global;
 use zr_base::{Blob, Refusal};
 use zr_choose::Chooser;
@@ -48,7 +50,8 @@ pub fn begin<S: Shelf>(
     ensures fault { IsErrOf result (Stops DiskFault) → HasRisen (S.counts shelf.old).disk (S.counts shelf.new).disk }
     ensures pool { IfOk result (λ found. IfSome found (IsOpen (S.sizes shelf.new))) }
     ensures made { S.tells shelf.old → IfOk result (λ found. IfSome found (λ pool. IsMade (shelf_of (S.world shelf.old).now) (HoldsState (S.tells shelf.new) (S.world shelf.new).now.seen pool) command.now)) }
-    ensures version { IfOk result (λ found. IfSome found (λ pool. IsOfVersion command.now pool.version)) }
+    ensures begins { S.tells shelf.old → IfOk result (λ found. IfSome found (Begins paths.now (S.sizes shelf.old) (S.world shelf.old).now.seen command.now)) }
+    ensures begins_no { S.tells shelf.old → (r : Refusal) → IsErrOf result (No r) → BeginsNone paths.now (S.sizes shelf.old) (S.world shelf.old).now.seen command.now r }
     ensures opens { IfOk result (λ found. IfSome found (λ pool. is_opener command.now ≡ true)) }
     ensures refused { (r : Refusal) → IsErrOf result (No r) → IsClosedRefusal command.now r }
     ensures cause { S.tells shelf.old → (r : Refusal) → IsErrOf result (No r) → IsOpeningCause (shelf_of (S.world shelf.old).now) command.now r }
@@ -70,9 +73,11 @@ pub fn begin<S: Shelf>(
         Command::Import => import(alloc, shelf),
         Command::ImportRewind => rewind(alloc, shelf),
         Command::ImportTxg { txg } => go_back(alloc, shelf, *txg),
-        _ if is_on_objects(command) || is_on_pool(command) || is_of_removal(command) => {
-            Err(Fault::No(Refusal::NoPoolOpen))
-        }
+        _
+            if is_on_objects(command)
+                || is_on_pool(command)
+                || is_table(command)
+                || is_of_removal(command) => { Err(Fault::No(Refusal::NoPoolOpen)) }
         _ => Ok(None),
     }
 }

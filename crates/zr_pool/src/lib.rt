@@ -10,5 +10,6 @@ mod names;
 mod pool;
 mod removals;
 mod replies;
+mod tables;
 
 pub use pool::DevicePool;

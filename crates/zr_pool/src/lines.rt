@@ -12,9 +12,10 @@ ghost use Rattle.zr_sync.specs.declared.stop.Stop.TheVariants.{DiskFault};
 ghost use Rattle.zr_model.specs.State.{PoolState};
 ghost use Rattle.zr_sync.specs.States.{HoldsState};
 ghost use Rattle.zr_pool.specs.Plain.{IsPlainOf, IsPlainRefusal};
-ghost use Rattle.zr_pool.specs.Turns.{step_reply, IsOfVersion, IsOpenAnswer, IsOpenRefusal, is_on_objects, is_on_pool};
+ghost use Rattle.zr_pool.specs.Accounts.{Refuses, Turns};
+ghost use Rattle.zr_pool.specs.Replies.{step_reply};
+ghost use Rattle.zr_pool.specs.Turns.{IsOpenAnswer, IsOpenRefusal, is_on_objects, is_on_pool};
 
-use crate::removals::estimate_of;
 use std::alloc::Global;
 use zr_base::{Blob, Refusal};
 use zr_change::{Bytes, Edit};
@@ -24,7 +25,6 @@ use zr_lines::{Reach, change, drop, give_up, make, read, step, sum, take, upgrad
 use zr_script::{Command, Reply};
 use zr_shelf::Shelf;
 use zr_sync::{Fault, OpenPool, commit};
-use zr_tables::{audit, list, map_lines, status};
 
 /// Whether a line is on an object.
 pub fn is_on_objects(command: &Command) -> bool
@@ -51,15 +51,10 @@ pub fn is_on_pool(command: &Command) -> bool
         Command::Sync
             | Command::Export
             | Command::Add { .. }
-            | Command::List
-            | Command::Status
-            | Command::Audit
             | Command::Checkpoint
             | Command::Discard
             | Command::StepDiscard
             | Command::Upgrade
-            | Command::Estimate { .. }
-            | Command::Map { .. }
     )
 }
 
@@ -84,6 +79,8 @@ pub fn object_line<S: Shelf>(
     ensures acts { (p : PoolState) → HoldsState (S.tells shelf.old) (S.world shelf.old).now.seen pool.old p → IfOk result (IsPlainOf (HoldsState (S.tells shelf.new) (S.world shelf.new).now.seen pool.new) p command.now) }
     ensures stays { (p : PoolState) → HoldsState (S.tells shelf.old) (S.world shelf.old).now.seen pool.old p → (r : Refusal) → IsErrOf result (No r) → HoldsState (S.tells shelf.new) (S.world shelf.new).now.seen pool.new p }
     ensures cause { (p : PoolState) → HoldsState (S.tells shelf.old) (S.world shelf.old).now.seen pool.old p → (r : Refusal) → IsErrOf result (No r) → IsPlainRefusal p command.now r }
+    ensures account { S.tells shelf.old → (paths : List (List ℕ)) → IfOk result (λ reply. Turns paths (S.sizes shelf.old) (S.world shelf.old).now.seen pool.old command.now reply (S.world shelf.new).now.seen pool.new) }
+    ensures account_no { S.tells shelf.old → (paths : List (List ℕ)) → (r : Refusal) → IsErrOf result (No r) → Refuses paths (S.sizes shelf.old) (S.world shelf.old).now.seen pool.old command.now r pool.new }
     ensures answer { IfOk result (IsOpenAnswer command.now) }
     ensures refused { (r : Refusal) → IsErrOf result (No r) → IsOpenRefusal command.now r }
 {
@@ -181,9 +178,8 @@ pub fn pool_line<S: Shelf>(
     ensures acts { (p : PoolState) → HoldsState (S.tells shelf.old) (S.world shelf.old).now.seen pool.old p → IfOk result (IsPlainOf (HoldsState (S.tells shelf.new) (S.world shelf.new).now.seen pool.new) p command.now) }
     ensures stays { (p : PoolState) → HoldsState (S.tells shelf.old) (S.world shelf.old).now.seen pool.old p → (r : Refusal) → IsErrOf result (No r) → HoldsState (S.tells shelf.new) (S.world shelf.new).now.seen pool.new p }
     ensures cause { (p : PoolState) → HoldsState (S.tells shelf.old) (S.world shelf.old).now.seen pool.old p → (r : Refusal) → IsErrOf result (No r) → IsPlainRefusal p command.now r }
-    ensures version { OnOk result (IsOfVersion command.now pool.new.version) }
-    // An upgrade is refused where the pool is of that version.
-    ensures already { (r : Refusal) → IsErrOf result (No r) → IsOfVersion command.now pool.old.version }
+    ensures account { S.tells shelf.old → IfOk result (λ reply. Turns paths.now (S.sizes shelf.old) (S.world shelf.old).now.seen pool.old command.now reply (S.world shelf.new).now.seen pool.new) }
+    ensures account_no { S.tells shelf.old → (r : Refusal) → IsErrOf result (No r) → Refuses paths.now (S.sizes shelf.old) (S.world shelf.old).now.seen pool.old command.now r pool.new }
     ensures answer { IfOk result (IsOpenAnswer command.now) }
     ensures refused { (r : Refusal) → IsErrOf result (No r) → IsOpenRefusal command.now r }
 {
@@ -204,9 +200,6 @@ pub fn pool_line<S: Shelf>(
             add(alloc, pool, shelf, pick, slot)?;
             Ok(Reply::Done)
         }
-        Command::List => Ok(Reply::List(list(alloc, pool, paths)?)),
-        Command::Status => Ok(Reply::Status(status(alloc, pool)?)),
-        Command::Audit => Ok(Reply::Audit(audit(alloc, pool, shelf)?)),
         Command::Checkpoint => {
             take(alloc, pool, shelf, pick)?;
             Ok(Reply::Done)
@@ -223,8 +216,6 @@ pub fn pool_line<S: Shelf>(
             upgrade(alloc, pool, shelf, pick)?;
             Ok(Reply::Done)
         }
-        Command::Estimate { dev } => Ok(Reply::Estimate(estimate_of(paths, pool, dev)?)),
-        Command::Map { index } => Ok(Reply::Map(map_lines(alloc, pool, *index)?)),
         _ => unreachable!(),
     }
 }

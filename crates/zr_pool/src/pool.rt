@@ -10,6 +10,7 @@ ghost use Rattle.zr_sync.specs.Writes.{WorksOnDisks};
 ghost use Rattle.zr_sync.specs.declared.fault.Fault.TheVariants.{No, Stops};
 ghost use Rattle.zr_sync.specs.declared.stop.Stop.TheVariants.{DiskFault};
 ghost use Rattle.zr_model.specs.State.{PoolState};
+ghost use Rattle.zr_pool.specs.Accounts.{Begins, BeginsNone, Refuses, Turns};
 ghost use Rattle.zr_pool.specs.Plain.{IsMade, IsOpeningCause, IsPlainOf, IsPlainRefusal, shelf_of};
 ghost use Rattle.zr_pool.specs.Pools.{IsOnShelf};
 ghost use Rattle.zr_sync.specs.States.{HoldsState};
@@ -20,6 +21,7 @@ use crate::begin::begin;
 use crate::lines::{is_on_objects, is_on_pool, object_line, pool_line};
 use crate::removals::{is_of_removal, removal_line};
 use crate::replies::answer_of;
+use crate::tables::{is_table, table_line};
 use std::alloc::Global;
 use zr_base::{Blob, Items, NoMemory, Refusal};
 use zr_choose::Chooser;
@@ -84,12 +86,17 @@ fn open_line<S: Shelf>(
     ensures acts { (p : PoolState) → HoldsState (S.tells shelf.old) (S.world shelf.old).now.seen pool.old p → IfOk result (λ found. IfSome found (IsPlainOf (HoldsState (S.tells shelf.new) (S.world shelf.new).now.seen pool.new) p command.now)) }
     ensures stays { (p : PoolState) → HoldsState (S.tells shelf.old) (S.world shelf.old).now.seen pool.old p → (r : Refusal) → IsErrOf result (No r) → HoldsState (S.tells shelf.new) (S.world shelf.new).now.seen pool.new p }
     ensures cause { (p : PoolState) → HoldsState (S.tells shelf.old) (S.world shelf.old).now.seen pool.old p → (r : Refusal) → IsErrOf result (No r) → IsPlainRefusal p command.now r }
+    ensures account { S.tells shelf.old → IfOk result (λ found. IfSome found (λ reply. Turns paths.now (S.sizes shelf.old) (S.world shelf.old).now.seen pool.old command.now reply (S.world shelf.new).now.seen pool.new)) }
+    ensures account_no { S.tells shelf.old → (r : Refusal) → IsErrOf result (No r) → Refuses paths.now (S.sizes shelf.old) (S.world shelf.old).now.seen pool.old command.now r pool.new }
     ensures answer { IfOk result (λ found. IfSome found (IsOpenAnswer command.now)) }
     ensures refused { (r : Refusal) → IsErrOf result (No r) → IsOpenRefusal command.now r }
     ensures none { IfOk result (λ found. IfNone found (IsServed command.now → ⊥)) }
 {
     if is_on_objects(command) {
         return Ok(Some(object_line(alloc, pool, shelf, pick, command)?));
+    }
+    if is_table(command) {
+        return Ok(Some(table_line(alloc, paths, pool, shelf, command)?));
     }
     if is_on_pool(command) {
         return Ok(Some(pool_line(alloc, paths, pool, shelf, pick, command)?));
@@ -124,6 +131,8 @@ impl DevicePool {
         ensures paths { self.new.paths ≡ self.old.paths }
         ensures pool { IfSome self.new.pool (IsOpen (S.sizes shelf.new)) }
         ensures made { S.tells shelf.old → IfSome self.new.pool (λ pool. IsMade (shelf_of (S.world shelf.old).now) (HoldsState (S.tells shelf.new) (S.world shelf.new).now.seen pool) command.now) }
+        ensures begins { S.tells shelf.old → IfSome self.new.pool (Begins self.old.paths (S.sizes shelf.old) (S.world shelf.old).now.seen command.now) }
+        ensures begins_no { S.tells shelf.old → (r : Refusal) → IsErrOf result (No r) → BeginsNone self.old.paths (S.sizes shelf.old) (S.world shelf.old).now.seen command.now r }
         ensures turn { IfOk result (λ found. IfSome found (λ reply. IsTurn false command.now reply (is_some self.new.pool))) }
         ensures refused { (r : Refusal) → IsErrOf result (No r) → IsClosedRefusal command.now r }
         ensures done { IfOk result (λ found. IfSome found (λ reply. reply ≡ Done)) }
@@ -142,14 +151,14 @@ impl DevicePool {
 }
 
 impl Pool for DevicePool {
-    ghost use Rattle.zr_pool.specs.Pools.{StandsFor, IsOnShelf};
+    ghost use Rattle.zr_pool.specs.Pools.{Stands, IsOnShelf};
     ghost use Rattle.zr_pool.specs.Turns.{on_devices};
 
     ghost paths = { λ p. p.paths };
 
-    ghost stands = { λ p disks state. StandsFor p.pool disks state };
-
     ghost meaning = { on_devices };
+
+    ghost stands = { λ p disks state. Stands p.pool disks state };
 
     ghost fits = { λ p sizes. IsOnShelf p.paths p.pool sizes };
 

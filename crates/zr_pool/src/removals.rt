@@ -2,14 +2,17 @@
 //!
 //! Each goes to its call. What the devices hold of the objects behind a step that is done is not told yet; a line that is
 //! refused changes nothing.
-ghost use Rattle.std.specs.Prelude.{◌≡◌, ◌≤◌, ◌<◌, ℕ, List, true, length, IfOk, IfErr, OnOk, IsErrOf};
+ghost use Rattle.std.specs.Prelude.{◌≡◌, ◌≤◌, ◌<◌, ◌*◌, ℕ, List, Some, true, length, IfOk, IfErr, OnOk, IsErrOf};
 ghost use Rattle.zr_base.specs.Counts.{HasRisen};
 ghost use Rattle.zr_base.specs.declared.refusal.Refusal.{Refusal};
+ghost use Rattle.zr_base.specs.declared.refusal.Refusal.TheVariants.{OnlyDevice};
 ghost use Rattle.zr_base.specs.declared.space.CkptPart.TheVariants.{Clear};
 ghost use Rattle.zr_base.specs.declared.space.DevState.TheVariants.{On};
 ghost use Rattle.zr_model.specs.State.{PoolState};
+ghost use Rattle.zr_create.specs.Names.{slot_named};
+ghost use Rattle.zr_removal.specs.Devices.{IsDeviceOn, IsOnlyOne, copy_pieces};
 ghost use Rattle.zr_removal.specs.Refusals.{HasNoRemoval};
-ghost use Rattle.zr_rules.specs.Places.{state_of_dev};
+ghost use Rattle.zr_rules.specs.Places.{part_of, state_of_dev};
 ghost use Rattle.zr_shelf.specs.Counts.{NoneFell};
 ghost use Rattle.zr_sync.specs.Pools.{IsOpen};
 ghost use Rattle.zr_sync.specs.States.{HasCheckpoint, HoldsState};
@@ -17,7 +20,9 @@ ghost use Rattle.zr_sync.specs.Writes.{WorksOnDisks};
 ghost use Rattle.zr_sync.specs.declared.fault.Fault.TheVariants.{No, Stops};
 ghost use Rattle.zr_sync.specs.declared.stop.Stop.TheVariants.{DiskFault};
 ghost use Rattle.zr_pool.specs.Plain.{IsCheckpointCause, IsDone, IsPlainRefusal, is_of_removal};
-ghost use Rattle.zr_pool.specs.Turns.{IsOpenAnswer, IsOpenRefusal, IsRemoveRefusal, condense_reply, evac_reply};
+ghost use Rattle.zr_pool.specs.Accounts.{IsRemovable, IsRemovalCause, Refuses, Turns};
+ghost use Rattle.zr_pool.specs.Replies.{condense_reply, evac_reply};
+ghost use Rattle.zr_pool.specs.Turns.{IsOpenAnswer, IsOpenRefusal, IsRemoveRefusal};
 
 use std::alloc::Global;
 use zr_base::{Blob, Condensed, Refusal};
@@ -48,6 +53,8 @@ fn removable(paths: &[Blob], pool: &OpenPool, dev: &Blob) -> Result<u32, Refusal
     ensures on { IfOk result (λ d. state_of_dev pool.now.space.parts.devs d ≡ On) }
     ensures clear { OnOk result (pool.now.space.parts.ckpt ≡ Clear) }
     ensures alone { OnOk result (HasNoRemoval pool.now.space) }
+    ensures device { IfOk result (λ d. (slot : ℕ) × (slot_named paths.now dev.now ≡ Some slot) × IsDeviceOn pool.now slot d) }
+    ensures why { IfErr result (IsRemovalCause paths.now pool.now dev.now (λ d r. ⊥)) }
     ensures refused { IfErr result IsRemoveRefusal }
     ensures cause { (p : PoolState) → HasCheckpoint pool.now.space.parts.ckpt p.saved p.discarding → IfErr result (IsCheckpointCause p) }
 {
@@ -65,6 +72,8 @@ fn removable(paths: &[Blob], pool: &OpenPool, dev: &Blob) -> Result<u32, Refusal
 pub fn estimate_of(paths: &[Blob], pool: &OpenPool, dev: &Blob) -> Result<u64, Refusal>
     requires pool { (sizes : List ℕ) × IsOpen sizes pool.now }
     requires few { length paths.now ≤ 32 }
+    ensures estimate { IfOk result (λ bytes. (d : ℕ) × IsRemovable paths.now pool.now dev.now d × (bytes ≡ 24 * copy_pieces (part_of pool.now.space.parts.devs d).held)) }
+    ensures why { IfErr result (IsRemovalCause paths.now pool.now dev.now (λ d r. (r ≡ OnlyDevice) × IsOnlyOne pool.now.space d)) }
     ensures refused { IfErr result IsRemoveRefusal }
     ensures cause { (p : PoolState) → HasCheckpoint pool.now.space.parts.ckpt p.saved p.discarding → IfErr result (IsCheckpointCause p) }
 {
@@ -118,6 +127,8 @@ pub fn removal_line<S: Shelf>(
     ensures unchanged { (r : Refusal) → IsErrOf result (No r) → pool.new ≡ pool.old }
     ensures untouched { (r : Refusal) → IsErrOf result (No r) → S.world shelf.new ≡ S.world shelf.old }
     ensures cause { (p : PoolState) → HoldsState (S.tells shelf.old) (S.world shelf.old).now.seen pool.old p → (r : Refusal) → IsErrOf result (No r) → IsPlainRefusal p command.now r }
+    ensures account { S.tells shelf.old → IfOk result (λ reply. Turns paths.now (S.sizes shelf.old) (S.world shelf.old).now.seen pool.old command.now reply (S.world shelf.new).now.seen pool.new) }
+    ensures account_no { S.tells shelf.old → (r : Refusal) → IsErrOf result (No r) → Refuses paths.now (S.sizes shelf.old) (S.world shelf.old).now.seen pool.old command.now r pool.new }
     ensures done { IfOk result IsDone }
     ensures answer { IfOk result (IsOpenAnswer command.now) }
     ensures refused { (r : Refusal) → IsErrOf result (No r) → IsOpenRefusal command.now r }
