@@ -5,3 +5,4 @@ pub mod Acting
 pub mod Staying
 pub mod Turning
 pub mod Working
+pub mod Accounting

@@ -6,4 +6,4 @@ use Rattle.zr_pool.proofs.pool.DevicePoolPool.has_work.Goals as goal
 
 pub returns-in-Some-clause-works : goal.returns-in-Some-clause-works
 returns-in-Some-clause-works c = λ disks state stands.
-    state_works disks c.in-Some.pool state c.args.actor c.has_work.result (subst (λ (o : Option OpenPool). StandsFor o disks state) c.in-Some.is stands) c.has_work.ensures
+    state_works disks c.in-Some.pool state.told c.args.actor c.has_work.result (subst (λ (o : Option OpenPool). StandsFor o disks state.told) c.in-Some.is stands.told) c.has_work.ensures
