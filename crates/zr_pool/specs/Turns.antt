@@ -18,6 +18,7 @@ use Rattle.zr_sync.specs.declared.open.OpenPool.{OpenPool}
 use Rattle.zr_pool.specs.Accounts.{Turns, Begins, BeginsNone}
 use Rattle.zr_pool.specs.Plain.{IsObjectsTurn, is_of_removal}
 use Rattle.zr_pool.specs.Pools.{DeviceState, no_device_state}
+use Rattle.zr_pool.specs.Replies.{TellsFault}
 
 -- the lines on objects
 abbrev pub is_on_objects : Command → Bool
@@ -212,6 +213,7 @@ on_objects_told = record {
   takes = λ p t. IsTurn p.state.is_open t.command t.answer t.point.state.is_open × IsObjectsTurn p.state.is_open p.state.shelf p.shelf p.state t.command t.answer t.point.state;
   serves = λ paths state command. IsServed command;
   damages = λ p command found. Unit {0};
+  blames = TellsFault;
   works = λ state actor. works_on state.is_open state.work actor;
 }
 
@@ -247,5 +249,6 @@ on_devices = record {
   takes = IsDeviceTurn;
   serves = λ paths state command. IsServed command;
   damages = λ p command found. Unit {0};
+  blames = TellsFault;
   works = λ state actor. works_on state.told.is_open state.told.work actor;
 }

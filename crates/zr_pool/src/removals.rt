@@ -21,7 +21,7 @@ ghost use Rattle.zr_sync.specs.declared.fault.Fault.TheVariants.{No, Stops};
 ghost use Rattle.zr_sync.specs.declared.stop.Stop.TheVariants.{DiskFault};
 ghost use Rattle.zr_pool.specs.Plain.{IsCheckpointCause, IsDone, IsPlainRefusal, is_of_removal};
 ghost use Rattle.zr_pool.specs.Accounts.{IsRemovable, IsRemovalCause, Refuses, Turns};
-ghost use Rattle.zr_pool.specs.Replies.{condense_reply, evac_reply};
+ghost use Rattle.zr_pool.specs.Replies.{TellsFault, condense_reply, evac_reply};
 ghost use Rattle.zr_pool.specs.Turns.{IsOpenAnswer, IsOpenRefusal, IsRemoveRefusal};
 
 use std::alloc::Global;
@@ -129,6 +129,7 @@ pub fn removal_line<S: Shelf>(
     ensures cause { (p : PoolState) → HoldsState (S.tells shelf.old) (S.world shelf.old).now.seen pool.old p → (r : Refusal) → IsErrOf result (No r) → IsPlainRefusal p command.now r }
     ensures account { S.tells shelf.old → IfOk result (λ reply. Turns paths.now (S.sizes shelf.old) (S.world shelf.old).now.seen pool.old command.now reply (S.world shelf.new).now.seen pool.new) }
     ensures account_no { S.tells shelf.old → (r : Refusal) → IsErrOf result (No r) → Refuses paths.now (S.sizes shelf.old) (S.world shelf.old).now.seen pool.old command.now r pool.new }
+    ensures blamed { IfOk result (λ reply. TellsFault command.now reply → HasRisen (S.counts shelf.old).disk (S.counts shelf.new).disk) }
     ensures done { IfOk result IsDone }
     ensures answer { IfOk result (IsOpenAnswer command.now) }
     ensures refused { (r : Refusal) → IsErrOf result (No r) → IsOpenRefusal command.now r }

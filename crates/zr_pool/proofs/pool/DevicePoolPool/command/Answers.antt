@@ -33,9 +33,9 @@ returns-in_default-clause-step g c = λ told paths before stood.
     let r = c.closed_line.result in
     let closed : before.told.is_open ≡ false = subst (λ (o : Option OpenPool). StandsFor o old.seen before.told) c.in_default.is stood.told in
     let told_part = closed_turns old new before.told closed (g.S.Shelf.tells c.closed_line.new.shelf) behind c.args.command.now pool r
-        c.closed_line.ensures.done c.closed_line.ensures.turn c.closed_line.ensures.refused (c.closed_line.ensures.cause told) c.closed_line.ensures.closed (c.closed_line.ensures.made told) in
+    c.closed_line.ensures.done c.closed_line.ensures.turn c.closed_line.ensures.refused (c.closed_line.ensures.cause told) c.closed_line.ensures.closed (c.closed_line.ensures.made told) in
     let account_part = closed_accounts old new before c.args.command.now pool (stood.account ∙ c.in_default.is) _ paths (g.S.Shelf.sizes shelf) (g.S.Shelf.sizes c.closed_line.new.shelf) (g.S.Shelf.sound shelf told).sized (g.S.Shelf.sound c.closed_line.new.shelf behind).sized r
-        c.closed_line.ensures.done c.closed_line.ensures.turn (c.closed_line.ensures.begins told) (c.closed_line.ensures.begins_no told) c.closed_line.ensures.closed c.closed_line.ensures.pool in
+    c.closed_line.ensures.done c.closed_line.ensures.turn (c.closed_line.ensures.begins told) (c.closed_line.ensures.begins_no told) c.closed_line.ensures.closed c.closed_line.ensures.pool in
     subst (λ q. IfOk q (λ found. IfSome found (λ answer. Leads old new before c.args.command.now pool answer))) (sym c.answer_of.ensures)
     (each_with_account old new before c.args.command.now pool (answer_of r) told_part account_part)
 
@@ -56,9 +56,9 @@ returns-clause-step g c = λ told paths before stood.
       | else-is_closing w ↦ ap (λ p. p.pool) w.self-is ∙ sym (ap (λ (b : Bool). left_of b y) (sym c.is_closing.ensures ∙ w.if-is_closing.false))
     ] in
     let told_part = open_turns old new before.told (g.S.Shelf.tells shelf) (g.S.Shelf.tells c.open_line-done.new.shelf) told behind command x y r there
-        c.open_line-done.ensures.acts c.open_line-done.ensures.stays c.open_line-done.ensures.cause c.open_line-done.ensures.answer c.open_line-done.ensures.refused in
+    c.open_line-done.ensures.acts c.open_line-done.ensures.stays c.open_line-done.ensures.cause c.open_line-done.ensures.answer c.open_line-done.ensures.refused in
     let account_part = open_accounts old new before command x y (stood.account ∙ c.in-Some.is) _ paths (g.S.Shelf.sizes shelf) (g.S.Shelf.sizes c.open_line-done.new.shelf) (g.S.Shelf.sound shelf told).sized (g.S.Shelf.sound c.open_line-done.new.shelf behind).sized r
-        c.open_line-done.ensures.answer (c.open_line-done.ensures.account told) (c.open_line-done.ensures.account_no told) c.open_line-done.ensures.pool c.open_line-done.ensures.pool_no in
+    c.open_line-done.ensures.answer (c.open_line-done.ensures.account told) (c.open_line-done.ensures.account_no told) c.open_line-done.ensures.pool c.open_line-done.ensures.pool_no in
     subst (λ (o : Option OpenPool). IfOk c.answer_of-2.result (λ found. IfSome found (λ answer. Leads old new before command o answer))) (sym left)
     (subst (λ q. IfOk q (λ found. IfSome found (λ answer. Leads old new before command (left_of (is_closing command r) y) answer))) (sym c.answer_of-2.ensures)
     (each_with_account old new before command (left_of (is_closing command r) y) (answer_of r) told_part account_part))
