@@ -57,12 +57,14 @@ pub record Meaning : Type 1 where
   pub serves : List (List ℕ) → State → Command → Type 0
   -- the command may meet this damage from a point
   pub damages : Point State → Command → Refusal → Type 0
+  -- the answer to the command tells that a device failed
+  pub blames : Command → Reply → Type 0
   -- a step of the actor has work there
   pub works : State → Actor → Bool
 
 -- what they mean to plain objects, of which none is ever damaged, and which leave no work
 abbrev pub plain : Meaning
-plain = record { State = State; none = no_pool; takes = Takes; serves = IsServed; damages = λ p command found. ⊥; works = λ state actor. false }
+plain = record { State = State; none = no_pool; takes = Takes; serves = IsServed; damages = λ p command found. ⊥; blames = λ command answer. ⊥; works = λ state actor. false }
 
 -- the line that makes a step of the actor
 abbrev pub step_of : Actor → Command

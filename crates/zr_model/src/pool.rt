@@ -102,6 +102,8 @@ pub trait Pool {
         ensures step { S.tells shelf.old → (S.world shelf.old).now.paths ≡ paths self.old → (before : meaning.State) → stands self.old (S.world shelf.old).now.seen before → IfOk result (λ found. IfSome found (λ reply.
             TurnsTo meaning (stands self.new) before (S.world shelf.old).now command.now reply (S.world shelf.new).now)) }
         ensures none { (disks : List (List ℕ)) (before : meaning.State) → stands self.old disks before → IfOk result (λ found. IfNone found (meaning.serves (paths self.old) before command.now → ⊥)) }
+        // An answer that tells of a failed device comes only where a call on one failed.
+        ensures blamed { IfOk result (λ found. IfSome found (λ reply. meaning.blames command.now reply → HasRisen (S.counts shelf.old).disk (S.counts shelf.new).disk)) }
         ensures failed { IsErrOf result DiskFault → HasRisen (S.counts shelf.old).disk (S.counts shelf.new).disk }
         ensures damaged { S.tells shelf.old → (before : meaning.State) → stands self.old (S.world shelf.old).now.seen before → (at : Dva) (expected found : List ℕ) → IsErrOf result (Damaged at expected found) → meaning.damages (point (S.world shelf.old).now before) command.now (refusal.Damaged at expected found) }
         ensures may_damage { (at : Dva) (expected found : List ℕ) → IsErrOf result (Damaged at expected found) → MayBeDamaged meaning }

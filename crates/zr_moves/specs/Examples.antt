@@ -5,16 +5,16 @@ use Rattle.zr_script.specs.declared.command.Command.{Command}
 use Rattle.zr_script.specs.declared.reply.Reply.{Reply}
 use Rattle.std.specs.FinSet as set
 use Rattle.zr_model.specs.Objects.{Object}
-use Rattle.zr_model.specs.State.{no_pool}
+use Rattle.zr_model.specs.State.{State, no_pool}
 use Rattle.zr_model.specs.Runs.{Point, Turn}
 use Rattle.zr_moves.specs.Prefix.{Now}
 
 -- no disks and no pool
-abbrev pub nothing : Point
+abbrev pub nothing : Point State
 nothing = record { shelf = record { paths = []; disks = [] }; state = no_pool }
 
 -- one command that leaves all as it was
-abbrev pub idle : Command → Reply → Turn
+abbrev pub idle : Command → Reply → Turn State
 idle command answer = record { command = command; answer = answer; point = nothing }
 
 -- a run of one command, behind which nothing is sent

@@ -49,24 +49,24 @@ IsCommitting disks cmd.StepEvac (reply.Cancelled d) = Unit {0}
 IsCommitting disks command answer = ⊥
 
 -- how things stood after k commands
-abbrev pub point_after : Point → List Turn → ℕ → Point
+abbrev pub point_after : Point State → List (Turn State) → ℕ → Point State
 point_after p turns zero = p
 point_after p [] (suc k) = p
 point_after p (t ∷ turns) (suc k) = point_after t.point turns k
 
 -- what the shelf had then
-abbrev pub part_after : Point → List Turn → ℕ → ShelfPart
+abbrev pub part_after : Point State → List (Turn State) → ℕ → ShelfPart
 part_after p turns k = (point_after p turns k).state.shelf
 
 -- the k-th command, the first being 1, has committed
-abbrev pub CommittedAt : Point → List Turn → ℕ → Type 0
+abbrev pub CommittedAt : Point State → List (Turn State) → ℕ → Type 0
 CommittedAt p turns zero = ⊥
 CommittedAt p [] (suc k) = ⊥
 CommittedAt p (t ∷ turns) (suc zero) = IsCommitting p.shelf.disks t.command t.answer
 CommittedAt p (t ∷ turns) (suc (suc k)) = CommittedAt t.point turns (suc k)
 
 -- of the first r commands the last that has committed, 0 where none has
-pub record IsLastCommit (p : Point) (turns : List Turn) (r s : ℕ) : Type 0 where
+pub record IsLastCommit (p : Point State) (turns : List (Turn State)) (r s : ℕ) : Type 0 where
   pub among : s ≤ r
   pub committed : 0 < s → CommittedAt p turns s
   pub last : (k : ℕ) → s < k → k ≤ r → CommittedAt p turns k → ⊥
@@ -75,13 +75,13 @@ pub record IsLastCommit (p : Point) (turns : List Turn) (r s : ℕ) : Type 0 whe
 -- sent behind all replies.
 pub record Now : Type 0 where
   pub before : List ℕ
-  pub start : Point
-  pub turns : List Turn
+  pub start : Point State
+  pub turns : List (Turn State)
   pub doing : Option Command
   pub ending : List ℕ
 
 -- the text that is sent behind r replies: the next reply, or what ends the run
-abbrev pub text_behind : List Turn → List ℕ → ℕ → List ℕ
+abbrev pub text_behind : List (Turn State) → List ℕ → ℕ → List ℕ
 text_behind [] ending r = ending
 text_behind (t ∷ turns) ending zero = reply_text t.answer
 text_behind (t ∷ turns) ending (suc r) = text_behind turns ending r
@@ -96,7 +96,7 @@ pub record HasSent (now : Now) (r : ℕ) (sent : List ℕ) : Type 0 where
   pub short : r < length now.turns → 0 < length rest
 
 -- the part is what the shelf has after the command that is being done, done with no refusal
-abbrev pub IsNextBy : Option Command → Point → ShelfPart → Type 0
+abbrev pub IsNextBy : Option Command → Point State → ShelfPart → Type 0
 IsNextBy None p part = ⊥
 IsNextBy (Some command) p part = (answer : Reply) × (new : State) × Answers p.shelf p.state command answer new × IsDone answer × (part ≡ new.shelf)
 
@@ -135,7 +135,7 @@ IsSameAloneAt paths disks (Refused r) txg lower = Unit {0}
 IsSameAloneAt paths disks (Is p) txg lower = StateAt (paths_of (own_slots p paths disks)) (disks_of (own_slots p paths disks)) txg lower
 
 -- the k-th command was answered with this group
-abbrev pub SyncedAt : List Turn → ℕ → ℕ → Type 0
+abbrev pub SyncedAt : List (Turn State) → ℕ → ℕ → Type 0
 SyncedAt [] k txg = ⊥
 SyncedAt (t ∷ turns) zero txg = ⊥
 SyncedAt (t ∷ turns) (suc zero) txg = t.answer ≡ reply.Synced txg

@@ -17,6 +17,7 @@ use Rattle.zr_script.specs.Generated.{script_of}
 use Rattle.zr_script.specs.Grammar.{IsLine}
 use Rattle.zr_script.specs.Lines.{lines_of}
 use Rattle.zr_script.specs.ReplyText.{End, Answered, BadWords, NoInput, NoOutput, DiskFault, BadLine, Damage, NoDevice, InputLimit, NoMemory, status_of, last_line, reply_text, generated_line}
+use Rattle.zr_model.specs.State.{State}
 use Rattle.zr_model.specs.Runs.{Turn, Asks, texts, bytes_to}
 use Rattle.zr_moves.specs.Prefix.{Now, KeepsPrefix, KeepsSome, KeepsAll}
 use Rattle.zr_moves.specs.Runs.{Standing, Act, Item, Given, Inserted, behind, turns_of, shelf_of, agenda, has_work, IsStart, Run, Happen, Plays, IsDue}
@@ -70,7 +71,7 @@ IsEnd BadWords input taken lines rest = ⊥
 IsEnd NoDevice input taken lines rest = ⊥
 
 -- the bytes sent: the replies in order and the last line, or where the output failed a front of that
-abbrev pub IsSent : End → List Turn → List ℕ → Type 0
+abbrev pub IsSent : End → List (Turn State) → List ℕ → Type 0
 IsSent NoOutput turns sent = (rest : List ℕ) × (end : End) × (sent ++ rest ≡ texts turns ++ last_line end)
 IsSent end turns sent = sent ≡ texts turns ++ last_line end
 
@@ -144,7 +145,7 @@ pub record RunsScript (line : CommandLine) (policy : Policy) (old new : World) (
   pub happens : IsTrusted start.point.shelf → Happen acts opening new
   pub prefixes : IsTrusted start.point.shelf → LeavesPrefixes start acts end stopped opening new
 
-abbrev pub is_refused : Turn → Bool
+abbrev pub is_refused : Turn State → Bool
 is_refused t = refuses t.answer
   where
     refuses : Reply → Bool
@@ -152,7 +153,7 @@ is_refused t = refuses t.answer
     refuses answer = false
 
 -- the reply to a `sum`, a refusal among them
-abbrev pub sum_text : Turn → List ℕ
+abbrev pub sum_text : Turn State → List ℕ
 sum_text t = text_of t.command
   where
     text_of : Command → List ℕ
@@ -160,7 +161,7 @@ sum_text t = text_of t.command
     text_of command = []
 
 -- the turns of the commands that are given, without the steps that were put in
-abbrev pub given_turns : {A : Type 0} → List (Item A) → Standing → List Act → List Turn
+abbrev pub given_turns : {A : Type 0} → List (Item A) → Standing → List Act → List (Turn State)
 given_turns [] s acts = []
 given_turns (Given c ∷ items) s [] = []
 given_turns (Given c ∷ items) s (a ∷ acts) = a.turn ∷ given_turns items (behind a) acts
@@ -168,7 +169,7 @@ given_turns (Inserted c ∷ items) s [] = []
 given_turns (Inserted c ∷ items) s (a ∷ acts) = if has_work s c then given_turns items (behind a) acts else given_turns items s (a ∷ acts)
 
 -- the one line of a generated run: how many commands were accepted and refused, and the sum of the replies to its last sums
-abbrev pub generated_text : ℕ → ℕ → List Turn → List ℕ
+abbrev pub generated_text : ℕ → ℕ → List (Turn State) → List ℕ
 generated_text number count given = generated_line number count (count_by (λ t. not (is_refused t)) given) (count_by is_refused given) (sha256 (flat_map sum_text given))
 
 -- what is sent by a generated run that ends so: its line, the last line of the stop, or where the output failed a front of one of them

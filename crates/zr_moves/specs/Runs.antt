@@ -7,7 +7,7 @@ use Rattle.zr_script.specs.declared.command.Command.TheVariants as cmd
 use Rattle.zr_shelf.specs.Disks.{Stand}
 use Rattle.zr_shelf.specs.Moments.{World, Throughout}
 use Rattle.zr_rules.specs.Steps.{has_condensing}
-use Rattle.zr_model.specs.State.{PoolState, ShelfPart, Is}
+use Rattle.zr_model.specs.State.{PoolState, ShelfPart, Is, State}
 use Rattle.zr_model.specs.Runs.{Shelf, Point, Turn}
 use Rattle.zr_image.specs.StateOf.{StateOf}
 use Rattle.zr_moves.specs.Account.{Account, StandsFor}
@@ -17,12 +17,12 @@ use Rattle.zr_moves.specs.Move.{Move}
 
 -- how things stand between two commands: the shelf and what it has, and the account of an open pool
 pub record Standing : Type 0 where
-  pub point : Point
+  pub point : Point State
   pub account : Option Account
 
 -- a command that was done: its turn, the account behind it, and the shelf at moments of it
 pub record Act : Type 0 where
-  pub turn : Turn
+  pub turn : Turn State
   pub account : Option Account
   pub moments : List Shelf
 
@@ -59,7 +59,7 @@ abbrev pub Run : Policy → Standing → List Act → Type 0
 Run policy s [] = Unit {0}
 Run policy s (a ∷ acts) = Takes policy s a × Run policy (behind a) acts
 
-abbrev pub turns_of : List Act → List Turn
+abbrev pub turns_of : List Act → List (Turn State)
 turns_of acts = map (λ (a : Act). a.turn) acts
 
 abbrev pub shelf_of : Stand → Shelf

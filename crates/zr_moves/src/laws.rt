@@ -7,7 +7,7 @@ ghost use Rattle.zr_script.specs.declared.command.Command.{Command};
 ghost use Rattle.zr_script.specs.declared.command.Command.TheVariants as cmd;
 ghost use Rattle.zr_script.specs.declared.reply.Reply.{Reply};
 ghost use Rattle.zr_script.specs.declared.reply.Reply.TheVariants as reply;
-ghost use Rattle.zr_model.specs.State.{PoolState, ShelfPart, Is};
+ghost use Rattle.zr_model.specs.State.{PoolState, ShelfPart, Is, State};
 ghost use Rattle.zr_model.specs.Runs.{Shelf, Point, Turn};
 ghost use Rattle.zr_moves.specs.Account.{Account};
 ghost use Rattle.zr_moves.specs.Prefix.{Now, IsLastCommit, CommittedAt, HasSent, MeansPrefix, KeepsPrefix, IsNoLater};
@@ -26,7 +26,7 @@ pub fn no_answered_commit_is_lost()
     ensures read { CommittedAt nothing (idle (cmd.Read 1 0 1) (reply.Data []) ∷ []) 1 → ⊥ }
     ensures copied { CommittedAt nothing (idle cmd.StepEvac (reply.Copied 3) ∷ []) 1 → ⊥ }
     ensures gone { CommittedAt nothing (idle cmd.StepEvac (reply.Gone 0) ∷ []) 1 }
-    ensures last { (p : Point) (turns : List Turn) (r s j : ℕ) → IsLastCommit p turns r s → CommittedAt p turns j → j ≤ r → j ≤ s }
+    ensures last { (p : Point State) (turns : List (Turn State)) (r s j : ℕ) → IsLastCommit p turns r s → CommittedAt p turns j → j ≤ r → j ≤ s }
     ensures kept { (now : Now) (paths : List (List ℕ)) (r s j : ℕ) (image : List (List ℕ)) → IsLastCommit now.start now.turns r s → CommittedAt now.start now.turns j → j ≤ r
         → (means : MeansPrefix ⊥ now paths s r image) → j ≤ means.k }
 {}

@@ -77,15 +77,14 @@ struct DamagedPool {
 
 impl Pool for DamagedPool {
     ghost use Rattle.std.specs.Prelude.{◌≡◌, false, length};
-    ghost use Rattle.zr_model.specs.State.{no_pool};
 
     ghost paths = { λ p. p.paths };
 
-    ghost stands = { λ p disks state. state ≡ no_pool };
+    ghost meaning = { record { State = Unit {0}; none = tt; takes = λ p t. ⊥; serves = λ paths state command. Unit {0}; damages = λ p command found. Unit {0}; works = λ state actor. false } };
+
+    ghost stands = { λ p disks state. Unit {0} };
 
     ghost fits = { λ p sizes. length sizes ≡ length p.paths };
-
-    ghost meaning = { record { takes = λ p t. ⊥; serves = λ paths state command. Unit {0}; damages = λ p command found. Unit {0}; works = λ state actor. false } };
 
     fn closed(_alloc: Global, devs: Items<Blob>) -> Result<DamagedPool, NoMemory> {
         Ok(DamagedPool { paths: devs })
@@ -142,15 +141,16 @@ impl BusyPool {
 }
 
 impl Pool for BusyPool {
-    ghost use Rattle.std.specs.Prelude.{◌≡◌, nat_lt, length};
+    ghost use Rattle.std.specs.Prelude.{◌≡◌, Bool, false, nat_lt, length};
 
     ghost paths = { λ p. p.paths };
 
-    ghost stands = { λ p disks state. state.is_open ≡ nat_lt 0 p.left };
+    // A state says whether there is work.
+    ghost meaning = { record { State = Bool; none = false; takes = λ p t. Unit {0}; serves = λ paths state command. Unit {0}; damages = λ p command found. ⊥; works = λ state actor. state } };
+
+    ghost stands = { λ p disks state. state ≡ nat_lt 0 p.left };
 
     ghost fits = { λ p sizes. length sizes ≡ length p.paths };
-
-    ghost meaning = { record { takes = λ p t. Unit {0}; serves = λ paths state command. Unit {0}; damages = λ p command found. ⊥; works = λ state actor. state.is_open } };
 
     fn closed(_alloc: Global, devs: Items<Blob>) -> Result<BusyPool, NoMemory> {
         Ok(BusyPool {

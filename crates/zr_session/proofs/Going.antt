@@ -6,7 +6,6 @@ use Rattle.std.proofs.lemmas.Bool.Decides.{eqb_tells}
 use Rattle.std.proofs.lemmas.List.{append-nil}
 use Rattle.zr_shelf.specs.Disks.{Stand, taken_to}
 use Rattle.zr_script.specs.Lines.{lines_of, before_lines}
-use Rattle.zr_model.specs.State.{State, no_pool}
 use Rattle.zr_model.specs.Runs.{Meaning, Turn, point, Run, end_of, texts, Asks, bytes_to}
 use Rattle.zr_session.specs.Agenda.{Item, Given, rounds_of, agenda, Plays}
 use Rattle.zr_session.specs.Answers.{IsOpenLine}
@@ -16,17 +15,17 @@ use Rattle.zr_session.specs.Progress.{HasDone, IsAt, IsNext, StandsAt}
 use Rattle.zr_session.proofs.Playing.{plays_both, run_both, end_both, told_both, agenda_more}
 
 -- items more are done
-pub done_more : (meaning : Meaning) (opening old new : Stand) (before after : State) (items more : List (Item (List ℕ))) (turns : List Turn)
+pub done_more : (meaning : Meaning) (opening old new : Stand) (before after : meaning.State) (items more : List (Item (List ℕ))) (turns : List (Turn meaning.State))
     → HasDone meaning opening old before items turns → (d : DoesItems (List ℕ) meaning Asks Sent more before after old new) → HasDone meaning opening new after (items ++ more) (turns ++ d.turns)
 done_more meaning opening old new before after items more turns h d = record {
-  plays = plays_both (List ℕ) meaning Asks items more (point opening no_pool) turns d.turns h.plays (subst (λ p. Plays meaning Asks more p d.turns) (sym h.ends) d.plays);
-  run = run_both meaning (point opening no_pool) turns d.turns h.run (subst (λ p. Run meaning p d.turns) (sym h.ends) d.run);
-  ends = end_both (point opening no_pool) turns d.turns ∙ (ap (λ p. end_of p d.turns) h.ends ∙ d.ends);
+  plays = plays_both (List ℕ) meaning Asks items more (point opening meaning.none) turns d.turns h.plays (subst (λ p. Plays meaning Asks more p d.turns) (sym h.ends) d.plays);
+  run = run_both meaning (point opening meaning.none) turns d.turns h.run (subst (λ p. Run meaning p d.turns) (sym h.ends) d.run);
+  ends = end_both (point opening meaning.none) turns d.turns ∙ (ap (λ p. end_of p d.turns) h.ends ∙ d.ends);
   sent = d.sends.sent ∙ (ap (λ s. s ++ texts d.turns) h.sent ∙ (append_assoc opening.sent (texts turns) (texts d.turns) ∙ ap (λ s. opening.sent ++ s) (sym (told_both Sent turns d.turns))));
 }
 
 -- one line more is answered
-pub answered_more : (meaning : Meaning) (rounds : ℕ) (opening old new : Stand) (before after : State) (lines : List (List ℕ)) (turns : List Turn) (line : List ℕ)
+pub answered_more : (meaning : Meaning) (rounds : ℕ) (opening old new : Stand) (before after : meaning.State) (lines : List (List ℕ)) (turns : List (Turn meaning.State)) (line : List ℕ)
     → HasDone meaning opening old before (agenda rounds lines) turns → (a : AnswersLine meaning rounds line before after old new)
     → HasDone meaning opening new after (agenda rounds (lines ++ line ∷ [])) (turns ++ a.turns)
 answered_more meaning rounds opening old new before after lines turns line h a =
@@ -67,7 +66,7 @@ open_both [] part h k = k
 open_both (b ∷ line) part h k = (h.0, open_both line part h.1 k)
 
 -- nothing is taken yet
-pub at_start : (meaning : Meaning) (rounds : ℕ) (opening : Stand) → IsAt meaning rounds opening opening no_pool [] [] 0 0
+pub at_start : (meaning : Meaning) (rounds : ℕ) (opening : Stand) → IsAt meaning rounds opening opening meaning.none [] [] 0 0
 at_start meaning rounds opening = record {
   lines = [];
   turns = [];
@@ -85,7 +84,7 @@ at_start meaning rounds opening = record {
 }
 
 -- a piece is taken
-pub at_taken : (meaning : Meaning) (rounds : ℕ) (opening old new : Stand) (state : State) (piece left line : List ℕ) (count taken : ℕ)
+pub at_taken : (meaning : Meaning) (rounds : ℕ) (opening old new : Stand) (state : meaning.State) (piece left line : List ℕ) (count taken : ℕ)
     → IsAt meaning rounds opening old state [] line count taken → old.left ≡ piece ++ left → new ≡ taken_to old left → taken + length piece ≤ 2 ^ 32 → length piece ≤ 65536
     → IsAt meaning rounds opening new state piece line count (taken + length piece)
 at_taken meaning rounds opening old new state piece left line count taken a e n m f = record {
@@ -134,7 +133,7 @@ ended_length bytes part more rest taken e t =
     omega arith
 
 -- the line that a line feed ends within a piece is answered
-pub at_line : (meaning : Meaning) (rounds : ℕ) (opening old new : Stand) (before after : State) (rest line part more : List ℕ) (count taken : ℕ)
+pub at_line : (meaning : Meaning) (rounds : ℕ) (opening old new : Stand) (before after : meaning.State) (rest line part more : List ℕ) (count taken : ℕ)
     → IsAt meaning rounds opening old before rest line count taken → rest ≡ part ++ 10 ∷ more → IsOpenLine part → AnswersLine meaning rounds (line ++ part) before after old new
     → IsAt meaning rounds opening new after more [] (count + 1) taken
 at_line meaning rounds opening old new before after rest line part more count taken a e k l = record {
@@ -155,7 +154,7 @@ at_line meaning rounds opening old new before after rest line part more count ta
 }
 
 -- what no line feed ends is carried over
-pub at_kept : (meaning : Meaning) (rounds : ℕ) (opening now : Stand) (state : State) (rest line new : List ℕ) (count taken : ℕ)
+pub at_kept : (meaning : Meaning) (rounds : ℕ) (opening now : Stand) (state : meaning.State) (rest line new : List ℕ) (count taken : ℕ)
     → IsAt meaning rounds opening now state rest line count taken → IsOpenLine rest → new ≡ line ++ rest → length new ≤ 16384 → IsAt meaning rounds opening now state [] new count taken
 at_kept meaning rounds opening now state rest line new count taken a k e s = record {
   lines = a.lines;
@@ -186,7 +185,7 @@ taken_prompt lines bytes rest line next more w l r n =
     omega arith
 
 -- the line that a line feed ends is the next
-pub due_line : (meaning : Meaning) (rounds : ℕ) (opening now : Stand) (state : State) (rest line part more : List ℕ) (count taken : ℕ)
+pub due_line : (meaning : Meaning) (rounds : ℕ) (opening now : Stand) (state : meaning.State) (rest line part more : List ℕ) (count taken : ℕ)
     → IsAt meaning rounds opening now state rest line count taken → rest ≡ part ++ 10 ∷ more → IsOpenLine part → IsNext meaning rounds opening now state (line ++ part) (count + 1)
 due_line meaning rounds opening now state rest line part more count taken a e k = record {
   lines = a.lines;
@@ -202,13 +201,13 @@ due_line meaning rounds opening now state rest line part more count taken a e k 
   prompt = taken_prompt a.lines a.bytes rest line (line ++ part) (length part) a.whole a.short a.piece (length-append line part);
 }
 
-pub last_front : (meaning : Meaning) (rounds : ℕ) (opening now : Stand) (state : State) (b : ℕ) (line : List ℕ) (count taken : ℕ)
+pub last_front : (meaning : Meaning) (rounds : ℕ) (opening now : Stand) (state : meaning.State) (b : ℕ) (line : List ℕ) (count taken : ℕ)
     → (a : IsAt meaning rounds opening now state [] (b ∷ line) count taken) → now.left ≡ [] → lines_of opening.left ≡ a.lines ++ (b ∷ line) ∷ []
 last_front meaning rounds opening now state b line count taken a e =
     ap lines_of (a.input ∙ ap (λ l. a.bytes ++ l) e) ∙ (a.split [] ∙ ap (λ l. a.lines ++ l) (ap lines_of (append-nil (b ∷ line)) ∙ lines_last b line a.is_open))
 
 -- the last line, which no line feed ends
-pub due_last : (meaning : Meaning) (rounds : ℕ) (opening now : Stand) (state : State) (b : ℕ) (line : List ℕ) (count taken : ℕ)
+pub due_last : (meaning : Meaning) (rounds : ℕ) (opening now : Stand) (state : meaning.State) (b : ℕ) (line : List ℕ) (count taken : ℕ)
     → IsAt meaning rounds opening now state [] (b ∷ line) count taken → now.left ≡ [] → IsNext meaning rounds opening now state (b ∷ line) (count + 1)
 due_last meaning rounds opening now state b line count taken a e = record {
   lines = a.lines;
@@ -224,12 +223,12 @@ due_last meaning rounds opening now state b line count taken a e = record {
 }
 
 -- a line that has become too long is the front of the next
-pub record IsLong (meaning : Meaning) (rounds : ℕ) (opening now : Stand) (state : State) (count : ℕ) : Type 0 where
+pub record IsLong (meaning : Meaning) (rounds : ℕ) (opening now : Stand) (state : meaning.State) (count : ℕ) : Type 0 where
   pub line : List ℕ
   pub due : IsNext meaning rounds opening now state line (count + 1)
   pub long : 16384 < length line
 
-long_due : (meaning : Meaning) (rounds : ℕ) (opening now : Stand) (state : State) (rest line : List ℕ) (count taken : ℕ)
+long_due : (meaning : Meaning) (rounds : ℕ) (opening now : Stand) (state : meaning.State) (rest line : List ℕ) (count taken : ℕ)
     → IsAt meaning rounds opening now state rest line count taken → 16384 < length (line ++ rest) → BeginsWith (line ++ rest) (lines_of ((line ++ rest) ++ now.left)) → IsLong meaning rounds opening now state count
 long_due meaning rounds opening now state rest line count taken a m w = record {
   line = (line ++ rest) ++ w.back;
@@ -252,20 +251,20 @@ begins_all : (line more : List ℕ) → 16384 < length line → IsOpenLine line 
 begins_all [] more l h = absurd (omega arith)
 begins_all (b ∷ line) more l h = lines_begin b line more h
 
-pub due_long : (meaning : Meaning) (rounds : ℕ) (opening now : Stand) (state : State) (rest line : List ℕ) (count taken : ℕ)
+pub due_long : (meaning : Meaning) (rounds : ℕ) (opening now : Stand) (state : meaning.State) (rest line : List ℕ) (count taken : ℕ)
     → IsAt meaning rounds opening now state rest line count taken → IsOpenLine rest → 16384 < length (line ++ rest) → IsLong meaning rounds opening now state count
 due_long meaning rounds opening now state rest line count taken a k l =
     long_due meaning rounds opening now state rest line count taken a l (begins_all (line ++ rest) now.left l (open_both line rest a.is_open k))
 
 -- the same, with the line and the count as they are kept
-at_line_as : (meaning : Meaning) (rounds : ℕ) (opening old new : Stand) (before after : State) (rest line part more : List ℕ) (count taken : ℕ) (left : List ℕ) (number : ℕ)
+at_line_as : (meaning : Meaning) (rounds : ℕ) (opening old new : Stand) (before after : meaning.State) (rest line part more : List ℕ) (count taken : ℕ) (left : List ℕ) (number : ℕ)
     → IsAt meaning rounds opening old before rest line count taken → rest ≡ part ++ 10 ∷ more → IsOpenLine part → AnswersLine meaning rounds (line ++ part) before after old new → left ≡ [] → number ≡ count + 1
     → IsAt meaning rounds opening new after more left number taken
 at_line_as meaning rounds opening old new before after rest line part more count taken left number a e k l empty is =
     subst (λ x. IsAt meaning rounds opening new after more x number taken) (sym empty)
     (subst (λ x. IsAt meaning rounds opening new after more [] x taken) (sym is) (at_line meaning rounds opening old new before after rest line part more count taken a e k l))
 
-at_kept_as : (meaning : Meaning) (rounds : ℕ) (opening now new : Stand) (state : State) (rest line kept : List ℕ) (count number taken : ℕ)
+at_kept_as : (meaning : Meaning) (rounds : ℕ) (opening now new : Stand) (state : meaning.State) (rest line kept : List ℕ) (count number taken : ℕ)
     → IsAt meaning rounds opening now state rest line count taken → IsOpenLine rest → new ≡ now → kept ≡ line ++ rest → length kept ≤ 16384 → number ≡ count → IsAt meaning rounds opening new state [] kept number taken
 at_kept_as meaning rounds opening now new state rest line kept count number taken a k same e s is =
     subst (λ x. IsAt meaning rounds opening x state [] kept number taken) (sym same)
@@ -275,13 +274,13 @@ at_kept_as meaning rounds opening now new state rest line kept count number take
 abbrev pub TookPiece : ℕ → List ℕ → Stand → Stand → Type 0
 TookPiece n out old new = (left : List ℕ) × (old.left ≡ take n out ++ left) × (new ≡ taken_to old left)
 
-at_piece : (meaning : Meaning) (rounds : ℕ) (opening old new : Stand) (state : State) (out line : List ℕ) (n count taken : ℕ)
+at_piece : (meaning : Meaning) (rounds : ℕ) (opening old new : Stand) (state : meaning.State) (out line : List ℕ) (n count taken : ℕ)
     → IsAt meaning rounds opening old state [] line count taken → TookPiece n out old new → n ≤ length out → taken + length out ≤ 2 ^ 32 → length out ≤ 65536 → IsAt meaning rounds opening new state (take n out) line count (taken + n)
 at_piece meaning rounds opening old new state out line n count taken a t l m f =
     let e : length (take n out) ≡ n = length-take-le n out l in
     subst (λ x. IsAt meaning rounds opening new state (take n out) line count (taken + x)) e (at_taken meaning rounds opening old new state (take n out) t.0 line count taken a t.1 t.2 (let k = e in omega arith) (let k = e in omega arith))
 
-at_end : (meaning : Meaning) (rounds : ℕ) (opening old new : Stand) (state : State) (out line : List ℕ) (n count taken : ℕ)
+at_end : (meaning : Meaning) (rounds : ℕ) (opening old new : Stand) (state : meaning.State) (out line : List ℕ) (n count taken : ℕ)
     → IsAt meaning rounds opening old state [] line count taken → TookPiece n out old new → n ≡ 0 → taken ≤ 2 ^ 32 → IsAt meaning rounds opening new state [] line count taken
 at_end meaning rounds opening old new state out line n count taken a t z m =
     let p : take n out ≡ [] = ap (λ k. take k out) z in
@@ -291,24 +290,24 @@ at_end meaning rounds opening old new state out line n count taken a t z m =
 pub left_end : (old new : Stand) (out : List ℕ) (n : ℕ) → TookPiece n out old new → n ≡ 0 → old.left ≡ [] → new.left ≡ []
 left_end old new out n t z e = ap (λ s. s.left) t.2 ∙ (sym (t.1 ∙ ap (λ k. take k out ++ t.0) z) ∙ e)
 
-pub start_as : (meaning : Meaning) (rounds : ℕ) (stands : List (List ℕ) → State → Type 0) (opening : Stand) (line : List ℕ) (count : ℕ) → ((disks : List (List ℕ)) → stands disks no_pool) → line ≡ [] → count ≡ 0
+pub start_as : (meaning : Meaning) (rounds : ℕ) (stands : List (List ℕ) → meaning.State → Type 0) (opening : Stand) (line : List ℕ) (count : ℕ) → ((disks : List (List ℕ)) → stands disks meaning.none) → line ≡ [] → count ≡ 0
     → StandsAt meaning rounds stands opening opening [] line count 0
 start_as meaning rounds stands opening line count closed l n = record {
-  state = no_pool;
+  state = meaning.none;
   stands_for = closed opening.seen;
-  holds = subst (λ x. IsAt meaning rounds opening opening no_pool [] x count 0) (sym l) (subst (λ x. IsAt meaning rounds opening opening no_pool [] [] x 0) (sym n) (at_start meaning rounds opening));
+  holds = subst (λ x. IsAt meaning rounds opening opening meaning.none [] x count 0) (sym l) (subst (λ x. IsAt meaning rounds opening opening meaning.none [] [] x 0) (sym n) (at_start meaning rounds opening));
 }
 
 -- the same of the state for which the pool stands
-pub stands_line : (meaning : Meaning) (rounds : ℕ) (was stands : List (List ℕ) → State → Type 0) (opening old new : Stand) (rest line part more : List ℕ) (count taken : ℕ) (left : List ℕ) (number : ℕ)
+pub stands_line : (meaning : Meaning) (rounds : ℕ) (was stands : List (List ℕ) → meaning.State → Type 0) (opening old new : Stand) (rest line part more : List ℕ) (count taken : ℕ) (left : List ℕ) (number : ℕ)
     → StandsAt meaning rounds was opening old rest line count taken → rest ≡ part ++ 10 ∷ more → IsOpenLine part
-    → ((before : State) → was old.seen before → StandsForOne stands new (λ after. AnswersLine meaning rounds (line ++ part) before after old new)) → left ≡ [] → number ≡ count + 1
+    → ((before : meaning.State) → was old.seen before → StandsForOne stands new (λ after. AnswersLine meaning rounds (line ++ part) before after old new)) → left ≡ [] → number ≡ count + 1
     → StandsAt meaning rounds stands opening new more left number taken
 stands_line meaning rounds was stands opening old new rest line part more count taken left number a e k f empty is =
     let l = f a.state a.stands_for in
     record { state = l.state; stands_for = l.stands_for; holds = at_line_as meaning rounds opening old new a.state l.state rest line part more count taken left number a.holds e k l.holds empty is }
 
-pub stands_kept : (meaning : Meaning) (rounds : ℕ) (stands : List (List ℕ) → State → Type 0) (opening now new : Stand) (rest line kept : List ℕ) (count number taken : ℕ)
+pub stands_kept : (meaning : Meaning) (rounds : ℕ) (stands : List (List ℕ) → meaning.State → Type 0) (opening now new : Stand) (rest line kept : List ℕ) (count number taken : ℕ)
     → StandsAt meaning rounds stands opening now rest line count taken → IsOpenLine rest → new ≡ now → kept ≡ line ++ rest → length kept ≤ 16384 → number ≡ count → StandsAt meaning rounds stands opening new [] kept number taken
 stands_kept meaning rounds stands opening now new rest line kept count number taken a k same e s is = record {
   state = a.state;
@@ -316,7 +315,7 @@ stands_kept meaning rounds stands opening now new rest line kept count number ta
   holds = at_kept_as meaning rounds opening now new a.state rest line kept count number taken a.holds k same e s is;
 }
 
-pub stands_piece : (meaning : Meaning) (rounds : ℕ) (stands : List (List ℕ) → State → Type 0) (opening old new : Stand) (out line : List ℕ) (n count taken : ℕ)
+pub stands_piece : (meaning : Meaning) (rounds : ℕ) (stands : List (List ℕ) → meaning.State → Type 0) (opening old new : Stand) (out line : List ℕ) (n count taken : ℕ)
     → StandsAt meaning rounds stands opening old [] line count taken → TookPiece n out old new → n ≤ length out → taken + length out ≤ 2 ^ 32 → length out ≤ 65536 → StandsAt meaning rounds stands opening new (take n out) line count (taken + n)
 stands_piece meaning rounds stands opening old new out line n count taken a t l m f = record {
   state = a.state;
@@ -324,7 +323,7 @@ stands_piece meaning rounds stands opening old new out line n count taken a t l 
   holds = at_piece meaning rounds opening old new a.state out line n count taken a.holds t l m f;
 }
 
-pub stands_end : (meaning : Meaning) (rounds : ℕ) (stands : List (List ℕ) → State → Type 0) (opening old new : Stand) (out line : List ℕ) (n count taken : ℕ)
+pub stands_end : (meaning : Meaning) (rounds : ℕ) (stands : List (List ℕ) → meaning.State → Type 0) (opening old new : Stand) (out line : List ℕ) (n count taken : ℕ)
     → StandsAt meaning rounds stands opening old [] line count taken → TookPiece n out old new → n ≡ 0 → taken ≤ 2 ^ 32 → StandsAt meaning rounds stands opening new [] line count taken
 stands_end meaning rounds stands opening old new out line n count taken a t z m = record {
   state = a.state;

@@ -9,7 +9,6 @@ use Rattle.zr_script.specs.declared.command.Command.{Command}
 use Rattle.zr_script.specs.declared.reply.Reply.{Reply}
 use Rattle.zr_script.specs.ReplyText as text
 use Rattle.zr_script.specs.ReplyText.{reply_text, last_line}
-use Rattle.zr_model.specs.State.{State}
 use Rattle.zr_model.specs.Runs.{Meaning, point, turn, TurnsTo, IsOutside}
 use Rattle.zr_session.specs.declared.replies.Replies.{Replies}
 use Rattle.zr_session.specs.declared.end.End.{End}
@@ -28,7 +27,7 @@ pub sends_all : (old mid new : Stand) (bytes : List ℕ) → IsOutside old mid �
 sends_all old mid new bytes o e = sends_from old mid new bytes o (record { left = ap (λ s. s.left) e; sent = ap (λ s. s.sent) e })
 
 -- a command was answered, and the answer handed on
-pub does_by : (meaning : Meaning) (stands : List (List ℕ) → State → Type 0) (replies : Replies) (command : Command) (before : State) (old mid new : Stand) (answer : Reply)
+pub does_by : (meaning : Meaning) (stands : List (List ℕ) → meaning.State → Type 0) (replies : Replies) (command : Command) (before : meaning.State) (old mid new : Stand) (answer : Reply)
     → IsOutside old mid → TurnsTo meaning stands before old command answer mid → new ≡ sent_more mid (told_for replies answer)
     → StandsForOne stands new (λ after. DoesCommand meaning replies command answer before after old new)
 does_by meaning stands replies command before old mid new answer o t s = record {
@@ -41,7 +40,7 @@ does_by meaning stands replies command before old mid new answer o t s = record 
 }
 
 -- what follows of the state that it stands for
-pub for_one : (stands : List (List ℕ) → State → Type 0) (now : Stand) (A B : State → Type 0) → ((state : State) → A state → B state) → StandsForOne stands now A → StandsForOne stands now B
+pub for_one : {S : Type 0} (stands : List (List ℕ) → S → Type 0) (now : Stand) (A B : S → Type 0) → ((state : S) → A state → B state) → StandsForOne stands now A → StandsForOne stands now B
 for_one stands now A B f h = record { state = h.state; stands_for = h.stands_for; holds = f h.state h.holds }
 
 pub fell_more : (a b c : Counts) → NoneFell a b → NoneFell b c → NoneFell a c
@@ -98,7 +97,7 @@ pub cause_from : (d : Type 0) (a b c : Counts) (end : End) → NoneFell a b → 
 cause_from d a b c end n h = cause_before d a b c end n (cause_any d b c end h)
 
 -- a reply that was not sent whole
-pub stops_reply : (meaning : Meaning) (replies : Replies) (command : Command) (number : ℕ) (before after : State) (old mid new : Stand) (answer : Reply) (end : End)
+pub stops_reply : (meaning : Meaning) (replies : Replies) (command : Command) (number : ℕ) (before after : meaning.State) (old mid new : Stand) (answer : Reply) (end : End)
     → IsOutside old mid → meaning.takes (point old before) (turn command answer mid after) → SendsReplyPartly replies answer mid new end → StopsAtCommand meaning replies command number before old new end
 stops_reply meaning replies command number before after old mid new answer OutputFault o t p =
     (p.1.0, p.1.1, reply_text answer, p.1.2, reply answer (point mid after) p.0 t, sends_from old mid new p.1.0 o p.1.3)
@@ -113,7 +112,7 @@ stops_reply meaning replies command number before after old mid new answer Attac
 stops_reply meaning replies command number before after old mid new answer InputLimit o t p = absurd p.1
 
 -- a last line that was not sent whole
-stops_partly : (meaning : Meaning) (replies : Replies) (command : Command) (number : ℕ) (before : State) (old mid new : Stand) (bytes : List ℕ) (end : End)
+stops_partly : (meaning : Meaning) (replies : Replies) (command : Command) (number : ℕ) (before : meaning.State) (old mid new : Stand) (bytes : List ℕ) (end : End)
     → IsOutside old mid → IsTextFor meaning replies command number before old bytes → SendsPartly bytes mid new end → StopsAtCommand meaning replies command number before old new end
 stops_partly meaning replies command number before old mid new bytes OutputFault o t p = (p.0, p.1, bytes, p.2, t, sends_from old mid new p.0 o p.3)
 stops_partly meaning replies command number before old mid new bytes NoMemory o t p = sends_from old mid new [] o p
@@ -127,7 +126,7 @@ stops_partly meaning replies command number before old mid new bytes AttachFault
 stops_partly meaning replies command number before old mid new bytes InputLimit o t p = absurd p
 
 -- the pool did not take the command
-pub stops_unserved : (meaning : Meaning) (replies : Replies) (command : Command) (number : ℕ) (before : State) (old mid new : Stand) (paths : List (List ℕ)) (end : End)
+pub stops_unserved : (meaning : Meaning) (replies : Replies) (command : Command) (number : ℕ) (before : meaning.State) (old mid new : Stand) (paths : List (List ℕ)) (end : End)
     → IsOutside old mid → old.paths ≡ paths → (meaning.serves paths before command → ⊥) → Tells BadLine (last_line (text.BadLine number)) end mid new → StopsAtCommand meaning replies command number before old new end
 stops_unserved meaning replies command number before old mid new paths end o e u (wholly is s) =
     subst (λ x. StopsAtCommand meaning replies command number before old new x) (sym is) (λ served. u (subst (λ p. meaning.serves p before command) e served), sends_from old mid new _ o s)
@@ -135,7 +134,7 @@ stops_unserved meaning replies command number before old mid new paths end o e u
     stops_partly meaning replies command number before old mid new _ end o (bad_line (λ served. u (subst (λ p. meaning.serves p before command) e served))) p
 
 -- a device failed
-pub stops_fault : (meaning : Meaning) (replies : Replies) (command : Command) (number : ℕ) (before : State) (old mid new : Stand) (bytes : List ℕ) (end : End)
+pub stops_fault : (meaning : Meaning) (replies : Replies) (command : Command) (number : ℕ) (before : meaning.State) (old mid new : Stand) (bytes : List ℕ) (end : End)
     → IsOutside old mid → bytes ≡ last_line text.DiskFault → Tells DiskFault bytes end mid new → StopsAtCommand meaning replies command number before old new end
 stops_fault meaning replies command number before old mid new bytes end o e (wholly is s) =
     subst (λ x. StopsAtCommand meaning replies command number before old new x) (sym is) (sends_from old mid new _ o (subst (λ b. Sends mid new b) e s))
@@ -143,7 +142,7 @@ stops_fault meaning replies command number before old mid new bytes end o e (par
     stops_partly meaning replies command number before old mid new _ end o fault (subst (λ b. SendsPartly b mid new end) e p)
 
 -- damage was met
-pub stops_damage : (meaning : Meaning) (replies : Replies) (command : Command) (number : ℕ) (before : State) (old mid new : Stand) (found : Refusal) (end : End)
+pub stops_damage : (meaning : Meaning) (replies : Replies) (command : Command) (number : ℕ) (before : meaning.State) (old mid new : Stand) (found : Refusal) (end : End)
     → IsOutside old mid → meaning.damages (point old before) command found → Tells Damaged (last_line (text.Damage found)) end mid new → StopsAtCommand meaning replies command number before old new end
 stops_damage meaning replies command number before old mid new found end o h (wholly is s) =
     subst (λ x. StopsAtCommand meaning replies command number before old new x) (sym is) (found, h, sends_from old mid new _ o s)

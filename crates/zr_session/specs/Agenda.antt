@@ -32,16 +32,16 @@ abbrev pub IsGiven : Command → Command → Type 0
 IsGiven given command = command ≡ given
 
 -- The turns are those of the items: of each that is given, and of each that is put in where there is work.
-abbrev pub Plays : {A : Type 0} → Meaning → (A → Command → Type 0) → List (Item A) → Point → List Turn → Type 0
+abbrev pub Plays : {A : Type 0} → (m : Meaning) → (A → Command → Type 0) → List (Item A) → Point m.State → List (Turn m.State) → Type 0
 Plays m Means [] p turns = turns ≡ []
-Plays m Means (Given x ∷ items) p turns = (t : Turn) × (more : List Turn) × (turns ≡ t ∷ more) × Means x t.command × Plays m Means items t.point more
+Plays m Means (Given x ∷ items) p turns = (t : Turn m.State) × (more : List (Turn m.State)) × (turns ≡ t ∷ more) × Means x t.command × Plays m Means items t.point more
 Plays m Means (Inserted actor ∷ items) p turns =
     MatchBool (m.works p.state actor)
-    ((t : Turn) × (more : List Turn) × (turns ≡ t ∷ more) × (t.command ≡ step_of actor) × Plays m Means items t.point more)
+    ((t : Turn m.State) × (more : List (Turn m.State)) × (turns ≡ t ∷ more) × (t.command ≡ step_of actor) × Plays m Means items t.point more)
     (Plays m Means items p turns)
 
 -- the command is due next: that of the first item that is given, or that is put in where there is work
-abbrev pub IsDue : {A : Type 0} → Meaning → (A → Command → Type 0) → List (Item A) → Point → Command → Type 0
+abbrev pub IsDue : {A : Type 0} → (m : Meaning) → (A → Command → Type 0) → List (Item A) → Point m.State → Command → Type 0
 IsDue m Means [] p command = ⊥
 IsDue m Means (Given x ∷ items) p command = Means x command
 IsDue m Means (Inserted actor ∷ items) p command = MatchBool (m.works p.state actor) (command ≡ step_of actor) (IsDue m Means items p command)

@@ -6,9 +6,8 @@ use Rattle.zr_script.specs.declared.command.Command.{Command}
 use Rattle.zr_script.specs.CommandLine.{CommandLine}
 use Rattle.zr_script.specs.Generated.{script_of}
 use Rattle.zr_script.specs.ReplyText.{BadLine, DiskFault, Damage, last_line}
-use Rattle.zr_model.specs.State.{no_pool}
 use Rattle.zr_model.specs.Runs.{Meaning, Point, Turn, point, Run, end_of}
-use Rattle.zr_session.specs.Tally.{generated_text}
+use Rattle.zr_session.specs.Tally.{Answer, answer_of, generated_text}
 use Rattle.zr_session.specs.Agenda.{Item, Given, Inserted, agenda, IsGiven, Plays, IsDue}
 use Rattle.zr_session.specs.Answers.{paths_in, rounds_in}
 
@@ -27,13 +26,13 @@ task_in line n = record { number = n.0; count = n.1; devs = paths_in line; round
 abbrev pub due_in : Task → List (Item Command)
 due_in task = agenda task.rounds (script_of task.number task.count task.devs)
 
--- the turns of the commands that are given, without those of the steps that were put in
-abbrev pub given_turns : {A : Type 0} → Meaning → List (Item A) → Point → List Turn → List Turn
-given_turns m [] p turns = []
-given_turns m (Given x ∷ items) p [] = []
-given_turns m (Given x ∷ items) p (t ∷ turns) = t ∷ given_turns m items t.point turns
-given_turns m (Inserted actor ∷ items) p [] = []
-given_turns m (Inserted actor ∷ items) p (t ∷ turns) = if m.works p.state actor then given_turns m items t.point turns else given_turns m items p (t ∷ turns)
+-- the answers to the commands that are given, without those to the steps that were put in
+abbrev pub given_answers : {A : Type 0} → (m : Meaning) → List (Item A) → Point m.State → List (Turn m.State) → List Answer
+given_answers m [] p turns = []
+given_answers m (Given x ∷ items) p [] = []
+given_answers m (Given x ∷ items) p (t ∷ turns) = answer_of t ∷ given_answers m items t.point turns
+given_answers m (Inserted actor ∷ items) p [] = []
+given_answers m (Inserted actor ∷ items) p (t ∷ turns) = if m.works p.state actor then given_answers m items t.point turns else given_answers m items p (t ∷ turns)
 
 -- how many of the items are given
 abbrev pub given_count : {A : Type 0} → List (Item A) → ℕ
@@ -42,46 +41,46 @@ given_count (Given x ∷ items) = suc (given_count items)
 given_count (Inserted actor ∷ items) = given_count items
 
 -- how far the run has come: what is done of what is due and what is not, and the turns
-pub record Stage : Type 0 where
+pub record Stage (S : Type 0) : Type 0 where
   pub front : List (Item Command)
   pub rest : List (Item Command)
-  pub turns : List Turn
+  pub turns : List (Turn S)
 
 -- What is done is a run of the pool. Nothing was taken of the input, and this text is all that was sent.
-pub record HasGenerated (m : Meaning) (task : Task) (opening now : Stand) (s : Stage) (text : List ℕ) : Type 0 where
+pub record HasGenerated (m : Meaning) (task : Task) (opening now : Stand) (s : Stage m.State) (text : List ℕ) : Type 0 where
   pub due : due_in task ≡ s.front ++ s.rest
-  pub plays : Plays m IsGiven s.front (point opening no_pool) s.turns
-  pub run : Run m (point opening no_pool) s.turns
+  pub plays : Plays m IsGiven s.front (point opening m.none) s.turns
+  pub run : Run m (point opening m.none) s.turns
   pub left : now.left ≡ opening.left
   pub sent : now.sent ≡ opening.sent ++ text
 
 -- how things stand then
-abbrev pub point_in : Stand → Stage → Point
-point_in opening s = end_of (point opening no_pool) s.turns
+abbrev pub point_in : (m : Meaning) → Stand → Stage m.State → Point m.State
+point_in m opening s = end_of (point opening m.none) s.turns
 
 -- the line that tells of the replies so far
-abbrev pub tally_text : Meaning → Task → Stand → Stage → List ℕ
-tally_text m task opening s = generated_text task.number task.count (given_turns m s.front (point opening no_pool) s.turns)
+abbrev pub tally_text : (m : Meaning) → Task → Stand → Stage m.State → List ℕ
+tally_text m task opening s = generated_text task.number task.count (given_answers m s.front (point opening m.none) s.turns)
 
 -- the command is due
-abbrev pub IsNextCommand : Meaning → Stand → Stage → Command → Type 0
-IsNextCommand m opening s command = IsDue m IsGiven s.rest (point_in opening s) command
+abbrev pub IsNextCommand : (m : Meaning) → Stand → Stage m.State → Command → Type 0
+IsNextCommand m opening s command = IsDue m IsGiven s.rest (point_in m opening s) command
 
 -- a command is due that the pool does not serve
-abbrev pub IsNextUnserved : Meaning → Stand → Stage → Type 0
+abbrev pub IsNextUnserved : (m : Meaning) → Stand → Stage m.State → Type 0
 IsNextUnserved m opening s =
-    (command : Command) × IsNextCommand m opening s command × (m.serves (point_in opening s).shelf.paths (point_in opening s).state command → ⊥)
+    (command : Command) × IsNextCommand m opening s command × (m.serves (point_in m opening s).shelf.paths (point_in m opening s).state command → ⊥)
 
 -- one is due that may meet this damage
-abbrev pub IsNextDamage : Meaning → Stand → Stage → Refusal → Type 0
-IsNextDamage m opening s found = (command : Command) × IsNextCommand m opening s command × m.damages (point_in opening s) command found
+abbrev pub IsNextDamage : (m : Meaning) → Stand → Stage m.State → Refusal → Type 0
+IsNextDamage m opening s found = (command : Command) × IsNextCommand m opening s command × m.damages (point_in m opening s) command found
 
 -- the text that tells of a command by its number
-abbrev pub unserved_text : Stage → List ℕ
+abbrev pub unserved_text : {S : Type 0} → Stage S → List ℕ
 unserved_text s = last_line (BadLine (suc (given_count s.front)))
 
 -- what is to be sent next: the line where all is done, or a last line
-pub data IsNextLine (m : Meaning) (task : Task) (opening : Stand) (s : Stage) : List ℕ → Type 0 where
+pub data IsNextLine (m : Meaning) (task : Task) (opening : Stand) (s : Stage m.State) : List ℕ → Type 0 where
   tally : s.rest ≡ [] → IsNextLine m task opening s (tally_text m task opening s)
   unserved : IsNextUnserved m opening s → IsNextLine m task opening s (unserved_text s)
   fault : (command : Command) → IsNextCommand m opening s command → IsNextLine m task opening s (last_line DiskFault)
@@ -89,27 +88,27 @@ pub data IsNextLine (m : Meaning) (task : Task) (opening : Stand) (s : Stage) : 
 
 -- all is done, and the line was sent that tells what the replies came to
 abbrev pub TellsTally : Meaning → Task → Stand → Stand → Type 0
-TellsTally m task opening now = (s : Stage) × HasGenerated m task opening now s (tally_text m task opening s) × (s.rest ≡ [])
+TellsTally m task opening now = (s : Stage m.State) × HasGenerated m task opening now s (tally_text m task opening s) × (s.rest ≡ [])
 
 -- all before a command is done, and that the pool does not serve it is told with its number
 abbrev pub TellsUnserved : Meaning → Task → Stand → Stand → Type 0
-TellsUnserved m task opening now = (s : Stage) × HasGenerated m task opening now s (unserved_text s) × IsNextUnserved m opening s
+TellsUnserved m task opening now = (s : Stage m.State) × HasGenerated m task opening now s (unserved_text s) × IsNextUnserved m opening s
 
 -- all before the command at which a device failed is done, and that is told
 abbrev pub TellsFaultThere : Meaning → Task → Stand → Stand → Type 0
-TellsFaultThere m task opening now = (s : Stage) × (command : Command) × HasGenerated m task opening now s (last_line DiskFault) × IsNextCommand m opening s command
+TellsFaultThere m task opening now = (s : Stage m.State) × (command : Command) × HasGenerated m task opening now s (last_line DiskFault) × IsNextCommand m opening s command
 
 -- all before the command at which damage was met is done, and that is told
 abbrev pub TellsDamageThere : Meaning → Task → Stand → Stand → Type 0
-TellsDamageThere m task opening now = (s : Stage) × (found : Refusal) × HasGenerated m task opening now s (last_line (Damage found)) × IsNextDamage m opening s found
+TellsDamageThere m task opening now = (s : Stage m.State) × (found : Refusal) × HasGenerated m task opening now s (last_line (Damage found)) × IsNextDamage m opening s found
 
 -- first commands are done, and nothing was sent
 abbrev pub TellsNothing : Meaning → Task → Stand → Stand → Type 0
-TellsNothing m task opening now = (s : Stage) × HasGenerated m task opening now s []
+TellsNothing m task opening now = (s : Stage m.State) × HasGenerated m task opening now s []
 
 -- first commands are done, and a front was sent of what is to be sent next
 abbrev pub TellsPartly : Meaning → Task → Stand → Stand → Type 0
-TellsPartly m task opening now = (s : Stage) × (front back next : List ℕ) × (front ++ back ≡ next) × IsNextLine m task opening s next × HasGenerated m task opening now s front
+TellsPartly m task opening now = (s : Stage m.State) × (front back next : List ℕ) × (front ++ back ≡ next) × IsNextLine m task opening s next × HasGenerated m task opening now s front
 
 -- no such run ends so
 abbrev pub Never : Task → Stand → Stand → Type 0

@@ -9,7 +9,6 @@ use Rattle.zr_script.specs.declared.reply.Reply.{Reply}
 use Rattle.zr_script.specs.Grammar.{IsLine}
 use Rattle.zr_script.specs.ReplyText as text
 use Rattle.zr_script.specs.ReplyText.{reply_text, last_line}
-use Rattle.zr_model.specs.State.{State}
 use Rattle.zr_model.specs.Runs.{Meaning, Point, Turn, point, turn, Run, end_of, Asks}
 use Rattle.zr_session.specs.Agenda.{Item, Given, rounds_of, GivesNone, Plays, IsDue}
 use Rattle.zr_session.specs.declared.replies.Replies.{Replies}
@@ -34,8 +33,8 @@ pub data Tells (end : End) (bytes : List ℕ) (result : End) (old new : Stand) :
   partly : SendsPartly bytes old new result → Tells end bytes result old new
 
 -- The pool stands for some state of which this holds.
-pub record StandsForOne (stands : List (List ℕ) → State → Type 0) (now : Stand) (Holds : State → Type 0) : Type 0 where
-  pub state : State
+pub record StandsForOne {S : Type 0} (stands : List (List ℕ) → S → Type 0) (now : Stand) (Holds : S → Type 0) : Type 0 where
+  pub state : S
   pub stands_for : stands now.seen state
   pub holds : Holds state
 
@@ -45,7 +44,7 @@ told_for Sent answer = reply_text answer
 told_for Kept answer = []
 
 -- what is sent for turns
-abbrev pub told : Replies → List Turn → List ℕ
+abbrev pub told : {S : Type 0} → Replies → List (Turn S) → List ℕ
 told replies turns = flat_map (λ t. told_for replies t.answer) turns
 
 -- answers are sent, and not all of this one was
@@ -53,19 +52,19 @@ abbrev pub SendsReplyPartly : Replies → Reply → Stand → Stand → End → 
 SendsReplyPartly replies answer old new end = (replies ≡ Sent) × SendsPartly (reply_text answer) old new end
 
 -- the command is done and has this answer, which is sent where replies are
-pub record DoesCommand (m : Meaning) (replies : Replies) (command : Command) (answer : Reply) (before after : State) (old new : Stand) : Type 0 where
+pub record DoesCommand (m : Meaning) (replies : Replies) (command : Command) (answer : Reply) (before after : m.State) (old new : Stand) : Type 0 where
   pub takes : m.takes (point old before) (turn command answer new after)
   pub sends : Sends old new (told_for replies answer)
 
 -- what is to be sent for a command
-pub data IsTextFor (m : Meaning) (replies : Replies) (command : Command) (number : ℕ) (before : State) (old : Stand) : List ℕ → Type 0 where
-  reply : (answer : Reply) (after : Point) → replies ≡ Sent → m.takes (point old before) (record { command = command; answer = answer; point = after }) → IsTextFor m replies command number before old (reply_text answer)
+pub data IsTextFor (m : Meaning) (replies : Replies) (command : Command) (number : ℕ) (before : m.State) (old : Stand) : List ℕ → Type 0 where
+  reply : (answer : Reply) (after : Point m.State) → replies ≡ Sent → m.takes (point old before) (record { command = command; answer = answer; point = after }) → IsTextFor m replies command number before old (reply_text answer)
   bad_line : (m.serves old.paths before command → ⊥) → IsTextFor m replies command number before old (last_line (text.BadLine number))
   fault : IsTextFor m replies command number before old (last_line text.DiskFault)
   damage : (found : Refusal) → m.damages (point old before) command found → IsTextFor m replies command number before old (last_line (text.Damage found))
 
 -- the run ends at the command
-abbrev pub StopsAtCommand : Meaning → Replies → Command → ℕ → State → Stand → Stand → End → Type 0
+abbrev pub StopsAtCommand : (m : Meaning) → Replies → Command → ℕ → m.State → Stand → Stand → End → Type 0
 StopsAtCommand m replies command number before old new OutputFault =
     (front back next : List ℕ) × (front ++ back ≡ next) × IsTextFor m replies command number before old next × Sends old new front
 StopsAtCommand m replies command number before old new DiskFault = Sends old new (last_line text.DiskFault)
@@ -75,19 +74,19 @@ StopsAtCommand m replies command number before old new NoMemory = Sends old new 
 StopsAtCommand m replies command number before old new _ = ⊥
 
 -- These items are done one after another, and their answers are sent where replies are; nothing is taken.
-pub record DoesItems (A : Type 0) (m : Meaning) (Means : A → Command → Type 0) (replies : Replies) (items : List (Item A)) (before after : State) (old new : Stand) : Type 0 where
-  pub turns : List Turn
+pub record DoesItems (A : Type 0) (m : Meaning) (Means : A → Command → Type 0) (replies : Replies) (items : List (Item A)) (before after : m.State) (old new : Stand) : Type 0 where
+  pub turns : List (Turn m.State)
   pub plays : Plays m Means items (point old before) turns
   pub run : Run m (point old before) turns
   pub ends : end_of (point old before) turns ≡ point new after
   pub sends : Sends old new (told replies turns)
 
 -- The run ends at the next command that is due of these items, which the pool serves; those before it are done.
-pub record StopsWithin (A : Type 0) (m : Meaning) (Means : A → Command → Type 0) (replies : Replies) (items : List (Item A)) (number : ℕ) (before : State) (old new : Stand) (end : End) : Type 0 where
+pub record StopsWithin (A : Type 0) (m : Meaning) (Means : A → Command → Type 0) (replies : Replies) (items : List (Item A)) (number : ℕ) (before : m.State) (old new : Stand) (end : End) : Type 0 where
   pub front : List (Item A)
   pub rest : List (Item A)
   pub split : items ≡ front ++ rest
-  pub state : State
+  pub state : m.State
   pub mid : Stand
   pub does : DoesItems A m Means replies front before state old mid
   pub command : Command
@@ -96,22 +95,22 @@ pub record StopsWithin (A : Type 0) (m : Meaning) (Means : A → Command → Typ
   pub stops : StopsAtCommand m replies command number state mid new end
 
 -- the same of items of which none is given
-abbrev pub DoesSteps : Meaning → Replies → List (Item ⊥) → State → State → Stand → Stand → Type 0
+abbrev pub DoesSteps : (m : Meaning) → Replies → List (Item ⊥) → m.State → m.State → Stand → Stand → Type 0
 DoesSteps m replies items before after old new = DoesItems ⊥ m GivesNone replies items before after old new
 
-abbrev pub StopsWithinSteps : Meaning → Replies → List (Item ⊥) → ℕ → State → Stand → Stand → End → Type 0
+abbrev pub StopsWithinSteps : (m : Meaning) → Replies → List (Item ⊥) → ℕ → m.State → Stand → Stand → End → Type 0
 StopsWithinSteps m replies items number before old new end = StopsWithin ⊥ m GivesNone replies items number before old new end
 
 -- the line is answered, with so many rounds behind it
-abbrev pub AnswersLine : Meaning → ℕ → List ℕ → State → State → Stand → Stand → Type 0
+abbrev pub AnswersLine : (m : Meaning) → ℕ → List ℕ → m.State → m.State → Stand → Stand → Type 0
 AnswersLine m rounds line before after old new = DoesItems (List ℕ) m Asks Sent (Given line ∷ rounds_of rounds) before after old new
 
 -- no command, or it ends at this one, or within the rounds behind it
-pub data StopsAtLine (m : Meaning) (rounds : ℕ) (line : List ℕ) (number : ℕ) (before : State) (old new : Stand) (end : End) : Type 0 where
+pub data StopsAtLine (m : Meaning) (rounds : ℕ) (line : List ℕ) (number : ℕ) (before : m.State) (old new : Stand) (end : End) : Type 0 where
   outside : ((command : Command) → IsLine line command → ⊥) → Tells BadLine (last_line (text.BadLine number)) end old new → StopsAtLine m rounds line number before old new end
   quit : IsLine line cmd.Quit → end ≡ Answered → new ≡ old → StopsAtLine m rounds line number before old new end
   command : (command : Command) → Asks line command → StopsAtCommand m Sent command number before old new end → StopsAtLine m rounds line number before old new end
-  within : (state : State) (mid : Stand) → DoesItems (List ℕ) m Asks Sent (Given line ∷ []) before state old mid
+  within : (state : m.State) (mid : Stand) → DoesItems (List ℕ) m Asks Sent (Given line ∷ []) before state old mid
       → StopsWithin (List ℕ) m Asks Sent (rounds_of rounds) number state mid new end → StopsAtLine m rounds line number before old new end
   memory : end ≡ NoMemory → new ≡ old → StopsAtLine m rounds line number before old new end
 

@@ -3,23 +3,22 @@ use Rattle.std.specs.Prelude.{◌≡◌, ℕ, ◌+◌, ◌^◌, ◌≤◌, ◌<�
 use Rattle.std.specs.List.{flat_map}
 use Rattle.zr_shelf.specs.Disks.{Stand}
 use Rattle.zr_script.specs.Lines.{lines_of}
-use Rattle.zr_model.specs.State.{State, no_pool}
 use Rattle.zr_model.specs.Runs.{Meaning, Turn, point, Run, end_of, texts, Asks, bytes_to}
 use Rattle.zr_session.specs.Agenda.{Item, agenda, Plays}
 use Rattle.zr_session.specs.Answers.{IsOpenLine}
 use Rattle.zr_session.specs.Lines.{StandsForOne}
 
 -- first items are done, and this was sent for them
-pub record HasDone (m : Meaning) (opening now : Stand) (state : State) (items : List (Item (List ℕ))) (turns : List Turn) : Type 0 where
-  pub plays : Plays m Asks items (point opening no_pool) turns
-  pub run : Run m (point opening no_pool) turns
-  pub ends : end_of (point opening no_pool) turns ≡ point now state
+pub record HasDone (m : Meaning) (opening now : Stand) (state : m.State) (items : List (Item (List ℕ))) (turns : List (Turn m.State)) : Type 0 where
+  pub plays : Plays m Asks items (point opening m.none) turns
+  pub run : Run m (point opening m.none) turns
+  pub ends : end_of (point opening m.none) turns ≡ point now state
   pub sent : now.sent ≡ opening.sent ++ texts turns
 
 -- `rest` is what was taken and not yet looked at, and `line` what stands before it behind the last line feed
-pub record IsAt (m : Meaning) (rounds : ℕ) (opening now : Stand) (state : State) (rest line : List ℕ) (count taken : ℕ) : Type 0 where
+pub record IsAt (m : Meaning) (rounds : ℕ) (opening now : Stand) (state : m.State) (rest line : List ℕ) (count taken : ℕ) : Type 0 where
   pub lines : List (List ℕ)
-  pub turns : List Turn
+  pub turns : List (Turn m.State)
   pub bytes : List ℕ
   pub done : HasDone m opening now state (agenda rounds lines) turns
   pub input : opening.left ≡ bytes ++ (rest ++ now.left)
@@ -33,14 +32,14 @@ pub record IsAt (m : Meaning) (rounds : ℕ) (opening now : Stand) (state : Stat
   pub most : taken ≤ 2 ^ 32
 
 -- the pool stands for a state to which the answered lines lead
-abbrev pub StandsAt : Meaning → ℕ → (List (List ℕ) → State → Type 0) → Stand → Stand → List ℕ → List ℕ → ℕ → ℕ → Type 0
+abbrev pub StandsAt : (m : Meaning) → ℕ → (List (List ℕ) → m.State → Type 0) → Stand → Stand → List ℕ → List ℕ → ℕ → ℕ → Type 0
 StandsAt m rounds stands opening now rest line count taken = StandsForOne stands now (λ state. IsAt m rounds opening now state rest line count taken)
 
 -- this line is the next
-pub record IsNext (m : Meaning) (rounds : ℕ) (opening now : Stand) (state : State) (line : List ℕ) (number : ℕ) : Type 0 where
+pub record IsNext (m : Meaning) (rounds : ℕ) (opening now : Stand) (state : m.State) (line : List ℕ) (number : ℕ) : Type 0 where
   pub lines : List (List ℕ)
   pub more : List (List ℕ)
-  pub turns : List Turn
+  pub turns : List (Turn m.State)
   pub taken : List ℕ
   pub done : HasDone m opening now state (agenda rounds lines) turns
   pub input : opening.left ≡ taken ++ now.left

@@ -115,11 +115,11 @@ impl Pool for MemoryPool {
 
     ghost paths = { λ p. p.paths };
 
+    ghost meaning = { plain };
+
     ghost stands = { λ p disks state. state ≡ state_in p.paths p.pool };
 
     ghost fits = { λ p sizes. length sizes ≡ length p.paths };
-
-    ghost meaning = { plain };
 
     fn closed(_alloc: Global, devs: Items<Blob>) -> Result<MemoryPool, NoMemory> {
         Ok(MemoryPool::new(devs))

@@ -3,8 +3,7 @@
 //! The replies themselves are not kept: they are counted by whether they refuse, and those to the `sum` commands are
 //! digested as they would have been sent.
 ghost use Rattle.std.specs.Prelude.{◌≡◌, ◌∷◌, ◌++◌, [], ◌+◌, ◌<◌, ◌^◌, List, IfOk, OnOk};
-ghost use Rattle.zr_model.specs.Runs.{Turn, Point};
-ghost use Rattle.zr_session.specs.Tally.{generated_text};
+ghost use Rattle.zr_session.specs.Tally.{Answer, generated_text};
 ghost use Rattle.zr_session.specs.Tallied.{IsTallyOf};
 
 use sha2::{Digest, Sha256};
@@ -40,7 +39,7 @@ impl Tally {
     /// Counts the reply to a command.
     pub fn add(&mut self, alloc: Global, command: &Command, reply: &Reply) -> Result<(), NoMemory>
         requires room { self.old.accepted + self.old.refused + 1 < 2 ^ 64 }
-        ensures more { OnOk result ((given : List Turn) (point : Point) → IsTallyOf self.old given → IsTallyOf self.new (given ++ record { command = command.now; answer = reply.now; point = point } ∷ [])) }
+        ensures more { OnOk result ((given : List Answer) → IsTallyOf self.old given → IsTallyOf self.new (given ++ record { command = command.now; answer = reply.now } ∷ [])) }
         ensures count { OnOk result (self.new.accepted + self.new.refused ≡ self.old.accepted + self.old.refused + 1) }
     {
         match reply {
@@ -58,7 +57,7 @@ impl Tally {
 
     /// The line that tells of them, for the run of `number` with `count` drawn lines.
     pub fn line(&self, alloc: Global, number: u64, count: u32) -> Result<Vec<u8>, NoMemory>
-        ensures { (given : List Turn) → IsTallyOf self.now given → IfOk result (λ text. text.items ≡ generated_text number count given) }
+        ensures { (given : List Answer) → IsTallyOf self.now given → IfOk result (λ text. text.items ≡ generated_text number count given) }
     {
         let sum = Sha256::digest(self.sums.as_slice());
         let mut text = Vec::new(alloc);
