@@ -586,23 +586,25 @@ def moved(zr, index):
 
 
 def evac(runs, memory, disk):
-    """The steps that move 896 MiB off a device of 1 GiB, beside `dd` of as many bytes between the same files, which by then
-    has the blocks of its target and finds them in memory, and to a new file, as the device that takes the copies is."""
+    """The steps that move 896 MiB off a device of 1 GiB, beside `dd` of as many bytes between the same files. The device that takes the
+    copies was written whole before, so that both find its blocks made; or it is new, and `dd` goes to another new file."""
     made = row('step evac to gone, 1 GiB, on a disk', 'dd bs=1M conv=fdatasync', 'MiB/s', least=0.8)
-    fresh = row('step evac to gone, 1 GiB, on a disk', 'dd, to a new file', 'MiB/s')
+    fresh = row('step evac, to a new device', 'dd, to a new file', 'MiB/s')
     for _ in range(runs):
-        with Folder(disk) as folder:
-            with Zr(folder, 'a:%d' % (1024 * MIB), 'b:%d' % (2048 * MIB)) as zr:
-                zr.do('create p 1 a', 'make 1 32', *fills(1, 7168, 32), 'sync', 'add b', 'remove a')
-                cost, units = moved(zr, 0)
-                zr.do('export')
-            new = os.path.join(folder, 'c')
-            with open(new, 'wb') as it:
-                it.truncate(2048 * MIB)
-            total = units * UNIT / MIB
-            for shown, target in ((made, os.path.join(folder, 'b')), (fresh, new)):
-                bound, _ = run_alone(['dd', 'if=' + os.path.join(folder, 'a'), 'of=' + target, 'bs=1M',
-                                      'count=%d' % total, 'conv=fdatasync,notrunc'])
+        for shown, was_written, target in ((made, True, 'b'), (fresh, False, 'c')):
+            with Folder(disk) as folder:
+                for name in 'bc':
+                    with open(os.path.join(folder, name), 'wb') as it:
+                        it.truncate(2048 * MIB)
+                if was_written:
+                    run_alone(['dd', 'if=/dev/zero', 'of=' + os.path.join(folder, 'b'), 'bs=1M', 'count=2048', 'conv=fdatasync,notrunc'])
+                with Zr(folder, 'a:%d' % (1024 * MIB), 'b') as zr:
+                    zr.do('create p 1 a', 'make 1 32', *fills(1, 7168, 32), 'sync', 'add b', 'remove a')
+                    cost, units = moved(zr, 0)
+                    zr.do('export')
+                bound, _ = run_alone(['dd', 'if=' + os.path.join(folder, 'a'), 'of=' + os.path.join(folder, target), 'bs=1M',
+                                      'count=%d' % (units * UNIT // MIB), 'conv=fdatasync,notrunc'])
+                total = units * UNIT / MIB
                 shown.add(total / cost.clock, total / bound.clock)
     return [made, fresh]
 
