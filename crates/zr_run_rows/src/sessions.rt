@@ -80,7 +80,7 @@ impl Pool for DamagedPool {
 
     ghost paths = { λ p. p.paths };
 
-    ghost meaning = { record { State = Unit {0}; none = tt; takes = λ p t. ⊥; serves = λ paths state command. Unit {0}; damages = λ p command found. Unit {0}; works = λ state actor. false } };
+    ghost meaning = { record { State = Unit {0}; none = tt; takes = λ p t. ⊥; serves = λ paths state command. Unit {0}; damages = λ p command found. Unit {0}; blames = λ command answer. ⊥; works = λ state actor. false } };
 
     ghost stands = { λ p disks state. Unit {0} };
 
@@ -146,7 +146,7 @@ impl Pool for BusyPool {
     ghost paths = { λ p. p.paths };
 
     // A state says whether there is work.
-    ghost meaning = { record { State = Bool; none = false; takes = λ p t. Unit {0}; serves = λ paths state command. Unit {0}; damages = λ p command found. ⊥; works = λ state actor. state } };
+    ghost meaning = { record { State = Bool; none = false; takes = λ p t. Unit {0}; serves = λ paths state command. Unit {0}; damages = λ p command found. ⊥; blames = λ command answer. ⊥; works = λ state actor. state } };
 
     ghost stands = { λ p disks state. state ≡ nat_lt 0 p.left };
 
