@@ -1,6 +1,7 @@
 -- What the rows of the uses say.
 use Rattle.std.proofs.Common.{◌≡◌, ◌∷◌, ◌++◌, true, false, List, [], codes, Option, Some, None, is_some, refl, sym, ap, subst, ◌∙◌, length, get_or, arith}
 use Rattle.std.specs.Prelude.{filter_map, option_map, option_to_list, unwrap_or}
+use Rattle.std.specs.List.{cons_option}
 use Rattle.std.specs.Str.{bytes_eq}
 use Rattle.std.proofs.lemmas.List.{append_assoc, append-nil}
 use Rattle.clap.specs.Walk.{Row, Text, all_of, has_row, with_values}
@@ -170,6 +171,11 @@ first_none : (a b : Kinds) → or_else a b ≡ [] → (a ≡ []) × (b ≡ [])
 first_none [] b e = (refl, e)
 first_none (k ∷ ks) b e = absurd (cc)
 
+no_text : (key : Key) (word : Text) (uses : List Use) → filter_map (text_for key) (device word ∷ uses) ≡ filter_map (text_for key) uses
+no_text policy word uses = refl
+no_text auto word uses = refl
+no_text generate word uses = refl
+
 -- uses that say each option once have no error, and their rows are what they say
 fits_rows : (uses : List Use) (rows : List Row) (read raw : Raw) → Holds rows read → Fits read uses raw → (put_fault uses rows ≡ []) × Holds (put_all uses rows) raw
 fits_rows [] rows read raw h f = (
@@ -181,7 +187,7 @@ fits_rows [] rows read raw h f = (
 )
 fits_rows (given key value ∷ uses) rows read raw h f =
     let new : option_of key read ≡ None = first_time (option_of key read) (option_of key raw) value (filter_map (text_for key) uses)
-    (ap (λ o. option_to_list (option_of key read) ++ Rattle.std.specs.List.cons_option o (filter_map (text_for key) uses)) (sym (text_here key value)) ∙ f.options key) in
+    (ap (λ o. option_to_list (option_of key read) ++ cons_option o (filter_map (text_for key) uses)) (sym (text_here key value)) ∙ f.options key) in
     let more = fits_rows uses (put (given key value) rows) (with_option key value read) raw (holds_option key value rows read h new)
     (record { options = λ other. sym (listed key other value uses read new) ∙ f.options other; devs = ap (λ ds. ds ++ filter_map word_for uses) (same_devs key value read) ∙ f.devs }) in
     (ap (λ k. or_else k (put_fault uses (put (given key value) rows))) (once_new key value rows read h new) ∙ more.0, more.1)
@@ -191,11 +197,6 @@ fits_rows (device word ∷ uses) rows read raw h f =
       options = λ key. ap (λ o. option_to_list o ++ filter_map (text_for key) uses) (same_options key word read) ∙ (sym (ap (λ us. option_to_list (option_of key read) ++ us) (no_text key word uses)) ∙ f.options key);
       devs = append_assoc read.devs (word ∷ []) (filter_map word_for uses) ∙ f.devs;
     })
-  where
-    no_text : (key : Key) (word : Text) (uses : List Use) → filter_map (text_for key) (device word ∷ uses) ≡ filter_map (text_for key) uses
-    no_text policy word uses = refl
-    no_text auto word uses = refl
-    no_text generate word uses = refl
 
 -- uses with no error say each option once
 rows_fit : (uses : List Use) (rows : List Row) (read : Raw) → Holds rows read → put_fault uses rows ≡ [] → (raw : Raw) × Fits read uses raw × Holds (put_all uses rows) raw
@@ -217,11 +218,6 @@ rows_fit (device word ∷ uses) rows read h e =
       },
       more.2,
     )
-  where
-    no_text : (key : Key) (word : Text) (uses : List Use) → filter_map (text_for key) (device word ∷ uses) ≡ filter_map (text_for key) uses
-    no_text policy word uses = refl
-    no_text auto word uses = refl
-    no_text generate word uses = refl
 
 head_alone : (o : Option Text) → head_of (alone o) ≡ o
 head_alone None = refl

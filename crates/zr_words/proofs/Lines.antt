@@ -1,7 +1,7 @@
 -- What the words mean, by what `clap` finds.
 use Rattle.std.proofs.Common.{◌≡◌, ℕ, map, Bool, true, ◌&&◌, List, [], ◌∷◌, Option, Some, None, Result, Ok, Err, IfNone, IfSome, IfOk, refl, sym, ap, subst, ◌∙◌, inl, inr}
 use Rattle.std.specs.List.{list_all}
-use Rattle.clap.specs.Words.{App, HasKind, HasMatchesOf, fault_of, found_of, is_simple_and_free, kind_of, matches_of, rows_of}
+use Rattle.clap.specs.Words.{App, HasKind, HasMatchesOf, IsAmong, fault_of, found_of, is_simple_and_free, kind_of, matches_of, rows_of}
 use Rattle.clap.specs.declared.error.Error.{Error}
 use Rattle.clap.specs.declared.error.kind.ErrorKind.TheVariants.{OutOfMemory}
 use Rattle.clap.specs.declared.parser.matches.ArgMatches.{ArgMatches}
@@ -70,7 +70,7 @@ means_line words line none h =
 pub no_line : (app : App) (words : List (List ℕ)) (e : Error) → app ≡ zr → (is_simple_and_free app ≡ true → HasKind (fault_of app words) e) → (kind_of e ≡ OutOfMemory → ⊥) → (line : Line) → Spells words line → ⊥
 no_line app words e is fails other line h =
     let kinds : HasKind (fault_of zr words) e = subst (λ a. is_simple_and_free a ≡ true → HasKind (fault_of a words) e) is fails refl in
-    elim kinds [ inl memory ↦ other memory | inr among ↦ subst (λ ks. Rattle.clap.specs.Kinds.IsAmong (kind_of e) ks) (line_means words line h).0 among ]
+    elim kinds [ inl memory ↦ other memory | inr among ↦ subst (λ ks. IsAmong (kind_of e) ks) (line_means words line h).0 among ]
 
 -- `clap` took the words, and found this
 pub record Took (words : List (List ℕ)) (raw : Raw) : Type 0 where

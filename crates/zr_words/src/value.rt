@@ -60,10 +60,10 @@ pub fn parse_generate(value: Option<&str>) -> Option<Option<(u64, u32)>>
     let Some(text) = value else {
         return Some(None);
     };
-    match parse_pair(text) {
-        Some(pair) => Some(Some(pair)),
-        None => None,
-    }
+    let Some(pair) = parse_pair(text) else {
+        return None;
+    };
+    Some(Some(pair))
 }
 
 /// A number and a count, with a colon between them.

@@ -16,7 +16,7 @@ use std::alloc::Global;
 use zr_base::NoMemory;
 
 /// Reads the words behind the program's name. It answers None exactly where they are no command line, and what it
-/// answers borrows from them.
+/// answers borrows from them. Words that `clap` refuses cost the memory for the text of an error, which is let go.
 pub fn parse_words<'a>(
     alloc: Global,
     words: &'a [String],
