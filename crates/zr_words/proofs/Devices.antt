@@ -10,9 +10,8 @@ use Rattle.zr_script.specs.CommandLine.{IsDevice}
 use Rattle.zr_script.proofs.Reading.{same_number}
 use Rattle.zr_words.specs.declared.device.Device.{Device}
 use Rattle.zr_words.specs.Views.{device_of}
-use Rattle.zr_words.specs.Fronts.{HasNo}
 use Rattle.zr_words.specs.Reading.{AreEach}
-use Rattle.zr_words.proofs.Texts.{before_byte}
+use Rattle.zr_words.proofs.Texts.{HasNo, before_byte}
 
 last_true : (a b : Bool) → (a && b) ≡ true → b ≡ true
 last_true true b e = e
@@ -93,12 +92,12 @@ same_devices (w ∷ ws) (d ∷ ds) (e ∷ es) h k =
     ap (λ x. x ∷ ds) first ∙ ap (λ xs. e ∷ xs) (same_devices ws ds es h.1 k.1)
 
 -- one word that is no device
-pub none_each : {A : Type 0} (f : A → List ℕ) (words : List A) (word : A) (i : ℕ) (devs : List (List ℕ × Option ℕ)) → i < length words → word ≡ get_or words i word
-    → ((path : List ℕ) (make : Option ℕ) → IsDevice (f word) path make → ⊥) → AreEach (map f words) devs → ⊥
-none_each f [] word i devs l e n h = omega arith
-none_each f (w ∷ words) word i [] l e n h = h
-none_each f (w ∷ words) word zero (d ∷ devs) l e n h = n d.0 d.1 (subst (λ x. IsDevice (f x) d.0 d.1) (sym e) h.0)
-none_each f (w ∷ words) word (suc i) (d ∷ devs) l e n h = none_each f words word i devs (omega arith) e n h.1
+pub none_each : {A : Type 0} (f : A → List ℕ) (words : List A) (other : A) (i : ℕ) (devs : List (List ℕ × Option ℕ)) → i < length words
+    → ((path : List ℕ) (make : Option ℕ) → IsDevice (f (get_or words i other)) path make → ⊥) → AreEach (map f words) devs → ⊥
+none_each f [] other i devs l n h = omega arith
+none_each f (w ∷ words) other i [] l n h = h
+none_each f (w ∷ words) other zero (d ∷ devs) l n h = n d.0 d.1 h.0
+none_each f (w ∷ words) other (suc i) (d ∷ devs) l n h = none_each f words other i devs (omega arith) n h.1
 
 each_more : (words : List (List ℕ)) (devs : List (List ℕ × Option ℕ)) (word : List ℕ) (dev : List ℕ × Option ℕ) → AreEach words devs → IsDevice word dev.0 dev.1 → AreEach (words ++ word ∷ []) (devs ++ dev ∷ [])
 each_more [] [] word dev h r = (r, tt)
@@ -107,11 +106,12 @@ each_more (w ∷ words) [] word dev h r = absurd h
 each_more (w ∷ words) (d ∷ devs) word dev h r = (h.0, each_more words devs word dev h.1 r)
 
 -- one word more is read
-pub each_next : {A : Type 0} (f : A → List ℕ) (words : List A) (word : A) (i : ℕ) (devices more : List Device) (device : Device) → i < length words → word ≡ get_or words i word
-    → AreEach (map f (take i words)) (map device_of devices) → IsDevice (f word) device.path.now device.make → more ≡ devices ++ device ∷ []
+pub each_next : {A : Type 0} (f : A → List ℕ) (words : List A) (other : A) (i : ℕ) (devices more : List Device) (device : Device) → i < length words
+    → AreEach (map f (take i words)) (map device_of devices) → IsDevice (f (get_or words i other)) device.path.now device.make → more ≡ devices ++ device ∷ []
     → AreEach (map f (take (i + 1) words)) (map device_of more)
-each_next f words word i devices more device l e h r m =
-    let front = ap (map f) (take_more words i word l ∙ ap (λ x. take i words ++ x ∷ []) (sym e)) ∙ map-append f (take i words) (word ∷ []) in
+each_next f words other i devices more device l h r m =
+    let word = get_or words i other in
+    let front = ap (map f) (take_more words i other l) ∙ map-append f (take i words) (word ∷ []) in
     let back = ap (map device_of) m ∙ map-append device_of devices (device ∷ []) in
     subst (λ d. AreEach (map f (take (i + 1) words)) d) (sym back)
     (subst (λ w. AreEach w (map device_of devices ++ device_of device ∷ [])) (sym front)

@@ -1,10 +1,11 @@
 -- What stands before a byte.
-use Rattle.std.proofs.Common.{◌≡◌, ℕ, suc, [], true, not, eqb, List, ◌∷◌, ◌++◌, length, get_or, refl, sym, ap, ◌∙◌, arith, length-append}
-use Rattle.std.specs.List.{list_all}
-use Rattle.std.proofs.lemmas.Bool.{false≢true}
-use Rattle.std.proofs.lemmas.List.Folds.{list_all_at}
+use Rattle.std.proofs.Common.{◌≡◌, ◌≢◌, ◌<◌, ℕ, suc, [], List, ◌∷◌, ◌++◌, length, get_or, refl, sym, ap, ◌∙◌, arith, length-append}
+use Rattle.std.specs.Prelude.{slice_index}
 use Rattle.std.proofs.lemmas.List.{get_or_at}
-use Rattle.zr_words.specs.Fronts.{HasNo}
+
+-- this byte does not stand in the text
+abbrev pub HasNo : ℕ → List ℕ → Type 0
+HasNo byte text = (i : ℕ) → i < length text → slice_index text i ≢ byte
 
 -- a byte that stands in the middle
 pub in_middle : (byte : ℕ) (front back : List ℕ) → HasNo byte (front ++ byte ∷ back) → ⊥
@@ -25,7 +26,3 @@ before_byte byte (x ∷ p) (y ∷ q) a b h k e =
     let same : x ≡ y = cc in
     let s = before_byte byte p q a b (tail_has_no byte x p h) (tail_has_no byte y q k) more in
     (ap (λ z. z ∷ p) same ∙ ap (λ l. y ∷ l) s.0, s.1)
-
--- a text that is written out has no '='
-pub no_equals : (text : List ℕ) → list_all (λ b. not (eqb b 61)) text ≡ true → HasNo 61 text
-no_equals text e i l s = false≢true (sym (list_all_at (λ b. not (eqb b 61)) text i 0 l (ap (λ b. not (eqb b 61)) s)) ∙ e)

@@ -1,4 +1,4 @@
 pub mod Views
+pub mod App
 pub mod Reading
 pub mod Choosing
-pub mod Fronts

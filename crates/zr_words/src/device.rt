@@ -1,6 +1,5 @@
 //! The devices of the command line.
 ghost use Rattle.std.specs.Prelude.{◌≡◌, ℕ, List, Option, IfNone, IfSome, IfOk, map};
-ghost use Rattle.std.specs.String.{string_bytes};
 ghost use Rattle.zr_script.specs.CommandLine.{IsDevice};
 ghost use Rattle.zr_words.specs.Views.{device_of};
 ghost use Rattle.zr_words.specs.Reading.{AreEach};
@@ -49,16 +48,13 @@ pub fn parse_device(word: &str) -> Option<Device>
 }
 
 /// Reads each word as a device. None where one is none.
-pub fn parse_each<'a>(
-    alloc: Global,
-    words: &'a [String],
-) -> Result<Option<Vec<Device<'a>>>, NoMemory>
-    ensures none { IfOk result (λ found. IfNone found ((devs : List (List ℕ × Option ℕ)) → AreEach (map string_bytes words.now) devs → ⊥)) }
-    ensures some { IfOk result (λ found. IfSome found (λ devices. AreEach (map string_bytes words.now) (map device_of devices.items))) }
+pub fn parse_each<'a>(alloc: Global, words: &[&'a str]) -> Result<Option<Vec<Device<'a>>>, NoMemory>
+    ensures none { IfOk result (λ found. IfNone found ((devs : List (List ℕ × Option ℕ)) → AreEach (map (λ word. word.now) words.now) devs → ⊥)) }
+    ensures some { IfOk result (λ found. IfSome found (λ devices. AreEach (map (λ word. word.now) words.now) (map device_of devices.items))) }
 {
     let mut devices = Vec::new(alloc);
     for word in words {
-        let Some(device) = parse_device(word.as_str()) else {
+        let Some(device) = parse_device(word) else {
             return Ok(None);
         };
         devices.push(device)?;

@@ -1,17 +1,16 @@
 //! The words with which the program is started.
 //!
-//! Words are read from the front, one option or device at a time. What stands there can be read in one way at most, so
-//! the line that was read so far, and the words that are left, mean at every step what the whole did. Options and
+//! `clap` finds the values of the options and the words of the devices; what each of them says is read here. Options and
 //! devices come in any order, and behind `--` stand devices alone. What a line must have as a whole (1 to 32
 //! devices, no path twice, three devices to generate a script) is looked at when all words are read.
 //!
-//! A further option is a variant of `Argument`, a field of `CommandLine` and an arm in three places: where its value is
-//! read, where it is added, and in the definitions.
+//! A further option is an argument of the command, a field of `CommandLine` and a function that reads its value, and the
+//! same in the definitions.
 #![tactic(auto)]
 
 mod choose;
+mod command;
 mod device;
-mod front;
 mod line;
 mod value;
 mod words;

@@ -1,11 +1,8 @@
-//! One option or device, and the values of options.
-ghost use Rattle.std.specs.Prelude.{◌≡◌, ℕ, List, ◌∷◌, false, codes, IfNone, IfSome, IsTrue};
+//! The values of options.
+ghost use Rattle.std.specs.Prelude.{◌≡◌, ℕ, List, Option, ◌∷◌, false, IfNone, IfSome, IsTrue, option_map};
 ghost use Rattle.zr_base.specs.Readers.{Reads};
-ghost use Rattle.zr_script.specs.declared.command.Argument.{Argument as Argued};
-ghost use Rattle.zr_words.specs.Views.{argument_of};
-ghost use Rattle.zr_words.specs.Reading.{IsNamed, IsCount};
+ghost use Rattle.zr_words.specs.Reading.{Gives, IsCount, IsGenerate, IsPolicy, IsRounds};
 
-use crate::device::Device;
 use zr_script::parse_number;
 
 /// The most rounds behind each line.
@@ -17,39 +14,18 @@ const MIN_COUNT: u64 = 1;
 /// The most lines of a generated script.
 const MAX_COUNT: u64 = 1_000_000;
 
-/// One option, or one device.
-#[derive(Clone, Copy)]
-pub enum Argument<'a> {
-    Policy { name: &'a str },
-    Auto { rounds: u64 },
-    Generate { number: u64, count: u32 },
-    Device { device: Device<'a> },
-}
-
-/// Reads the value of the option of this name. It takes no memory.
-pub fn parse_value<'a>(name: &str, value: &'a str) -> Option<Argument<'a>>
-    ensures none { IfNone result ((argument : Argued) → IsNamed name.now value.now argument → ⊥) }
-    ensures some { IfSome result (λ argument. IsNamed name.now value.now (argument_of argument)) }
+/// The name of the chooser, where it is given. None where the value is none.
+pub fn parse_policy<'a>(value: Option<&'a str>) -> Option<Option<&'a str>>
+    ensures none { IfNone result ((name : Option (List ℕ)) → Gives IsPolicy (option_map (λ text. text.now) value.entry) name → ⊥) }
+    ensures some { IfSome result (λ name. Gives IsPolicy (option_map (λ text. text.now) value.entry) (option_map (λ text. text.now) name)) }
 {
-    if name == "--policy" {
-        parse_policy(value)
-    } else if name == "--auto" {
-        parse_rounds(value)
-    } else if name == "--gen" {
-        parse_generate(value)
-    } else {
-        None
-    }
-}
-
-fn parse_policy<'a>(value: &'a str) -> Option<Argument<'a>>
-    ensures none { IfNone result ((argument : Argued) → IsNamed (codes "--policy") value.now argument → ⊥) }
-    ensures some { IfSome result (λ argument. IsNamed (codes "--policy") value.now (argument_of argument)) }
-{
-    if begins_with_dash(value.as_bytes()) {
+    let Some(name) = value else {
+        return Some(None);
+    };
+    if begins_with_dash(name.as_bytes()) {
         return None;
     }
-    Some(Argument::Policy { name: value })
+    Some(Some(name))
 }
 
 fn begins_with_dash(word: &[u8]) -> bool
@@ -59,24 +35,42 @@ fn begins_with_dash(word: &[u8]) -> bool
     word.len() > 0 && word[0] == b'-'
 }
 
-fn parse_rounds<'a>(value: &'a str) -> Option<Argument<'a>>
-    ensures none { IfNone result ((argument : Argued) → IsNamed (codes "--auto") value.now argument → ⊥) }
-    ensures some { IfSome result (λ argument. IsNamed (codes "--auto") value.now (argument_of argument)) }
+/// The rounds behind each line, where they are given. None where the value is none.
+pub fn parse_rounds(value: Option<&str>) -> Option<Option<u64>>
+    ensures none { IfNone result ((rounds : Option ℕ) → Gives IsRounds (option_map (λ text. text.now) value.entry) rounds → ⊥) }
+    ensures some { IfSome result (λ rounds. Gives IsRounds (option_map (λ text. text.now) value.entry) rounds) }
 {
-    let Some(rounds) = parse_number(value.as_bytes()) else {
+    let Some(digits) = value else {
+        return Some(None);
+    };
+    let Some(rounds) = parse_number(digits.as_bytes()) else {
         return None;
     };
     if rounds > MAX_ROUNDS {
         return None;
     }
-    Some(Argument::Auto { rounds })
+    Some(Some(rounds))
 }
 
-fn parse_generate<'a>(value: &'a str) -> Option<Argument<'a>>
-    ensures none { IfNone result ((argument : Argued) → IsNamed (codes "--gen") value.now argument → ⊥) }
-    ensures some { IfSome result (λ argument. IsNamed (codes "--gen") value.now (argument_of argument)) }
+/// The number and the count of a generated script, where they are given. None where the value is none.
+pub fn parse_generate(value: Option<&str>) -> Option<Option<(u64, u32)>>
+    ensures none { IfNone result ((generate : Option (ℕ × ℕ)) → Gives IsGenerate (option_map (λ text. text.now) value.entry) generate → ⊥) }
+    ensures some { IfSome result (λ generate. Gives IsGenerate (option_map (λ text. text.now) value.entry) generate) }
 {
-    let Some((number, count)) = value.split_once(':') else {
+    let Some(text) = value else {
+        return Some(None);
+    };
+    let Some(pair) = parse_pair(text) else {
+        return None;
+    };
+    Some(Some(pair))
+}
+
+/// A number and a count, with a colon between them.
+fn parse_pair(text: &str) -> Option<(u64, u32)>
+    ensures { Reads (IsGenerate text.now) result }
+{
+    let Some((number, count)) = text.split_once(':') else {
         return None;
     };
     let Some(number) = parse_number(number.as_bytes()) else {
@@ -85,7 +79,7 @@ fn parse_generate<'a>(value: &'a str) -> Option<Argument<'a>>
     let Some(count) = parse_count(count.as_bytes()) else {
         return None;
     };
-    Some(Argument::Generate { number, count })
+    Some((number, count))
 }
 
 fn parse_count(digits: &[u8]) -> Option<u32>

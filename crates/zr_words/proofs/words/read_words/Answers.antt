@@ -1,48 +1,33 @@
-use Rattle.std.proofs.Common.{map}
+use Rattle.std.proofs.Common.{map, ◌∙◌}
 use Rattle.std.specs.String.{string_bytes}
-use Rattle.zr_words.specs.Views.{argument_of, device_of, line_of}
-use Rattle.zr_words.proofs.Reading.{completes_end, completes_more, completes_less, not_twice, not_unknown, not_ended, only_end, has_paths}
+use Rattle.clap.specs.Words.{app_of, found_of, rows_of}
+use Rattle.zr_words.specs.Reading.{raw_of}
+use Rattle.zr_words.proofs.Lines.{no_line, none_spelt, only_spelt, paths_spelt, some_spelt, took}
 use Rattle.zr_words.proofs.words.read_words.Goals as goal
 
-pub returns-then-not-branch-clause-none : goal.returns-then-not-branch-clause-none
-returns-then-not-branch-clause-none c = λ line h.
-    not_twice (map string_bytes c.loop-argument.rest.now) (argument_of c.in-Argued.argument) (map string_bytes c.in-Argued.behind.now) (line_of c.loop-argument.line) line
-    c.in-Argued.ensures.front (c.in_ok-add-in-Argued.ensures.twice c.if-not-branch.true) (c.loop-argument.invariant.on line h)
+pub returns-in-Ok-clause-none : goal.returns-in-Ok-clause-none
+returns-in-Ok-clause-none c =
+    let words = map string_bytes c.args.words.now in
+    let t = took (app_of c.in_ok-command.command) words c.in-Ok.matches c.in_ok-command.ensures c.in-Ok.ensures.kinds c.in-Ok.ensures.matches in
+    none_spelt words (raw_of (rows_of (found_of c.in-Ok.matches))) t c.line_from.result c.line_from.ensures.none
 
-pub loop-argument-preserved : goal.loop-argument-preserved
-loop-argument-preserved c =
-    let front = c.in-Argued.ensures.front in
-    let added = c.in_ok-add-in-Argued.ensures.added c.if-not-branch.false in
-    record {
-      on = λ line h. completes_less (map string_bytes c.loop-argument.rest.now) (argument_of c.in-Argued.argument) (map string_bytes c.in-Argued.behind.now) (line_of c.loop-argument.line) (line_of c.add.new.self) line
-          front added (c.loop-argument.invariant.on line h);
-      back = λ line h. c.loop-argument.invariant.back line
-          (completes_more (map string_bytes c.loop-argument.rest.now) (argument_of c.in-Argued.argument) (map string_bytes c.in-Argued.behind.now) (line_of c.loop-argument.line) (line_of c.add.new.self) line front added h);
-    }
+pub returns-in-Ok-clause-some : goal.returns-in-Ok-clause-some
+returns-in-Ok-clause-some c =
+    let words = map string_bytes c.args.words.now in
+    let t = took (app_of c.in_ok-command.command) words c.in-Ok.matches c.in_ok-command.ensures c.in-Ok.ensures.kinds c.in-Ok.ensures.matches in
+    some_spelt words (raw_of (rows_of (found_of c.in-Ok.matches))) t c.line_from.result c.line_from.ensures.some
 
-pub returns-in_default-clause-none : goal.returns-in_default-clause-none
-returns-in_default-clause-none c = λ line h.
-    not_ended (map string_bytes c.loop-argument.rest.now) (map string_bytes c.in-Ended.behind.now) (line_of c.loop-argument.line) line
-    c.in-Ended.ensures.front (rw c.in_default.is at c.in_ok-devices-in-Ended.ensures.none) (c.loop-argument.invariant.on line h)
+pub returns-in-Ok-clause-only : goal.returns-in-Ok-clause-only
+returns-in-Ok-clause-only c =
+    let words = map string_bytes c.args.words.now in
+    let t = took (app_of c.in_ok-command.command) words c.in-Ok.matches c.in_ok-command.ensures c.in-Ok.ensures.kinds c.in-Ok.ensures.matches in
+    only_spelt words (raw_of (rows_of (found_of c.in-Ok.matches))) t c.line_from.result c.line_from.ensures.some
 
-pub returns-in-Ended-clause-some : goal.returns-in-Ended-clause-some
-returns-in-Ended-clause-some c =
-    c.loop-argument.invariant.back (line_of c.add_all.new.self)
-    (completes_end (map string_bytes c.loop-argument.rest.now) (map string_bytes c.in-Ended.behind.now) (map device_of c.in-Some.devices.items) (line_of c.loop-argument.line) (line_of c.add_all.new.self)
-    c.in-Ended.ensures.front (rw c.in-Some.is at c.in_ok-devices-in-Ended.ensures.some) (rw c.as_slice.ensures.value at c.in_ok-add_all-in-Ended.ensures))
+pub returns-in-Ok-clause-paths : goal.returns-in-Ok-clause-paths
+returns-in-Ok-clause-paths c =
+    let words = map string_bytes c.args.words.now in
+    let t = took (app_of c.in_ok-command.command) words c.in-Ok.matches c.in_ok-command.ensures c.in-Ok.ensures.kinds c.in-Ok.ensures.matches in
+    paths_spelt words (raw_of (rows_of (found_of c.in-Ok.matches))) t c.line_from.result c.line_from.ensures.some
 
-pub returns-in-Ended-clause-only : goal.returns-in-Ended-clause-only
-returns-in-Ended-clause-only c = λ other h.
-    only_end (map string_bytes c.loop-argument.rest.now) (map string_bytes c.in-Ended.behind.now) (map device_of c.in-Some.devices.items) (line_of c.loop-argument.line) (line_of c.add_all.new.self) other
-    c.in-Ended.ensures.front (rw c.in-Some.is at c.in_ok-devices-in-Ended.ensures.some) (rw c.as_slice.ensures.value at c.in_ok-add_all-in-Ended.ensures) (c.loop-argument.invariant.on other h)
-
-pub returns-in-Ended-clause-paths : goal.returns-in-Ended-clause-paths
-returns-in-Ended-clause-paths c =
-    has_paths (map string_bytes c.args.words.now) (line_of c.add_all.new.self)
-    (c.loop-argument.invariant.back (line_of c.add_all.new.self)
-    (completes_end (map string_bytes c.loop-argument.rest.now) (map string_bytes c.in-Ended.behind.now) (map device_of c.in-Some.devices.items) (line_of c.loop-argument.line) (line_of c.add_all.new.self)
-    c.in-Ended.ensures.front (rw c.in-Some.is at c.in_ok-devices-in-Ended.ensures.some) (rw c.as_slice.ensures.value at c.in_ok-add_all-in-Ended.ensures)))
-
-pub returns-in-Unknown-clause-none : goal.returns-in-Unknown-clause-none
-returns-in-Unknown-clause-none c = λ line h.
-    not_unknown (map string_bytes c.loop-argument.rest.now) (line_of c.loop-argument.line) line c.in-Unknown.ensures.front.0 c.in-Unknown.ensures.front.1 (c.loop-argument.invariant.on line h)
+pub returns : goal.returns
+returns c = record { none = λ line h. no_line (app_of c.in_ok-command.command) (map string_bytes c.args.words.now) c.in-Err.error c.in_ok-command.ensures c.in-Err.ensures.kinds (λ memory. c.in_default.not-OutOfMemory (c.kind.ensures ∙ memory)) line h; some = tt; only = tt; paths = tt }
