@@ -4,8 +4,9 @@
     bench/events.py            writes stdin and stdout of crates/zr_events
     bench/events.py full       prints what the space is after each event in full, as the program does with the word `full`
 
-The model is plain: of each device an array with what each unit is used for, and a list of entries for its mapping. It is
-written from the rules of docs/ARCHITECTURE.md and docs/FORMAT.md, and has no code in common with the program.
+The model is plain: of each device an array with what each unit is used for, and a list of entries for its mapping. Its rules
+stand at its functions, and it has no code in common with the program. `rt run` in crates/zr_events holds the program's answers
+against the table, as the gate does.
 
 What a unit is used for:
     .  free                     n  a block of the open group     L  a block of an earlier group
@@ -149,7 +150,11 @@ class Model:
         return count
 
     def is_live(self, dev, start, length):
-        """Whether a free may be asked for."""
+        """Whether a free may be asked for.
+
+        It may where the address leads to as many units in use by blocks, and passes no unit that is obsolete and not counted
+        yet, and where no entry on the way then has more obsolete units than units.
+        """
         if length == 0:
             return False
         try:
@@ -176,7 +181,12 @@ class Model:
     # ---- allocations
 
     def place(self, want):
-        """Where an allocation of so many units goes, or the length of the longest free run."""
+        """Where an allocation of so many units goes, or the length of the longest free run.
+
+        The devices in service are tried by falling numbers of free units, the lower index first among equals, and of each
+        device its metaslabs upward. In the first one that has a free run of so many units the policy names a run: the lowest
+        that fits, or the shortest one and then the lowest. No run goes past the end of a metaslab.
+        """
         order = sorted(range(len(self.devs)), key=lambda i: (-self.devs[i].free(), i))
         longest = 0
         for i in order:
@@ -216,12 +226,16 @@ class Model:
     # ---- what is given back
 
     def give(self, i, u):
-        """A block's unit has no use any more."""
+        """A block's unit has no use any more. What the open group took is free at once, and all else two commits later."""
         use = self.devs[i].use
         use[u] = {'n': '.', 'c': '.', 'L': 'd', 'C': 'd', 'K': 'd'}[use[u]]
 
     def free_unit(self, i, u, keeps):
-        """The unit of a block that is freed."""
+        """The unit of a block that is freed.
+
+        It is kept where a checkpoint may have it. On a device that is leaving a unit that was copied is obsolete from then on,
+        and its copy goes with it.
+        """
         d = self.devs[i]
         if keeps:
             d.use[u] = 'K'
@@ -232,6 +246,7 @@ class Model:
         self.give(i, u)
 
     def free_block(self, dev, start, length, birth):
+        """A checkpoint may have what was born by its group. What is passed on a device that is gone is obsolete."""
         if not self.is_live(dev, start, length):
             return 'no'
         keeps = self.ckpt is not None and self.ckpt[0] == 'held' and birth <= self.ckpt[1]
@@ -253,6 +268,7 @@ class Model:
         return 'dropped'
 
     def commit(self, reset):
+        """What the group two before this one freed is free. At a reset all that was freed is."""
         step = {'n': 'L', 'c': 'C', 'd': '1', '1': '2', '2': '.', 'x': 'y', 'y': 'z', 'z': '.'}
         if reset:
             step = {'n': 'L', 'c': 'C', 'd': '.', '1': '.', '2': '.', 'x': '.', 'y': '.', 'z': '.'}
@@ -263,6 +279,7 @@ class Model:
     # ---- removals
 
     def remove(self, i):
+        """A device leaves while no other does and there is no checkpoint. It gives out no more units, and stays otherwise."""
         d = self.devs[i] if i < len(self.devs) else None
         if d is None or d.state != 'on' or self.leaving() is not None or self.ckpt or 'K' in d.use:
             return 'no'
@@ -270,7 +287,11 @@ class Model:
         return 'leaving'
 
     def plan(self):
-        """The next units to be copied, and their place: (start, length, device, destination)."""
+        """The next units to be copied, and their place: (start, length, device, destination).
+
+        They are the lowest that are left, in a row and at most 256. Where there is no place for so many it is half of them,
+        or half of that, down to one.
+        """
         left = self.uncopied()
         start = left[0]
         length = 1
@@ -293,6 +314,7 @@ class Model:
         return '%s %d+%d %d %d' % ('copied' if done else 'failed', start, length, i, a)
 
     def cancel(self):
+        """The copies are freed, but those of units that are marked, which went before. The device is in service again."""
         i = self.leaving()
         if i is None:
             return 'no'
@@ -305,6 +327,7 @@ class Model:
         return 'cancelled %d' % i
 
     def finish(self, txg):
+        """All is copied, and no metadata is in the way. The copies are blocks, and of the device its mapping is left."""
         i = self.leaving()
         if i is None or self.uncopied() or any(d.gone >= txg for d in self.devs if d.state == 'gone'):
             return 'no'
@@ -319,6 +342,7 @@ class Model:
     # ---- checkpoints
 
     def hold(self, txg):
+        """The metadata of the current root is that of the saved one."""
         if self.leaving() is not None or any('s' in d.use for d in self.devs):
             return 'no'
         for d in self.devs:
@@ -333,6 +357,7 @@ class Model:
         return 'discarding'
 
     def step(self):
+        """The lowest 64 kept extents are given back, those of the lowest device first. Where there are none it ends."""
         lowest = [(i, a, n) for i, d in enumerate(self.devs) for a, n in runs(d.use, 'K')][:64]
         for i, a, n in lowest:
             for u in range(a, a + n):
@@ -344,6 +369,7 @@ class Model:
     # ---- condensing
 
     def due(self):
+        """The lowest device that is gone of which a quarter of the mapped units is obsolete and not counted yet."""
         for i, d in enumerate(self.devs):
             mapped = sum(e[1] for e in d.entries)
             if d.state == 'gone' and d.fresh and 100 * len(d.fresh) >= 25 * mapped:
@@ -351,6 +377,9 @@ class Model:
         return None
 
     def condense(self):
+        """The first step counts for each entry its obsolete units. Each step works through 64 entries, and keeps those that
+        have a unit in use. The last one puts what was kept in the place of the mapping.
+        """
         if self.cond is None:
             i = self.due()
             if i is None:

@@ -1,5 +1,5 @@
 //! Calls of a space, each only where its contract allows it, by what the space tells.
-ghost use Rattle.std.specs.Prelude.{◌≡◌, ℕ, ◌<◌, ◌≤◌, ◌&&◌, true, nat_le, length};
+ghost use Rattle.std.specs.Prelude.{◌≡◌, ℕ, ◌<◌, ◌≤◌, ◌&&◌, true, false, nat_le, length, IsTrue};
 ghost use Rattle.zr_rules.specs.Places.{is_gone, part_of, state_of_dev};
 
 use zr_base::{CkptPart, DevState, Dva, NoMemory};
@@ -102,7 +102,7 @@ fn went_late(space: &Space, dev: u32, txg: u64) -> bool
 
 // Whether each device that is gone went before a transaction group.
 fn went_before(space: &Space, txg: u64) -> bool
-    ensures { result ≡ true → (d : ℕ) → is_gone (state_of_dev space.now.parts.devs d) ≡ true → (part_of space.now.parts.devs d).row.gone < txg }
+    ensures { IsTrue result → (d : ℕ) → (is_gone (state_of_dev space.now.parts.devs d) && nat_le txg (part_of space.now.parts.devs d).row.gone) ≡ false }
 {
     for dev in 0..space.devices() {
         if went_late(space, dev, txg) {
