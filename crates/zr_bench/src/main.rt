@@ -5,9 +5,13 @@
 //! `zr_bench EXTENTS` times the work that goes on a few extents at a time: it discards so many kept extents, copies so
 //! many that are left, and marks so many units. It prints how many each gave, and the nanoseconds of each.
 //!
+//! `zr_bench EXTENTS COUNT` frees so many blocks of a pool of so many extents, and takes another one for each. It prints how
+//! many they were, and the nanoseconds that this took, without those of making the pool.
+//!
 //! With no words it does each work once on little, and prints how much each gave.
 #![tactic(auto)]
 
+mod pools;
 mod steps;
 
 ghost use Rattle.std.specs.Prelude.{◌≡◌, ℕ, ◌+◌, ◌*◌, ◌<◌, ◌≤◌, ◌^◌, true, false, IfOk};
@@ -16,6 +20,7 @@ ghost use Rattle.zr_base.specs.Extents.{has_unit};
 ghost use Rattle.zr_rules.specs.Choices.{AreRuns, IsPick};
 
 use anyhow::Context;
+use pools::time_pool;
 use std::alloc::Global;
 use std::env;
 use std::time::{Duration, Instant};
@@ -120,6 +125,22 @@ fn time_steps(rt: &HostRuntime, extents: u64) -> anyhow::Result<()> {
     Ok(())
 }
 
+/// Times so many frees and allocations on a pool of so many extents.
+fn time_replacing(
+    rt: &HostRuntime,
+    extents: u64,
+    count: u64,
+    chooser: &Chooser,
+) -> anyhow::Result<()> {
+    if extents >= 1 << 32 {
+        println!(rt; "too much")?;
+        return Ok(());
+    }
+    let replaced = time_pool(rt, extents, count, chooser)?;
+    println!(rt; "{} {}", replaced.given, replaced.spent.as_nanos())?;
+    Ok(())
+}
+
 /// Does each work once on little, and prints how much it gave.
 fn try_each(rt: &HostRuntime, chooser: &Chooser) -> anyhow::Result<()> {
     let none = RangeSet::new(rt.alloc());
@@ -132,6 +153,8 @@ fn try_each(rt: &HostRuntime, chooser: &Chooser) -> anyhow::Result<()> {
         "{} extents were discarded, {} copied and {} marked",
         discarded.given, copied.given, marked.given
     )?;
+    let replaced = time_pool(rt, 1000, 1000, chooser)?;
+    println!(rt; "{} blocks were freed and taken anew", replaced.given)?;
     Ok(())
 }
 
@@ -154,6 +177,7 @@ fn main(rt: HostRuntime) -> anyhow::Result<()> {
     }
     match numbers.as_slice() {
         [units, full, count] => time_allocator(&rt, *units, *full, *count, &first),
+        [extents, count] => time_replacing(&rt, *extents, *count, &first),
         [extents] => time_steps(&rt, *extents),
         _ => try_each(&rt, &first),
     }
