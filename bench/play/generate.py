@@ -4,6 +4,7 @@ generate.py > stdin          those of this folder's stdin
 generate.py removals         those in which devices are given up
 generate.py checkpoints      those in which pools go back: to a checkpoint, or to a recent group
 generate.py reads            those in which devices are given up, each to be looked at for reads of a device that is gone
+generate.py copies           the same, to be looked at for how many steps copy: a `status` behind each `remove` and `import`
 generate.py sums < answers   a line for each script that was answered: the SHA-256 of its answers
 """
 import hashlib, random, sys
@@ -320,6 +321,13 @@ def written_out(words, lines):
     return words[2:], [it for line in lines for it in [line, *steps]]
 
 
+def with_status(words, lines):
+    """A script without rounds that asks for the status behind each `remove` and each `import`."""
+    words, lines = written_out(words, lines)
+    begins = lambda line: line.startswith(('remove ', 'import')) and not line.startswith('remove -')
+    return words, [it for line in lines for it in [line, *['status'] * begins(line)]]
+
+
 def removal_scripts():
     """The scripts in which devices are given up."""
     return (removals(s) if s % 25 else condensing(s) for s in range(1001, 1301))
@@ -346,10 +354,11 @@ if __name__ == '__main__':
         'checkpoints': (checkpoints(s) if s % 25 else checkpoints_and_condensing(s) for s in range(2001, 2301)),
         'removals': removal_scripts(),
         'reads': (written_out(*it) for it in removal_scripts()),
+        'copies': (with_status(*it) for it in removal_scripts()),
         '': (script(s, 40) if s <= 200 else short_runs(s) for s in [*range(1, 201), 201, 202, 204]),
     }
     for words, lines in made[''.join(sys.argv[1:])]:
-        if sys.argv[1:] == ['reads']: print('@reads')
+        if sys.argv[1:] in (['reads'], ['copies']): print('@' + sys.argv[1])
         print(' '.join(words))
         print('\n'.join(lines))
         print('====')

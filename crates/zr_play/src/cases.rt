@@ -21,6 +21,10 @@ pub enum Kind {
     Faults,
     /// `@reads`: whether its run reads of a device that is gone.
     Reads,
+    /// `@copies`: whether each removal of its run takes no more steps than units were left to copy.
+    Copies,
+    /// `@zeros N`: what its run is answered where each read from its line N on gives zeros, counted from 1.
+    Zeros(usize),
 }
 
 /// Bytes that are put into a file, and the place in bytes.
@@ -64,15 +68,24 @@ fn words_of(alloc: Global, line: &[u8]) -> anyhow::Result<Vec<String>> {
     Ok(words)
 }
 
+// The number of a line.
+fn number_in(digits: &[u8]) -> anyhow::Result<usize> {
+    Ok(std::str::from_utf8(digits)?.parse::<usize>()?)
+}
+
 // What a line that begins with `@` asks.
 fn kind_of(line: &[u8]) -> anyhow::Result<Kind> {
     if let Some(number) = line.strip_prefix(b"@stops ") {
-        return Ok(Kind::Stops(std::str::from_utf8(number)?.parse::<usize>()?));
+        return Ok(Kind::Stops(number_in(number)?));
+    }
+    if let Some(number) = line.strip_prefix(b"@zeros ") {
+        return Ok(Kind::Zeros(number_in(number)?));
     }
     match line {
         b"@answers" => Ok(Kind::Answers),
         b"@faults" => Ok(Kind::Faults),
         b"@reads" => Ok(Kind::Reads),
+        b"@copies" => Ok(Kind::Copies),
         _ => bail!("no such table"),
     }
 }

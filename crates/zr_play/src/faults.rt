@@ -5,9 +5,9 @@
 //! on. A probe over what it leaves must show a state that may be shown.
 
 use crate::cases::Run;
-use crate::lent_desk::Played;
+use crate::lent_desk::{Played, Trouble};
 use crate::patch::take_out;
-use crate::runs::{lend, print_run, sent_of, text_of};
+use crate::runs::{lend, play_lent, text_of};
 use crate::states::{Reached, Shown, lines_of, states_of};
 use std::alloc::{AllocError, Global};
 use zr_shelf::DiskFile;
@@ -80,10 +80,12 @@ impl Tries<'_> {
         let alloc = self.alloc;
         let files = std::mem::replace(&mut self.files, Vec::new(alloc));
         let script = self.run.script.as_slice().to_vec(alloc)?;
-        let mut tried = lend(alloc, files, self.run.words.as_slice(), script, call)?;
+        let trouble = Trouble::Fails(call);
+        let mut tried = lend(alloc, files, self.run.words.as_slice(), script, trouble)?;
         let files = std::mem::replace(&mut tried.files, Vec::new(alloc));
         let script = self.probe.script.as_slice().to_vec(alloc)?;
-        let after = lend(alloc, files, self.probe.words.as_slice(), script, 0)?;
+        let words = self.probe.words.as_slice();
+        let after = lend(alloc, files, words, script, Trouble::None)?;
         let text = text_of(alloc, &after)?;
         self.files = after.files;
         take_out(&mut self.files, after.patches);
@@ -152,11 +154,7 @@ fn fail_each(
 /// Makes each call of the run fail in turn, and prints what it is answered whole, whether each call may fail, whether a
 /// removal was cancelled by a fault, and which states were shown.
 pub fn faults(rt: &HostRuntime, run: &Run, probe: &Run) -> anyhow::Result<()> {
-    let alloc = rt.alloc();
-    let script = run.script.as_slice().to_vec(alloc)?;
-    let whole = lend(alloc, Vec::new(alloc), run.words.as_slice(), script, 0)?;
-    let sent = sent_of(alloc, whole.replies.as_slice())?;
-    print_run(rt, sent.as_slice(), whole.status)?;
-    let lines = lines_of(alloc, run.script.as_slice())?;
+    let whole = play_lent(rt, run, Trouble::None)?;
+    let lines = lines_of(rt.alloc(), run.script.as_slice())?;
     fail_each(rt, run, probe, lines.as_slice(), whole)
 }

@@ -2,7 +2,7 @@
 //!
 //! It keeps what each write replaced, so that the files can be given back as they were, and which places were read. One call
 //! can be told to fail. A write that failed is not read back, but may have come: it is put into the files at the end, unless
-//! a flush followed it.
+//! a flush followed it. Or all reads can be told to give zeros from some reply on.
 //!
 //! As a desk over the files of a system does, it tells no content. So what is shown with it is shown by trying.
 ghost use Rattle.std.specs.Prelude.{◌≡◌, [], ◌<◌, ◌≤◌, ◌^◌, length};
@@ -18,6 +18,16 @@ pub struct Reading {
     pub at: u64,
     pub len: u64,
     pub replies: usize,
+}
+
+/// What goes wrong with a desk.
+#[derive(Clone, Copy, Debug, PartialEq, Eq)]
+pub enum Trouble {
+    None,
+    /// The call of that number fails, counted from 1.
+    Fails(u64),
+    /// Each read gives zeros once that many replies were sent.
+    Zeros(usize),
 }
 
 /// Files that are lent, an input and the replies.
@@ -36,7 +46,7 @@ pub struct LentDesk {
     patches: Vec<Patch>,
     late: Vec<Patch>,
     calls: u64,
-    fails: u64,
+    trouble: Trouble,
     disk_faults: u64,
     attach_faults: u64,
     input_faults: u64,
@@ -60,8 +70,8 @@ pub struct Played {
 }
 
 impl LentDesk {
-    /// A desk with these files, of which none is attached. The call of the number `fails` fails, counted from 1; at 0 none does.
-    pub fn over(alloc: Global, files: Vec<DiskFile>, input: Vec<u8>, fails: u64) -> LentDesk
+    /// A desk with these files, of which none is attached.
+    pub fn over(alloc: Global, files: Vec<DiskFile>, input: Vec<u8>, trouble: Trouble) -> LentDesk
         ensures { result.lengths.items ≡ [] }
     {
         LentDesk {
@@ -76,7 +86,7 @@ impl LentDesk {
             patches: Vec::new(alloc),
             late: Vec::new(alloc),
             calls: 0,
-            fails,
+            trouble,
             disk_faults: 0,
             attach_faults: 0,
             input_faults: 0,
@@ -103,7 +113,15 @@ impl LentDesk {
         ensures { self.new ≡ record self.old { calls = self.new.calls } }
     {
         self.calls = self.calls.saturating_add(1);
-        self.calls == self.fails
+        self.trouble == Trouble::Fails(self.calls)
+    }
+
+    // Whether reads give zeros by now.
+    fn is_blank(&self) -> bool {
+        match self.trouble {
+            Trouble::Zeros(sent) => sent <= self.replies.len(),
+            Trouble::None | Trouble::Fails(_) => false,
+        }
     }
 }
 
@@ -212,6 +230,9 @@ impl Shelf for LentDesk {
         {
             self.disk_faults = self.disk_faults.saturating_add(1);
             return Err(DeskErr::Failed);
+        }
+        if self.is_blank() {
+            out.fill(0);
         }
         Ok(())
     }

@@ -1,12 +1,14 @@
 //! Scripts over devices in memory, and what they are answered.
 //!
 //! The input has cases one behind another, of which `cases` says the form. For each run its replies are printed, then its
-//! status and the SHA-256 of each device. Three tables ask something else of a case: what is shown where its run is stopped at
-//! any moment, what comes where a call fails, and whether it reads of a device that is gone. Behind the replies and the status
-//! they print what they found.
+//! status and the SHA-256 of each device. Four tables ask something else of a case: what is shown where its run is stopped at
+//! any moment, what comes where a call fails, whether it reads of a device that is gone, and whether its removals take no more
+//! steps than units were left to copy. Behind the replies and the status they print what they found. And a case may have
+//! devices that read as zeros from some line on.
 #![tactic(auto)]
 
 mod cases;
+mod copies;
 mod faults;
 mod lent_desk;
 mod patch;
@@ -26,7 +28,9 @@ fn play_case(rt: &HostRuntime, case: &Case) -> anyhow::Result<()> {
         (Kind::Stops(line), [run, probe]) => stops::stops(rt, line, run, probe),
         (Kind::Faults, [run, probe]) => faults::faults(rt, run, probe),
         (Kind::Reads, [run]) => reads::reads(rt, run),
-        _ => anyhow::bail!("a table has a run and a probe, and that of reads a run alone"),
+        (Kind::Copies, [run]) => copies::copies(rt, run),
+        (Kind::Zeros(line), [run]) => runs::play_blank(rt, run, line),
+        _ => anyhow::bail!("stops and faults have a run and a probe, and the others a run alone"),
     }
 }
 

@@ -5,9 +5,9 @@
 //! the run have no rounds behind each line, so that each line has one reply.
 
 use crate::cases::Run;
-use crate::lent_desk::{Played, Reading};
+use crate::lent_desk::{Played, Reading, Trouble};
 use crate::patch::number_of;
-use crate::runs::{lend, print_run, sent_of};
+use crate::runs::play_lent;
 use crate::states::lines_of;
 use std::alloc::{AllocError, Global};
 
@@ -103,10 +103,7 @@ fn is_wrong(played: &Played, lines: &[&[u8]], gone: Gone, reading: &Reading) -> 
 /// Makes the run, and prints what it is answered and whether it reads of a device that is gone.
 pub fn reads(rt: &HostRuntime, run: &Run) -> anyhow::Result<()> {
     let alloc = rt.alloc();
-    let script = run.script.as_slice().to_vec(alloc)?;
-    let played = lend(alloc, Vec::new(alloc), run.words.as_slice(), script, 0)?;
-    let sent = sent_of(alloc, played.replies.as_slice())?;
-    print_run(rt, sent.as_slice(), played.status)?;
+    let played = play_lent(rt, run, Trouble::None)?;
     let lines = lines_of(alloc, run.script.as_slice())?;
     let mut wrong: usize = 0;
     for gone in gone_in(alloc, &played, lines.as_slice())? {

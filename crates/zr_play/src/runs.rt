@@ -5,7 +5,7 @@ ghost use Rattle.zr_base.specs.declared.space.Policy.{Policy};
 ghost use Rattle.zr_rules.specs.Choices.{AreRuns, IsPick};
 
 use crate::cases::{Edit, Run};
-use crate::lent_desk::{LentDesk, Played};
+use crate::lent_desk::{LentDesk, Played, Trouble};
 use crate::patch::{Patch, number_of};
 use sha2::{Digest, Sha256};
 use std::alloc::{AllocError, Global};
@@ -43,15 +43,15 @@ pub fn status_of<D: Desk>(alloc: Global, words: &[String], desk: &mut D) -> Resu
     Ok(run(alloc, words, desk, &[first, best]))
 }
 
-/// Runs the program over lent files, of which the call of the number `fails` fails; at 0 none does.
+/// Runs the program over lent files.
 pub fn lend(
     alloc: Global,
     files: Vec<DiskFile>,
     words: &[String],
     script: Vec<u8>,
-    fails: u64,
+    trouble: Trouble,
 ) -> Result<Played, AllocError> {
-    let mut desk = LentDesk::over(alloc, files, script, fails);
+    let mut desk = LentDesk::over(alloc, files, script, trouble);
     let status = status_of(alloc, words, &mut desk)?;
     desk.end(status)
 }
@@ -99,6 +99,23 @@ fn print_sums(rt: &HostRuntime, files: &[DiskFile]) -> anyhow::Result<()> {
 pub fn print_run(rt: &HostRuntime, sent: &[u8], status: u8) -> anyhow::Result<()> {
     print!(rt; "{}", std::str::from_utf8(sent)?)?;
     println!(rt; "status {status}")?;
+    Ok(())
+}
+
+/// Makes a run on lent files that are new, and prints what it is answered.
+pub fn play_lent(rt: &HostRuntime, run: &Run, trouble: Trouble) -> anyhow::Result<Played> {
+    let alloc = rt.alloc();
+    let script = run.script.as_slice().to_vec(alloc)?;
+    let words = run.words.as_slice();
+    let played = lend(alloc, Vec::new(alloc), words, script, trouble)?;
+    let sent = sent_of(alloc, played.replies.as_slice())?;
+    print_run(rt, sent.as_slice(), played.status)?;
+    Ok(played)
+}
+
+/// Makes a run whose reads give zeros from its line of that number on, counted from 1, and prints what it is answered.
+pub fn play_blank(rt: &HostRuntime, run: &Run, line: usize) -> anyhow::Result<()> {
+    play_lent(rt, run, Trouble::Zeros(line.saturating_sub(1)))?;
     Ok(())
 }
 

@@ -5,6 +5,7 @@
 //! last line that committed and was answered, and no later one than that of the line under way.
 
 use crate::cases::Run;
+use crate::lent_desk::Trouble;
 use crate::patch::take_out;
 use crate::runs::{lend, text_of};
 use std::alloc::{AllocError, Global};
@@ -38,9 +39,11 @@ pub fn states_of(alloc: Global, run: &Run, probe: &Run) -> Result<Vec<Vec<u8>>, 
     let mut states = Vec::new(alloc);
     for count in 0..=lines.len() {
         let script = exported(alloc, lines.as_slice(), count)?;
-        let before = lend(alloc, files, run.words.as_slice(), script, 0)?;
+        let words = run.words.as_slice();
+        let before = lend(alloc, files, words, script, Trouble::None)?;
         let script = probe.script.as_slice().to_vec(alloc)?;
-        let after = lend(alloc, before.files, probe.words.as_slice(), script, 0)?;
+        let words = probe.words.as_slice();
+        let after = lend(alloc, before.files, words, script, Trouble::None)?;
         states.push(text_of(alloc, &after)?)?;
         files = after.files;
         take_out(&mut files, after.patches);

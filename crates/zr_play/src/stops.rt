@@ -10,7 +10,7 @@
 ghost use Rattle.std.specs.Prelude.{◌≤◌};
 
 use crate::cases::Run;
-use crate::lent_desk::Reading;
+use crate::lent_desk::{Reading, Trouble};
 use crate::patch::{Patch, take_out};
 use crate::runs::{lend, print_run, status_of, text_of};
 use crate::states::{Reached, Shown, lines_of, states_of};
@@ -200,7 +200,8 @@ impl<'a> Walk<'a> {
         let laid = lay(alloc, &mut self.files, self.pending.as_slice(), choice)?;
         let files = std::mem::replace(&mut self.files, Vec::new(alloc));
         let script = self.probe.script.as_slice().to_vec(alloc)?;
-        let played = lend(alloc, files, self.probe.words.as_slice(), script, 0)?;
+        let words = self.probe.words.as_slice();
+        let played = lend(alloc, files, words, script, Trouble::None)?;
         let text = text_of(alloc, &played)?;
         self.files = played.files;
         take_out(&mut self.files, played.patches);
