@@ -1,12 +1,17 @@
 -- What a call that was done left, told of a shelf that is told, and why a removal does not begin.
-use Rattle.std.proofs.Common.{◌≡◌, ◌⊎◌, inl, inr, ℕ, Bool, true, false, List, Option, Some, None, Result, Ok, Err, refl, sym, subst}
+use Rattle.std.proofs.Common.{◌≡◌, ◌⊎◌, inl, inr, ℕ, Bool, true, false, List, [], Option, Some, None, Result, Ok, Err, refl, sym, subst}
 use Rattle.zr_base.specs.declared.refusal.Refusal.{Refusal}
 use Rattle.zr_base.specs.declared.refusal.Refusal.TheVariants as refusal
 use Rattle.zr_base.specs.declared.space.Condensed.{Condensed}
 use Rattle.zr_base.specs.declared.space.Condensed.TheVariants as condensed
 use Rattle.zr_base.specs.declared.space.Policy.{Policy}
-use Rattle.zr_create.specs.Names.{slot_named}
+use Rattle.zr_base.specs.declared.space.CkptPart.TheVariants.{Clear}
+use Rattle.zr_create.specs.Blank.{IsNamed, IsResetAt, NothingWaits}
+use Rattle.zr_create.specs.Devices.{HasDevicesIn}
+use Rattle.zr_create.specs.Names.{AreSlotsOf, IsSlotMissing, slot_named}
 use Rattle.zr_create.specs.Refusals.{ChecksNew}
+use Rattle.zr_label.specs.Blocks as blocks
+use Rattle.zr_label.specs.declared.root.Name.{Name}
 use Rattle.zr_removal.specs.Devices.{IsDeviceOn}
 use Rattle.zr_removal.specs.Refusals.{IsRemoveRefusal}
 use Rattle.zr_removal.specs.Steps.{GivesUp, GoesAway, StepsOn}
@@ -22,7 +27,7 @@ use Rattle.zr_sync.specs.declared.fault.Fault.{Fault}
 use Rattle.zr_sync.specs.declared.fault.Fault.TheVariants.{No}
 use Rattle.zr_sync.specs.declared.open.OpenPool.{OpenPool}
 use Rattle.zr_vdev.specs.Copies.{CopiesUnits}
-use Rattle.zr_pool.specs.Accounts.{Condenses, CopiesSome, Evacuates, IsNamedCause, IsRemovalCause, Leaves, LetsGo, PutsBack, Refuses, Turns}
+use Rattle.zr_pool.specs.Accounts.{Condenses, CopiesSome, Evacuates, IsCreateCause, IsNamedCause, IsNew, IsRemovalCause, Leaves, LetsGo, PutsBack, Refuses, Turns}
 use Rattle.zr_pool.specs.Replies.{condense_reply, evac_reply}
 use Rattle.zr_pool.specs.Turns.{is_opener}
 
@@ -67,6 +72,37 @@ module _ (t : Type 0) (told : t) where
   evacuates_told policy sizes c1 c2 before now old new (Copied n) h = copies_told policy before now old new n h
   evacuates_told policy sizes c1 c2 before now old new (Gone d) h = record { leaving = h.leaving; copied = h.copied; tried = h.tried; same = h.same; ends = ends_told sizes now h.tried new d h.ends }
   evacuates_told policy sizes c1 c2 before now old new (Cancelled d) h = record { leaving = h.leaving; tried = h.tried; same = h.same; cancels = cancels_told sizes now h.tried new d h.cancels }
+
+-- ---- a new pool
+
+-- The devices and the slots stand in lists that are copied for the calls.
+module _ (t : Type 0) (told : t) (version guid : ℕ) (paths : List (List ℕ)) (sizes : List ℕ) (disks : List (List ℕ)) (devs given : List (List ℕ)) (same : given ≡ devs) where
+  pub lacks_slot : (r : Refusal) → (r ≡ refusal.NoSuchDevice) × IsSlotMissing paths given → IsCreateCause version paths sizes disks guid devs r
+  lacks_slot r (none, missing) = inl (none, subst (λ (ds : List (List ℕ)). IsSlotMissing paths ds) same missing)
+
+  module _ (slots named : List ℕ) (passed : named ≡ slots) (are : AreSlotsOf paths given slots) where
+    slots_are : AreSlotsOf paths devs named
+    slots_are = subst (λ (ds : List (List ℕ)). AreSlotsOf paths ds named) same (subst (λ (ns : List ℕ). AreSlotsOf paths given ns) (sym passed) are)
+
+    pub in_the_way : (r : Refusal) → ChecksNew sizes t disks version guid named (Err r) → IsCreateCause version paths sizes disks guid devs r
+    in_the_way r h = inr (named, slots_are, news_told t told sizes disks version guid named (Err r) h)
+
+    pub is_new : (name : List ℕ) (full : Name) (new : OpenPool) → blocks.name_of full ≡ name → ChecksNew sizes t disks version guid named (Ok tt) → IsNamed full guid version new → HasDevicesIn sizes 1 named new
+        → new.space.parts.ckpt ≡ Clear → new.group.txg ≡ 2 → new.group.objects ≡ [] → IsResetAt 1 new.last → NothingWaits new.space → IsNew version paths sizes disks name guid devs new
+    is_new name full new name_is allowed identity devices clear txg empty root settled = record {
+      slots = named;
+      named = slots_are;
+      allowed = news_told t told sizes disks version guid named (Ok tt) allowed;
+      full_name = full;
+      name_is = name_is;
+      identity = identity;
+      devices = devices;
+      clear = clear;
+      txg = txg;
+      empty = empty;
+      root = root;
+      settled = settled;
+    }
 
 -- ---- steps, by their replies
 

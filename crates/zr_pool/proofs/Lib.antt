@@ -7,3 +7,4 @@ pub mod Turning
 pub mod Working
 pub mod Accounting
 pub mod Leavings
+pub mod Blaming

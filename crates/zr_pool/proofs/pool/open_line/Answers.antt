@@ -2,6 +2,8 @@ use Rattle.std.proofs.Common.{◌∙◌, ap, refl, sym, Err}
 use Rattle.std.proofs.lemmas.Result.{err_from_is_err_and}
 use Rattle.zr_shelf.specs.Moments.{World}
 use Rattle.zr_sync.specs.declared.open.OpenPool.{OpenPool}
+use Rattle.zr_pool.specs.Turns.{is_on_objects, is_on_pool, is_table}
+use Rattle.zr_pool.proofs.Blaming.{kind_blameless}
 use Rattle.zr_pool.proofs.Leavings.{opener_refused}
 use Rattle.zr_pool.proofs.Refused.{fault_same}
 use Rattle.zr_pool.proofs.Staying.{same_state, stays_still}
@@ -81,3 +83,17 @@ returns-in_err-removal_line-clause-account_no g c = λ told r is.
 pub returns-then-is_opener-clause-account_no : goal.returns-then-is_opener-clause-account_no
 returns-then-is_opener-clause-account_no g c = λ told r is.
     opener_refused c.args.paths.now (g.S.Shelf.sizes c.args.shelf.now) (g.S.Shelf.world c.args.shelf.now).now.seen c.args.pool.now c.args.command.now r (sym c.is_opener.ensures ∙ c.if-is_opener.true)
+
+-- ---- what tells of a fault
+
+pub returns-in_ok-object_line-clause-blamed : goal.returns-in_ok-object_line-clause-blamed
+returns-in_ok-object_line-clause-blamed g c = λ tells. absurd (kind_blameless is_on_objects refl c.args.command.now c.in_ok-object_line.field-0 (sym c.is_on_objects.ensures ∙ c.if-is_on_objects.true) tells)
+
+pub returns-in_ok-table_line-clause-blamed : goal.returns-in_ok-table_line-clause-blamed
+returns-in_ok-table_line-clause-blamed g c = λ tells. absurd (kind_blameless is_table refl c.args.command.now c.in_ok-table_line.field-0 (sym c.is_table.ensures ∙ c.if-is_table.true) tells)
+
+pub returns-in_ok-pool_line-clause-blamed : goal.returns-in_ok-pool_line-clause-blamed
+returns-in_ok-pool_line-clause-blamed g c = λ tells. absurd (kind_blameless is_on_pool refl c.args.command.now c.in_ok-pool_line.field-0 (sym c.is_on_pool.ensures ∙ c.if-is_on_pool.true) tells)
+
+pub returns-in_ok-removal_line-clause-blamed : goal.returns-in_ok-removal_line-clause-blamed
+returns-in_ok-removal_line-clause-blamed g c = c.in_ok-removal_line.ensures.blamed

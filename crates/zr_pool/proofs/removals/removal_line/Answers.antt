@@ -1,5 +1,6 @@
 use Rattle.std.proofs.Common.{◌≡◌, ◌∙◌, inr, Err, refl, ap, sym, subst}
 use Rattle.std.proofs.lemmas.Result.{err_from_is_err_and}
+use Rattle.zr_base.specs.Counts.{HasRisen}
 use Rattle.zr_base.specs.declared.refusal.Refusal.{Refusal}
 use Rattle.zr_removal.specs.Refusals.{IsRemoveRefusal}
 use Rattle.zr_script.specs.declared.command.Command.{Command}
@@ -7,6 +8,8 @@ use Rattle.zr_script.specs.declared.command.Command.TheVariants as cmd
 use Rattle.zr_script.specs.declared.reply.Reply.{Reply}
 use Rattle.zr_script.specs.declared.reply.Reply.TheVariants as reply
 use Rattle.zr_pool.specs.Accounts.{IsRemovable, IsRemovalCause, Refuses, TakesAway, Turns}
+use Rattle.zr_pool.specs.Replies.{TellsFault, evac_reply}
+use Rattle.zr_pool.proofs.Blaming.{step_blames}
 use Rattle.zr_pool.proofs.Leavings.{back_told, begins_told, condense_turn, evac_turn, evacuates_told, refusal_same, removal_more}
 use Rattle.zr_pool.proofs.Refused.{fault_same}
 use Rattle.zr_pool.proofs.removals.removal_line.Goals as goal
@@ -134,3 +137,23 @@ returns-in_err-step_condense-in-StepCondense-clause-account_no g c = λ told r i
     let was = c.in_err-step_condense-in-StepCondense.was ∙ ap Err e in
     subst (λ (command : Command). Refuses c.args.paths.now (g.S.Shelf.sizes shelf) (g.S.Shelf.world shelf).now.seen c.args.pool.now command r c.step_condense.new.pool) (sym c.in-StepCondense.is)
     (c.step_condense.ensures.unchanged r was, c.step_condense.ensures.refused r was)
+
+-- ---- what tells of a fault
+
+pub returns-in_ok-remove-in-Remove-clause-blamed : goal.returns-in_ok-remove-in-Remove-clause-blamed
+returns-in_ok-remove-in-Remove-clause-blamed g c = λ tells. absurd (subst (λ (command : Command). TellsFault command reply.Done) c.in-Remove.is tells)
+
+pub returns-in_ok-cancel-in-Cancel-clause-blamed : goal.returns-in_ok-cancel-in-Cancel-clause-blamed
+returns-in_ok-cancel-in-Cancel-clause-blamed g c = λ tells. absurd (subst (λ (command : Command). TellsFault command (reply.Cancelled c.in_ok-cancel-in-Cancel.field-0)) c.in-Cancel.is tells)
+
+pub returns-in_ok-step_evac-in-StepEvac-clause-blamed : goal.returns-in_ok-step_evac-in-StepEvac-clause-blamed
+returns-in_ok-step_evac-in-StepEvac-clause-blamed g c = λ tells.
+    let shelf = c.args.shelf.now in
+    let new = c.step_evac.new.shelf in
+    let done = c.in_ok-step_evac-in-StepEvac.field-0 in
+    let line = subst (λ (command : Command). TellsFault command c.evac_reply.result) c.in-StepEvac.is tells in
+    step_blames c.args.pick.now.policy (g.S.Shelf.sizes shelf) (g.S.Shelf.tells shelf) (g.S.Shelf.counts shelf) (g.S.Shelf.counts new) (g.S.Shelf.world shelf) (g.S.Shelf.world new) c.args.pool.now c.step_evac.new.pool done c.in_ok-step_evac-in-StepEvac.ensures.steps
+    (subst (λ (answer : Reply). TellsFault cmd.StepEvac answer) c.evac_reply.ensures line)
+
+pub returns-in_ok-step_condense-in-StepCondense-clause-blamed : goal.returns-in_ok-step_condense-in-StepCondense-clause-blamed
+returns-in_ok-step_condense-in-StepCondense-clause-blamed g c = λ tells. absurd (subst (λ (command : Command). TellsFault command c.condense_reply.result) c.in-StepCondense.is tells)

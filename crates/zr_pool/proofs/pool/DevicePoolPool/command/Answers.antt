@@ -1,9 +1,12 @@
 use Rattle.std.proofs.Common.{◌≡◌, [], Bool, true, false, Option, Some, sym, ap, ◌∙◌, subst}
 use Rattle.std.specs.Prelude.{IfOk, IfSome}
+use Rattle.zr_base.specs.Counts.{HasRisen}
 use Rattle.zr_sync.specs.declared.open.OpenPool.{OpenPool}
 use Rattle.zr_pool.specs.Ends.{answer_of, is_closing}
 use Rattle.zr_pool.specs.Pools.{StandsFor, no_device_state}
+use Rattle.zr_pool.specs.Replies.{TellsFault}
 use Rattle.zr_pool.proofs.Accounting.{Leads, closed_accounts, each_with_account, open_accounts}
+use Rattle.zr_pool.proofs.Blaming.{blamed_answer, blamed_closed}
 use Rattle.zr_pool.proofs.Turning.{closed_turns, open_turns, left_of}
 use Rattle.zr_base.specs.declared.refusal.Refusal.TheVariants as refusal
 use Rattle.zr_script.specs.declared.command.Command.TheVariants.{Sync}
@@ -62,3 +65,20 @@ returns-clause-step g c = λ told paths before stood.
     subst (λ (o : Option OpenPool). IfOk c.answer_of-2.result (λ found. IfSome found (λ answer. Leads old new before command o answer))) (sym left)
     (subst (λ q. IfOk q (λ found. IfSome found (λ answer. Leads old new before command (left_of (is_closing command r) y) answer))) (sym c.answer_of-2.ensures)
     (each_with_account old new before command (left_of (is_closing command r) y) (answer_of r) told_part account_part))
+
+-- ---- what tells of a fault
+
+pub returns-in_default-clause-blamed : goal.returns-in_default-clause-blamed
+returns-in_default-clause-blamed g c =
+    let command = c.args.command.now in
+    let Fails = HasRisen (g.S.Shelf.counts c.args.shelf.now).disk (g.S.Shelf.counts c.closed_line.new.shelf).disk in
+    let r = c.closed_line.result in
+    subst (λ q. IfOk q (λ found. IfSome found (λ answer. TellsFault command answer → Fails))) (sym c.answer_of.ensures)
+    (blamed_answer command Fails r (blamed_closed command Fails r c.closed_line.ensures.done))
+
+pub returns-clause-blamed : goal.returns-clause-blamed
+returns-clause-blamed g c =
+    let command = c.args.command.now in
+    let Fails = HasRisen (g.S.Shelf.counts c.args.shelf.now).disk (g.S.Shelf.counts c.open_line-done.new.shelf).disk in
+    subst (λ q. IfOk q (λ found. IfSome found (λ answer. TellsFault command answer → Fails))) (sym c.answer_of-2.ensures)
+    (blamed_answer command Fails c.open_line-done.result c.open_line-done.ensures.blamed)
