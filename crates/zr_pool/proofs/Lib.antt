@@ -7,3 +7,5 @@ pub mod Turning
 pub mod Working
 pub mod Accounting
 pub mod Tellings
+pub mod Leavings
+pub mod Blaming

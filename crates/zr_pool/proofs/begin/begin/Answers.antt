@@ -9,6 +9,7 @@ use Rattle.zr_sync.specs.declared.fault.Fault.TheVariants.{No}
 use Rattle.zr_open.specs.Groups.{HoldsGroup}
 use Rattle.zr_open.specs.Rewound.{HoldsSaved}
 use Rattle.zr_open.proofs.Refusing.{back_refusal, looked_refusal, not_kept_shown, rewind_refusal}
+use Rattle.zr_pool.specs.Accounts.{Begins, BeginsNone}
 use Rattle.zr_pool.specs.Plain.{IsMade, IsOpeningCause, shelf_of}
 use Rattle.zr_pool.specs.Turns.{IsClosedRefusal}
 use Rattle.zr_pool.proofs.Refused.{group_cause, opened_as, rewind_cause}
@@ -82,3 +83,35 @@ returns-in-ImportTxg-clause-cause g c = λ told r is.
     let txg = c.in-ImportTxg.txg in
     subst (λ (command : Command). IsOpeningCause shelf command r) (sym c.in-ImportTxg.is)
     (group_cause shelf txg r (λ oldest kept. not_kept_shown (g.S.Shelf.sizes old) (g.S.Shelf.tells old) (g.S.Shelf.world old).now.seen txg r told oldest kept (c.go_back.ensures.refused r is)))
+
+-- ---- the account
+
+pub returns-in-Import-clause-begins : goal.returns-in-Import-clause-begins
+returns-in-Import-clause-begins g c = λ told.
+    let shelf = c.args.shelf.now in
+    subst (λ (command : Command). IfOk c.import.result (λ found. IfSome found (Begins c.args.paths.now (g.S.Shelf.sizes shelf) (g.S.Shelf.world shelf).now.seen command))) (sym c.in-Import.is) c.import.ensures.room
+
+pub returns-in-Import-clause-begins_no : goal.returns-in-Import-clause-begins_no
+returns-in-Import-clause-begins_no g c = λ told r is.
+    let shelf = c.args.shelf.now in
+    subst (λ (command : Command). BeginsNone c.args.paths.now (g.S.Shelf.sizes shelf) (g.S.Shelf.world shelf).now.seen command r) (sym c.in-Import.is) tt
+
+pub returns-in-ImportRewind-clause-begins : goal.returns-in-ImportRewind-clause-begins
+returns-in-ImportRewind-clause-begins g c = λ told.
+    let shelf = c.args.shelf.now in
+    subst (λ (command : Command). IfOk c.rewind.result (λ found. IfSome found (Begins c.args.paths.now (g.S.Shelf.sizes shelf) (g.S.Shelf.world shelf).now.seen command))) (sym c.in-ImportRewind.is) c.rewind.ensures.room
+
+pub returns-in-ImportRewind-clause-begins_no : goal.returns-in-ImportRewind-clause-begins_no
+returns-in-ImportRewind-clause-begins_no g c = λ told r is.
+    let shelf = c.args.shelf.now in
+    subst (λ (command : Command). BeginsNone c.args.paths.now (g.S.Shelf.sizes shelf) (g.S.Shelf.world shelf).now.seen command r) (sym c.in-ImportRewind.is) tt
+
+pub returns-in-ImportTxg-clause-begins : goal.returns-in-ImportTxg-clause-begins
+returns-in-ImportTxg-clause-begins g c = λ told.
+    let shelf = c.args.shelf.now in
+    subst (λ (command : Command). IfOk c.go_back.result (λ found. IfSome found (Begins c.args.paths.now (g.S.Shelf.sizes shelf) (g.S.Shelf.world shelf).now.seen command))) (sym c.in-ImportTxg.is) c.go_back.ensures.room
+
+pub returns-in-ImportTxg-clause-begins_no : goal.returns-in-ImportTxg-clause-begins_no
+returns-in-ImportTxg-clause-begins_no g c = λ told r is.
+    let shelf = c.args.shelf.now in
+    subst (λ (command : Command). BeginsNone c.args.paths.now (g.S.Shelf.sizes shelf) (g.S.Shelf.world shelf).now.seen command r) (sym c.in-ImportTxg.is) tt

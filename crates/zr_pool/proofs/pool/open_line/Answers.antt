@@ -1,7 +1,10 @@
-use Rattle.std.proofs.Common.{◌∙◌, ap, refl, Err}
+use Rattle.std.proofs.Common.{◌∙◌, ap, refl, sym, Err}
 use Rattle.std.proofs.lemmas.Result.{err_from_is_err_and}
 use Rattle.zr_shelf.specs.Moments.{World}
 use Rattle.zr_sync.specs.declared.open.OpenPool.{OpenPool}
+use Rattle.zr_pool.specs.Turns.{is_on_objects, is_on_pool, is_table}
+use Rattle.zr_pool.proofs.Blaming.{kind_blameless}
+use Rattle.zr_pool.proofs.Leavings.{opener_refused}
 use Rattle.zr_pool.proofs.Refused.{fault_same}
 use Rattle.zr_pool.proofs.Staying.{same_state, stays_still}
 use Rattle.zr_pool.proofs.pool.open_line.Goals as goal
@@ -11,6 +14,13 @@ returns-in_err-object_line-clause-stays g c = λ p h r is.
     let q = err_from_is_err_and c.from_residual.result c.from_residual.ensures.1 in
     let e = fault_same c.in_err-object_line.field-0.0 q.0 r c.from_residual.result q.1 q.2 is in
     c.object_line.ensures.stays p h r (c.in_err-object_line.was ∙ ap Err e)
+
+pub returns-in_err-table_line-clause-stays : goal.returns-in_err-table_line-clause-stays
+returns-in_err-table_line-clause-stays g c = λ p h r is.
+    let res = c.from_residual-in_err-table_line in
+    let q = err_from_is_err_and res.result res.ensures.1 in
+    let e = fault_same c.in_err-table_line.field-0.0 q.0 r res.result q.1 q.2 is in
+    c.table_line.ensures.stays p h r (c.in_err-table_line.was ∙ ap Err e)
 
 pub returns-in_err-pool_line-clause-stays : goal.returns-in_err-pool_line-clause-stays
 returns-in_err-pool_line-clause-stays g c = λ p h r is.
@@ -28,3 +38,62 @@ returns-in_err-removal_line-clause-stays g c = λ p h r is.
     let told = h.objects.held.told in
     same_state _ _ c.args.pool.now c.removal_line.new.pool p p h.checkpoint (ap (λ (x : OpenPool). x.space.parts.ckpt) (c.removal_line.ensures.unchanged r was)) refl refl
     (stays_still _ _ (g.S.Shelf.world c.args.shelf.now).now.seen (g.S.Shelf.world c.removal_line.new.shelf).now.seen c.args.pool.now c.removal_line.new.pool p.objects (c.removal_line.ensures.told told) (c.removal_line.ensures.unchanged r was) (ap (λ (w : World). w.now.seen) (c.removal_line.ensures.untouched r was)) h.objects)
+
+-- ---- the account
+
+pub returns-in_ok-object_line-clause-account : goal.returns-in_ok-object_line-clause-account
+returns-in_ok-object_line-clause-account g c = λ told. c.in_ok-object_line.ensures.account told c.args.paths.now
+
+pub returns-in_ok-table_line-clause-account : goal.returns-in_ok-table_line-clause-account
+returns-in_ok-table_line-clause-account g c = λ told. c.in_ok-table_line.ensures.account told
+
+pub returns-in_ok-pool_line-clause-account : goal.returns-in_ok-pool_line-clause-account
+returns-in_ok-pool_line-clause-account g c = λ told. c.in_ok-pool_line.ensures.account told
+
+pub returns-in_ok-removal_line-clause-account : goal.returns-in_ok-removal_line-clause-account
+returns-in_ok-removal_line-clause-account g c = λ told. c.in_ok-removal_line.ensures.account told
+
+pub returns-in_err-object_line-clause-account_no : goal.returns-in_err-object_line-clause-account_no
+returns-in_err-object_line-clause-account_no g c = λ told r is.
+    let q = err_from_is_err_and c.from_residual.result c.from_residual.ensures.1 in
+    let e = fault_same c.in_err-object_line.field-0.0 q.0 r c.from_residual.result q.1 q.2 is in
+    c.object_line.ensures.account_no told c.args.paths.now r (c.in_err-object_line.was ∙ ap Err e)
+
+pub returns-in_err-table_line-clause-account_no : goal.returns-in_err-table_line-clause-account_no
+returns-in_err-table_line-clause-account_no g c = λ told r is.
+    let res = c.from_residual-in_err-table_line in
+    let q = err_from_is_err_and res.result res.ensures.1 in
+    let e = fault_same c.in_err-table_line.field-0.0 q.0 r res.result q.1 q.2 is in
+    c.table_line.ensures.account_no told r (c.in_err-table_line.was ∙ ap Err e)
+
+pub returns-in_err-pool_line-clause-account_no : goal.returns-in_err-pool_line-clause-account_no
+returns-in_err-pool_line-clause-account_no g c = λ told r is.
+    let res = c.from_residual-in_err-pool_line in
+    let q = err_from_is_err_and res.result res.ensures.1 in
+    let e = fault_same c.in_err-pool_line.field-0.0 q.0 r res.result q.1 q.2 is in
+    c.pool_line.ensures.account_no told r (c.in_err-pool_line.was ∙ ap Err e)
+
+pub returns-in_err-removal_line-clause-account_no : goal.returns-in_err-removal_line-clause-account_no
+returns-in_err-removal_line-clause-account_no g c = λ told r is.
+    let res = c.from_residual-in_err-removal_line in
+    let q = err_from_is_err_and res.result res.ensures.1 in
+    let e = fault_same c.in_err-removal_line.field-0.0 q.0 r res.result q.1 q.2 is in
+    c.removal_line.ensures.account_no told r (c.in_err-removal_line.was ∙ ap Err e)
+
+pub returns-then-is_opener-clause-account_no : goal.returns-then-is_opener-clause-account_no
+returns-then-is_opener-clause-account_no g c = λ told r is.
+    opener_refused c.args.paths.now (g.S.Shelf.sizes c.args.shelf.now) (g.S.Shelf.world c.args.shelf.now).now.seen c.args.pool.now c.args.command.now r (sym c.is_opener.ensures ∙ c.if-is_opener.true)
+
+-- ---- what tells of a fault
+
+pub returns-in_ok-object_line-clause-blamed : goal.returns-in_ok-object_line-clause-blamed
+returns-in_ok-object_line-clause-blamed g c = λ tells. absurd (kind_blameless is_on_objects refl c.args.command.now c.in_ok-object_line.field-0 (sym c.is_on_objects.ensures ∙ c.if-is_on_objects.true) tells)
+
+pub returns-in_ok-table_line-clause-blamed : goal.returns-in_ok-table_line-clause-blamed
+returns-in_ok-table_line-clause-blamed g c = λ tells. absurd (kind_blameless is_table refl c.args.command.now c.in_ok-table_line.field-0 (sym c.is_table.ensures ∙ c.if-is_table.true) tells)
+
+pub returns-in_ok-pool_line-clause-blamed : goal.returns-in_ok-pool_line-clause-blamed
+returns-in_ok-pool_line-clause-blamed g c = λ tells. absurd (kind_blameless is_on_pool refl c.args.command.now c.in_ok-pool_line.field-0 (sym c.is_on_pool.ensures ∙ c.if-is_on_pool.true) tells)
+
+pub returns-in_ok-removal_line-clause-blamed : goal.returns-in_ok-removal_line-clause-blamed
+returns-in_ok-removal_line-clause-blamed g c = c.in_ok-removal_line.ensures.blamed

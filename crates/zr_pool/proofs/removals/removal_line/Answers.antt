@@ -1,4 +1,159 @@
+use Rattle.std.proofs.Common.{◌≡◌, ◌∙◌, inr, Err, refl, ap, sym, subst}
+use Rattle.std.proofs.lemmas.Result.{err_from_is_err_and}
+use Rattle.zr_base.specs.Counts.{HasRisen}
+use Rattle.zr_base.specs.declared.refusal.Refusal.{Refusal}
+use Rattle.zr_removal.specs.Refusals.{IsRemoveRefusal}
+use Rattle.zr_script.specs.declared.command.Command.{Command}
+use Rattle.zr_script.specs.declared.command.Command.TheVariants as cmd
+use Rattle.zr_script.specs.declared.reply.Reply.{Reply}
+use Rattle.zr_script.specs.declared.reply.Reply.TheVariants as reply
+use Rattle.zr_pool.specs.Accounts.{IsRemovable, IsRemovalCause, Refuses, TakesAway, Turns}
+use Rattle.zr_pool.specs.Replies.{TellsFault, evac_reply}
+use Rattle.zr_pool.proofs.Blaming.{step_blames}
+use Rattle.zr_pool.proofs.Leavings.{back_told, begins_told, condense_turn, evac_turn, evacuates_told, refusal_same, removal_more}
+use Rattle.zr_pool.proofs.Refused.{fault_same}
 use Rattle.zr_pool.proofs.removals.removal_line.Goals as goal
 
 pub returns-in_ok-step_condense-in-StepCondense-clause-pool : goal.returns-in_ok-step_condense-in-StepCondense-clause-pool
 returns-in_ok-step_condense-in-StepCondense-clause-pool g c = c.in_ok-step_condense-in-StepCondense.ensures.pool (g.S.Shelf.sizes c.args.shelf.now) c.requires.pool
+
+-- ---- the account of a line that is done
+
+pub returns-in_ok-remove-in-Remove-clause-account : goal.returns-in_ok-remove-in-Remove-clause-account
+returns-in_ok-remove-in-Remove-clause-account g c = λ told.
+    let paths = c.args.paths.now in
+    let shelf = c.args.shelf.now in
+    let sizes = g.S.Shelf.sizes shelf in
+    let disks = (g.S.Shelf.world shelf).now.seen in
+    let now = g.S.Shelf.world c.remove.new.shelf in
+    let x = c.args.pool.now in
+    let y = c.remove.new.pool in
+    let dev = c.in-Remove.dev in
+    let d = c.in_ok-dev-in-Remove.dev in
+    let known = c.in_ok-dev-in-Remove.ensures in
+    let at = known.device in
+    let done = c.in_ok-remove-in-Remove.ensures in
+    let removable : IsRemovable paths x dev d = record { may = record { clear = known.clear; alone = known.alone }; slot = at.0; named = at.1; on = at.2; other = done.other } in
+    let taken : TakesAway paths sizes now.now.seen dev x y = record { device = d; removable = removable; enough = done.enough; begins = begins_told (g.S.Shelf.tells shelf) told sizes now x y d done.begins } in
+    subst (λ (command : Command). Turns paths sizes disks x command reply.Done now.now.seen y) (sym c.in-Remove.is) taken
+
+pub returns-in_ok-cancel-in-Cancel-clause-account : goal.returns-in_ok-cancel-in-Cancel-clause-account
+returns-in_ok-cancel-in-Cancel-clause-account g c = λ told.
+    let paths = c.args.paths.now in
+    let shelf = c.args.shelf.now in
+    let sizes = g.S.Shelf.sizes shelf in
+    let disks = (g.S.Shelf.world shelf).now.seen in
+    let now = g.S.Shelf.world c.cancel.new.shelf in
+    let x = c.args.pool.now in
+    let y = c.cancel.new.pool in
+    let d = c.in_ok-cancel-in-Cancel.field-0 in
+    let done = c.in_ok-cancel-in-Cancel.ensures in
+    subst (λ (command : Command). Turns paths sizes disks x command (reply.Cancelled d) now.now.seen y) (sym c.in-Cancel.is)
+    (d, refl, back_told (g.S.Shelf.tells shelf) told sizes now x y d done.leaving done.cancels)
+
+pub returns-in_ok-step_evac-in-StepEvac-clause-account : goal.returns-in_ok-step_evac-in-StepEvac-clause-account
+returns-in_ok-step_evac-in-StepEvac-clause-account g c = λ told.
+    let paths = c.args.paths.now in
+    let shelf = c.args.shelf.now in
+    let sizes = g.S.Shelf.sizes shelf in
+    let before = g.S.Shelf.world shelf in
+    let now = g.S.Shelf.world c.step_evac.new.shelf in
+    let x = c.args.pool.now in
+    let y = c.step_evac.new.pool in
+    let done = c.in_ok-step_evac-in-StepEvac.field-0 in
+    subst (λ (command : Command). Turns paths sizes before.now.seen x command c.evac_reply.result now.now.seen y) (sym c.in-StepEvac.is)
+    (subst (λ (answer : Reply). Turns paths sizes before.now.seen x cmd.StepEvac answer now.now.seen y) (sym c.evac_reply.ensures)
+    (evac_turn paths sizes before.now.seen now.now.seen x y done
+    (evacuates_told (g.S.Shelf.tells shelf) told c.args.pick.now.policy sizes (g.S.Shelf.counts shelf) (g.S.Shelf.counts c.step_evac.new.shelf) before now x y done c.in_ok-step_evac-in-StepEvac.ensures.steps)))
+
+pub returns-in_ok-step_condense-in-StepCondense-clause-account : goal.returns-in_ok-step_condense-in-StepCondense-clause-account
+returns-in_ok-step_condense-in-StepCondense-clause-account g c = λ told.
+    let paths = c.args.paths.now in
+    let shelf = c.args.shelf.now in
+    let sizes = g.S.Shelf.sizes shelf in
+    let disks = (g.S.Shelf.world shelf).now.seen in
+    let x = c.args.pool.now in
+    let y = c.step_condense.new.pool in
+    let done = c.in_ok-step_condense-in-StepCondense.field-0 in
+    let step = c.in_ok-step_condense-in-StepCondense.ensures in
+    subst (λ (command : Command). Turns paths sizes disks x command c.condense_reply.result disks y) (sym c.in-StepCondense.is)
+    (subst (λ (answer : Reply). Turns paths sizes disks x cmd.StepCondense answer disks y) (sym c.condense_reply.ensures)
+    (condense_turn paths sizes disks disks x y done (record { due = step.due; condenses = step.condenses })))
+
+-- ---- and of one that is refused
+
+pub returns-in_err-dev-in-Remove-clause-account_no : goal.returns-in_err-dev-in-Remove-clause-account_no
+returns-in_err-dev-in-Remove-clause-account_no g c = λ told r is.
+    let paths = c.args.paths.now in
+    let shelf = c.args.shelf.now in
+    let x = c.args.pool.now in
+    let dev = c.in-Remove.dev in
+    let q = err_from_is_err_and c.from_residual.result c.from_residual.ensures.1 in
+    let e = refusal_same c.in_err-dev-in-Remove.field-0.0 r q.0 c.from_residual.result q.1 q.2 is in
+    let cause = subst (λ (n : Refusal). IsRemovalCause paths x dev (λ d why. ⊥) n) e c.in_err-dev-in-Remove.ensures.why in
+    subst (λ (command : Command). Refuses paths (g.S.Shelf.sizes shelf) (g.S.Shelf.world shelf).now.seen x command r x) (sym c.in-Remove.is)
+    (refl, removal_more paths x dev (IsRemoveRefusal x) r cause)
+
+pub returns-in_err-remove-in-Remove-clause-account_no : goal.returns-in_err-remove-in-Remove-clause-account_no
+returns-in_err-remove-in-Remove-clause-account_no g c = λ told r is.
+    let paths = c.args.paths.now in
+    let shelf = c.args.shelf.now in
+    let x = c.args.pool.now in
+    let res = c.from_residual-in_err-remove-in-Remove in
+    let q = err_from_is_err_and res.result res.ensures.1 in
+    let e = fault_same c.in_err-remove-in-Remove.field-0.0 q.0 r res.result q.1 q.2 is in
+    let was = c.in_err-remove-in-Remove.was ∙ ap Err e in
+    let known = c.in_ok-dev-in-Remove.ensures in
+    let at = known.device in
+    subst (λ (command : Command). Refuses paths (g.S.Shelf.sizes shelf) (g.S.Shelf.world shelf).now.seen x command r c.remove.new.pool) (sym c.in-Remove.is)
+    (c.remove.ensures.unchanged r was, inr (record { clear = known.clear; alone = known.alone }, inr (at.0, at.1, inr (c.in_ok-dev-in-Remove.dev, at.2, c.remove.ensures.refused r was))))
+
+pub returns-in_err-cancel-in-Cancel-clause-account_no : goal.returns-in_err-cancel-in-Cancel-clause-account_no
+returns-in_err-cancel-in-Cancel-clause-account_no g c = λ told r is.
+    let shelf = c.args.shelf.now in
+    let res = c.from_residual-in_err-cancel-in-Cancel in
+    let q = err_from_is_err_and res.result res.ensures.1 in
+    let e = fault_same c.in_err-cancel-in-Cancel.field-0.0 q.0 r res.result q.1 q.2 is in
+    let was = c.in_err-cancel-in-Cancel.was ∙ ap Err e in
+    subst (λ (command : Command). Refuses c.args.paths.now (g.S.Shelf.sizes shelf) (g.S.Shelf.world shelf).now.seen c.args.pool.now command r c.cancel.new.pool) (sym c.in-Cancel.is)
+    (c.cancel.ensures.unchanged r was, c.cancel.ensures.refused r was)
+
+pub returns-in_err-step_evac-in-StepEvac-clause-account_no : goal.returns-in_err-step_evac-in-StepEvac-clause-account_no
+returns-in_err-step_evac-in-StepEvac-clause-account_no g c = λ told r is.
+    let shelf = c.args.shelf.now in
+    let res = c.from_residual-in_err-step_evac-in-StepEvac in
+    let q = err_from_is_err_and res.result res.ensures.1 in
+    let e = fault_same c.in_err-step_evac-in-StepEvac.field-0.0 q.0 r res.result q.1 q.2 is in
+    let was = c.in_err-step_evac-in-StepEvac.was ∙ ap Err e in
+    subst (λ (command : Command). Refuses c.args.paths.now (g.S.Shelf.sizes shelf) (g.S.Shelf.world shelf).now.seen c.args.pool.now command r c.step_evac.new.pool) (sym c.in-StepEvac.is)
+    (c.step_evac.ensures.unchanged r was, c.step_evac.ensures.refused r was)
+
+pub returns-in_err-step_condense-in-StepCondense-clause-account_no : goal.returns-in_err-step_condense-in-StepCondense-clause-account_no
+returns-in_err-step_condense-in-StepCondense-clause-account_no g c = λ told r is.
+    let shelf = c.args.shelf.now in
+    let res = c.from_residual-in_err-step_condense-in-StepCondense in
+    let q = err_from_is_err_and res.result res.ensures.1 in
+    let e = fault_same c.in_err-step_condense-in-StepCondense.field-0.0 q.0 r res.result q.1 q.2 is in
+    let was = c.in_err-step_condense-in-StepCondense.was ∙ ap Err e in
+    subst (λ (command : Command). Refuses c.args.paths.now (g.S.Shelf.sizes shelf) (g.S.Shelf.world shelf).now.seen c.args.pool.now command r c.step_condense.new.pool) (sym c.in-StepCondense.is)
+    (c.step_condense.ensures.unchanged r was, c.step_condense.ensures.refused r was)
+
+-- ---- what tells of a fault
+
+pub returns-in_ok-remove-in-Remove-clause-blamed : goal.returns-in_ok-remove-in-Remove-clause-blamed
+returns-in_ok-remove-in-Remove-clause-blamed g c = λ tells. absurd (subst (λ (command : Command). TellsFault command reply.Done) c.in-Remove.is tells)
+
+pub returns-in_ok-cancel-in-Cancel-clause-blamed : goal.returns-in_ok-cancel-in-Cancel-clause-blamed
+returns-in_ok-cancel-in-Cancel-clause-blamed g c = λ tells. absurd (subst (λ (command : Command). TellsFault command (reply.Cancelled c.in_ok-cancel-in-Cancel.field-0)) c.in-Cancel.is tells)
+
+pub returns-in_ok-step_evac-in-StepEvac-clause-blamed : goal.returns-in_ok-step_evac-in-StepEvac-clause-blamed
+returns-in_ok-step_evac-in-StepEvac-clause-blamed g c = λ tells.
+    let shelf = c.args.shelf.now in
+    let new = c.step_evac.new.shelf in
+    let done = c.in_ok-step_evac-in-StepEvac.field-0 in
+    let line = subst (λ (command : Command). TellsFault command c.evac_reply.result) c.in-StepEvac.is tells in
+    step_blames c.args.pick.now.policy (g.S.Shelf.sizes shelf) (g.S.Shelf.tells shelf) (g.S.Shelf.counts shelf) (g.S.Shelf.counts new) (g.S.Shelf.world shelf) (g.S.Shelf.world new) c.args.pool.now c.step_evac.new.pool done c.in_ok-step_evac-in-StepEvac.ensures.steps
+    (subst (λ (answer : Reply). TellsFault cmd.StepEvac answer) c.evac_reply.ensures line)
+
+pub returns-in_ok-step_condense-in-StepCondense-clause-blamed : goal.returns-in_ok-step_condense-in-StepCondense-clause-blamed
+returns-in_ok-step_condense-in-StepCondense-clause-blamed g c = λ tells. absurd (subst (λ (command : Command). TellsFault command c.condense_reply.result) c.in-StepCondense.is tells)

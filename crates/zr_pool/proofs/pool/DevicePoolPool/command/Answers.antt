@@ -1,9 +1,12 @@
 use Rattle.std.proofs.Common.{◌≡◌, [], Bool, true, false, Option, Some, sym, ap, ◌∙◌, subst}
 use Rattle.std.specs.Prelude.{IfOk, IfSome}
+use Rattle.zr_base.specs.Counts.{HasRisen}
 use Rattle.zr_sync.specs.declared.open.OpenPool.{OpenPool}
 use Rattle.zr_pool.specs.Ends.{answer_of, is_closing}
 use Rattle.zr_pool.specs.Pools.{StandsFor, no_device_state}
+use Rattle.zr_pool.specs.Replies.{TellsFault}
 use Rattle.zr_pool.proofs.Accounting.{Leads, closed_accounts, each_with_account, open_accounts}
+use Rattle.zr_pool.proofs.Blaming.{blamed_answer, blamed_closed}
 use Rattle.zr_pool.proofs.Turning.{closed_turns, open_turns, left_of}
 use Rattle.zr_base.specs.declared.refusal.Refusal.TheVariants as refusal
 use Rattle.zr_script.specs.declared.command.Command.TheVariants.{Sync}
@@ -56,9 +59,26 @@ returns-clause-step g c = λ told paths before stood.
       | else-is_closing w ↦ ap (λ p. p.pool) w.self-is ∙ sym (ap (λ (b : Bool). left_of b y) (sym c.is_closing.ensures ∙ w.if-is_closing.false))
     ] in
     let told_part = open_turns old new before.told (g.S.Shelf.tells shelf) (g.S.Shelf.tells c.open_line-done.new.shelf) told behind command x y r there
-    c.open_line-done.ensures.acts c.open_line-done.ensures.stays c.open_line-done.ensures.cause c.open_line-done.ensures.answer c.open_line-done.ensures.refused in
-    let account_part = open_accounts old new before command x y (stood.account ∙ c.in-Some.is) _ paths (g.S.Shelf.sizes shelf) (g.S.Shelf.sizes c.open_line-done.new.shelf) (g.S.Shelf.sound shelf told).sized (g.S.Shelf.sound c.open_line-done.new.shelf behind).sized r
-    c.open_line-done.ensures.answer (c.open_line-done.ensures.account told) (c.open_line-done.ensures.account_no told) c.open_line-done.ensures.pool c.open_line-done.ensures.pool_no in
+        c.open_line-done.ensures.acts c.open_line-done.ensures.stays c.open_line-done.ensures.cause c.open_line-done.ensures.answer c.open_line-done.ensures.refused in
+    let account_part = open_accounts old new before command x y (stood.account ∙ c.in-Some.is) c.as_slice.result.now (paths ∙ sym c.as_slice.ensures) (g.S.Shelf.sizes shelf) (g.S.Shelf.sizes c.open_line-done.new.shelf) (g.S.Shelf.sound shelf told).sized (g.S.Shelf.sound c.open_line-done.new.shelf behind).sized r
+        c.open_line-done.ensures.answer (c.open_line-done.ensures.account told) (c.open_line-done.ensures.account_no told) c.open_line-done.ensures.pool c.open_line-done.ensures.pool_no in
     subst (λ (o : Option OpenPool). IfOk c.answer_of-2.result (λ found. IfSome found (λ answer. Leads old new before command o answer))) (sym left)
     (subst (λ q. IfOk q (λ found. IfSome found (λ answer. Leads old new before command (left_of (is_closing command r) y) answer))) (sym c.answer_of-2.ensures)
     (each_with_account old new before command (left_of (is_closing command r) y) (answer_of r) told_part account_part))
+
+-- ---- what tells of a fault
+
+pub returns-in_default-clause-blamed : goal.returns-in_default-clause-blamed
+returns-in_default-clause-blamed g c =
+    let command = c.args.command.now in
+    let Fails = HasRisen (g.S.Shelf.counts c.args.shelf.now).disk (g.S.Shelf.counts c.closed_line.new.shelf).disk in
+    let r = c.closed_line.result in
+    subst (λ q. IfOk q (λ found. IfSome found (λ answer. TellsFault command answer → Fails))) (sym c.answer_of.ensures)
+    (blamed_answer command Fails r (blamed_closed command Fails r c.closed_line.ensures.done))
+
+pub returns-clause-blamed : goal.returns-clause-blamed
+returns-clause-blamed g c =
+    let command = c.args.command.now in
+    let Fails = HasRisen (g.S.Shelf.counts c.args.shelf.now).disk (g.S.Shelf.counts c.open_line-done.new.shelf).disk in
+    subst (λ q. IfOk q (λ found. IfSome found (λ answer. TellsFault command answer → Fails))) (sym c.answer_of-2.ensures)
+    (blamed_answer command Fails c.open_line-done.result c.open_line-done.ensures.blamed)
