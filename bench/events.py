@@ -587,6 +587,24 @@ class Game:
             self.step()
             self.alloc()
 
+    def squeeze(self, blocks):
+        """Long extents go into short runs, and their mapping is asked after each free whether it is due."""
+        self.fill(blocks)
+        for k, block in enumerate(list(self.model.live)):
+            if k % 9 in (0, 1, 2, 5):
+                self.say('free %d %d %d %d' % block, self.model.free_block(*block))
+        self.end_group(True)
+        self.add(60, self.txg)
+        for want in (1, 2, 3, 3, 6, 9, 9):
+            self.say('alloc %d' % want, self.model.alloc(want, self.txg))
+        self.say('remove 1', self.model.remove(1))
+        while self.model.uncopied():
+            self.copy()
+        self.finish()
+        for block in [b for b in self.model.live if b[0] == 1]:
+            self.say('free %d %d %d %d' % block, self.model.free_block(*block))
+            self.say('condense', self.model.condense())
+
     # ---- removals
 
     def held_on(self, i):
@@ -681,6 +699,7 @@ GAMES = [
     (6, 'best', [150, 140, 30], 2, 'scatter', 60, 400),
     (7, 'first', [300, 20], 1, 'move', 160, 300),
     (8, 'first', [200, 20], 1, 'save', 160, 300),
+    (9, 'first', [100], 1, 'squeeze', 96, 150),
 ]
 
 

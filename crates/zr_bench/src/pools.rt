@@ -84,7 +84,10 @@ fn replace_all(
     }
     for k in 0..count {
         let i = k.wrapping_mul(STRIDE) % blocks;
-        if replace(space, &mut live[i as usize], chooser)? {
+        let Some(at) = live.get_mut(i as usize) else {
+            break;
+        };
+        if replace(space, at, chooser)? {
             given = given.saturating_add(1);
         }
         if k % GROUP == GROUP - 1 {

@@ -5,7 +5,7 @@ ghost use Rattle.zr_rules.specs.Places.{is_gone, part_of, state_of_dev};
 use zr_base::{CkptPart, DevState, Dva, NoMemory};
 use zr_chain::Maps;
 use zr_choose::Chooser;
-use zr_space::{Plan, Space};
+use zr_space::{Plan, Space, SpaceErr};
 
 /// Adds a device, and answers its index. None where there are too many, or it has too many units.
 pub fn add(space: &mut Space, units: u64, txg: u64) -> Result<Option<u32>, NoMemory> {
@@ -13,6 +13,42 @@ pub fn add(space: &mut Space, units: u64, txg: u64) -> Result<Option<u32>, NoMem
         return Ok(None);
     }
     Ok(Some(space.add_dev(units, txg)?))
+}
+
+/// What an allocation came to.
+#[derive(Clone, Copy, Debug, PartialEq, Eq)]
+pub enum Taken {
+    /// These units were taken.
+    At(Dva),
+    /// No run is so long, and the longest has so many units.
+    NoRun(u64),
+    /// So many units may not be asked for.
+    No,
+}
+
+// What came of an allocation, unless memory ran out.
+fn taken_of(at: Result<Dva, SpaceErr>) -> Result<Taken, NoMemory> {
+    match at {
+        Ok(at) => Ok(Taken::At(at)),
+        Err(SpaceErr::NoRun { longest, .. }) => Ok(Taken::NoRun(longest)),
+        Err(SpaceErr::NoMemory) => Err(NoMemory),
+    }
+}
+
+/// Takes units for a block.
+pub fn alloc(space: &mut Space, units: u64, pick: &Chooser) -> Result<Taken, NoMemory> {
+    if units == 0 || units > 256 {
+        return Ok(Taken::No);
+    }
+    taken_of(space.alloc(units, pick))
+}
+
+/// Takes units for metadata.
+pub fn alloc_meta(space: &mut Space, units: u64, pick: &Chooser) -> Result<Taken, NoMemory> {
+    if units == 0 || units > 256 {
+        return Ok(Taken::No);
+    }
+    taken_of(space.alloc_meta(units, pick))
 }
 
 /// Frees a block that may be freed, and answers whether it did.

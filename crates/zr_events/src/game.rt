@@ -1,56 +1,22 @@
 //! A space, the addresses of its blocks and of its metadata, and what happens to it.
-ghost use Rattle.std.specs.Prelude.{◌≡◌, ◌<◌};
-ghost use Rattle.zr_base.specs.declared.space.Policy.{Policy};
-ghost use Rattle.zr_rules.specs.Choices.{AreRuns, IsPick};
-
-use crate::calls::{self, Copied};
+use crate::calls::{self, Copied, Taken};
 use crate::events::Event;
 use crate::tell::where_of;
 use std::alloc::{AllocError, Global};
 use std::mem;
-use zr_base::{Condensed, Dva, Extent, NoMemory, Policy};
-use zr_choose::{Chooser, pick_best, pick_first};
-use zr_space::{Space, SpaceErr};
+use zr_base::{Condensed, Dva, NoMemory, Policy};
+use zr_choose::Chooser;
+use zr_space::Space;
 
 /// A space, the addresses of its blocks, and those of the metadata of its current and of its saved root.
 #[derive(Drop)]
 pub struct Game {
     alloc: Global,
     pub space: Space,
-    pick: Chooser,
+    pub policy: Policy,
     pub live: Vec<Dva>,
     meta: Vec<Dva>,
     saved: Vec<Dva>,
-}
-
-// Places units in the lowest run that fits.
-fn first_fit(alloc: Global) -> Result<Chooser, AllocError> {
-    Ok(Chooser::new(
-        String::from_str(alloc, "first")?,
-        Policy::First,
-        Box::new(
-            alloc,
-            |want: u64, runs: &[Extent]| -> Option<usize>
-                requires { (0 < want) × AreRuns runs.now }
-                ensures { IsPick Policy.First want runs.entry.now result }
-            { pick_first(want, runs) },
-        )?,
-    ))
-}
-
-// Places units in the shortest run that fits.
-fn best_fit(alloc: Global) -> Result<Chooser, AllocError> {
-    Ok(Chooser::new(
-        String::from_str(alloc, "best")?,
-        Policy::Best,
-        Box::new(
-            alloc,
-            |want: u64, runs: &[Extent]| -> Option<usize>
-                requires { (0 < want) × AreRuns runs.now }
-                ensures { IsPick Policy.Best want runs.entry.now result }
-            { pick_best(want, runs) },
-        )?,
-    ))
 }
 
 // The addresses without this one.
@@ -77,6 +43,15 @@ fn said_of(alloc: Global, dev: Option<u32>, word: &str) -> Result<String, AllocE
     }
 }
 
+// What an allocation is answered.
+fn said_taken(alloc: Global, taken: Taken) -> Result<String, AllocError> {
+    match taken {
+        Taken::At(at) => format!(in alloc; "at {} {}", at.dev, at.start),
+        Taken::NoRun(longest) => format!(in alloc; "none {longest}"),
+        Taken::No => String::from_str(alloc, "no"),
+    }
+}
+
 // What a step of a removal is answered.
 fn said_copied(alloc: Global, copied: Copied, done: bool) -> Result<String, AllocError> {
     let word = if done { "copied" } else { "failed" };
@@ -94,20 +69,20 @@ fn said_copied(alloc: Global, copied: Copied, done: bool) -> Result<String, Allo
 }
 
 impl Game {
-    /// A space without devices.
-    pub fn new(alloc: Global) -> Result<Game, AllocError> {
-        Ok(Game {
+    /// A space without devices, in which units are placed by a policy.
+    pub fn new(alloc: Global, policy: Policy) -> Game {
+        Game {
             alloc,
             space: Space::new(alloc, 2),
-            pick: first_fit(alloc)?,
+            policy,
             live: Vec::new(alloc),
             meta: Vec::new(alloc),
             saved: Vec::new(alloc),
-        })
+        }
     }
 
-    /// What an event is answered.
-    pub fn play(&mut self, event: Event) -> Result<String, NoMemory> {
+    /// What an event is answered, where units are placed by this chooser.
+    pub fn play(&mut self, event: Event, pick: &Chooser) -> Result<String, NoMemory> {
         let alloc = self.alloc;
         match event {
             Event::Begin(policy) => self.begin(policy),
@@ -115,8 +90,8 @@ impl Game {
                 let dev = calls::add(&mut self.space, units, txg)?;
                 Ok(said_of(alloc, dev, "dev")?)
             }
-            Event::Alloc(units) => self.alloc(units, false),
-            Event::Meta(units) => self.alloc(units, true),
+            Event::Alloc(units) => self.alloc(units, pick),
+            Event::Meta(units) => self.alloc_meta(units, pick),
             Event::Free { at, birth } => self.free(at, birth),
             Event::Drop(at) => self.give_back(at),
             Event::Commit { reset } => {
@@ -133,12 +108,12 @@ impl Game {
             Event::Condense => self.condense(),
             Event::Ask(at) => self.ask(at),
             Event::Remove(_) | Event::Copy | Event::Fail | Event::Cancel | Event::Finish(_) =>
-                self.remove(event),
+                self.remove(event, pick),
         }
     }
 
     // A step on the way of a device out of service.
-    fn remove(&mut self, event: Event) -> Result<String, NoMemory> {
+    fn remove(&mut self, event: Event, pick: &Chooser) -> Result<String, NoMemory> {
         let alloc = self.alloc;
         match event {
             Event::Remove(dev) => {
@@ -148,8 +123,8 @@ impl Game {
                 };
                 Ok(said(alloc, left, "leaving")?)
             }
-            Event::Copy => self.copy(true),
-            Event::Fail => self.copy(false),
+            Event::Copy => self.copy(pick, true),
+            Event::Fail => self.copy(pick, false),
             Event::Cancel => {
                 let dev = calls::cancel(&mut self.space)?;
                 Ok(said_of(alloc, dev, "cancelled")?)
@@ -162,41 +137,28 @@ impl Game {
         }
     }
 
+    // A new space, in which units are placed by a policy.
     fn begin(&mut self, policy: Policy) -> Result<String, NoMemory> {
-        let alloc = self.alloc;
-        self.space = Space::new(alloc, 2);
-        self.pick = match policy {
-            Policy::Best => best_fit(alloc)?,
-            _ => first_fit(alloc)?,
-        };
-        self.live = Vec::new(alloc);
-        self.meta = Vec::new(alloc);
-        self.saved = Vec::new(alloc);
-        Ok(said(alloc, true, "pool")?)
+        *self = Game::new(self.alloc, policy);
+        Ok(said(self.alloc, true, "pool")?)
     }
 
-    fn alloc(&mut self, units: u64, meta: bool) -> Result<String, NoMemory> {
-        if units == 0 || units > 256 {
-            return Ok(said(self.alloc, false, "")?);
-        }
-        let taken = if meta {
-            self.space.alloc_meta(units, &self.pick)
-        } else {
-            self.space.alloc(units, &self.pick)
-        };
-        let at = match taken {
-            Ok(at) => at,
-            Err(SpaceErr::NoRun { longest, .. }) => {
-                return Ok(format!(in self.alloc; "none {longest}")?);
-            }
-            Err(SpaceErr::NoMemory) => return Err(NoMemory),
-        };
-        if meta {
-            self.meta.push(at)?;
-        } else {
+    // Takes units for a block.
+    fn alloc(&mut self, units: u64, pick: &Chooser) -> Result<String, NoMemory> {
+        let taken = calls::alloc(&mut self.space, units, pick)?;
+        if let Taken::At(at) = taken {
             self.live.push(at)?;
         }
-        Ok(format!(in self.alloc; "at {} {}", at.dev, at.start)?)
+        Ok(said_taken(self.alloc, taken)?)
+    }
+
+    // Takes units for metadata.
+    fn alloc_meta(&mut self, units: u64, pick: &Chooser) -> Result<String, NoMemory> {
+        let taken = calls::alloc_meta(&mut self.space, units, pick)?;
+        if let Taken::At(at) = taken {
+            self.meta.push(at)?;
+        }
+        Ok(said_taken(self.alloc, taken)?)
     }
 
     fn free(&mut self, at: Dva, birth: u64) -> Result<String, NoMemory> {
@@ -227,10 +189,10 @@ impl Game {
         Ok(said(self.alloc, true, "reopened")?)
     }
 
-    fn copy(&mut self, done: bool) -> Result<String, NoMemory> {
+    fn copy(&mut self, pick: &Chooser, done: bool) -> Result<String, NoMemory> {
         let alloc = self.alloc;
         let space = mem::replace(&mut self.space, Space::new(alloc, 2));
-        let (space, copied) = calls::copy(space, &self.pick, done);
+        let (space, copied) = calls::copy(space, pick, done);
         self.space = space;
         Ok(said_copied(alloc, copied?, done)?)
     }

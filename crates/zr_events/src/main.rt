@@ -13,12 +13,18 @@ mod events;
 mod game;
 mod tell;
 
+ghost use Rattle.std.specs.Prelude.{◌≡◌, ◌<◌};
+ghost use Rattle.zr_base.specs.declared.space.Policy.{Policy};
+ghost use Rattle.zr_rules.specs.Choices.{AreRuns, IsPick};
+
 use crate::events::event_of;
 use crate::game::Game;
 use crate::tell::{columns_of, sum_of, text_of};
 use std::alloc::Global;
 use std::env;
 use std::io::Read;
+use zr_base::{Extent, Policy};
+use zr_choose::{Chooser, pick_best, pick_first};
 
 // Prints what an event is answered and what is then told of the space.
 fn print_event(rt: &HostRuntime, game: &Game, answer: &str, full: bool) -> anyhow::Result<()> {
@@ -36,16 +42,55 @@ fn print_event(rt: &HostRuntime, game: &Game, answer: &str, full: bool) -> anyho
     Ok(())
 }
 
-// Plays the events of an input.
+// Plays the events of an input, with the policies `first` and `best`.
 fn play_all(rt: &HostRuntime, input: &[u8], full: bool) -> anyhow::Result<()> {
     let alloc = rt.alloc();
-    let mut game = Game::new(alloc)?;
+    let first = Chooser::new(
+        String::from_str(alloc, "first")?,
+        Policy::First,
+        Box::new(
+            alloc,
+            |want: u64, runs: &[Extent]| -> Option<usize>
+                requires { (0 < want) × AreRuns runs.now }
+                ensures { IsPick Policy.First want runs.entry.now result }
+            { pick_first(want, runs) },
+        )?,
+    );
+    let best = Chooser::new(
+        String::from_str(alloc, "best")?,
+        Policy::Best,
+        Box::new(
+            alloc,
+            |want: u64, runs: &[Extent]| -> Option<usize>
+                requires { (0 < want) × AreRuns runs.now }
+                ensures { IsPick Policy.Best want runs.entry.now result }
+            { pick_best(want, runs) },
+        )?,
+    );
+    play_by(rt, input, full, &first, &best)
+}
+
+// Plays the events of an input with these choosers.
+fn play_by(
+    rt: &HostRuntime,
+    input: &[u8],
+    full: bool,
+    first: &Chooser,
+    best: &Chooser,
+) -> anyhow::Result<()> {
+    let alloc = rt.alloc();
+    let mut game = Game::new(alloc, Policy::First);
     for line in input.split(|b| *b == b'\n') {
         if line.is_empty() {
             continue;
         }
         let event = event_of(alloc, line)?;
-        let Ok(answer) = game.play(event) else {
+        let pick = if game.policy == Policy::Best {
+            best
+        } else {
+            first
+        };
+        let Ok(answer) = game.play(event, pick) else {
             anyhow::bail!("no memory for an event");
         };
         print_event(rt, &game, answer.as_str(), full)?;
