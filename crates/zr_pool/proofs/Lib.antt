@@ -6,3 +6,4 @@ pub mod Staying
 pub mod Turning
 pub mod Working
 pub mod Accounting
+pub mod Tellings

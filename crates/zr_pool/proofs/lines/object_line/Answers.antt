@@ -13,11 +13,13 @@ use Rattle.std.proofs.lemmas.Result.{err_from_is_err_and}
 use Rattle.zr_script.specs.declared.command.Command.{Command}
 use Rattle.zr_sync.specs.declared.fault.Fault.TheVariants.{No}
 use Rattle.zr_script.specs.declared.command.Command.TheVariants as cmd
+use Rattle.zr_pool.specs.Accounts.{Refuses, Turns}
 use Rattle.zr_pool.specs.Plain.{IsPlainRefusal, IsPlainOf, IsPlainOn}
 use Rattle.zr_pool.proofs.Acting.{plain_refusal, made_on, dropped_on, read_on, sum_on, written_on, filled_on, punched_on, changed_by}
 use Rattle.zr_pool.specs.Turns.{IsOpenRefusal}
 use Rattle.zr_pool.proofs.Refused.{fault_same, change_refusal, answered_no, answered_ok}
 use Rattle.zr_pool.proofs.Staying.{same_state, edited_state}
+use Rattle.zr_pool.proofs.Tellings.{found_told, puts_bytes, puts_none}
 use Rattle.zr_pool.proofs.lines.object_line.Goals as goal
 
 pub returns-in_err-make-in-Make-clause-refused : goal.returns-in_err-make-in-Make-clause-refused
@@ -179,3 +181,112 @@ returns-in_err-bytes-in-Read-clause-stays g c = λ p h r is. same_state _ _ c.ar
 
 pub returns-in_err-sum-in-Sum-clause-stays : goal.returns-in_err-sum-in-Sum-clause-stays
 returns-in_err-sum-in-Sum-clause-stays g c = λ p h r is. same_state _ _ c.args.pool.now c.sum.new.pool p p h.checkpoint c.sum.ensures.same.ckpt refl refl (c.sum.ensures.stays p.objects h.objects)
+
+-- ---- the account
+
+pub returns-in_ok-make-in-Make-clause-account : goal.returns-in_ok-make-in-Make-clause-account
+returns-in_ok-make-in-Make-clause-account g c = λ told paths.
+    subst (λ (command : Command). Turns paths (g.S.Shelf.sizes c.args.shelf.now) (g.S.Shelf.world c.args.shelf.now).now.seen c.args.pool.now command reply.Done (g.S.Shelf.world c.make.new.shelf).now.seen c.make.new.pool) (sym c.in-Make.is)
+    (record { sets = c.in_ok-make-in-Make.ensures.made; none = c.in_ok-make-in-Make.ensures.no_blocks; room = c.in_ok-make-in-Make.ensures.room; same = c.make.ensures.same (answered_ok c.make.result c.in_ok-make-in-Make.was) })
+
+pub returns-in_err-make-in-Make-clause-account_no : goal.returns-in_err-make-in-Make-clause-account_no
+returns-in_err-make-in-Make-clause-account_no g c = λ told paths r is.
+    let q = err_from_is_err_and c.from_residual.result c.from_residual.ensures.1 in
+    let e = fault_same c.in_err-make-in-Make.field-0.0 q.0 r c.from_residual.result q.1 q.2 is in
+    let was = c.in_err-make-in-Make.was ∙ ap Err e in
+    subst (λ (command : Command). Refuses paths (g.S.Shelf.sizes c.args.shelf.now) (g.S.Shelf.world c.args.shelf.now).now.seen c.args.pool.now command r c.make.new.pool) (sym c.in-Make.is)
+    (record { lacks = λ needed free room. c.make.ensures.lacks needed free (was ∙ ap (λ y. Err (No y)) room); ready = c.make.ensures.group r was; same = c.make.ensures.same (answered_no c.make.result r was) })
+
+pub returns-in_ok-drop-in-Drop-clause-account : goal.returns-in_ok-drop-in-Drop-clause-account
+returns-in_ok-drop-in-Drop-clause-account g c = λ told paths.
+    subst (λ (command : Command). Turns paths (g.S.Shelf.sizes c.args.shelf.now) (g.S.Shelf.world c.args.shelf.now).now.seen c.args.pool.now command reply.Done (g.S.Shelf.world c.drop.new.shelf).now.seen c.drop.new.pool) (sym c.in-Drop.is)
+    (record { sets = c.in_ok-drop-in-Drop.ensures.dropped; same = c.drop.ensures.same (answered_ok c.drop.result c.in_ok-drop-in-Drop.was) })
+
+pub returns-in_err-drop-in-Drop-clause-account_no : goal.returns-in_err-drop-in-Drop-clause-account_no
+returns-in_err-drop-in-Drop-clause-account_no g c = λ told paths r is.
+    let q = err_from_is_err_and c.from_residual-in_err-drop-in-Drop.result c.from_residual-in_err-drop-in-Drop.ensures.1 in
+    let e = fault_same c.in_err-drop-in-Drop.field-0.0 q.0 r c.from_residual-in_err-drop-in-Drop.result q.1 q.2 is in
+    let was = c.in_err-drop-in-Drop.was ∙ ap Err e in
+    let disks = (g.S.Shelf.world c.args.shelf.now).now.seen in
+    subst (λ (command : Command). Refuses paths (g.S.Shelf.sizes c.args.shelf.now) disks c.args.pool.now command r c.drop.new.pool) (sym c.in-Drop.is)
+    (record {
+      lacks = λ needed free room.
+          let found = c.drop.ensures.lacks needed free (was ∙ ap (λ y. Err (No y)) room) in
+          (found.0, found_told (g.S.Shelf.tells c.args.shelf.now) told disks c.args.pool.now c.in-Drop.id found.0 found.1, found.2);
+      ready = c.drop.ensures.group r was;
+      same = c.drop.ensures.same (answered_no c.drop.result r was);
+    })
+
+pub returns-in_ok-change-in-Write-clause-account : goal.returns-in_ok-change-in-Write-clause-account
+returns-in_ok-change-in-Write-clause-account g c = λ told paths.
+    let disks = (g.S.Shelf.world c.args.shelf.now).now.seen in
+    let after = (g.S.Shelf.world c.change.new.shelf).now.seen in
+    subst (λ (command : Command). Turns paths (g.S.Shelf.sizes c.args.shelf.now) disks c.args.pool.now command reply.Done after c.change.new.pool) (sym c.in-Write.is)
+    (puts_bytes (g.S.Shelf.tells c.args.shelf.now) told Write c.in-Write.id c.in-Write.off (length c.in-Write.bytes) c.given-edit.result disks (g.S.Shelf.tells c.change.new.shelf) after c.args.pool.now c.change.new.pool
+    (c.given-edit.ensures.off, c.given-edit.ensures.len ∙ ap length c.as_slice.ensures) c.in_ok-change-in-Write.ensures.done c.in_ok-change-in-Write.ensures.same)
+
+pub returns-in_err-change-in-Write-clause-account_no : goal.returns-in_err-change-in-Write-clause-account_no
+returns-in_err-change-in-Write-clause-account_no g c = λ told paths r is.
+    let q = err_from_is_err_and c.from_residual-in_err-change-in-Write.result c.from_residual-in_err-change-in-Write.ensures.1 in
+    let e = fault_same c.in_err-change-in-Write.field-0.0 q.0 r c.from_residual-in_err-change-in-Write.result q.1 q.2 is in
+    let was = c.in_err-change-in-Write.was ∙ ap Err e in
+    let disks = (g.S.Shelf.world c.args.shelf.now).now.seen in
+    subst (λ (command : Command). Refuses paths (g.S.Shelf.sizes c.args.shelf.now) disks c.args.pool.now command r c.change.new.pool) (sym c.in-Write.is)
+    (puts_none (g.S.Shelf.tells c.args.shelf.now) told Write c.in-Write.id c.in-Write.off (length c.in-Write.bytes) c.given-edit.result disks c.args.pool.now r c.change.new.pool
+    (c.given-edit.ensures.off, c.given-edit.ensures.len ∙ ap length c.as_slice.ensures) (c.change.ensures.refused r was) (c.change.ensures.kept r was) (c.change.ensures.same_no r was))
+
+pub returns-in_ok-change-in-Fill-clause-account : goal.returns-in_ok-change-in-Fill-clause-account
+returns-in_ok-change-in-Fill-clause-account g c = λ told paths.
+    let disks = (g.S.Shelf.world c.args.shelf.now).now.seen in
+    let after = (g.S.Shelf.world c.change-in-Fill.new.shelf).now.seen in
+    subst (λ (command : Command). Turns paths (g.S.Shelf.sizes c.args.shelf.now) disks c.args.pool.now command reply.Done after c.change-in-Fill.new.pool) (sym c.in-Fill.is)
+    (puts_bytes (g.S.Shelf.tells c.args.shelf.now) told Fill c.in-Fill.id c.in-Fill.off c.in-Fill.len c.filled-edit.result disks (g.S.Shelf.tells c.change-in-Fill.new.shelf) after c.args.pool.now c.change-in-Fill.new.pool
+    (c.filled-edit.ensures.off, c.filled-edit.ensures.len) c.in_ok-change-in-Fill.ensures.done c.in_ok-change-in-Fill.ensures.same)
+
+pub returns-in_err-change-in-Fill-clause-account_no : goal.returns-in_err-change-in-Fill-clause-account_no
+returns-in_err-change-in-Fill-clause-account_no g c = λ told paths r is.
+    let q = err_from_is_err_and c.from_residual-in_err-change-in-Fill.result c.from_residual-in_err-change-in-Fill.ensures.1 in
+    let e = fault_same c.in_err-change-in-Fill.field-0.0 q.0 r c.from_residual-in_err-change-in-Fill.result q.1 q.2 is in
+    let was = c.in_err-change-in-Fill.was ∙ ap Err e in
+    let disks = (g.S.Shelf.world c.args.shelf.now).now.seen in
+    subst (λ (command : Command). Refuses paths (g.S.Shelf.sizes c.args.shelf.now) disks c.args.pool.now command r c.change-in-Fill.new.pool) (sym c.in-Fill.is)
+    (puts_none (g.S.Shelf.tells c.args.shelf.now) told Fill c.in-Fill.id c.in-Fill.off c.in-Fill.len c.filled-edit.result disks c.args.pool.now r c.change-in-Fill.new.pool
+    (c.filled-edit.ensures.off, c.filled-edit.ensures.len) (c.change-in-Fill.ensures.refused r was) (c.change-in-Fill.ensures.kept r was) (c.change-in-Fill.ensures.same_no r was))
+
+pub returns-in_ok-change-in-Punch-clause-account : goal.returns-in_ok-change-in-Punch-clause-account
+returns-in_ok-change-in-Punch-clause-account g c = λ told paths.
+    let disks = (g.S.Shelf.world c.args.shelf.now).now.seen in
+    let after = (g.S.Shelf.world c.change-in-Punch.new.shelf).now.seen in
+    subst (λ (command : Command). Turns paths (g.S.Shelf.sizes c.args.shelf.now) disks c.args.pool.now command reply.Done after c.change-in-Punch.new.pool) (sym c.in-Punch.is)
+    (puts_bytes (g.S.Shelf.tells c.args.shelf.now) told Punch c.in-Punch.id c.in-Punch.off c.in-Punch.len c.filled-edit-in-Punch.result disks (g.S.Shelf.tells c.change-in-Punch.new.shelf) after c.args.pool.now c.change-in-Punch.new.pool
+    (c.filled-edit-in-Punch.ensures.off, c.filled-edit-in-Punch.ensures.len) c.in_ok-change-in-Punch.ensures.done c.in_ok-change-in-Punch.ensures.same)
+
+pub returns-in_err-change-in-Punch-clause-account_no : goal.returns-in_err-change-in-Punch-clause-account_no
+returns-in_err-change-in-Punch-clause-account_no g c = λ told paths r is.
+    let q = err_from_is_err_and c.from_residual-in_err-change-in-Punch.result c.from_residual-in_err-change-in-Punch.ensures.1 in
+    let e = fault_same c.in_err-change-in-Punch.field-0.0 q.0 r c.from_residual-in_err-change-in-Punch.result q.1 q.2 is in
+    let was = c.in_err-change-in-Punch.was ∙ ap Err e in
+    let disks = (g.S.Shelf.world c.args.shelf.now).now.seen in
+    subst (λ (command : Command). Refuses paths (g.S.Shelf.sizes c.args.shelf.now) disks c.args.pool.now command r c.change-in-Punch.new.pool) (sym c.in-Punch.is)
+    (puts_none (g.S.Shelf.tells c.args.shelf.now) told Punch c.in-Punch.id c.in-Punch.off c.in-Punch.len c.filled-edit-in-Punch.result disks c.args.pool.now r c.change-in-Punch.new.pool
+    (c.filled-edit-in-Punch.ensures.off, c.filled-edit-in-Punch.ensures.len) (c.change-in-Punch.ensures.refused r was) (c.change-in-Punch.ensures.kept r was) (c.change-in-Punch.ensures.same_no r was))
+
+pub returns-in_ok-bytes-in-Read-clause-account : goal.returns-in_ok-bytes-in-Read-clause-account
+returns-in_ok-bytes-in-Read-clause-account g c = λ told paths.
+    subst (λ (command : Command). Turns paths (g.S.Shelf.sizes c.args.shelf.now) (g.S.Shelf.world c.args.shelf.now).now.seen c.args.pool.now command (reply.Data c.from_vec.result) (g.S.Shelf.world c.read.new.shelf).now.seen c.read.new.pool) (sym c.in-Read.is)
+    (record { group = c.read.ensures.group; rest = c.read.ensures.wrote.rest; space = c.read.ensures.wrote.goes.space })
+
+pub returns-in_err-bytes-in-Read-clause-account_no : goal.returns-in_err-bytes-in-Read-clause-account_no
+returns-in_err-bytes-in-Read-clause-account_no g c = λ told paths r is.
+    subst (λ (command : Command). Refuses paths (g.S.Shelf.sizes c.args.shelf.now) (g.S.Shelf.world c.args.shelf.now).now.seen c.args.pool.now command r c.read.new.pool) (sym c.in-Read.is)
+    (record { group = c.read.ensures.group; rest = c.read.ensures.wrote.rest; space = c.read.ensures.wrote.goes.space })
+
+pub returns-in_ok-sum-in-Sum-clause-account : goal.returns-in_ok-sum-in-Sum-clause-account
+returns-in_ok-sum-in-Sum-clause-account g c = λ told paths.
+    subst (λ (command : Command). Turns paths (g.S.Shelf.sizes c.args.shelf.now) (g.S.Shelf.world c.args.shelf.now).now.seen c.args.pool.now command (reply.Sum c.in_ok-sum-in-Sum.field-0) (g.S.Shelf.world c.sum.new.shelf).now.seen c.sum.new.pool) (sym c.in-Sum.is)
+    (record { group = c.sum.ensures.group; rest = c.sum.ensures.wrote.rest; space = c.sum.ensures.wrote.goes.space })
+
+pub returns-in_err-sum-in-Sum-clause-account_no : goal.returns-in_err-sum-in-Sum-clause-account_no
+returns-in_err-sum-in-Sum-clause-account_no g c = λ told paths r is.
+    subst (λ (command : Command). Refuses paths (g.S.Shelf.sizes c.args.shelf.now) (g.S.Shelf.world c.args.shelf.now).now.seen c.args.pool.now command r c.sum.new.pool) (sym c.in-Sum.is)
+    (record { group = c.sum.ensures.group; rest = c.sum.ensures.wrote.rest; space = c.sum.ensures.wrote.goes.space })

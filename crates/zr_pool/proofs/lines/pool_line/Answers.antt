@@ -1,18 +1,21 @@
-use Rattle.std.proofs.Common.{[], ◌∷◌, ◌++◌, ◌==◌, sym, ◌∙◌, ap, subst, refl, Err}
+use Rattle.std.proofs.Common.{[], ◌∷◌, ◌++◌, ◌==◌, inr, sym, ◌∙◌, ap, subst, refl, Ok, Err}
 use Rattle.std.proofs.lemmas.Result.{err_from_is_err_and}
 use Rattle.zr_script.specs.declared.command.Command.{Command}
 use Rattle.zr_script.specs.declared.command.Command.TheVariants as cmd
 use Rattle.zr_sync.specs.States.{HoldsState}
 use Rattle.zr_pool.specs.Plain.{IsPlainRefusal, IsPlainOf}
 use Rattle.zr_script.specs.declared.reply.Reply.{Reply}
+use Rattle.zr_script.specs.declared.reply.Reply.TheVariants as reply
 use Rattle.zr_shelf.specs.Moments.{World}
 use Rattle.zr_model.specs.State.{InService}
 use Rattle.zr_moves.specs.Answers.{with_devs}
 use Rattle.zr_sync.specs.declared.open.OpenPool.{OpenPool}
-use Rattle.zr_pool.proofs.Acting.{plain_refusal, synced_as, added_as, listed_as, status_as, audited_as, estimated_as, mapped_as, saved_as, given_up_as, stepped_as, upgraded_as}
+use Rattle.zr_pool.specs.Accounts.{Refuses, Turns}
+use Rattle.zr_pool.proofs.Acting.{plain_refusal, synced_as, added_as, saved_as, given_up_as, stepped_as, upgraded_as}
 use Rattle.zr_pool.specs.Turns.{IsOpenAnswer, IsOpenRefusal}
 use Rattle.zr_pool.proofs.Refused.{fault_same, add_refusal, take_cause, take_refusal, give_cause, give_refusal, step_cause, step_refusal}
 use Rattle.zr_pool.proofs.Staying.{stays_still, same_state, held_state, discarding_state, stepped_state, objects_told, objects_anew_unit, step_answer, some_units}
+use Rattle.zr_pool.proofs.Tellings.{checks_told, gives_told, stepped_turn, takes_told, upgrades_told}
 use Rattle.zr_pool.proofs.lines.pool_line.Goals as goal
 
 pub returns-in_err-add-in-Add-clause-stays : goal.returns-in_err-add-in-Add-clause-stays
@@ -45,24 +48,6 @@ pub returns-in_ok-add-in-Add-clause-acts : goal.returns-in_ok-add-in-Add-clause-
 returns-in_ok-add-in-Add-clause-acts g c = λ p h.
     let Holds = HoldsState (g.S.Shelf.tells c.add.new.shelf) (g.S.Shelf.world c.add.new.shelf).now.seen c.add.new.pool in
     added_as Holds p c.args.command.now c.in-Add.dev c.in-Add.is (same_state _ _ c.args.pool.now c.add.new.pool p (with_devs p (p.devs ++ InService c.in-Add.dev ∷ [])) h.checkpoint c.in_ok-add-in-Add.ensures.grown.ckpt refl refl (c.in_ok-add-in-Add.ensures.objects p.objects h.objects))
-
-pub returns-in_ok-list-in-List-clause-acts : goal.returns-in_ok-list-in-List-clause-acts
-returns-in_ok-list-in-List-clause-acts g c = λ p h.
-    let Holds = HoldsState (g.S.Shelf.tells c.args.shelf.now) (g.S.Shelf.world c.args.shelf.now).now.seen c.args.pool.now in
-    listed_as Holds p c.args.command.now _ c.in-List.is (h)
-
-pub returns-in_ok-status-in-Status-clause-acts : goal.returns-in_ok-status-in-Status-clause-acts
-returns-in_ok-status-in-Status-clause-acts g c = λ p h.
-    let Holds = HoldsState (g.S.Shelf.tells c.args.shelf.now) (g.S.Shelf.world c.args.shelf.now).now.seen c.args.pool.now in
-    status_as Holds p c.args.command.now _ c.in-Status.is (h)
-
-pub returns-in_ok-audit-in-Audit-clause-acts : goal.returns-in_ok-audit-in-Audit-clause-acts
-returns-in_ok-audit-in-Audit-clause-acts g c = λ p h.
-    let Holds = HoldsState (g.S.Shelf.tells c.audit.new.shelf) (g.S.Shelf.world c.audit.new.shelf).now.seen c.audit.new.pool in
-    audited_as Holds p c.args.command.now _ c.in-Audit.is (same_state _ _ c.args.pool.now c.audit.new.pool p p h.checkpoint (ap (λ (x : OpenPool). x.space.parts.ckpt) c.audit.ensures.same) refl refl (c.audit.ensures.stays p.objects h.objects))
-
-pub returns-in_err-audit-in-Audit-clause-stays : goal.returns-in_err-audit-in-Audit-clause-stays
-returns-in_err-audit-in-Audit-clause-stays g c = λ p h r is. same_state _ _ c.args.pool.now c.audit.new.pool p p h.checkpoint (ap (λ (x : OpenPool). x.space.parts.ckpt) c.audit.ensures.same) refl refl (c.audit.ensures.stays p.objects h.objects)
 
 -- ---- a checkpoint
 
@@ -199,14 +184,99 @@ returns-in_err-units-in-StepDiscard-clause-refused g c = λ r is.
 pub returns-in_ok-units-in-StepDiscard-clause-pool : goal.returns-in_ok-units-in-StepDiscard-clause-pool
 returns-in_ok-units-in-StepDiscard-clause-pool g c = c.in_ok-units-in-StepDiscard.ensures.pool (g.S.Shelf.sizes c.args.shelf.now) c.requires.pool
 
--- ---- removed devices
+-- ---- the account
 
-pub returns-in_ok-estimate_of-in-Estimate-clause-acts : goal.returns-in_ok-estimate_of-in-Estimate-clause-acts
-returns-in_ok-estimate_of-in-Estimate-clause-acts g c = λ p h.
-    let Holds = HoldsState (g.S.Shelf.tells c.args.shelf.now) (g.S.Shelf.world c.args.shelf.now).now.seen c.args.pool.now in
-    estimated_as Holds p c.args.command.now c.in-Estimate.dev _ c.in-Estimate.is h
+pub returns-in_ok-commit-in-Sync-clause-account : goal.returns-in_ok-commit-in-Sync-clause-account
+returns-in_ok-commit-in-Sync-clause-account g c = λ told.
+    subst (λ (command : Command). Turns c.args.paths.now (g.S.Shelf.sizes c.args.shelf.now) (g.S.Shelf.world c.args.shelf.now).now.seen c.args.pool.now command (reply.Synced c.txg-txg.result) (g.S.Shelf.world c.commit.new.shelf).now.seen c.commit.new.pool) (sym c.in-Sync.is)
+    (ap reply.Synced c.txg-txg.ensures, record { root = c.in_ok-commit-in-Sync.ensures.last; ends = c.in_ok-commit-in-Sync.ensures.ends; same = c.in_ok-commit-in-Sync.ensures.same; saved = c.in_ok-commit-in-Sync.ensures.saved; empty = c.in_ok-commit-in-Sync.ensures.empty; txg = c.in_ok-commit-in-Sync.ensures.txg })
 
-pub returns-in_ok-map_lines-in-Map-clause-acts : goal.returns-in_ok-map_lines-in-Map-clause-acts
-returns-in_ok-map_lines-in-Map-clause-acts g c = λ p h.
-    let Holds = HoldsState (g.S.Shelf.tells c.args.shelf.now) (g.S.Shelf.world c.args.shelf.now).now.seen c.args.pool.now in
-    mapped_as Holds p c.args.command.now c.in-Map.index _ c.in-Map.is h
+pub returns-in_ok-commit-in-Export-clause-account : goal.returns-in_ok-commit-in-Export-clause-account
+returns-in_ok-commit-in-Export-clause-account g c = λ told.
+    subst (λ (command : Command). Turns c.args.paths.now (g.S.Shelf.sizes c.args.shelf.now) (g.S.Shelf.world c.args.shelf.now).now.seen c.args.pool.now command reply.Done (g.S.Shelf.world c.commit-in-Export.new.shelf).now.seen c.commit-in-Export.new.pool) (sym c.in-Export.is)
+    (record { root = c.in_ok-commit-in-Export.ensures.last; ends = c.in_ok-commit-in-Export.ensures.ends; same = c.in_ok-commit-in-Export.ensures.same; saved = c.in_ok-commit-in-Export.ensures.saved; empty = c.in_ok-commit-in-Export.ensures.empty; txg = c.in_ok-commit-in-Export.ensures.txg })
+
+pub returns-in_ok-add-in-Add-clause-account : goal.returns-in_ok-add-in-Add-clause-account
+returns-in_ok-add-in-Add-clause-account g c = λ told.
+    subst (λ (command : Command). Turns c.args.paths.now (g.S.Shelf.sizes c.args.shelf.now) (g.S.Shelf.world c.args.shelf.now).now.seen c.args.pool.now command reply.Done (g.S.Shelf.world c.add.new.shelf).now.seen c.add.new.pool) (sym c.in-Add.is) (
+      c.in-Some.slot,
+      sym c.slot_of.ensures ∙ c.in-Some.is,
+      record {
+        allowed = checks_told (g.S.Shelf.tells c.args.shelf.now) told (g.S.Shelf.sizes c.args.shelf.now) (g.S.Shelf.world c.args.shelf.now).now.seen c.args.pool.now c.in-Some.slot (Ok tt) c.in_ok-add-in-Add.ensures.allowed;
+        grown = c.in_ok-add-in-Add.ensures.grown;
+        txg = c.in_ok-add-in-Add.ensures.txg;
+        empty = c.in_ok-add-in-Add.ensures.empty;
+        root = c.in_ok-add-in-Add.ensures.root;
+        settled = c.in_ok-add-in-Add.ensures.settled;
+      },
+    )
+
+pub returns-in_err-add-in-Add-clause-account_no : goal.returns-in_err-add-in-Add-clause-account_no
+returns-in_err-add-in-Add-clause-account_no g c = λ told r is.
+    let res = c.from_residual-in_err-add-in-Add in
+    let q = err_from_is_err_and res.result res.ensures.1 in
+    let e = fault_same c.in_err-add-in-Add.field-0.0 q.0 r res.result q.1 q.2 is in
+    let was = c.in_err-add-in-Add.was ∙ ap Err e in
+    subst (λ (command : Command). Refuses c.args.paths.now (g.S.Shelf.sizes c.args.shelf.now) (g.S.Shelf.world c.args.shelf.now).now.seen c.args.pool.now command r c.add.new.pool) (sym c.in-Add.is)
+    (c.add.ensures.unchanged r was, inr (c.in-Some.slot, sym c.slot_of.ensures ∙ c.in-Some.is, checks_told (g.S.Shelf.tells c.args.shelf.now) told (g.S.Shelf.sizes c.args.shelf.now) (g.S.Shelf.world c.args.shelf.now).now.seen c.args.pool.now c.in-Some.slot (Err r) (c.add.ensures.refused r was)))
+
+pub returns-in_ok-take-in-Checkpoint-clause-account : goal.returns-in_ok-take-in-Checkpoint-clause-account
+returns-in_ok-take-in-Checkpoint-clause-account g c = λ told.
+    let now = g.S.Shelf.world c.take.new.shelf in
+    subst (λ (command : Command). Turns c.args.paths.now (g.S.Shelf.sizes c.args.shelf.now) (g.S.Shelf.world c.args.shelf.now).now.seen c.args.pool.now command reply.Done now.now.seen c.take.new.pool) (sym c.in-Checkpoint.is)
+    (record { enough = c.in_ok-take-in-Checkpoint.ensures.enough; remain = c.in_ok-take-in-Checkpoint.ensures.remain; held = c.in_ok-take-in-Checkpoint.ensures.held; takes = (now, refl, takes_told (g.S.Shelf.tells c.args.shelf.now) told (g.S.Shelf.sizes c.args.shelf.now) now c.args.pool.now c.take.new.pool c.in_ok-take-in-Checkpoint.ensures.takes) })
+
+pub returns-in_err-take-in-Checkpoint-clause-account_no : goal.returns-in_err-take-in-Checkpoint-clause-account_no
+returns-in_err-take-in-Checkpoint-clause-account_no g c = λ told r is.
+    let res = c.from_residual-in_err-take-in-Checkpoint in
+    let q = err_from_is_err_and res.result res.ensures.1 in
+    let e = fault_same c.in_err-take-in-Checkpoint.field-0.0 q.0 r res.result q.1 q.2 is in
+    let was = c.in_err-take-in-Checkpoint.was ∙ ap Err e in
+    subst (λ (command : Command). Refuses c.args.paths.now (g.S.Shelf.sizes c.args.shelf.now) (g.S.Shelf.world c.args.shelf.now).now.seen c.args.pool.now command r c.take.new.pool) (sym c.in-Checkpoint.is)
+    (c.take.ensures.unchanged r was, c.take.ensures.refused r was)
+
+pub returns-in_ok-give_up-in-Discard-clause-account : goal.returns-in_ok-give_up-in-Discard-clause-account
+returns-in_ok-give_up-in-Discard-clause-account g c = λ told.
+    let now = g.S.Shelf.world c.give_up.new.shelf in
+    subst (λ (command : Command). Turns c.args.paths.now (g.S.Shelf.sizes c.args.shelf.now) (g.S.Shelf.world c.args.shelf.now).now.seen c.args.pool.now command reply.Done now.now.seen c.give_up.new.pool) (sym c.in-Discard.is)
+    (record { discarding = c.in_ok-give_up-in-Discard.ensures.discarding; gives = (now, refl, gives_told (g.S.Shelf.tells c.args.shelf.now) told (g.S.Shelf.sizes c.args.shelf.now) now c.args.pool.now c.give_up.new.pool c.in_ok-give_up-in-Discard.ensures.gives) })
+
+pub returns-in_err-give_up-in-Discard-clause-account_no : goal.returns-in_err-give_up-in-Discard-clause-account_no
+returns-in_err-give_up-in-Discard-clause-account_no g c = λ told r is.
+    let res = c.from_residual-in_err-give_up-in-Discard in
+    let q = err_from_is_err_and res.result res.ensures.1 in
+    let e = fault_same c.in_err-give_up-in-Discard.field-0.0 q.0 r res.result q.1 q.2 is in
+    let was = c.in_err-give_up-in-Discard.was ∙ ap Err e in
+    subst (λ (command : Command). Refuses c.args.paths.now (g.S.Shelf.sizes c.args.shelf.now) (g.S.Shelf.world c.args.shelf.now).now.seen c.args.pool.now command r c.give_up.new.pool) (sym c.in-Discard.is)
+    (c.give_up.ensures.unchanged r was, c.give_up.ensures.refused r was)
+
+pub returns-in_ok-units-in-StepDiscard-clause-account : goal.returns-in_ok-units-in-StepDiscard-clause-account
+returns-in_ok-units-in-StepDiscard-clause-account g c = λ told.
+    let disks = (g.S.Shelf.world c.args.shelf.now).now.seen in
+    subst (λ (command : Command). Turns c.args.paths.now (g.S.Shelf.sizes c.args.shelf.now) disks c.args.pool.now command c.step_reply.result disks c.step.new.pool) (sym c.in-StepDiscard.is)
+    (subst (λ (answer : Reply). Turns c.args.paths.now (g.S.Shelf.sizes c.args.shelf.now) disks c.args.pool.now cmd.StepDiscard answer disks c.step.new.pool) (sym c.step_reply.ensures)
+    (stepped_turn c.args.paths.now (g.S.Shelf.sizes c.args.shelf.now) disks disks c.args.pool.now c.step.new.pool c.in_ok-units-in-StepDiscard.units (record { was = c.in_ok-units-in-StepDiscard.ensures.was; root = c.in_ok-units-in-StepDiscard.ensures.root; steps = c.in_ok-units-in-StepDiscard.ensures.steps })))
+
+pub returns-in_err-units-in-StepDiscard-clause-account_no : goal.returns-in_err-units-in-StepDiscard-clause-account_no
+returns-in_err-units-in-StepDiscard-clause-account_no g c = λ told r is.
+    let res = c.from_residual-in_err-units-in-StepDiscard in
+    let q = err_from_is_err_and res.result res.ensures.1 in
+    let e = fault_same c.in_err-units-in-StepDiscard.field-0.0 q.0 r res.result q.1 q.2 is in
+    let was = c.in_err-units-in-StepDiscard.was ∙ ap Err e in
+    subst (λ (command : Command). Refuses c.args.paths.now (g.S.Shelf.sizes c.args.shelf.now) (g.S.Shelf.world c.args.shelf.now).now.seen c.args.pool.now command r c.step.new.pool) (sym c.in-StepDiscard.is)
+    (c.step.ensures.unchanged r was, c.step.ensures.refused r was)
+
+pub returns-in_ok-upgrade-in-Upgrade-clause-account : goal.returns-in_ok-upgrade-in-Upgrade-clause-account
+returns-in_ok-upgrade-in-Upgrade-clause-account g c = λ told.
+    let now = g.S.Shelf.world c.upgrade.new.shelf in
+    subst (λ (command : Command). Turns c.args.paths.now (g.S.Shelf.sizes c.args.shelf.now) (g.S.Shelf.world c.args.shelf.now).now.seen c.args.pool.now command reply.Done now.now.seen c.upgrade.new.pool) (sym c.in-Upgrade.is)
+    (c.in_ok-upgrade-in-Upgrade.ensures.was, c.in_ok-upgrade-in-Upgrade.ensures.newest, (now, refl, upgrades_told (g.S.Shelf.tells c.args.shelf.now) told (g.S.Shelf.sizes c.args.shelf.now) now c.args.pool.now c.upgrade.new.pool c.in_ok-upgrade-in-Upgrade.ensures.upgrades))
+
+pub returns-in_err-upgrade-in-Upgrade-clause-account_no : goal.returns-in_err-upgrade-in-Upgrade-clause-account_no
+returns-in_err-upgrade-in-Upgrade-clause-account_no g c = λ told r is.
+    let res = c.from_residual-in_err-upgrade-in-Upgrade in
+    let q = err_from_is_err_and res.result res.ensures.1 in
+    let e = fault_same c.in_err-upgrade-in-Upgrade.field-0.0 q.0 r res.result q.1 q.2 is in
+    let was = c.in_err-upgrade-in-Upgrade.was ∙ ap Err e in
+    subst (λ (command : Command). Refuses c.args.paths.now (g.S.Shelf.sizes c.args.shelf.now) (g.S.Shelf.world c.args.shelf.now).now.seen c.args.pool.now command r c.upgrade.new.pool) (sym c.in-Upgrade.is)
+    (c.upgrade.ensures.unchanged r was, c.upgrade.ensures.refused r was)
