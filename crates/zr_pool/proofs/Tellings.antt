@@ -35,7 +35,7 @@ module _ (t : Type 0) (told : t) where
   blocks_told : (disks : List (List ℕ)) (x : OpenPool) (s : Stored) → HasBlocks (Unit {0}) disks x s → HasBlocks t disks x s
   blocks_told disks x s h = blocks_anew (Unit {0}) t disks x s told h
 
-  pub undone_told : (reach : Reach) (id : ℕ) (e : Edit) (old : OpenPool) (disks : List (List ℕ)) (new : OpenPool) (r : Refusal) → IsUndone t reach id e old disks new r → IsUndone (Unit {0}) reach id e old disks new r
+  undone_told : (reach : Reach) (id : ℕ) (e : Edit) (old : OpenPool) (disks : List (List ℕ)) (new : OpenPool) (r : Refusal) → IsUndone t reach id e old disks new r → IsUndone (Unit {0}) reach id e old disks new r
   undone_told reach id e old disks new r h = record {
     intent = h.intent;
     means = record {
@@ -49,7 +49,7 @@ module _ (t : Type 0) (told : t) where
     cause = h.cause;
   }
 
-  pub done_told : (reach : Reach) (id : ℕ) (e : Edit) (old : OpenPool) (disks : List (List ℕ)) (now : Type 0) (after : List (List ℕ)) (new : OpenPool)
+  done_told : (reach : Reach) (id : ℕ) (e : Edit) (old : OpenPool) (disks : List (List ℕ)) (now : Type 0) (after : List (List ℕ)) (new : OpenPool)
       → IsDone t reach id e old disks now after new → IsDone (Unit {0}) reach id e old disks (Unit {0}) after new
   done_told reach id e old disks now after new h = record {
     intent = h.intent;
