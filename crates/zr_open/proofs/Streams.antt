@@ -21,7 +21,7 @@ is_other : (form : ℕ) → (form ≡ 1 → ⊥) → (form == 1) ≡ false
 is_other form other = grind (arith, nat_tests, other)
 
 -- a head of another form than the first has those of the late sets behind the others
-pub late_last : (form : ℕ) (state : DevState) (d : DeviceStreams) (a b : Stream) (own : List Stream) → (form ≡ 1 → ⊥) → (state ≡ Gone → ⊥) → told_in 1 state d ++ (a ∷ b ∷ []) ≡ own → told_in form state (record d { late1 = a; late2 = b }) ≡ own
+late_last : (form : ℕ) (state : DevState) (d : DeviceStreams) (a b : Stream) (own : List Stream) → (form ≡ 1 → ⊥) → (state ≡ Gone → ⊥) → told_in 1 state d ++ (a ∷ b ∷ []) ≡ own → told_in form state (record d { late1 = a; late2 = b }) ≡ own
 late_last form On d a b own other there is =
     ap (λ (t : Bool). take (if t then 2 else 4) (d.held ∷ d.kept ∷ a ∷ b ∷ [])) (is_other form other) ∙ is
 late_last form Leaving d a b own other there is =
@@ -33,6 +33,19 @@ pub late_count : (form : ℕ) (state : DevState) → (form ≡ 1 → ⊥) → (s
 late_count form On other there = ap (λ (t : Bool). if t then 2 else 4) (is_other form other)
 late_count form Leaving other there = ap (λ (t : Bool). if t then 5 else 7) (is_other form other)
 late_count form Gone other there = absurd (there refl)
+
+two : (xs : List Stream) (x : Stream) → length xs ≡ 2 → get_or xs 0 x ∷ get_or xs 1 x ∷ [] ≡ xs
+two [] x is = absurd (omega (arith, is))
+two (a ∷ []) x is = absurd (omega (arith, is))
+two (a ∷ b ∷ []) x is = refl
+two (a ∷ b ∷ c ∷ more) x is = absurd (omega (arith, is))
+
+-- so the streams of a device in the first form, and those two, are the streams that the head has
+pub with_late : (form : ℕ) (state : DevState) (d : DeviceStreams) (first late own : List Stream) (x : Stream) → (form ≡ 1 → ⊥) → (state ≡ Gone → ⊥) → told_in 1 state d ≡ first → first ++ late ≡ own → length late ≡ 2
+    → told_in form state (record d { late1 = get_or late 0 x; late2 = get_or late 1 x }) ≡ own
+with_late form state d first late own x other there are split long =
+    late_last form state d (get_or late 0 x) (get_or late 1 x) own other there
+    (ap (λ (xs : List Stream). xs ++ (get_or late 0 x ∷ get_or late 1 x ∷ [])) are ∙ (ap (λ (xs : List Stream). first ++ xs) (two late x long) ∙ split))
 
 -- ---- those of all devices
 
