@@ -61,7 +61,13 @@ fn reset<S: Shelf>(
     };
     let checkpoint = checkpoint_of(alloc, &then.root.head, &then.saved)?;
     then.root.reset(alloc)?;
-    let pool = open(alloc, &place, &then.root, saved_meta(&then.saved), checkpoint)?;
+    let pool = open(
+        alloc,
+        &place,
+        &then.root,
+        saved_meta(&then.saved),
+        checkpoint,
+    )?;
     show(alloc, shelf, current, &pool, &place.root)?;
     Ok(pool)
 }

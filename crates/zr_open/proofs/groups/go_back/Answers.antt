@@ -5,8 +5,7 @@ use Rattle.zr_label.specs.declared.root.Seen.{Seen}
 use Rattle.zr_shelf.specs.Disks.{Stand}
 use Rattle.zr_shelf.proofs.Runs.{still_trans}
 use Rattle.zr_slots.specs.Kept.{KeepsGroup}
-use Rattle.zr_sync.specs.declared.fault.Fault.TheVariants.{No, Stops}
-use Rattle.zr_sync.specs.declared.stop.Stop.TheVariants.{DiskFault}
+use Rattle.zr_sync.specs.declared.fault.Fault.TheVariants.{No}
 use Rattle.zr_sync.proofs.Disks.{works_more, works_still}
 use Rattle.zr_sync.proofs.Pools.{risen_later}
 use Rattle.zr_roots.specs.Devices.{HasItsDisks}
@@ -14,7 +13,6 @@ use Rattle.zr_open.specs.Groups.{HoldsGroup, HoldsRoot, IsBack}
 use Rattle.zr_open.specs.Looked.{IsLookedAt, WasLookedAt}
 use Rattle.zr_open.specs.Opened.{IsFresh}
 use Rattle.zr_open.specs.Rewound.{rewound}
-use Rattle.zr_open.specs.declared.look.Looked.{Looked}
 use Rattle.zr_slots.specs.declared.pool.Found.{Found}
 use Rattle.zr_open.proofs.Looking.{looked_moved}
 use Rattle.zr_open.proofs.Backing.{back_now, back_then, group_refused, held_now, held_then, if_ok, now_refused, place_disks, reset_refused, then_refused}
@@ -190,7 +188,6 @@ returns-clause-objects g c = λ t.
     (λ pool held. held_then tells t w.now.paths disks sizes s first.scanned c.args.txg c.in_ok-root.root c.in_ok-root.ensures.root c.in_ok-root.ensures.pool kept.0 kept.1 later after l place there pool
     (subst (λ (ds : List (List ℕ)). HoldsRoot ds later after l pool) same4 held))
     (c.reset.ensures.objects (third.told told3) before)
-
 
 pub returns-clause-fault : goal.returns-clause-fault
 returns-clause-fault g c = λ is.

@@ -1,4 +1,4 @@
-use Rattle.std.proofs.Common.{◌≡◌, ◌+◌, ◌++◌, List, length, take, sym, ◌∙◌, ap, arith}
+use Rattle.std.proofs.Common.{◌++◌, List, take, sym, ◌∙◌, ap, arith}
 use Rattle.std.proofs.lemmas.List.{take-append-drop}
 use Rattle.zr_base.specs.contracts.space.DevState.{the_type}
 use Rattle.zr_base.specs.declared.space.DevState.TheVariants.{Gone}

@@ -1,5 +1,5 @@
 use Rattle.std.proofs.Common.{rules, ◌≡◌, ◌∙◌, ◌+◌, ◌≤◌, ℕ, List, [], Option, Some, None, inl, inr, Err, false, refl, sym, ap, subst, arith}
-use Rattle.std.specs.Prelude.{IfSome, if◌then◌else◌}
+use Rattle.std.specs.Prelude.{if◌then◌else◌}
 use Rattle.zr_shelf.specs.Disks.{Stand}
 use Rattle.zr_image.specs.Current.{slots_of}
 use Rattle.zr_image.specs.StateOf.{AreObjects, devices_at}
