@@ -1,6 +1,6 @@
 -- Going back to a group, from what the slots show on.
-use Rattle.std.proofs.Common.{◌≡◌, ◌⊎◌, inl, inr, ℕ, ◌+◌, Bool, true, false, List, map, length, Option, Some, None, Ok, Err, refl, sym, ◌∙◌, ap, subst, arith}
-use Rattle.std.specs.Prelude.{IfNone, IfSome, MatchBool, ◌==◌}
+use Rattle.std.proofs.Common.{◌≡◌, ◌⊎◌, inl, inr, ℕ, ◌+◌, Bool, true, false, List, map, length, Option, Result, Ok, Err, refl, sym, ◌∙◌, ap, subst, arith}
+use Rattle.std.specs.Prelude.{IfOk, MatchBool, ◌==◌}
 use Rattle.std.proofs.lemmas.Bool.Decides.{nat_tests}
 use Rattle.zr_sync.specs.declared.open.OpenPool.{OpenPool}
 use Rattle.zr_slots.proofs.Window.{found_shown}
@@ -15,21 +15,21 @@ use Rattle.zr_view.specs.Views.{slot_of}
 use Rattle.zr_current.specs.Current.{HasSlots}
 use Rattle.zr_roots.specs.Devices.{HasItsDisks}
 use Rattle.zr_open.specs.Found.{FindsOn}
-use Rattle.zr_open.specs.Groups.{HoldsGroup, HoldsRoot, IsBack, IsBackRefusal, IsNotServedBack}
+use Rattle.zr_open.specs.Groups.{HoldsGroup, HoldsRoot, IsBack, IsBackRefusal}
 use Rattle.zr_open.specs.Looked.{IsLookedAt}
-use Rattle.zr_open.specs.Opened.{IsFresh, IsNotServed, IsRefusedRoot, IsRefusedSaved, MayRefuse}
+use Rattle.zr_open.specs.Opened.{IsFresh, IsRefusedRoot, IsRefusedSaved, MayRefuse}
 use Rattle.zr_open.specs.Rewound.{rewound}
-use Rattle.zr_open.specs.Roots.{meta_of, saved_in}
+use Rattle.zr_open.specs.Roots.{meta_of}
 use Rattle.zr_open.specs.Scanned.{IsScanned}
 use Rattle.zr_open.specs.declared.find.Scanned.{Scanned}
 use Rattle.zr_open.specs.declared.look.Looked.{Looked}
 use Rattle.zr_open.proofs.Beside.{has_block, head_on}
 use Rattle.zr_open.proofs.Grouping.{as_looked, group_held, same_count, same_disks_of, same_slots_of}
-use Rattle.zr_open.proofs.Looking.{none_moved, saved_refused_moved}
+use Rattle.zr_open.proofs.Looking.{saved_refused_moved}
 
-pub none_there : {X : Type 0} (P : Type 0) (o : Option X) → IfNone o P → ((x : X) → o ≡ Some x → ⊥) → P
-none_there P None h not = h
-none_there P (Some x) h not = absurd (not x refl)
+pub if_ok : {X E : Type 0} (P Q : X → Type 0) (r : Result X E) → ((x : X) → P x → Q x) → IfOk r P → IfOk r Q
+if_ok P Q (Ok x) more h = more x h
+if_ok P Q (Err e) more h = tt
 
 module _ (t0 : Type 0) (disks0 : List (List ℕ)) (sizes : List ℕ) (s : Scanned) (h : IsScanned sizes t0 disks0 s) where
   abbrev pub at : FindsOn sizes t0 disks0 (Ok s.found.root)
@@ -38,18 +38,12 @@ module _ (t0 : Type 0) (disks0 : List (List ℕ)) (sizes : List ℕ) (s : Scanne
   abbrev Refuses : ℕ → Refusal → Type 0
   Refuses txg r = (u : Uber) × (x : FindsOn sizes t0 disks0 (Ok u)) × IsBackRefusal t0 disks0 x.seen u txg r
 
-  abbrev Serves : ℕ → Type 0
-  Serves txg = (u : Uber) × (x : FindsOn sizes t0 disks0 (Ok u)) × IsNotServedBack t0 disks0 x.seen u txg
-
   -- ---- of the current root
 
   module _ (t1 : Type 0) (disks1 : List (List ℕ)) (later : t0 → t1) (same_disks : t0 → disks1 ≡ disks0) (txg : ℕ) where
     pub now_refused : (r : Refusal) → IsRefusedRoot r ⊎ IsRefusedSaved t1 disks1 s.found.slots s.found.root r → Refuses txg r
     now_refused r (inl own) = (s.found.root, at, inl own)
     now_refused r (inr saved) = (s.found.root, at, inr (inl (saved_refused_moved t1 t0 disks1 disks0 later same_disks (slots_of s.found.root s.seen) s.found.slots h.slots s.found.root r saved)))
-
-    pub now_unserved : IsNotServed t1 disks1 s.found.slots s.found.root → Serves txg
-    now_unserved none = (s.found.root, at, inl (none_moved t1 t0 disks1 disks0 later same_disks (slots_of s.found.root s.seen) s.found.slots h.slots s.found.root none))
 
   pub group_refused : (txg : ℕ) (seen : List Seen) (r : Refusal) → seen ≡ s.seen → KeepsGroup seen s.found.root txg (Err r) → Refuses txg r
   group_refused txg seen r is (oldest, gone, oldest_is, told) =
@@ -76,24 +70,18 @@ module _ (t0 : Type 0) (disks0 : List (List ℕ)) (sizes : List ℕ) (s : Scanne
       then_refused r (inl own) = (s.found.root, at, inl own)
       then_refused r (inr saved) = (s.found.root, at, inr (inr (inr (root, group, saved_refused_moved t1 t0 disks1 disks0 later same_disks (slots_of root s.seen) s.found.slots place_slots root r saved))))
 
-      pub then_unserved : IsNotServed t1 disks1 s.found.slots root → Serves txg
-      then_unserved none = (s.found.root, at, inr (root, group, none_moved t1 t0 disks1 disks0 later same_disks (slots_of root s.seen) s.found.slots place_slots root none))
-
     -- the root that was looked at is refused when it is opened again
-    again_refused : (t1 : Type 0) (disks1 : List (List ℕ)) (l : Looked) → IsLookedAt sizes t1 disks1 l → (r : Refusal) → MayRefuse (meta_of (saved_in l.beside)) r → IsRefusedRoot r ⊎ IsRefusedSaved t1 disks1 l.found.slots l.found.root r
+    again_refused : (t1 : Type 0) (disks1 : List (List ℕ)) (l : Looked) → IsLookedAt sizes t1 disks1 l → (r : Refusal) → MayRefuse (meta_of l.saved) r → IsRefusedRoot r ⊎ IsRefusedSaved t1 disks1 l.found.slots l.found.root r
     again_refused t1 disks1 l looked r (inl own) = inl own
     again_refused t1 disks1 l looked r (inr (eight, some)) =
-        let block = has_block t1 disks1 l.found.slots l.found.root l.root l.beside (meta_of (saved_in l.beside)) refl some looked.beside in
+        let block = has_block t1 disks1 l.found.slots l.found.root l.root l.saved (meta_of l.saved) refl some looked.beside in
         inr (eight, (block.0, (l.root.head, head_on t1 disks1 l.found.slots l.found.root l.root looked.head looked.stands, block.1)))
 
-    pub reset_refused : (t1 : Type 0) (disks1 : List (List ℕ)) → (t0 → t1) → (t0 → disks1 ≡ disks0) → (l : Looked) → l.found ≡ place → IsLookedAt sizes t1 disks1 l → (r : Refusal) → MayRefuse (meta_of (saved_in l.beside)) r → Refuses txg r
+    pub reset_refused : (t1 : Type 0) (disks1 : List (List ℕ)) → (t0 → t1) → (t0 → disks1 ≡ disks0) → (l : Looked) → l.found ≡ place → IsLookedAt sizes t1 disks1 l → (r : Refusal) → MayRefuse (meta_of l.saved) r → Refuses txg r
     reset_refused t1 disks1 later same_disks l is_place looked r why =
         then_refused t1 disks1 later same_disks r (subst (λ (f : Found). IsRefusedRoot r ⊎ IsRefusedSaved t1 disks1 f.slots f.root r) is_place (again_refused t1 disks1 l looked r why))
 
 -- ---- what is gone back to
-
-pub is_some_looked : (P : Looked → Type 0) (o : Option Looked) (l : Looked) → o ≡ Some l → IfSome o P → P l
-is_some_looked P o l is h = subst (λ (x : Option Looked). IfSome x P) is h
 
 module _ (t0 : Type 0) (disks0 : List (List ℕ)) (sizes : List ℕ) (s : Scanned) (h : IsScanned sizes t0 disks0 s) (txg : ℕ) (root : Uber) (kept : IsInWindow s.seen s.found.root txg) (group : IsGroup s.seen s.found.root txg root) where
   pub back_now : txg ≡ s.found.root.txg → (pool : OpenPool) → IsFresh s.found.root pool → IsBack sizes t0 disks0 txg pool

@@ -24,12 +24,10 @@ use Rattle.zr_rules.specs.Devices.{devices_of}
 use Rattle.zr_store.specs.Store.{Stored}
 use Rattle.zr_current.specs.Current.{HasSlots}
 use Rattle.zr_roots.specs.Devices.{HasItsDisks, HasRows, IsCut, is_there}
-use Rattle.zr_open.specs.Opened.{IsHeadOn, IsNotServedRoot}
+use Rattle.zr_open.specs.Opened.{IsHeadOn}
 use Rattle.zr_roots.specs.Standing.{Stands, blocks_of}
-use Rattle.zr_open.specs.Roots.{FindsBeside, HasSaved, IsBeside, IsLawfulSaved, IsSavedRoot, meta_of, saved_in}
+use Rattle.zr_open.specs.Roots.{HasSaved, IsBeside, IsLawfulSaved, IsSavedRoot, meta_of}
 use Rattle.zr_open.specs.declared.saved.SavedRoot.{SavedRoot}
-use Rattle.zr_open.specs.declared.saved.Beside.{Beside}
-use Rattle.zr_open.specs.declared.saved.Beside.TheVariants.{Alone, Saved, NotServed}
 use Rattle.zr_roots.proofs.Alike.{store_cut}
 use Rattle.zr_roots.proofs.Rows.{past_rows, some_row}
 use Rattle.zr_open.proofs.Views.{stands_by, stands_same, store_same}
@@ -85,13 +83,6 @@ pub cut_stands : (disks : List (List ℕ)) (slots cut : List (Option ℕ)) (u : 
 cut_stands disks slots cut u r rows own has =
     stands_by disks cut slots u r (store_cut disks cut slots (bare_devices u) (cut_there u slots cut own)) (cut_blocks disks slots cut u r rows own) has
 
--- so does the head of one
-pub head_cut : (tells : Type 0) (disks : List (List ℕ)) (slots cut : List (Option ℕ)) (u : Uber) (r : Root) → IsCut u slots cut → IsHead (rows_of u) r.head → (tells → Stands disks cut u r) → tells → IsHeadOn disks slots u r.head
-head_cut tells disks slots cut u r own lawful at t = record {
-  lawful = lawful;
-  stands = subst (λ (s : Stored). HasBytes s (head_tree u) (head_bytes r.head)) (store_cut disks cut slots (bare_devices u) (cut_there u slots cut own)) (at t).reads.head;
-}
-
 -- ---- what is beside a root, by the same slots and disks
 
 module _ (t1 t2 : Type 0) (disks1 disks2 : List (List ℕ)) (these slots : List (Option ℕ)) (later : t2 → t1) (same_disks : t2 → disks1 ≡ disks2) (same : HasSlots these slots) where
@@ -99,9 +90,6 @@ module _ (t1 t2 : Type 0) (disks1 disks2 : List (List ℕ)) (these slots : List 
   head_moved u h at t =
       let one = subst (λ (ds : List (List ℕ)). IsHeadOn ds slots u h) (same_disks t) (at (later t)) in
       record { lawful = one.lawful; stands = subst (λ (s : Stored). HasBytes s (head_tree u) (head_bytes h)) (store_same disks2 these slots (bare_devices u) same) one.stands }
-
-  pub not_served_moved : (u : Uber) → IsNotServedRoot t1 disks1 slots u → IsNotServedRoot t2 disks2 these u
-  not_served_moved u (h, at, old) = (h, head_moved u h at, old)
 
   pub saved_moved : (u : Uber) (r : Root) (block : List ℕ) (s : SavedRoot) → IsSavedRoot t1 disks1 slots u r block s → IsSavedRoot t2 disks2 these u r block s
   saved_moved u r block s h = record {
@@ -116,33 +104,23 @@ module _ (t1 t2 : Type 0) (disks1 disks2 : List (List ℕ)) (these slots : List 
               (subst (λ (ds : List (List ℕ)). AreObjects (store_of (record { disks = ds; slots = slots; devices = devices_of s.root.parts.devs })) s.root.head.dir own.0) (same_disks t) own.1),
         );
     space = h.space;
-    served = h.served;
     clear = h.clear;
     fits = h.fits;
   }
 
-  pub beside_moved : (u : Uber) (r : Root) (b : Beside) → FindsBeside t1 disks1 slots u r b → FindsBeside t2 disks2 these u r b
-  beside_moved u r Alone none = none
-  beside_moved u r (Saved s) (block, is, h) = (block, is, saved_moved u r block s h)
-  beside_moved u r NotServed (block, is, (saved, spelled, old)) = (block, is, (saved, spelled, not_served_moved saved old))
-
--- a root with what is found beside it
-pub is_beside : (tells : Type 0) (disks : List (List ℕ)) (slots : List (Option ℕ)) (u : Uber) (r : Root) (b : Beside) → (b ≡ NotServed → ⊥) → FindsBeside tells disks slots u r b → IsBeside tells disks slots u r r.head.saved (saved_in b)
-is_beside tells disks slots u r Alone served none = subst (λ (o : Option (List ℕ)). IsBeside tells disks slots u r o None) (sym none) tt
-is_beside tells disks slots u r (Saved s) served (block, is, h) = subst (λ (o : Option (List ℕ)). IsBeside tells disks slots u r o (Some s)) (sym is) h
-is_beside tells disks slots u r NotServed served found = absurd (served refl)
+  pub beside_moved : (u : Uber) (r : Root) (saved : Option SavedRoot) → IsBeside t1 disks1 slots u r saved → IsBeside t2 disks2 these u r saved
+  beside_moved u r None none = none
+  beside_moved u r (Some s) (block, is, h) = (block, is, saved_moved u r block s h)
 
 -- there is a block where there is saved metadata
-pub has_block : (tells : Type 0) (disks : List (List ℕ)) (slots : List (Option ℕ)) (u : Uber) (r : Root) (b : Beside) (meta : List Dva) → meta ≡ meta_of (saved_in b) → (meta ≡ [] → ⊥) → FindsBeside tells disks slots u r b → (block : List ℕ) × (r.head.saved ≡ Some block)
-has_block tells disks slots u r Alone meta is some found = absurd (some is)
-has_block tells disks slots u r (Saved s) meta is some (block, has, h) = (block, has)
-has_block tells disks slots u r NotServed meta is some found = absurd (some is)
+pub has_block : (tells : Type 0) (disks : List (List ℕ)) (slots : List (Option ℕ)) (u : Uber) (r : Root) (saved : Option SavedRoot) (meta : List Dva) → meta ≡ meta_of saved → (meta ≡ [] → ⊥) → IsBeside tells disks slots u r saved → (block : List ℕ) × (r.head.saved ≡ Some block)
+has_block tells disks slots u r None meta is some none = absurd (some is)
+has_block tells disks slots u r (Some s) meta is some (block, has, h) = (block, has)
 
 -- and none where nothing is saved
-pub no_block : (tells : Type 0) (disks : List (List ℕ)) (slots : List (Option ℕ)) (u : Uber) (r : Root) (b : Beside) → ((s : SavedRoot) → b ≡ Saved s → ⊥) → (b ≡ NotServed → ⊥) → FindsBeside tells disks slots u r b → r.head.saved ≡ None
-no_block tells disks slots u r Alone other served none = none
-no_block tells disks slots u r (Saved s) other served found = absurd (other s refl)
-no_block tells disks slots u r NotServed other served found = absurd (served refl)
+pub no_block : (tells : Type 0) (disks : List (List ℕ)) (slots : List (Option ℕ)) (u : Uber) (r : Root) (saved : Option SavedRoot) → ((s : SavedRoot) → saved ≡ Some s → ⊥) → IsBeside tells disks slots u r saved → r.head.saved ≡ None
+no_block tells disks slots u r None other none = none
+no_block tells disks slots u r (Some s) other found = absurd (other s refl)
 
 -- the head of a root stands there by the same slots
 pub head_at : (tells : Type 0) (disks : List (List ℕ)) (these slots : List (Option ℕ)) (u : Uber) (r : Root) → HasSlots these slots → IsHead (rows_of u) r.head → (tells → Stands disks slots u r) → tells → IsHeadOn disks these u r.head
@@ -151,15 +129,13 @@ head_at tells disks these slots u r same lawful at t = record { lawful = lawful;
 -- ---- what is kept of it
 
 -- it is there exactly where there is a block of it
-pub has_saved : (tells : Type 0) (disks : List (List ℕ)) (slots : List (Option ℕ)) (u : Uber) (r : Root) (b : Beside) → (b ≡ NotServed → ⊥) → FindsBeside tells disks slots u r b → HasSaved r.head.saved (saved_in b)
-has_saved tells disks slots u r Alone served none = ap (λ (o : Option (List ℕ)). is_some o) none
-has_saved tells disks slots u r (Saved s) served (block, is, h) = ap (λ (o : Option (List ℕ)). is_some o) is
-has_saved tells disks slots u r NotServed served found = absurd (served refl)
+pub has_saved : (tells : Type 0) (disks : List (List ℕ)) (slots : List (Option ℕ)) (u : Uber) (r : Root) (saved : Option SavedRoot) → IsBeside tells disks slots u r saved → HasSaved r.head.saved saved
+has_saved tells disks slots u r None none = ap (λ (o : Option (List ℕ)). is_some o) none
+has_saved tells disks slots u r (Some s) (block, is, h) = ap (λ (o : Option (List ℕ)). is_some o) is
 
-pub lawful_saved : (tells : Type 0) (disks : List (List ℕ)) (slots : List (Option ℕ)) (u : Uber) (r : Root) (b : Beside) → FindsBeside tells disks slots u r b → IfSome (saved_in b) IsLawfulSaved
-lawful_saved tells disks slots u r Alone none = tt
-lawful_saved tells disks slots u r (Saved s) (block, is, h) = record { uber = h.is_saved.spelled.lawful; head = h.head; served = h.served }
-lawful_saved tells disks slots u r NotServed found = tt
+pub lawful_saved : (tells : Type 0) (disks : List (List ℕ)) (slots : List (Option ℕ)) (u : Uber) (r : Root) (saved : Option SavedRoot) → IsBeside tells disks slots u r saved → IfSome saved IsLawfulSaved
+lawful_saved tells disks slots u r None none = tt
+lawful_saved tells disks slots u r (Some s) (block, is, h) = record { uber = h.is_saved.spelled.lawful; head = h.head }
 
 pub head_on : (tells : Type 0) (disks : List (List ℕ)) (slots : List (Option ℕ)) (u : Uber) (r : Root) → IsHead (rows_of u) r.head → (tells → Stands disks slots u r) → tells → IsHeadOn disks slots u r.head
 head_on tells disks slots u r lawful at t = record { lawful = lawful; stands = (at t).reads.head }

@@ -28,9 +28,9 @@ use Rattle.zr_open.specs.Looked.{IsLookedAt}
 use Rattle.zr_open.specs.Opened.{IsFresh}
 use Rattle.zr_open.specs.Rewound.{rewound}
 use Rattle.zr_roots.specs.Standing.{Stands}
-use Rattle.zr_open.specs.Roots.{HasParts, meta_of, saved_in, told_root}
+use Rattle.zr_open.specs.Roots.{HasParts, meta_of, told_root}
 use Rattle.zr_open.specs.declared.look.Looked.{Looked}
-use Rattle.zr_open.proofs.Beside.{beside_moved, is_beside}
+use Rattle.zr_open.proofs.Beside.{beside_moved}
 use Rattle.zr_judge.specs.Parts.{HasMapping}
 use Rattle.zr_open.proofs.Rewinding.{mapped_bare, same_devices, stands_rewound}
 use Rattle.zr_roots.proofs.Rows.{past_rows, some_row}
@@ -81,7 +81,7 @@ module _ (tells : Type 0) (told : tells) (disks : List (List ℕ)) (sizes : List
   pub as_looked : HoldsRoot disks tells disks l l.pool
   as_looked =
       let u = l.found.root in
-      let meta = meta_of (saved_in l.beside) in
+      let meta = meta_of l.saved in
       let stands = subst (λ (slots : List (Option ℕ)). Stands disks slots u l.root) (sym h.same) (h.stands told) in
       record {
         objects = objects tells told disks sizes sized u l.pool l.root meta h.uber h.ready h.fresh h.parts h.mapped stands;
@@ -93,7 +93,7 @@ module _ (tells : Type 0) (told : tells) (disks : List (List ℕ)) (sizes : List
 
   -- as it is opened in a later group, as a reset
   module _ (txg : ℕ) (le : l.found.root.txg ≤ txg) (pool : OpenPool) (is : IsUber (rewound l.found.root txg)) (ready : IsOpen sizes pool) (fresh : IsFresh (rewound l.found.root txg) pool)
-      (parts : HasParts (record l.root { parts = without_late l.root.parts }) (meta_of (saved_in l.beside)) pool) (slots : pool.table.slots ≡ l.found.slots) where
+      (parts : HasParts (record l.root { parts = without_late l.root.parts }) (meta_of l.saved) pool) (slots : pool.table.slots ≡ l.found.slots) where
     abbrev back : Root
     back = record l.root { parts = without_late l.root.parts }
 
@@ -108,7 +108,7 @@ module _ (tells : Type 0) (told : tells) (disks : List (List ℕ)) (sizes : List
     pub as_reset : HoldsRoot disks tells disks l pool
     as_reset =
         let u = rewound l.found.root txg in
-        let meta = meta_of (saved_in l.beside) in
+        let meta = meta_of l.saved in
         record {
           objects = objects tells told disks sizes sized u pool back meta is ready fresh parts mapped_back stands_back;
           are = subst (λ (ss : List (Option ℕ)). AreObjects (store_of (record { disks = disks; slots = ss; devices = devices_of l.root.parts.devs })) l.root.head.dir (objects tells told disks sizes sized u pool back meta is ready fresh parts mapped_back stands_back)) slots
@@ -126,8 +126,7 @@ module _ (tells later : Type 0) (told : tells) (paths disks after : List (List �
   these = slots_of l.found.root seen
 
   saved_shown : ShowsSaved paths disks these (told_root l.found.root l.root)
-  saved_shown = shows_saved tells told paths disks these l.found.root l.root (saved_in l.beside)
-      (is_beside tells disks these l.found.root l.root l.beside h.served (beside_moved tells tells disks disks these l.found.slots (λ t. t) (λ t. refl) same l.found.root l.root l.beside h.beside))
+  saved_shown = shows_saved tells told paths disks these l.found.root l.root l.saved (beside_moved tells tells disks disks these l.found.slots (λ t. t) (λ t. refl) same l.found.root l.root l.saved h.beside)
 
   objects_are : AreObjects (store_of (record { disks = disks; slots = these; devices = devices_of l.root.parts.devs })) l.root.head.dir own.objects
   objects_are = subst (λ (s : Stored). AreObjects s l.root.head.dir own.objects) (store_same disks these l.found.slots (devices_of l.root.parts.devs) same) own.are

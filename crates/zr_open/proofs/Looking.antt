@@ -1,6 +1,6 @@
 -- What was looked at, by other slots and where nothing has changed since.
-use Rattle.std.proofs.Common.{◌≡◌, ◌⊎◌, inl, inr, ℕ, List, Option, Some, None, Result, Ok, Err, refl, sym, subst}
-use Rattle.std.specs.Prelude.{IfNone, IfOk, IfSome}
+use Rattle.std.proofs.Common.{◌≡◌, ◌⊎◌, inl, inr, ℕ, List, Option, Result, Ok, Err, refl, sym, subst}
+use Rattle.std.specs.Prelude.{IfOk}
 use Rattle.zr_base.specs.declared.refusal.Refusal.{Refusal}
 use Rattle.zr_image.specs.Current.{slots_of}
 use Rattle.zr_label.specs.declared.root.Uber.{Uber}
@@ -9,10 +9,10 @@ use Rattle.zr_sync.specs.declared.fault.Fault.{Fault}
 use Rattle.zr_current.specs.Current.{HasSlots}
 use Rattle.zr_open.specs.Found.{FindsOn}
 use Rattle.zr_open.specs.Looked.{IsLooked, IsLookedAt}
-use Rattle.zr_open.specs.Opened.{HasBlock, IsNotServed, IsRefusedRoot, IsRefusedSaved}
+use Rattle.zr_open.specs.Opened.{HasBlock, IsRefusedRoot, IsRefusedSaved}
 use Rattle.zr_roots.specs.Standing.{Stands}
 use Rattle.zr_open.specs.declared.look.Looked.{Looked}
-use Rattle.zr_open.proofs.Beside.{beside_moved, head_moved, not_served_moved}
+use Rattle.zr_open.proofs.Beside.{beside_moved, head_moved}
 
 module _ (t1 t2 : Type 0) (disks1 disks2 : List (List ℕ)) (later : t2 → t1) (same_disks : t2 → disks1 ≡ disks2) where
   pub looked_moved : (sizes : List ℕ) (l : Looked) → IsLookedAt sizes t1 disks1 l → IsLookedAt sizes t2 disks2 l
@@ -23,9 +23,7 @@ module _ (t1 t2 : Type 0) (disks1 disks2 : List (List ℕ)) (later : t2 → t1) 
     head = h.head;
     mapped = h.mapped;
     stands = λ t. subst (λ (ds : List (List ℕ)). Stands ds l.found.slots l.found.root l.root) (same_disks t) (h.stands (later t));
-    form = h.form;
-    beside = beside_moved t1 t2 disks1 disks2 l.found.slots l.found.slots later same_disks (λ d. refl) l.found.root l.root l.beside h.beside;
-    served = h.served;
+    beside = beside_moved t1 t2 disks1 disks2 l.found.slots l.found.slots later same_disks (λ d. refl) l.found.root l.root l.saved h.beside;
     ready = h.ready;
     fresh = h.fresh;
     parts = h.parts;
@@ -39,10 +37,6 @@ module _ (t1 t2 : Type 0) (disks1 disks2 : List (List ℕ)) (later : t2 → t1) 
     block_moved : (block : List ℕ) → HasBlock t1 disks1 slots u block → HasBlock t2 disks2 these u block
     block_moved block (h, at, is) = (h, head_moved t1 t2 disks1 disks2 these slots later same_disks same u h at, is)
 
-    pub none_moved : IsNotServed t1 disks1 slots u → IsNotServed t2 disks2 these u
-    none_moved (inl own) = inl (not_served_moved t1 t2 disks1 disks2 these slots later same_disks same u own)
-    none_moved (inr (block, has, (saved, spelled, old))) = inr (block, block_moved block has, (saved, spelled, not_served_moved t1 t2 disks1 disks2 these slots later same_disks same saved old))
-
     pub saved_refused_moved : (r : Refusal) → IsRefusedSaved t1 disks1 slots u r → IsRefusedSaved t2 disks2 these u r
     saved_refused_moved r (is, (block, has)) = (is, (block, block_moved block has))
 
@@ -51,17 +45,11 @@ module _ (t1 t2 : Type 0) (disks1 disks2 : List (List ℕ)) (later : t2 → t1) 
   abbrev IsFoundAs : Found → Type 0
   IsFoundAs f = (x : FindsOn sizes t2 disks2 (Ok f.root)) × HasSlots (slots_of f.root x.seen) f.slots
 
-  pub looked_by : (r : Result (Option Looked) Fault) → IfOk r (λ o. IfSome o (λ l. l.found ≡ found)) → IfOk r (λ o. IfSome o (IsLookedAt sizes t1 disks1)) → IfOk r (λ o. IfSome o (IsLooked sizes t2 disks2))
-  looked_by (Ok None) is h = tt
-  looked_by (Ok (Some l)) is h =
+  pub looked_by : (r : Result Looked Fault) → IfOk r (λ l. l.found ≡ found) → IfOk r (IsLookedAt sizes t1 disks1) → IfOk r (IsLooked sizes t2 disks2)
+  looked_by (Ok l) is h =
       let own : IsFoundAs l.found = subst IsFoundAs (sym is) (at, slots) in
       record { finds = own.0; slots = own.1; at = looked_moved t1 t2 disks1 disks2 later same_disks sizes l h }
   looked_by (Err e) is h = tt
-
-  pub none_by : (r : Result (Option Looked) Fault) → IfOk r (λ o. IfNone o (IsNotServed t1 disks1 found.slots found.root)) → IfOk r (λ o. IfNone o ((u : Uber) × (x : FindsOn sizes t2 disks2 (Ok u)) × IsNotServed t2 disks2 (slots_of u x.seen) u))
-  none_by (Ok None) h = (found.root, at, none_moved t1 t2 disks1 disks2 later same_disks (slots_of found.root at.seen) found.slots slots found.root h)
-  none_by (Ok (Some l)) h = tt
-  none_by (Err e) h = tt
 
   pub refused_by : (r : Refusal) → IsRefusedRoot r ⊎ IsRefusedSaved t1 disks1 found.slots found.root r → IsRefusedRoot r ⊎ ((u : Uber) × (x : FindsOn sizes t2 disks2 (Ok u)) × IsRefusedSaved t2 disks2 (slots_of u x.seen) u r)
   refused_by r (inl own) = inl own

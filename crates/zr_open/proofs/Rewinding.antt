@@ -58,7 +58,7 @@ later_root saved txg is le fits =
         most = h.most;
         some = h.some;
         devices = h.devices;
-        reset = omega arith;
+        reset = no_later (saved.reset == 0);
         txg_fits = fits;
         guid_fits = h.guid_fits;
       };
@@ -66,6 +66,10 @@ later_root saved txg is le fits =
       table = record { size = is.table.size; devices = rows_until saved.version saved.txg txg (take saved.count saved.rows) le is.table.devices; on = is.table.on; rest = is.table.rest };
       name = is.name;
     }
+  where
+    no_later : (first : Bool) → (if first then 0 else txg) ≤ txg
+    no_later true = omega arith
+    no_later false = omega arith
 
 -- ---- late sets that do not count
 
@@ -102,8 +106,20 @@ held_later txg later parts meta bs le h = record {
   kept = λ d. h.kept d ∙ sym (bare_kept parts.devs d);
 }
 
-resets_itself : (txg : ℕ) → ((if txg == 0 then txg else txg) == txg) ≡ true
-resets_itself txg = elim (txg == 0) as (λ b. ((if b then txg else txg) == txg) ≡ true) [ true ↦ grind (arith, nat_tests) | false ↦ grind (arith, nat_tests) ]
+-- a root in a later group counts as a reset, whether or not it names itself as one
+resets_itself : (u : Uber) (txg : ℕ) → (reset_of (rewound u txg) == txg) ≡ true
+resets_itself u txg = by_form (u.reset == 0)
+  where
+    same : (n : ℕ) → (n == n) ≡ true
+    same n = grind (arith, nat_tests)
+
+    by_reset : (b : Bool) → ((if b then txg else txg) == txg) ≡ true
+    by_reset true = same txg
+    by_reset false = same txg
+
+    by_form : (first : Bool) → ((if (if first then 0 else txg) == 0 then txg else (if first then 0 else txg)) == txg) ≡ true
+    by_form true = same txg
+    by_form false = by_reset (txg == 0)
 
 -- ---- the devices that it has
 
@@ -138,7 +154,7 @@ stands_rewound disks slots u txg r le h =
         streams = m.streams;
         parts = m.parts;
         spelled = m.spelled;
-        counted_is = ap without_late m.counted_is ∙ late_counted_bare u m.parts ∙ sym (ap (λ (b : Bool). if b then without_late m.parts else m.parts) (resets_itself txg));
+        counted_is = ap without_late m.counted_is ∙ late_counted_bare u m.parts ∙ sym (ap (λ (b : Bool). if b then without_late m.parts else m.parts) (resets_itself u txg));
       };
       meta = h.meta;
       held = subst (λ (s : Stored). MarksHeld txg (without_late r.parts) r.meta (all_reach s r.head.dir)) blocks (held_later u.txg txg r.parts r.meta _ le h.held);

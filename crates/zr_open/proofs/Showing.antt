@@ -99,17 +99,12 @@ saved_with tells told paths disks slots u root block r is h os are = (
   (are, refl),
 )
 
-pub shows_saved : (tells : Type 0) (told : tells) (paths disks : List (List ℕ)) (slots : List (Option ℕ)) (u : Uber) (root : Root) (saved : Option SavedRoot) → IsBeside tells disks slots u root root.head.saved saved → ShowsSaved paths disks slots (told_root u root)
-shows_saved tells told paths disks slots u root saved beside = by_cases root.head.saved saved refl beside
-  where
-    by_cases : (o : Option (List ℕ)) (r : Option SavedRoot) → root.head.saved ≡ o → IsBeside tells disks slots u root o r → ShowsSaved paths disks slots (told_root u root)
-    by_cases None None is h = record { root = None; shown = subst (λ (x : Option (List ℕ)). IsShownBeside disks slots (told_root u root) x None) (sym is) tt; state = None; is = refl }
-    by_cases None (Some r) is h = absurd h
-    by_cases (Some block) None is h = absurd h
-    by_cases (Some block) (Some r) is h =
-        let meant = h.objects told in
-        let part = saved_with tells told paths disks slots u root block r is h meant.0 meant.1 in
-        record { root = Some (told_root r.uber r.root); shown = part.0; state = Some (record { objects = meant.0; devs = devices_at paths slots r.uber }); is = part.1 }
+pub shows_saved : (tells : Type 0) (told : tells) (paths disks : List (List ℕ)) (slots : List (Option ℕ)) (u : Uber) (root : Root) (saved : Option SavedRoot) → IsBeside tells disks slots u root saved → ShowsSaved paths disks slots (told_root u root)
+shows_saved tells told paths disks slots u root None is = record { root = None; shown = subst (λ (x : Option (List ℕ)). IsShownBeside disks slots (told_root u root) x None) (sym is) tt; state = None; is = refl }
+shows_saved tells told paths disks slots u root (Some r) (block, is, h) =
+    let meant = h.objects told in
+    let part = saved_with tells told paths disks slots u root block r is h meant.0 meant.1 in
+    record { root = Some (told_root r.uber r.root); shown = part.0; state = Some (record { objects = meant.0; devs = devices_at paths slots r.uber }); is = part.1 }
 
 -- ---- how its checkpoint stands
 

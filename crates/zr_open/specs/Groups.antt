@@ -14,7 +14,7 @@ use Rattle.zr_sync.specs.Objects.{HoldsObjects}
 use Rattle.zr_sync.specs.States.{HoldsState}
 use Rattle.zr_sync.specs.declared.open.OpenPool.{OpenPool}
 use Rattle.zr_open.specs.Found.{FindsOn}
-use Rattle.zr_open.specs.Opened.{IsFresh, IsNotServed, IsRefusedRoot, IsRefusedSaved}
+use Rattle.zr_open.specs.Opened.{IsFresh, IsRefusedRoot, IsRefusedSaved}
 use Rattle.zr_open.specs.Rewound.{rewound}
 use Rattle.zr_open.specs.Shown.{ShowsGroup}
 use Rattle.zr_open.specs.declared.look.Looked.{Looked}
@@ -52,11 +52,6 @@ pub record IsBack (sizes : List ℕ) (tells : Type 0) (disks : List (List ℕ)) 
 abbrev pub IsBackRefusal : Type 0 → List (List ℕ) → List Seen → Uber → ℕ → Refusal → Type 0
 IsBackRefusal tells disks seen u txg r =
     IsRefusedRoot r ⊎ (IsRefusedSaved tells disks (slots_of u seen) u r ⊎ (IsNotKept seen u txg r ⊎ ((root : Uber) × IsGroup seen u txg root × IsRefusedSaved tells disks (slots_of root seen) root r)))
-
--- the current root is not served, or that of the group is not
-abbrev pub IsNotServedBack : Type 0 → List (List ℕ) → List Seen → Uber → ℕ → Type 0
-IsNotServedBack tells disks seen u txg =
-    IsNotServed tells disks (slots_of u seen) u ⊎ ((root : Uber) × IsGroup seen u txg root × IsNotServed tells disks (slots_of root seen) root)
 
 -- behind the current root that the slots show the group is not kept, and the oldest that is is this
 pub record ShowsNotKept (disks : List (List ℕ)) (txg oldest : ℕ) : Type 0 where

@@ -1,5 +1,6 @@
 pub mod Found
 pub mod Opened
+pub mod Streams
 pub mod Roots
 pub mod Shown
 pub mod Looked

@@ -6,14 +6,13 @@ use Rattle.zr_label.specs.Blocks.{IsUber}
 use Rattle.zr_meta.specs.Heads.{IsHead}
 use Rattle.zr_sync.specs.Pools.{IsOpen}
 use Rattle.zr_open.specs.declared.look.Looked.{Looked}
-use Rattle.zr_open.specs.declared.saved.Beside.TheVariants.{NotServed}
 use Rattle.zr_current.specs.Current.{HasSlots}
 use Rattle.zr_open.specs.Found.{FindsOn}
-use Rattle.zr_open.specs.Opened.{CoversOwed, IsFresh, IsServed}
+use Rattle.zr_open.specs.Opened.{CoversOwed, IsFresh}
 use Rattle.zr_judge.specs.Parts.{HasMapping}
 use Rattle.zr_roots.specs.Devices.{HasItsDisks}
 use Rattle.zr_roots.specs.Standing.{Stands}
-use Rattle.zr_open.specs.Roots.{FindsBeside, HasParts, IsKept, meta_of, saved_in}
+use Rattle.zr_open.specs.Roots.{HasParts, IsBeside, IsKept, meta_of}
 
 -- In the trees of the root stands what it records, and it was found so with what is saved beside it. The pool is open on that.
 pub record IsLookedAt (sizes : List ℕ) (tells : Type 0) (disks : List (List ℕ)) (l : Looked) : Type 0 where
@@ -23,13 +22,11 @@ pub record IsLookedAt (sizes : List ℕ) (tells : Type 0) (disks : List (List �
   pub head : IsHead (rows_of l.found.root) l.root.head
   pub mapped : All HasMapping l.root.parts.devs
   pub stands : tells → Stands disks l.found.slots l.found.root l.root
-  pub form : IsServed l.root.head
-  pub beside : FindsBeside tells disks l.found.slots l.found.root l.root l.beside
-  pub served : ¬ l.beside ≡ NotServed
+  pub beside : IsBeside tells disks l.found.slots l.found.root l.root l.saved
   pub ready : IsOpen sizes l.pool
   pub fresh : IsFresh l.found.root l.pool
-  pub parts : HasParts l.root (meta_of (saved_in l.beside)) l.pool
-  pub kept : IsKept (saved_in l.beside) l.pool.saved
+  pub parts : HasParts l.root (meta_of l.saved) l.pool
+  pub kept : IsKept l.saved l.pool.saved
   pub same : l.pool.table.slots ≡ l.found.slots
   pub room : CoversOwed l.pool.space
   pub groups : l.pool.group.txg ≤ 2 ^ 63 + 1

@@ -3,7 +3,6 @@ use Rattle.std.specs.Prelude.{◌≡◌, ◌≢◌, ◌⊎◌, ℕ, ◌+◌, ◌
 use Rattle.zr_base.specs.declared.refusal.Refusal.{Refusal}
 use Rattle.zr_base.specs.declared.refusal.Refusal.TheVariants.{BadRoot, Damaged, MissingDevice, NoPoolOnDevices, TwoPools, UnknownVersion}
 use Rattle.zr_base.specs.declared.space.Dva.{Dva}
-use Rattle.zr_label.specs.Blocks.{SpellsUber}
 use Rattle.zr_label.specs.declared.root.Uber.{Uber}
 use Rattle.zr_cache.specs.Entries.{entries}
 use Rattle.zr_image.specs.Reading.{bare_devices, store_of}
@@ -41,22 +40,9 @@ pub record IsAsTold (r : Root) : Type 0 where
   pub ckpt : r.parts.ckpt ≡ r.head.ckpt
   pub cond : cond_at r.parts.cond ≡ r.head.cond
 
--- the late sets of the head count
-abbrev pub IsServed : Head → Type 0
-IsServed h = h.form ≡ 2
-
--- the head that stands there is not served
-abbrev pub IsNotServedRoot : Type 0 → List (List ℕ) → List (Option ℕ) → Uber → Type 0
-IsNotServedRoot tells disks slots u = (h : Head) × (tells → IsHeadOn disks slots u h) × ¬ IsServed h
-
 -- the head that stands there has this block of a saved root
 abbrev pub HasBlock : Type 0 → List (List ℕ) → List (Option ℕ) → Uber → List ℕ → Type 0
 HasBlock tells disks slots u block = (h : Head) × (tells → IsHeadOn disks slots u h) × (h.saved ≡ Some block)
-
--- so is the root, or the one that it saved
-abbrev pub IsNotServed : Type 0 → List (List ℕ) → List (Option ℕ) → Uber → Type 0
-IsNotServed tells disks slots u =
-    IsNotServedRoot tells disks slots u ⊎ ((block : List ℕ) × HasBlock tells disks slots u block × ((saved : Uber) × SpellsUber block saved × IsNotServedRoot tells disks slots saved))
 
 -- the free units cover what is owed
 abbrev pub CoversOwed : Space → Type 0

@@ -1,5 +1,5 @@
 -- The root of a checkpoint that is gone back to.
-use Rattle.std.specs.Prelude.{◌≡◌, ℕ, ◌+◌, List, Option, Some, None}
+use Rattle.std.specs.Prelude.{◌≡◌, ℕ, ◌+◌, ◌==◌, if◌then◌else◌, List, Option, Some, None}
 use Rattle.zr_label.specs.declared.root.Uber.{Uber}
 use Rattle.zr_label.specs.Blocks.{SpellsUber}
 use Rattle.zr_model.specs.State.{PoolState, Saved}
@@ -13,9 +13,9 @@ use Rattle.zr_roots.specs.Devices.{IsCut}
 use Rattle.zr_open.specs.Opened.{HasBlock, IsFresh, IsHeadOn}
 use Rattle.zr_open.specs.Shown.{Shows}
 
--- the saved root in a later group, which is a reset
+-- the saved root in a later group, which is a reset; one of the first form names no reset, and stays of that form
 abbrev pub rewound : Uber → ℕ → Uber
-rewound saved txg = record saved { txg = txg; reset = txg }
+rewound saved txg = record saved { txg = txg; reset = if saved.reset == 0 then 0 else txg }
 
 -- The pool holds the state that was saved by what the disks showed: its objects, and no checkpoint.
 pub record HoldsSaved (paths before : List (List ℕ)) (tells : Type 0) (disks : List (List ℕ)) (pool : OpenPool) : Type 0 where

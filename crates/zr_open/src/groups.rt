@@ -3,7 +3,7 @@
 //! Behind the current root stand those of the groups before it. What such a root has is still there while its group is kept,
 //! so it is looked at as the current one is, and written once more in the group behind that, as a reset. Which groups are kept
 //! is told by the slots alone; the current root is looked at all the same, since without it there is no pool.
-ghost use Rattle.std.specs.Prelude.{◌≡◌, ◌⊎◌, ◌+◌, ◌≤◌, ◌^◌, length, None, Ok, Err, Some, IfOk, IfSome, IfNone, IsErrOf};
+ghost use Rattle.std.specs.Prelude.{◌≡◌, ◌⊎◌, ◌+◌, ◌≤◌, ◌^◌, length, None, Ok, Err, Some, IfOk, IsErrOf};
 ghost use Rattle.zr_base.specs.Counts.{HasRisen};
 ghost use Rattle.zr_base.specs.declared.refusal.Refusal.{Refusal};
 ghost use Rattle.zr_label.specs.declared.root.Uber.{Uber};
@@ -14,11 +14,11 @@ ghost use Rattle.zr_sync.specs.Writes.{WorksOnDisks};
 ghost use Rattle.zr_sync.specs.declared.fault.Fault.TheVariants.{No, Stops};
 ghost use Rattle.zr_sync.specs.declared.stop.Stop.TheVariants.{DiskFault};
 ghost use Rattle.zr_open.specs.Found.{FindsOn};
-ghost use Rattle.zr_open.specs.Groups.{HoldsGroup, HoldsRoot, IsBack, IsBackRefusal, IsNotServedBack};
+ghost use Rattle.zr_open.specs.Groups.{HoldsGroup, HoldsRoot, IsBack, IsBackRefusal};
 ghost use Rattle.zr_open.specs.Looked.{IsLookedAt, WasLookedAt};
 ghost use Rattle.zr_open.specs.Opened.{CoversOwed, IsFresh, MayRefuse};
 ghost use Rattle.zr_open.specs.Rewound.{rewound};
-ghost use Rattle.zr_open.specs.Roots.{meta_of, saved_in};
+ghost use Rattle.zr_open.specs.Roots.{meta_of};
 
 use crate::find::{Scanned, scan};
 use crate::look::{Looked, look_at};
@@ -53,57 +53,54 @@ fn reset<S: Shelf>(
     ensures objects { S.tells shelf.old → IsLookedAt (S.sizes shelf.old) (Unit {0}) (S.world shelf.old).now.seen then.old → IfOk result (HoldsRoot (S.world shelf.old).now.seen (S.tells shelf.new) (S.world shelf.new).now.seen then.old) }
     ensures room { IfOk result (λ pool. CoversOwed pool.space) }
     ensures groups { IfOk result (λ pool. pool.group.txg ≤ 2 ^ 63 + 1) }
-    ensures refused { (r : Refusal) → IsErrOf result (No r) → MayRefuse (meta_of (saved_in then.old.beside)) r }
+    ensures refused { (r : Refusal) → IsErrOf result (No r) → MayRefuse (meta_of then.old.saved) r }
 {
-    let Some(saved) = saved_meta(&then.beside) else {
-        unreachable!()
-    };
     let place = Found {
         root: rewound(&then.found.root, current.txg + 1),
         slots: then.found.slots,
     };
-    let checkpoint = checkpoint_of(alloc, &then.root.head, &then.beside)?;
+    let checkpoint = checkpoint_of(alloc, &then.root.head, &then.saved)?;
     then.root.reset(alloc)?;
-    let pool = open(alloc, &place, &then.root, saved, checkpoint)?;
+    let pool = open(
+        alloc,
+        &place,
+        &then.root,
+        saved_meta(&then.saved),
+        checkpoint,
+    )?;
     show(alloc, shelf, current, &pool, &place.root)?;
     Ok(pool)
 }
 
 /// Opens the pool as a group that is kept left it. The group of the current root is opened as `import` does; the root of
-/// a lower one is written once more, one group above the current one and as a reset. The answer is None where `import`
-/// answers it, of the current root or of that of the group.
+/// a lower one is written once more, one group above the current one and as a reset.
 ///
 /// It reads what `import` reads, for a lower group twice. What it answers but Ok has written nothing, or stops the run.
-pub fn go_back<S: Shelf>(alloc: Global, shelf: &mut S, txg: u64) -> Result<Option<OpenPool>, Fault>
+pub fn go_back<S: Shelf>(alloc: Global, shelf: &mut S, txg: u64) -> Result<OpenPool, Fault>
     requires slots { length (S.sizes shelf.old) ≤ 32 }
     ensures sizes { S.sizes shelf.new ≡ S.sizes shelf.old }
     ensures none_fell { NoneFell (S.counts shelf.old) (S.counts shelf.new) }
     ensures told { S.tells shelf.old → S.tells shelf.new }
     ensures disks { S.tells shelf.old → WorksOnDisks (S.world shelf.old) (S.world shelf.new) }
     ensures fault { IsErrOf result (Stops DiskFault) → HasRisen (S.counts shelf.old).disk (S.counts shelf.new).disk }
-    ensures pool { IfOk result (λ o. IfSome o (IsOpen (S.sizes shelf.new))) }
-    ensures back { IfOk result (λ o. IfSome o (IsBack (S.sizes shelf.old) (S.tells shelf.old) (S.world shelf.old).now.seen txg)) }
-    ensures objects { S.tells shelf.old → IfOk result (λ o. IfSome o (HoldsGroup (S.world shelf.old).now.paths (S.world shelf.old).now.seen txg (S.tells shelf.new) (S.world shelf.new).now.seen)) }
-    ensures room { IfOk result (λ o. IfSome o (λ pool. CoversOwed pool.space)) }
-    ensures groups { IfOk result (λ o. IfSome o (λ pool. pool.group.txg ≤ 2 ^ 63 + 1)) }
+    ensures pool { IfOk result (IsOpen (S.sizes shelf.new)) }
+    ensures back { IfOk result (IsBack (S.sizes shelf.old) (S.tells shelf.old) (S.world shelf.old).now.seen txg) }
+    ensures objects { S.tells shelf.old → IfOk result (HoldsGroup (S.world shelf.old).now.paths (S.world shelf.old).now.seen txg (S.tells shelf.new) (S.world shelf.new).now.seen) }
+    ensures room { IfOk result (λ pool. CoversOwed pool.space) }
+    ensures groups { IfOk result (λ pool. pool.group.txg ≤ 2 ^ 63 + 1) }
     ensures refused { (r : Refusal) → IsErrOf result (No r) → FindsOn (S.sizes shelf.old) (S.tells shelf.old) (S.world shelf.old).now.seen (Err r) ⊎ ((u : Uber) × (at : FindsOn (S.sizes shelf.old) (S.tells shelf.old) (S.world shelf.old).now.seen (Ok u)) × IsBackRefusal (S.tells shelf.old) (S.world shelf.old).now.seen at.seen u txg r) }
-    ensures none { IfOk result (λ o. IfNone o ((u : Uber) × (at : FindsOn (S.sizes shelf.old) (S.tells shelf.old) (S.world shelf.old).now.seen (Ok u)) × IsNotServedBack (S.tells shelf.old) (S.world shelf.old).now.seen at.seen u txg)) }
 {
     let Scanned { seen, found } = scan(alloc, shelf)?;
-    let Some(now) = look_at(alloc, shelf, &found)? else {
-        return Ok(None);
-    };
+    let now = look_at(alloc, shelf, &found)?;
     let root = kept_root(seen.as_slice(), &found.root, txg)?;
     if txg == found.root.txg {
-        return Ok(Some(now.pool));
+        return Ok(now.pool);
     }
     drop(now);
     let place = Found {
         root,
         slots: found.slots,
     };
-    let Some(mut then) = look_at(alloc, shelf, &place)? else {
-        return Ok(None);
-    };
-    Ok(Some(reset(alloc, shelf, &found.root, &mut then)?))
+    let mut then = look_at(alloc, shelf, &place)?;
+    reset(alloc, shelf, &found.root, &mut then)
 }

@@ -1,5 +1,5 @@
 //! An import.
-ghost use Rattle.std.specs.Prelude.{◌≡◌, ◌⊎◌, ◌≤◌, ◌^◌, ◌+◌, length, Ok, Err, IfOk, IfSome, IfNone, IsErrOf};
+ghost use Rattle.std.specs.Prelude.{◌≡◌, ◌⊎◌, ◌≤◌, ◌^◌, ◌+◌, length, Ok, Err, IfOk, IsErrOf};
 ghost use Rattle.zr_base.specs.Counts.{HasRisen};
 ghost use Rattle.zr_base.specs.declared.refusal.Refusal.{Refusal};
 ghost use Rattle.zr_image.specs.Current.{slots_of};
@@ -10,7 +10,7 @@ ghost use Rattle.zr_sync.specs.Pools.{IsOpen};
 ghost use Rattle.zr_sync.specs.declared.fault.Fault.TheVariants.{No, Stops};
 ghost use Rattle.zr_sync.specs.declared.stop.Stop.TheVariants.{DiskFault};
 ghost use Rattle.zr_open.specs.Found.{FindsOn};
-ghost use Rattle.zr_open.specs.Opened.{CoversOwed, IsFresh, IsNotServed, IsRefusedRoot, IsRefusedSaved};
+ghost use Rattle.zr_open.specs.Opened.{CoversOwed, IsFresh, IsRefusedRoot, IsRefusedSaved};
 ghost use Rattle.zr_open.specs.Roots.{IsOfRoot};
 ghost use Rattle.zr_open.specs.Shown.{Shows};
 ghost use Rattle.zr_model.specs.State.{PoolState};
@@ -21,29 +21,25 @@ use std::alloc::Global;
 use zr_shelf::Shelf;
 use zr_sync::{Fault, OpenPool};
 
-/// Opens the pool that the slots show. The answer is None where its root, or the one that a checkpoint saved, has no late
-/// sets that count.
+/// Opens the pool that the slots show.
 ///
 /// It makes a call on a disk for each ring and each run of a block that it reads, and its time and memory are linear in
 /// what it reads; the slots are compared in pairs.
-pub fn import<S: Shelf>(alloc: Global, shelf: &mut S) -> Result<Option<OpenPool>, Fault>
+pub fn import<S: Shelf>(alloc: Global, shelf: &mut S) -> Result<OpenPool, Fault>
     requires slots { length (S.sizes shelf.old) ≤ 32 }
     ensures sizes { S.sizes shelf.new ≡ S.sizes shelf.old }
     ensures none_fell { NoneFell (S.counts shelf.old) (S.counts shelf.new) }
     ensures told { S.tells shelf.old → S.tells shelf.new }
     ensures still { S.tells shelf.old → IsStill (S.world shelf.old) (S.world shelf.new) }
     ensures fault { IsErrOf result (Stops DiskFault) → HasRisen (S.counts shelf.old).disk (S.counts shelf.new).disk }
-    ensures pool { IfOk result (λ o. IfSome o (IsOpen (S.sizes shelf.new))) }
-    ensures fresh { IfOk result (λ o. IfSome o (λ pool. (u : Uber) × FindsOn (S.sizes shelf.old) (S.tells shelf.old) (S.world shelf.old).now.seen (Ok u) × IsFresh u pool)) }
-    ensures opened { IfOk result (λ o. IfSome o (λ pool. (u : Uber) × (at : FindsOn (S.sizes shelf.old) (S.tells shelf.old) (S.world shelf.old).now.seen (Ok u)) × IsOfRoot (S.tells shelf.old) (S.world shelf.old).now.seen (slots_of u at.seen) u pool)) }
-    ensures objects { S.tells shelf.old → IfOk result (λ o. IfSome o (λ pool. (p : PoolState) × Shows (S.world shelf.old).now.paths (S.world shelf.old).now.seen p × HoldsState (S.tells shelf.new) (S.world shelf.new).now.seen pool p)) }
-    ensures room { IfOk result (λ o. IfSome o (λ pool. CoversOwed pool.space)) }
-    ensures groups { IfOk result (λ o. IfSome o (λ pool. pool.group.txg ≤ 2 ^ 63 + 1)) }
+    ensures pool { IfOk result (IsOpen (S.sizes shelf.new)) }
+    ensures fresh { IfOk result (λ pool. (u : Uber) × FindsOn (S.sizes shelf.old) (S.tells shelf.old) (S.world shelf.old).now.seen (Ok u) × IsFresh u pool) }
+    ensures opened { IfOk result (λ pool. (u : Uber) × (at : FindsOn (S.sizes shelf.old) (S.tells shelf.old) (S.world shelf.old).now.seen (Ok u)) × IsOfRoot (S.tells shelf.old) (S.world shelf.old).now.seen (slots_of u at.seen) u pool) }
+    ensures objects { S.tells shelf.old → IfOk result (λ pool. (p : PoolState) × Shows (S.world shelf.old).now.paths (S.world shelf.old).now.seen p × HoldsState (S.tells shelf.new) (S.world shelf.new).now.seen pool p) }
+    ensures room { IfOk result (λ pool. CoversOwed pool.space) }
+    ensures groups { IfOk result (λ pool. pool.group.txg ≤ 2 ^ 63 + 1) }
     ensures refused { (r : Refusal) → IsErrOf result (No r) → FindsOn (S.sizes shelf.old) (S.tells shelf.old) (S.world shelf.old).now.seen (Err r) ⊎ (IsRefusedRoot r ⊎ ((u : Uber) × (at : FindsOn (S.sizes shelf.old) (S.tells shelf.old) (S.world shelf.old).now.seen (Ok u)) × IsRefusedSaved (S.tells shelf.old) (S.world shelf.old).now.seen (slots_of u at.seen) u r)) }
-    ensures none { IfOk result (λ o. IfNone o ((u : Uber) × (at : FindsOn (S.sizes shelf.old) (S.tells shelf.old) (S.world shelf.old).now.seen (Ok u)) × IsNotServed (S.tells shelf.old) (S.world shelf.old).now.seen (slots_of u at.seen) u)) }
 {
-    let Some(looked) = look(alloc, shelf)? else {
-        return Ok(None);
-    };
-    Ok(Some(looked.pool))
+    let looked = look(alloc, shelf)?;
+    Ok(looked.pool)
 }

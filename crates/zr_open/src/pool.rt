@@ -1,5 +1,5 @@
 //! The open pool of a root that was read.
-ghost use Rattle.std.specs.Prelude.{◌≡◌, ◌↔◌, ℕ, ◌≤◌, ◌^◌, ◌+◌, ◌++◌, List, length, All, IsTrue, IfOk, IfSome, IsErrOf};
+ghost use Rattle.std.specs.Prelude.{◌≡◌, ℕ, ◌≤◌, ◌^◌, ◌+◌, List, length, take, All, IsTrue, IfOk, IfSome, IsErrOf};
 ghost use Rattle.std.specs.List.{AllByRecursion};
 ghost use Rattle.zr_base.specs.declared.refusal.Refusal.{Refusal};
 ghost use Rattle.zr_bptr.specs.Spelling.{IsTree};
@@ -8,12 +8,13 @@ ghost use Rattle.zr_label.specs.Blocks.{IsUber};
 ghost use Rattle.zr_meta.specs.Heads.{IsHead, IsSaved, IsStream, cond_count, stream_count};
 ghost use Rattle.zr_roots.specs.Devices.{HasItsDisks};
 ghost use Rattle.zr_space.specs.Opens.{IsOpened};
-ghost use Rattle.zr_sync.specs.Heads.{cond_at, cond_streams, head_of, streams_in, streams_of};
+ghost use Rattle.zr_sync.specs.Heads.{cond_at, cond_streams};
 ghost use Rattle.zr_sync.specs.Pools.{AreCondStreams, AreStreams, IsCheckpoint, IsOpen, saved_block};
 ghost use Rattle.zr_sync.specs.declared.fault.Fault.TheVariants.{No, Stops};
 ghost use Rattle.zr_sync.specs.declared.stop.Stop.TheVariants.{DiskFault};
-ghost use Rattle.zr_open.specs.Opened.{CoversOwed, IsAsTold, IsFresh, IsServed, IsSpaceOf, MayRefuse};
+ghost use Rattle.zr_open.specs.Opened.{CoversOwed, IsAsTold, IsFresh, IsSpaceOf, MayRefuse};
 ghost use Rattle.zr_open.specs.Roots.{HasParts};
+ghost use Rattle.zr_open.specs.Streams.{HasNoLate, HasStreams, told_in};
 
 use crate::room::{has_groups, has_room};
 use std::alloc::{AllocError, Global};
@@ -27,19 +28,13 @@ use zr_roots::have_rows;
 use zr_slots::Found;
 use zr_space::Space;
 use zr_sync::{
-    Checkpoint, CondStreams, DeviceStreams, EMPTY, Fault, NO_COND, NONE_TURNED, OpenPool, Table,
+    Checkpoint, CondStreams, DeviceStreams, Fault, NO_COND, NO_STREAMS, NONE_TURNED, OpenPool,
+    Table,
 };
 use zr_txg::Group;
 
 // How many blocks are cached.
 const CACHED: usize = 256;
-
-/// Whether the late sets of the head count.
-pub(crate) fn is_served(head: &Head) -> bool
-    ensures { IsTrue result ↔ IsServed head.now }
-{
-    head.form == 2
-}
 
 // Where a condensing is, as a head tells it.
 fn cond_at(cond: &Option<CondPart>) -> Option<CondAt>
@@ -85,22 +80,30 @@ fn space_of(alloc: Global, u: &Uber, root: &Root, saved: &[Dva]) -> Result<Space
     Ok(space)
 }
 
-// The streams of a device of this state, in their order.
-fn device_streams(state: DevState, own: &[Stream]) -> DeviceStreams
+// How many streams a head of this form has of a device of this state.
+fn stream_count(form: u64, state: DevState) -> usize
+    ensures { result ≡ stream_count form state }
+{
+    match state {
+        DevState::On => { if form == 1 { 2 } else { 4 } }
+        DevState::Leaving => { if form == 1 { 5 } else { 7 } }
+        DevState::Gone => 3,
+    }
+}
+
+// The streams of a device of this state, in their order, as the first form has them: without those of its late sets.
+fn first_streams(state: DevState, own: &[Stream]) -> DeviceStreams
     requires lawful { AllByRecursion IsStream own.now }
-    requires count { length own.now ≡ stream_count 2 state }
+    requires count { length own.now ≡ stream_count 1 state }
     ensures lawful { AreStreams result }
-    ensures are { streams_in state result ≡ own.now }
+    ensures are { told_in 1 state result ≡ own.now }
+    ensures late { HasNoLate result }
 {
     match state {
         DevState::On => DeviceStreams {
             held: own[0],
             kept: own[1],
-            entries: EMPTY,
-            counts: EMPTY,
-            fresh: EMPTY,
-            late1: own[2],
-            late2: own[3],
+            ..NO_STREAMS
         },
         DevState::Leaving => DeviceStreams {
             held: own[0],
@@ -108,29 +111,35 @@ fn device_streams(state: DevState, own: &[Stream]) -> DeviceStreams
             entries: own[2],
             counts: own[3],
             fresh: own[4],
-            late1: own[5],
-            late2: own[6],
+            ..NO_STREAMS
         },
         DevState::Gone => DeviceStreams {
-            held: EMPTY,
-            kept: EMPTY,
             entries: own[0],
             counts: own[1],
             fresh: own[2],
-            late1: EMPTY,
-            late2: EMPTY,
+            ..NO_STREAMS
         },
     }
 }
 
-// How many streams a device of this state has.
-fn stream_count(state: DevState) -> usize
-    ensures { result ≡ stream_count 2 state }
+// The streams of a device of this state, as a head of this form has them. Those of its late sets come last; they are not there
+// in the first form, nor where the device is gone.
+fn device_streams(form: u64, state: DevState, own: &[Stream]) -> DeviceStreams
+    requires lawful { AllByRecursion IsStream own.now }
+    requires count { length own.now ≡ stream_count form state }
+    ensures lawful { AreStreams result }
+    ensures are { told_in form state result ≡ own.now }
+    ensures late { form ≡ 1 → HasNoLate result }
 {
-    match state {
-        DevState::On => 4,
-        DevState::Leaving => 7,
-        DevState::Gone => 3,
+    let (first, late) = own.split_at(stream_count(1, state));
+    let streams = first_streams(state, first);
+    if form == 1 || state == DevState::Gone {
+        return streams;
+    }
+    DeviceStreams {
+        late1: late[0],
+        late2: late[1],
+        ..streams
     }
 }
 
@@ -161,17 +170,16 @@ fn cond_streams(cond: &Option<CondAt>, rest: &[Stream]) -> CondStreams
 /// The streams of a head of devices with these rows: those of each, and then those of what is condensed.
 pub(crate) fn streams_of(alloc: Global, rows: &[DevRow], head: &Head) -> Result<Streams, AllocError>
     requires head { IsHead rows.now head.now }
-    requires served { IsServed head.now }
     ensures count { IfOk result (λ all. length all.devices.items ≡ length rows.now) }
     ensures lawful { IfOk result (λ all. All AreStreams all.devices.items) }
     ensures cond { IfOk result (λ all. AreCondStreams all.cond) }
-    ensures are { IfOk result (λ all. streams_of rows.now all.devices.items ++ cond_streams head.now.cond all.cond ≡ head.now.streams) }
+    ensures has { IfOk result (λ all. HasStreams rows.now head.now all.devices.items all.cond) }
 {
     let mut rest = head.streams.as_slice();
     let mut devices = Vec::new(alloc);
     for row in rows {
-        let (own, others) = rest.split_at(stream_count(row.state));
-        devices.push(device_streams(row.state, own))?;
+        let (own, others) = rest.split_at(stream_count(head.form, row.state));
+        devices.push(device_streams(head.form, row.state, own))?;
         rest = others;
     }
     Ok(Streams {
@@ -207,7 +215,6 @@ fn pool_of(
     requires root { IsUber found.now.root }
     requires long { length found.now.slots ≡ 32 }
     requires head { IsHead (rows_of found.now.root) head.now }
-    requires served { IsServed head.now }
     requires space { IsSpaceOf found.now.root space }
     requires cond { cond_at space.parts.cond ≡ head.now.cond }
     requires saved { IsSaved space.parts.ckpt (saved_block checkpoint) }
@@ -218,7 +225,7 @@ fn pool_of(
     ensures same { IfOk result (λ pool. pool.space ≡ space) }
     ensures slots { IfOk result (λ pool. pool.table.slots ≡ found.now.slots) }
     ensures dir { IfOk result (λ pool. pool.dir ≡ head.now.dir) }
-    ensures streams { IfOk result (λ pool. (head_of pool).streams ≡ head.now.streams) }
+    ensures streams { IfOk result (λ pool. HasStreams (take pool.table.count pool.table.rows) head.now pool.streams.items pool.cond) }
     ensures saved { IfOk result (λ pool. pool.saved ≡ checkpoint) }
 {
     let u = &found.root;
@@ -259,7 +266,6 @@ pub(crate) fn open(
     requires uber { IsUber found.now.root }
     requires long { length found.now.slots ≡ 32 }
     requires head { IsHead (rows_of found.now.root) root.now.head }
-    requires served { IsServed root.now.head }
     requires saved { root.now.parts.ckpt ≡ root.now.head.ckpt → IsSaved root.now.head.ckpt (saved_block checkpoint) }
     requires checkpoint { IfSome checkpoint IsCheckpoint }
     ensures open { (sizes : List ℕ) → HasItsDisks sizes found.now.slots found.now.root → IfOk result (IsOpen sizes) }

@@ -3,7 +3,7 @@
 //! The root that a checkpoint saved is written once more, as the current one: in the group behind, and as a reset. So what was
 //! allocated since is free, and what was freed since is not. Nothing else is written. A device that was added since is no
 //! device of the pool any more, and one that had gone by then is gone.
-ghost use Rattle.std.specs.Prelude.{◌≡◌, ◌⊎◌, ◌+◌, ◌≤◌, ◌<◌, ◌^◌, length, Some, None, Ok, Err, IfOk, IfSome, IfNone, OnOk, IsErrOf};
+ghost use Rattle.std.specs.Prelude.{◌≡◌, ◌⊎◌, ◌+◌, ◌≤◌, ◌<◌, ◌^◌, length, Some, None, Ok, Err, IfOk, OnOk, IsErrOf};
 ghost use Rattle.zr_base.specs.Counts.{HasRisen};
 ghost use Rattle.zr_base.specs.declared.refusal.Refusal.{Refusal};
 ghost use Rattle.zr_label.specs.Blocks.{IsUber};
@@ -19,12 +19,11 @@ ghost use Rattle.zr_base.specs.declared.refusal.Refusal.TheVariants.{NoCheckpoin
 ghost use Rattle.zr_image.specs.Current.{slots_of};
 ghost use Rattle.zr_label.specs.declared.root.Uber.{Uber};
 ghost use Rattle.zr_open.specs.Found.{FindsOn};
-ghost use Rattle.zr_open.specs.Opened.{CoversOwed, IsNotServed, IsRefusedRoot, IsRefusedSaved};
+ghost use Rattle.zr_open.specs.Opened.{CoversOwed, IsRefusedRoot, IsRefusedSaved};
 ghost use Rattle.zr_open.specs.Rewound.{HasNoSaved, HoldsSaved, IsRewound, IsShownBehind, ShowsNoSaved, rewound};
 
 use crate::look::look;
 use crate::pool::open;
-use crate::saved::Beside;
 use std::alloc::Global;
 use zr_base::Refusal;
 use zr_label::Uber;
@@ -33,7 +32,7 @@ use zr_shelf::Shelf;
 use zr_slots::{Found, publish, slots_in_both};
 use zr_sync::{Fault, OpenPool, Stop};
 
-// The saved root in a later group, which is a reset.
+// The saved root in a later group, which is a reset. One of the first form names no reset, and stays of that form.
 pub(crate) fn rewound(saved: &Uber, txg: u64) -> Uber
     requires lawful { IsUber saved.now }
     requires later { saved.now.txg ≤ txg }
@@ -42,7 +41,7 @@ pub(crate) fn rewound(saved: &Uber, txg: u64) -> Uber
 {
     let mut root = *saved;
     root.txg = txg;
-    root.reset = txg;
+    root.reset = if saved.reset == 0 { 0 } else { txg };
     root
 }
 
@@ -73,32 +72,29 @@ pub(crate) fn show<S: Shelf>(
     Ok(())
 }
 
-/// Goes back to the checkpoint that the pool holds, and opens it. The answer is None where `import` answers it.
+/// Goes back to the checkpoint that the pool holds, and opens it.
 ///
 /// It reads what `import` reads, and then writes the saved root once more, with a flush before, between and behind. What it
 /// answers but Ok has written nothing, or stops the run.
-pub fn rewind<S: Shelf>(alloc: Global, shelf: &mut S) -> Result<Option<OpenPool>, Fault>
+pub fn rewind<S: Shelf>(alloc: Global, shelf: &mut S) -> Result<OpenPool, Fault>
     requires slots { length (S.sizes shelf.old) ≤ 32 }
     ensures sizes { S.sizes shelf.new ≡ S.sizes shelf.old }
     ensures none_fell { NoneFell (S.counts shelf.old) (S.counts shelf.new) }
     ensures told { S.tells shelf.old → S.tells shelf.new }
     ensures disks { S.tells shelf.old → WorksOnDisks (S.world shelf.old) (S.world shelf.new) }
     ensures fault { IsErrOf result (Stops DiskFault) → HasRisen (S.counts shelf.old).disk (S.counts shelf.new).disk }
-    ensures pool { IfOk result (λ o. IfSome o (IsOpen (S.sizes shelf.new))) }
-    ensures rewound { IfOk result (λ o. IfSome o (λ pool. (u : Uber) × (at : FindsOn (S.sizes shelf.old) (S.tells shelf.old) (S.world shelf.old).now.seen (Ok u)) × IsRewound (S.tells shelf.old) (S.world shelf.old).now.seen (slots_of u at.seen) u pool)) }
-    ensures shown { S.tells shelf.old → IfOk result (λ o. IfSome o (λ pool. (u : Uber) × FindsOn (S.sizes shelf.old) (S.tells shelf.old) (S.world shelf.old).now.seen (Ok u) × IsShownBehind (S.sizes shelf.old) u pool (S.world shelf.old) (S.world shelf.new))) }
-    ensures objects { S.tells shelf.old → IfOk result (λ o. IfSome o (HoldsSaved (S.world shelf.old).now.paths (S.world shelf.old).now.seen (S.tells shelf.new) (S.world shelf.new).now.seen)) }
-    ensures room { IfOk result (λ o. IfSome o (λ pool. CoversOwed pool.space)) }
-    ensures groups { IfOk result (λ o. IfSome o (λ pool. pool.group.txg ≤ 2 ^ 63 + 1)) }
+    ensures pool { IfOk result (IsOpen (S.sizes shelf.new)) }
+    ensures rewound { IfOk result (λ pool. (u : Uber) × (at : FindsOn (S.sizes shelf.old) (S.tells shelf.old) (S.world shelf.old).now.seen (Ok u)) × IsRewound (S.tells shelf.old) (S.world shelf.old).now.seen (slots_of u at.seen) u pool) }
+    ensures shown { S.tells shelf.old → IfOk result (λ pool. (u : Uber) × FindsOn (S.sizes shelf.old) (S.tells shelf.old) (S.world shelf.old).now.seen (Ok u) × IsShownBehind (S.sizes shelf.old) u pool (S.world shelf.old) (S.world shelf.new)) }
+    ensures objects { S.tells shelf.old → IfOk result (HoldsSaved (S.world shelf.old).now.paths (S.world shelf.old).now.seen (S.tells shelf.new) (S.world shelf.new).now.seen) }
+    ensures room { IfOk result (λ pool. CoversOwed pool.space) }
+    ensures groups { IfOk result (λ pool. pool.group.txg ≤ 2 ^ 63 + 1) }
     ensures refused { (r : Refusal) → IsErrOf result (No r) → FindsOn (S.sizes shelf.old) (S.tells shelf.old) (S.world shelf.old).now.seen (Err r) ⊎ (IsRefusedRoot r ⊎ ((u : Uber) × (at : FindsOn (S.sizes shelf.old) (S.tells shelf.old) (S.world shelf.old).now.seen (Ok u)) × (IsRefusedSaved (S.tells shelf.old) (S.world shelf.old).now.seen (slots_of u at.seen) u r ⊎ ((r ≡ NoCheckpoint) × HasNoSaved (S.tells shelf.old) (S.world shelf.old).now.seen (slots_of u at.seen) u)))) }
     ensures unsaved { S.tells shelf.old → IsErrOf result (No NoCheckpoint) → ShowsNoSaved (S.world shelf.old).now.paths (S.world shelf.old).now.seen }
-    ensures none { IfOk result (λ o. IfNone o ((u : Uber) × (at : FindsOn (S.sizes shelf.old) (S.tells shelf.old) (S.world shelf.old).now.seen (Ok u)) × IsNotServed (S.tells shelf.old) (S.world shelf.old).now.seen (slots_of u at.seen) u)) }
 {
-    let Some(looked) = look(alloc, shelf)? else {
-        return Ok(None);
-    };
+    let looked = look(alloc, shelf)?;
     let found = looked.found;
-    let Beside::Saved(mut saved) = looked.into_beside() else {
+    let Some(mut saved) = looked.into_saved() else {
         return Err(Fault::No(Refusal::NoCheckpoint));
     };
     let root = rewound(&saved.uber, found.root.txg + 1);
@@ -109,5 +105,5 @@ pub fn rewind<S: Shelf>(alloc: Global, shelf: &mut S) -> Result<Option<OpenPool>
     saved.root.reset(alloc)?;
     let pool = open(alloc, &place, &saved.root, &[], None)?;
     show(alloc, shelf, &found.root, &pool, &root)?;
-    Ok(Some(pool))
+    Ok(pool)
 }

@@ -2,7 +2,7 @@
 //!
 //! It stands on the same disks, among the devices that were there by then. It is read as the current root is, opened by
 //! itself to see that it could be, and closed again: of it the open pool needs no more than where its metadata lies.
-ghost use Rattle.std.specs.Prelude.{◌≡◌, ◌⊎◌, ℕ, List, [], length, Some, None, IfOk, IfSome, IfNone, IsErrOf};
+ghost use Rattle.std.specs.Prelude.{◌≡◌, ◌⊎◌, ℕ, List, [], length, Some, IfOk, IfSome, IsErrOf};
 ghost use Rattle.zr_base.specs.Counts.{HasRisen};
 ghost use Rattle.zr_base.specs.declared.refusal.Refusal.{Refusal};
 ghost use Rattle.zr_base.specs.declared.space.CkptPart.TheVariants.{Clear};
@@ -16,11 +16,10 @@ ghost use Rattle.zr_sync.specs.Pools.{IsCheckpoint, IsOpen, saved_block};
 ghost use Rattle.zr_sync.specs.declared.fault.Fault.TheVariants.{No, Stops};
 ghost use Rattle.zr_sync.specs.declared.stop.Stop.TheVariants.{DiskFault};
 ghost use Rattle.zr_roots.specs.Devices.{HasItsDisks};
-ghost use Rattle.zr_open.specs.Opened.{CoversOwed, IsFresh, IsRefusedRoot, IsServed, as_saved};
-ghost use Rattle.zr_open.specs.Roots.{FindsBeside, HasParts, HasSaved, IsKept, IsLawfulSaved, meta_of, saved_in};
-ghost use Rattle.zr_open.specs.declared.saved.Beside.TheVariants.{Alone, Saved, NotServed};
+ghost use Rattle.zr_open.specs.Opened.{CoversOwed, IsFresh, IsRefusedRoot, as_saved};
+ghost use Rattle.zr_open.specs.Roots.{HasParts, HasSaved, IsBeside, IsKept, IsLawfulSaved, meta_of};
 
-use crate::pool::{head_tree, is_served, open, streams_of};
+use crate::pool::{head_tree, open, streams_of};
 use crate::read::{as_saved, fault_of};
 use std::alloc::Global;
 use zr_base::{Blob, Dva, NoMemory, Refusal};
@@ -39,27 +38,13 @@ pub(crate) struct SavedRoot {
     pub root: Root,
 }
 
-/// What there is beside a root.
-#[derive(Drop)]
-pub(crate) enum Beside {
-    /// Nothing: it holds no checkpoint.
-    Alone,
-    /// The root that it saved, which is in order.
-    Saved(SavedRoot),
-    /// A saved root that has no late sets that count.
-    NotServed,
-}
-
-/// The metadata of the saved root, which is none where no checkpoint is held. The answer is None where it is not served.
-pub(crate) fn saved_meta(beside: &Beside) -> Option<&[Dva]>
-    ensures meta { IfSome result (λ meta. meta.now ≡ meta_of (saved_in beside.now)) }
-    ensures served { IfSome result (λ meta. ¬ beside.now ≡ NotServed) }
-    ensures none { IfNone result (beside.now ≡ NotServed) }
+/// The metadata of the saved root, which is none where no checkpoint is held.
+pub(crate) fn saved_meta(saved: &Option<SavedRoot>) -> &[Dva]
+    ensures { result.now ≡ meta_of saved.now }
 {
-    match beside {
-        Beside::Alone => Some(&[]),
-        Beside::Saved(saved) => Some(saved.root.meta.as_slice()),
-        Beside::NotServed => None,
+    match saved {
+        None => &[],
+        Some(saved) => saved.root.meta.as_slice(),
     }
 }
 
@@ -68,16 +53,16 @@ pub(crate) fn saved_meta(beside: &Beside) -> Option<&[Dva]>
 pub(crate) fn checkpoint_of(
     alloc: Global,
     current: &Head,
-    beside: &Beside,
+    saved: &Option<SavedRoot>,
 ) -> Result<Option<Checkpoint>, NoMemory>
-    requires there { HasSaved current.now.saved (saved_in beside.now) }
-    requires lawful { IfSome (saved_in beside.now) IsLawfulSaved }
+    requires there { HasSaved current.now.saved saved.now }
+    requires lawful { IfSome saved.now IsLawfulSaved }
     ensures block { IfOk result (λ c. saved_block c ≡ current.now.saved) }
     ensures lawful { IfOk result (λ c. IfSome c IsCheckpoint) }
-    ensures kept { IfOk result (IsKept (saved_in beside.now)) }
+    ensures kept { IfOk result (IsKept saved.now) }
 {
-    match (beside, &current.saved) {
-        (Beside::Saved(saved), Some(block)) => {
+    match (saved, &current.saved) {
+        (Some(saved), Some(block)) => {
             let rows = &saved.uber.rows[..saved.uber.count as usize];
             let streams = streams_of(alloc, rows, &saved.root.head)?;
             Ok(Some(Checkpoint {
@@ -96,7 +81,6 @@ fn open_saved(alloc: Global, found: &Found, saved: &Root) -> Result<OpenPool, Fa
     requires uber { IsUber found.now.root }
     requires long { length found.now.slots ≡ 32 }
     requires head { IsHead (rows_of found.now.root) saved.now.head }
-    requires served { IsServed saved.now.head }
     requires clear { saved.now.parts.ckpt ≡ Clear }
     ensures open { (sizes : List ℕ) → HasItsDisks sizes found.now.slots found.now.root → IfOk result (IsOpen sizes) }
     ensures fresh { IfOk result (IsFresh found.now.root) }
@@ -112,14 +96,14 @@ fn open_saved(alloc: Global, found: &Found, saved: &Root) -> Result<OpenPool, Fa
     }
 }
 
-/// What there is beside the current root of a pool. Rule 8 is broken where a checkpoint is held and the saved root is not in
+/// The root that a checkpoint saved, none where no checkpoint is held. Rule 8 is broken where the saved root is not in
 /// order. It costs what reading that root costs.
 pub(crate) fn read_beside<S: Shelf>(
     alloc: Global,
     shelf: &mut S,
     found: &Found,
     current: &Root,
-) -> Result<Beside, Fault>
+) -> Result<Option<SavedRoot>, Fault>
     requires root { IsUber found.now.root }
     requires long { length found.now.slots ≡ 32 }
     requires disks { HasItsDisks (S.sizes shelf.old) found.now.slots found.now.root }
@@ -129,11 +113,11 @@ pub(crate) fn read_beside<S: Shelf>(
     ensures told { S.tells shelf.old → S.tells shelf.new }
     ensures still { S.tells shelf.old → IsStill (S.world shelf.old) (S.world shelf.new) }
     ensures fault { IsErrOf result (Stops DiskFault) → HasRisen (S.counts shelf.old).disk (S.counts shelf.new).disk }
-    ensures beside { IfOk result (FindsBeside (S.tells shelf.old) (S.world shelf.old).now.seen found.now.slots found.now.root current.now) }
+    ensures beside { IfOk result (IsBeside (S.tells shelf.old) (S.world shelf.old).now.seen found.now.slots found.now.root current.now) }
     ensures refused { (r : Refusal) → IsErrOf result (No r) → IsRefusedRoot r ⊎ ((r ≡ BadRoot 8) × ((block : List ℕ) × (current.now.head.saved ≡ Some block))) }
 {
     let Some(block) = &current.head.saved else {
-        return Ok(Beside::Alone);
+        return Ok(None);
     };
     let Some(uber) = saved_uber(&found.root, current.parts.ckpt, block.as_slice()) else {
         return Err(Fault::No(Refusal::BadRoot { rule: 8 }));
@@ -146,9 +130,6 @@ pub(crate) fn read_beside<S: Shelf>(
         Ok(root) => root,
         Err(error) => return Err(fault_of(error)),
     };
-    if !is_served(&root.head) {
-        return Ok(Beside::NotServed);
-    }
     open_saved(alloc, &place, &root)?;
-    Ok(Beside::Saved(SavedRoot { uber, root }))
+    Ok(Some(SavedRoot { uber, root }))
 }

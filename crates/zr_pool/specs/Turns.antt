@@ -60,11 +60,9 @@ is_opener cmd.ImportRewind = true
 is_opener (cmd.ImportTxg txg) = true
 is_opener _ = false
 
--- The lines that are always served. An import, to go back or not, is not where the pool on the devices has one that is leaving or gone.
+-- the lines that are served, which are all but `quit`
 abbrev pub IsServed : Command → Type 0
-IsServed (cmd.Create name guid devs) = Unit {0}
-IsServed (cmd.CreateOld name guid devs) = Unit {0}
-IsServed command = (is_on_objects command ≡ true) ⊎ ((is_on_pool command ≡ true) ⊎ ((is_table command ≡ true) ⊎ (is_of_removal command ≡ true)))
+IsServed command = (is_opener command ≡ true) ⊎ ((is_on_objects command ≡ true) ⊎ ((is_on_pool command ≡ true) ⊎ ((is_table command ≡ true) ⊎ (is_of_removal command ≡ true))))
 
 -- there is no room, or no run
 abbrev pub IsFull : Refusal → Type 0

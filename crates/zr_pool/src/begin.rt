@@ -70,9 +70,9 @@ pub fn begin<S: Shelf>(
             let made = create(alloc, shelf, pick, name, *guid, named.as_slice(), FIRST)?;
             Ok(Some(made))
         }
-        Command::Import => import(alloc, shelf),
-        Command::ImportRewind => rewind(alloc, shelf),
-        Command::ImportTxg { txg } => go_back(alloc, shelf, *txg),
+        Command::Import => Ok(Some(import(alloc, shelf)?)),
+        Command::ImportRewind => Ok(Some(rewind(alloc, shelf)?)),
+        Command::ImportTxg { txg } => Ok(Some(go_back(alloc, shelf, *txg)?)),
         _
             if is_on_objects(command)
                 || is_on_pool(command)

@@ -5,19 +5,17 @@ use Rattle.zr_label.specs.declared.root.Seen.{Seen}
 use Rattle.zr_shelf.specs.Disks.{Stand}
 use Rattle.zr_shelf.proofs.Runs.{still_trans}
 use Rattle.zr_slots.specs.Kept.{KeepsGroup}
-use Rattle.zr_sync.specs.declared.fault.Fault.TheVariants.{No, Stops}
-use Rattle.zr_sync.specs.declared.stop.Stop.TheVariants.{DiskFault}
+use Rattle.zr_sync.specs.declared.fault.Fault.TheVariants.{No}
 use Rattle.zr_sync.proofs.Disks.{works_more, works_still}
 use Rattle.zr_sync.proofs.Pools.{risen_later}
 use Rattle.zr_roots.specs.Devices.{HasItsDisks}
-use Rattle.zr_open.specs.Groups.{HoldsGroup, HoldsRoot}
+use Rattle.zr_open.specs.Groups.{HoldsGroup, HoldsRoot, IsBack}
 use Rattle.zr_open.specs.Looked.{IsLookedAt, WasLookedAt}
 use Rattle.zr_open.specs.Opened.{IsFresh}
 use Rattle.zr_open.specs.Rewound.{rewound}
-use Rattle.zr_open.specs.declared.look.Looked.{Looked}
 use Rattle.zr_slots.specs.declared.pool.Found.{Found}
 use Rattle.zr_open.proofs.Looking.{looked_moved}
-use Rattle.zr_open.proofs.Backing.{back_now, back_then, group_refused, held_now, held_then, is_some_looked, none_there, now_refused, now_unserved, place_disks, reset_refused, then_refused, then_unserved}
+use Rattle.zr_open.proofs.Backing.{back_now, back_then, group_refused, held_now, held_then, if_ok, now_refused, place_disks, reset_refused, then_refused}
 use Rattle.zr_open.proofs.Slots.{same_refusal}
 use Rattle.zr_open.proofs.groups.go_back.Goals as goal
 
@@ -37,17 +35,6 @@ returns-in_err-now-clause-refused g c = λ r is.
     let own = c.in_ok-seen.ensures in
     inr (now_refused (g.S.Shelf.tells c.args.shelf.now) (g.S.Shelf.world c.args.shelf.now).now.seen (g.S.Shelf.sizes c.args.shelf.now) c.in_ok-seen.field-0 own.scanned
     (g.S.Shelf.tells c.scan.new.shelf) (g.S.Shelf.world c.scan.new.shelf).now.seen own.told (λ t. ap (λ (s : Stand). s.seen) (own.still t).now) c.args.txg r (c.in_err-now.ensures.refused r (ap Err same)))
-
-pub returns-in_default-clause-disks : goal.returns-in_default-clause-disks
-returns-in_default-clause-disks g c = λ t.
-    works_still _ _ (still_trans (g.S.Shelf.world c.args.shelf.now) (g.S.Shelf.world c.scan.new.shelf) (g.S.Shelf.world c.look_at.new.shelf) (c.in_ok-seen.ensures.still t) (c.in_ok-now.ensures.still (c.in_ok-seen.ensures.told t)))
-
-pub returns-in_default-clause-none : goal.returns-in_default-clause-none
-returns-in_default-clause-none g c =
-    let own = c.in_ok-seen.ensures in
-    now_unserved (g.S.Shelf.tells c.args.shelf.now) (g.S.Shelf.world c.args.shelf.now).now.seen (g.S.Shelf.sizes c.args.shelf.now) c.in_ok-seen.field-0 own.scanned
-    (g.S.Shelf.tells c.scan.new.shelf) (g.S.Shelf.world c.scan.new.shelf).now.seen own.told (λ t. ap (λ (s : Stand). s.seen) (own.still t).now) c.args.txg
-    (none_there _ c.in_ok-now.field-0 c.in_ok-now.ensures.none (λ x same. (let other = c.in_default.not-Some in search (rules, other))))
 
 pub kept_root-requires-clause-current : goal.kept_root-requires-clause-current
 kept_root-requires-clause-current g c = subst (λ (s : List Seen). FindsCurrent s (Ok c.in_ok-seen.field-0.found.root)) (sym c.as_slice.ensures) c.in_ok-seen.ensures.scanned.finds
@@ -77,9 +64,9 @@ returns-then-txg-found-clause-back g c =
     let disks = (g.S.Shelf.world c.args.shelf.now).now.seen in
     let s = c.in_ok-seen.field-0 in
     let kept = subst (λ (seen : List Seen). KeepsGroup seen s.found.root c.args.txg (Ok c.in_ok-root.root)) c.as_slice.ensures c.in_ok-root.ensures.keeps in
-    let own = is_some_looked _ c.in_ok-now.field-0 c.in-Some.now c.in-Some.is c.in_ok-now.ensures.looked in
-    let found = is_some_looked (λ (l : Looked). l.found ≡ s.found) c.in_ok-now.field-0 c.in-Some.now c.in-Some.is c.in_ok-now.ensures.found in
-    back_now tells disks sizes s c.in_ok-seen.ensures.scanned c.args.txg c.in_ok-root.root kept.0 kept.1 c.if-txg-found.true c.in-Some.now.pool (subst (λ (f : Found). IsFresh f.root c.in-Some.now.pool) found own.fresh)
+    let own = c.in_ok-now.ensures.looked in
+    let found = c.in_ok-now.ensures.found in
+    back_now tells disks sizes s c.in_ok-seen.ensures.scanned c.args.txg c.in_ok-root.root kept.0 kept.1 c.if-txg-found.true c.in_ok-now.now.pool (subst (λ (f : Found). IsFresh f.root c.in_ok-now.now.pool) found own.fresh)
 
 pub returns-then-txg-found-clause-objects : goal.returns-then-txg-found-clause-objects
 returns-then-txg-found-clause-objects g c = λ t.
@@ -91,13 +78,13 @@ returns-then-txg-found-clause-objects g c = λ t.
     let first = c.in_ok-seen.ensures in
     let second = c.in_ok-now.ensures in
     let kept = subst (λ (seen : List Seen). KeepsGroup seen s.found.root c.args.txg (Ok c.in_ok-root.root)) c.as_slice.ensures c.in_ok-root.ensures.keeps in
-    let own = subst (λ (ns : List ℕ). IsLookedAt ns (g.S.Shelf.tells c.scan.new.shelf) (g.S.Shelf.world c.scan.new.shelf).now.seen c.in-Some.now) first.sizes (is_some_looked _ c.in_ok-now.field-0 c.in-Some.now c.in-Some.is second.looked) in
-    let found = is_some_looked (λ (l : Looked). l.found ≡ s.found) c.in_ok-now.field-0 c.in-Some.now c.in-Some.is second.found in
-    let there = looked_moved (g.S.Shelf.tells c.scan.new.shelf) later (g.S.Shelf.world c.scan.new.shelf).now.seen disks (λ x. first.told t) (λ x. ap (λ (stand : Stand). stand.seen) (first.still t).now) (g.S.Shelf.sizes c.args.shelf.now) c.in-Some.now own in
+    let own = subst (λ (ns : List ℕ). IsLookedAt ns (g.S.Shelf.tells c.scan.new.shelf) (g.S.Shelf.world c.scan.new.shelf).now.seen c.in_ok-now.now) first.sizes second.looked in
+    let found = second.found in
+    let there = looked_moved (g.S.Shelf.tells c.scan.new.shelf) later (g.S.Shelf.world c.scan.new.shelf).now.seen disks (λ x. first.told t) (λ x. ap (λ (stand : Stand). stand.seen) (first.still t).now) (g.S.Shelf.sizes c.args.shelf.now) c.in_ok-now.now own in
     let seen_same : after ≡ disks = ap (λ (stand : Stand). stand.seen) ((second.still (first.told t)).now ∙ (first.still t).now) in
     let sound = g.S.Shelf.sound c.args.shelf.now t in
-    subst (λ (ds : List (List ℕ)). HoldsGroup w.now.paths disks c.args.txg later ds c.in-Some.now.pool) (sym seen_same)
-    (held_now (g.S.Shelf.tells c.args.shelf.now) t w.now.paths disks (g.S.Shelf.sizes c.args.shelf.now) sound.sized s first.scanned c.args.txg c.in_ok-root.root kept.0 kept.1 c.if-txg-found.true later (second.told (first.told t)) c.in-Some.now found there)
+    subst (λ (ds : List (List ℕ)). HoldsGroup w.now.paths disks c.args.txg later ds c.in_ok-now.now.pool) (sym seen_same)
+    (held_now (g.S.Shelf.tells c.args.shelf.now) t w.now.paths disks (g.S.Shelf.sizes c.args.shelf.now) sound.sized s first.scanned c.args.txg c.in_ok-root.root kept.0 kept.1 c.if-txg-found.true later (second.told (first.told t)) c.in_ok-now.now found there)
 
 -- ---- a lower group
 
@@ -128,59 +115,28 @@ returns-in_err-then-clause-refused g c = λ r is.
     inr (then_refused (g.S.Shelf.tells c.args.shelf.now) (g.S.Shelf.world c.args.shelf.now).now.seen (g.S.Shelf.sizes c.args.shelf.now) s first.scanned c.args.txg c.in_ok-root.root c.in_ok-root.ensures.root c.in_ok-root.ensures.pool kept.1
     (g.S.Shelf.tells c.look_at.new.shelf) (g.S.Shelf.world c.look_at.new.shelf).now.seen (λ t. second.told (first.told t)) (λ t. ap (λ (stand : Stand). stand.seen) ((second.still (first.told t)).now ∙ (first.still t).now)) r (c.in_err-then.ensures.refused r (ap Err same)))
 
-pub returns-in_default-2-clause-disks : goal.returns-in_default-2-clause-disks
-returns-in_default-2-clause-disks g c = λ t.
-    let first = c.in_ok-seen.ensures in
-    let second = c.in_ok-now.ensures in
-    works_still _ _ (still_trans (g.S.Shelf.world c.args.shelf.now) (g.S.Shelf.world c.look_at.new.shelf) (g.S.Shelf.world c.look_at-2.new.shelf)
-    (still_trans (g.S.Shelf.world c.args.shelf.now) (g.S.Shelf.world c.scan.new.shelf) (g.S.Shelf.world c.look_at.new.shelf) (first.still t) (second.still (first.told t))) (c.in_ok-then.ensures.still (second.told (first.told t))))
-
-pub returns-in_default-2-clause-none : goal.returns-in_default-2-clause-none
-returns-in_default-2-clause-none g c =
-    let s = c.in_ok-seen.field-0 in
-    let first = c.in_ok-seen.ensures in
-    let second = c.in_ok-now.ensures in
-    let kept = subst (λ (seen : List Seen). KeepsGroup seen s.found.root c.args.txg (Ok c.in_ok-root.root)) c.as_slice.ensures c.in_ok-root.ensures.keeps in
-    then_unserved (g.S.Shelf.tells c.args.shelf.now) (g.S.Shelf.world c.args.shelf.now).now.seen (g.S.Shelf.sizes c.args.shelf.now) s first.scanned c.args.txg c.in_ok-root.root c.in_ok-root.ensures.root c.in_ok-root.ensures.pool kept.1
-    (g.S.Shelf.tells c.look_at.new.shelf) (g.S.Shelf.world c.look_at.new.shelf).now.seen (λ t. second.told (first.told t)) (λ t. ap (λ (stand : Stand). stand.seen) ((second.still (first.told t)).now ∙ (first.still t).now))
-    (none_there _ c.in_ok-then.field-0 c.in_ok-then.ensures.none (λ x same. (let other = c.in_default-2.not-Some in search (rules, other))))
-
 pub reset-requires-clause-looked : goal.reset-requires-clause-looked
 reset-requires-clause-looked g c =
     let tells = g.S.Shelf.tells c.look_at.new.shelf in
     let disks = (g.S.Shelf.world c.look_at.new.shelf).now.seen in
-    let own = is_some_looked _ c.in_ok-then.field-0 c.in-Some-2.then c.in-Some-2.is c.in_ok-then.ensures.looked in
-    subst (λ (ns : List ℕ). WasLookedAt ns c.in-Some-2.then) (sym c.in_ok-then.ensures.sizes) (looked_moved tells ⊥ disks [] (λ x. absurd x) (λ x. absurd x) (g.S.Shelf.sizes c.look_at.new.shelf) c.in-Some-2.then own)
+    let own = c.in_ok-then.ensures.looked in
+    subst (λ (ns : List ℕ). WasLookedAt ns c.in_ok-then.then) (sym c.in_ok-then.ensures.sizes) (looked_moved tells ⊥ disks [] (λ x. absurd x) (λ x. absurd x) (g.S.Shelf.sizes c.look_at.new.shelf) c.in_ok-then.then own)
 
-pub returns-in_err-reset-clause-disks : goal.returns-in_err-reset-clause-disks
-returns-in_err-reset-clause-disks g c = λ t.
-    let first = c.in_ok-seen.ensures in
-    let second = c.in_ok-now.ensures in
-    let third = c.in_ok-then.ensures in
-    works_more (g.S.Shelf.world c.args.shelf.now) (g.S.Shelf.world c.look_at-2.new.shelf) (g.S.Shelf.world c.reset.new.shelf)
-    (works_still (g.S.Shelf.world c.args.shelf.now) (g.S.Shelf.world c.look_at-2.new.shelf) (still_trans (g.S.Shelf.world c.args.shelf.now) (g.S.Shelf.world c.look_at.new.shelf) (g.S.Shelf.world c.look_at-2.new.shelf)
-    (still_trans (g.S.Shelf.world c.args.shelf.now) (g.S.Shelf.world c.scan.new.shelf) (g.S.Shelf.world c.look_at.new.shelf) (first.still t) (second.still (first.told t))) (third.still (second.told (first.told t)))))
-    (c.in_err-reset.ensures.disks (third.told (second.told (first.told t))))
-
-pub returns-in_err-reset-clause-refused : goal.returns-in_err-reset-clause-refused
-returns-in_err-reset-clause-refused g c = λ r is.
-    let told = c.in_err-reset.field-0.0 in
-    let e : c.from_residual-in_err-reset.result ≡ Err told = search rules in
-    let both = sym e ∙ is in
-    let same : told ≡ No r = cc in
+pub returns-clause-refused : goal.returns-clause-refused
+returns-clause-refused g c = λ r is.
     let s = c.in_ok-seen.field-0 in
     let first = c.in_ok-seen.ensures in
     let second = c.in_ok-now.ensures in
     let third = c.in_ok-then.ensures in
     let kept = subst (λ (seen : List Seen). KeepsGroup seen s.found.root c.args.txg (Ok c.in_ok-root.root)) c.as_slice.ensures c.in_ok-root.ensures.keeps in
-    let own = subst (λ (ns : List ℕ). IsLookedAt ns (g.S.Shelf.tells c.look_at.new.shelf) (g.S.Shelf.world c.look_at.new.shelf).now.seen c.in-Some-2.then) (second.sizes ∙ first.sizes) (is_some_looked _ c.in_ok-then.field-0 c.in-Some-2.then c.in-Some-2.is third.looked) in
-    let place = is_some_looked (λ (l : Looked). l.found ≡ record { root = c.in_ok-root.root; slots = s.found.slots }) c.in_ok-then.field-0 c.in-Some-2.then c.in-Some-2.is third.found in
+    let own = subst (λ (ns : List ℕ). IsLookedAt ns (g.S.Shelf.tells c.look_at.new.shelf) (g.S.Shelf.world c.look_at.new.shelf).now.seen c.in_ok-then.then) (second.sizes ∙ first.sizes) third.looked in
+    let place = third.found in
     inr (reset_refused (g.S.Shelf.tells c.args.shelf.now) (g.S.Shelf.world c.args.shelf.now).now.seen (g.S.Shelf.sizes c.args.shelf.now) s first.scanned c.args.txg c.in_ok-root.root c.in_ok-root.ensures.root c.in_ok-root.ensures.pool kept.1
-    (g.S.Shelf.tells c.look_at.new.shelf) (g.S.Shelf.world c.look_at.new.shelf).now.seen (λ t. second.told (first.told t)) (λ t. ap (λ (stand : Stand). stand.seen) ((second.still (first.told t)).now ∙ (first.still t).now)) c.in-Some-2.then place own r
-    (c.in_err-reset.ensures.refused r (ap Err same)))
+    (g.S.Shelf.tells c.look_at.new.shelf) (g.S.Shelf.world c.look_at.new.shelf).now.seen (λ t. second.told (first.told t)) (λ t. ap (λ (stand : Stand). stand.seen) ((second.still (first.told t)).now ∙ (first.still t).now)) c.in_ok-then.then place own r
+    (c.reset.ensures.refused r is))
 
 pub returns-clause-told : goal.returns-clause-told
-returns-clause-told g c = λ t. c.in_ok-reset.ensures.told (c.in_ok-then.ensures.told (c.in_ok-now.ensures.told (c.in_ok-seen.ensures.told t)))
+returns-clause-told g c = λ t. c.reset.ensures.told (c.in_ok-then.ensures.told (c.in_ok-now.ensures.told (c.in_ok-seen.ensures.told t)))
 
 pub returns-clause-disks : goal.returns-clause-disks
 returns-clause-disks g c = λ t.
@@ -190,7 +146,7 @@ returns-clause-disks g c = λ t.
     works_more (g.S.Shelf.world c.args.shelf.now) (g.S.Shelf.world c.look_at-2.new.shelf) (g.S.Shelf.world c.reset.new.shelf)
     (works_still (g.S.Shelf.world c.args.shelf.now) (g.S.Shelf.world c.look_at-2.new.shelf) (still_trans (g.S.Shelf.world c.args.shelf.now) (g.S.Shelf.world c.look_at.new.shelf) (g.S.Shelf.world c.look_at-2.new.shelf)
     (still_trans (g.S.Shelf.world c.args.shelf.now) (g.S.Shelf.world c.scan.new.shelf) (g.S.Shelf.world c.look_at.new.shelf) (first.still t) (second.still (first.told t))) (third.still (second.told (first.told t)))))
-    (c.in_ok-reset.ensures.disks (third.told (second.told (first.told t))))
+    (c.reset.ensures.disks (third.told (second.told (first.told t))))
 
 pub returns-clause-back : goal.returns-clause-back
 returns-clause-back g c =
@@ -199,9 +155,10 @@ returns-clause-back g c =
     let disks = (g.S.Shelf.world c.args.shelf.now).now.seen in
     let s = c.in_ok-seen.field-0 in
     let kept = subst (λ (seen : List Seen). KeepsGroup seen s.found.root c.args.txg (Ok c.in_ok-root.root)) c.as_slice.ensures c.in_ok-root.ensures.keeps in
-    let place = is_some_looked (λ (l : Looked). l.found ≡ record { root = c.in_ok-root.root; slots = s.found.slots }) c.in_ok-then.field-0 c.in-Some-2.then c.in-Some-2.is c.in_ok-then.ensures.found in
-    back_then tells disks sizes s c.in_ok-seen.ensures.scanned c.args.txg c.in_ok-root.root kept.0 kept.1 c.if-txg-found.false c.in_ok-reset.field-0
-    (subst (λ (f : Found). IsFresh (rewound f.root (s.found.root.txg + 1)) c.in_ok-reset.field-0) place c.in_ok-reset.ensures.fresh)
+    let place = c.in_ok-then.ensures.found in
+    if_ok (IsFresh (rewound c.in_ok-then.then.found.root (s.found.root.txg + 1))) (IsBack sizes tells disks c.args.txg) c.reset.result
+    (λ pool fresh. back_then tells disks sizes s c.in_ok-seen.ensures.scanned c.args.txg c.in_ok-root.root kept.0 kept.1 c.if-txg-found.false pool (subst (λ (f : Found). IsFresh (rewound f.root (s.found.root.txg + 1)) pool) place fresh))
+    c.reset.ensures.fresh
 
 pub returns-clause-objects : goal.returns-clause-objects
 returns-clause-objects g c = λ t.
@@ -213,7 +170,7 @@ returns-clause-objects g c = λ t.
     let disks3 = (g.S.Shelf.world c.look_at.new.shelf).now.seen in
     let disks4 = (g.S.Shelf.world c.look_at-2.new.shelf).now.seen in
     let s = c.in_ok-seen.field-0 in
-    let l = c.in-Some-2.then in
+    let l = c.in_ok-then.then in
     let first = c.in_ok-seen.ensures in
     let second = c.in_ok-now.ensures in
     let third = c.in_ok-then.ensures in
@@ -221,24 +178,21 @@ returns-clause-objects g c = λ t.
     let same3 : disks3 ≡ disks = ap (λ (stand : Stand). stand.seen) ((second.still (first.told t)).now ∙ (first.still t).now) in
     let same4 : disks4 ≡ disks = ap (λ (stand : Stand). stand.seen) (third.still told3).now ∙ same3 in
     let kept = subst (λ (seen : List Seen). KeepsGroup seen s.found.root c.args.txg (Ok c.in_ok-root.root)) c.as_slice.ensures c.in_ok-root.ensures.keeps in
-    let own = subst (λ (ns : List ℕ). IsLookedAt ns tells3 disks3 l) (second.sizes ∙ first.sizes) (is_some_looked _ c.in_ok-then.field-0 l c.in-Some-2.is third.looked) in
+    let own = subst (λ (ns : List ℕ). IsLookedAt ns tells3 disks3 l) (second.sizes ∙ first.sizes) third.looked in
     let there = looked_moved tells3 tells disks3 disks (λ x. told3) (λ x. same3) sizes l own in
     let before = subst (λ (ns : List ℕ). IsLookedAt ns (Unit {0}) disks4 l) (sym (third.sizes ∙ (second.sizes ∙ first.sizes))) (looked_moved tells3 (Unit {0}) disks3 disks4 (λ x. told3) (λ x. same3 ∙ sym same4) sizes l own) in
-    let held = subst (λ (ds : List (List ℕ)). HoldsRoot ds (g.S.Shelf.tells c.reset.new.shelf) (g.S.Shelf.world c.reset.new.shelf).now.seen l c.in_ok-reset.field-0) same4 (c.in_ok-reset.ensures.objects (third.told told3) before) in
-    let place = is_some_looked (λ (x : Looked). x.found ≡ record { root = c.in_ok-root.root; slots = s.found.slots }) c.in_ok-then.field-0 l c.in-Some-2.is third.found in
-    held_then tells t w.now.paths disks sizes s first.scanned c.args.txg c.in_ok-root.root c.in_ok-root.ensures.root c.in_ok-root.ensures.pool kept.0 kept.1 (g.S.Shelf.tells c.reset.new.shelf) (g.S.Shelf.world c.reset.new.shelf).now.seen l place there c.in_ok-reset.field-0 held
+    let place = third.found in
+    let later = g.S.Shelf.tells c.reset.new.shelf in
+    let after = (g.S.Shelf.world c.reset.new.shelf).now.seen in
+    if_ok (HoldsRoot disks4 later after l) (HoldsGroup w.now.paths disks c.args.txg later after) c.reset.result
+    (λ pool held. held_then tells t w.now.paths disks sizes s first.scanned c.args.txg c.in_ok-root.root c.in_ok-root.ensures.root c.in_ok-root.ensures.pool kept.0 kept.1 later after l place there pool
+    (subst (λ (ds : List (List ℕ)). HoldsRoot ds later after l pool) same4 held))
+    (c.reset.ensures.objects (third.told told3) before)
 
-pub returns-in_err-reset-clause-told : goal.returns-in_err-reset-clause-told
-returns-in_err-reset-clause-told g c = λ t. c.in_err-reset.ensures.told (c.in_ok-then.ensures.told (c.in_ok-now.ensures.told (c.in_ok-seen.ensures.told t)))
-
-pub returns-in_err-reset-clause-fault : goal.returns-in_err-reset-clause-fault
-returns-in_err-reset-clause-fault g c = λ is.
-    let told = c.in_err-reset.field-0.0 in
-    let e : c.from_residual-in_err-reset.result ≡ Err told = search rules in
-    let both = sym e ∙ is in
-    let same : told ≡ Stops DiskFault = cc in
+pub returns-clause-fault : goal.returns-clause-fault
+returns-clause-fault g c = λ is.
     let counts = g.S.Shelf.counts in
     let last = (counts c.reset.new.shelf).disk in
     risen_later (counts c.args.shelf.now).disk (counts c.scan.new.shelf).disk last c.in_ok-seen.ensures.none_fell.disk
     (risen_later (counts c.scan.new.shelf).disk (counts c.look_at.new.shelf).disk last c.in_ok-now.ensures.none_fell.disk
-    (risen_later (counts c.look_at.new.shelf).disk (counts c.look_at-2.new.shelf).disk last c.in_ok-then.ensures.none_fell.disk (c.in_err-reset.ensures.fault (ap Err same))))
+    (risen_later (counts c.look_at.new.shelf).disk (counts c.look_at-2.new.shelf).disk last c.in_ok-then.ensures.none_fell.disk (c.reset.ensures.fault is)))

@@ -6,7 +6,7 @@ use Rattle.zr_label.specs.declared.root.Uber.{Uber}
 use Rattle.zr_sync.specs.Pools.{IsOpen}
 use Rattle.zr_sync.specs.declared.fault.Fault.TheVariants.{No}
 use Rattle.zr_open.specs.Opened.{IsFresh, MayRefuse}
-use Rattle.zr_open.specs.Roots.{HasParts, meta_of, saved_in}
+use Rattle.zr_open.specs.Roots.{HasParts, meta_of}
 use Rattle.zr_meta.specs.Heads.{IsSaved}
 use Rattle.zr_sync.specs.Pools.{saved_block}
 use Rattle.zr_open.proofs.Beside.{has_saved, lawful_saved}
@@ -20,7 +20,7 @@ returns-in_err-pool-clause-refused g c = λ r is.
     let e : c.from_residual-in_err-pool.result ≡ Err told = search rules in
     let both = sym e ∙ is in
     let same : told ≡ No r = cc in
-    subst (λ (meta : List Dva). MayRefuse meta r) c.in-Some.ensures.meta (c.in_err-pool.ensures.refused r (ap Err same))
+    subst (λ (meta : List Dva). MayRefuse meta r) c.saved_meta.ensures (c.in_err-pool.ensures.refused r (ap Err same))
 
 pub show-requires-clause-pool : goal.show-requires-clause-pool
 show-requires-clause-pool g c =
@@ -50,7 +50,7 @@ returns-clause-objects g c = λ t h.
     let sound = g.S.Shelf.sound c.args.shelf.now t in
     let ready = own.open sizes (same_disks_of sizes l.found.slots c.rewound.result u (ap (λ (x : Uber). x.rows) next) (ap (λ (x : Uber). x.count) next) h.mounted) in
     let fresh = subst (λ (x : Uber). IsFresh x pool) next own.fresh in
-    let parts = subst (λ (r : Root). HasParts r (meta_of (saved_in l.beside)) pool) c.in_ok-reset.ensures (subst (λ (meta : List Dva). HasParts c.reset.new.self meta pool) c.in-Some.ensures.meta own.parts) in
+    let parts = subst (λ (r : Root). HasParts r (meta_of l.saved) pool) c.in_ok-reset.ensures (subst (λ (meta : List Dva). HasParts c.reset.new.self meta pool) c.saved_meta.ensures own.parts) in
     let le = c.requires.below in
     let held = as_reset tells t disks sizes sound.sized l (looked_moved (Unit {0}) tells disks disks (λ x. tt) (λ x. refl) sizes l h) (c.args.current.now.txg + 1) (omega (arith, le)) pool (subst IsUber next c.rewound.ensures.lawful) ready fresh parts own.slots in
     record {
@@ -61,10 +61,10 @@ returns-clause-objects g c = λ t h.
     }
 
 pub checkpoint_of-requires-clause-there : goal.checkpoint_of-requires-clause-there
-checkpoint_of-requires-clause-there g c = let l = c.args.then.now in let h = c.requires.looked in has_saved ⊥ [] l.found.slots l.found.root l.root l.beside h.served h.beside
+checkpoint_of-requires-clause-there g c = let l = c.args.then.now in let h = c.requires.looked in has_saved ⊥ [] l.found.slots l.found.root l.root l.saved h.beside
 
 pub checkpoint_of-requires-clause-lawful : goal.checkpoint_of-requires-clause-lawful
-checkpoint_of-requires-clause-lawful g c = let l = c.args.then.now in let h = c.requires.looked in lawful_saved ⊥ [] l.found.slots l.found.root l.root l.beside h.beside
+checkpoint_of-requires-clause-lawful g c = let l = c.args.then.now in let h = c.requires.looked in lawful_saved ⊥ [] l.found.slots l.found.root l.root l.saved h.beside
 
 pub open-requires-clause-saved : goal.open-requires-clause-saved
 open-requires-clause-saved g c = λ told.

@@ -2,15 +2,16 @@ use Rattle.std.proofs.Common.{rules, ◌≡◌, ◌+◌, ◌++◌, List, length,
 use Rattle.std.specs.Prelude.{All}
 use Rattle.std.proofs.lemmas.List.{take-append-drop}
 use Rattle.zr_meta.specs.declared.Stream.{Stream}
-use Rattle.zr_sync.specs.Heads.{streams_of}
 use Rattle.zr_sync.specs.Pools.{AreStreams}
 use Rattle.zr_sync.specs.declared.open.DeviceStreams.{DeviceStreams}
+use Rattle.zr_open.specs.Streams.{HasNoLate, told_of}
 use Rattle.zr_open.proofs.Streams.{all_more, step_each, step_total}
 use Rattle.zr_open.proofs.pool.streams_of.Goals as goal
 
 pub loop-row-preserved : goal.loop-row-preserved
 loop-row-preserved c =
     let rows = c.args.rows.now in
+    let form = c.args.head.now.form in
     let i = c.loop-row.row-index in
     let inv = c.loop-row.invariant in
     let rest = c.loop-row.rest.now in
@@ -26,9 +27,10 @@ loop-row-preserved c =
     let split : own ++ others ≡ rest = ap (λ (xs : List Stream). xs ++ others) c.split_at.ensures.front ∙ (ap (λ (xs : List Stream). take n rest ++ xs) c.split_at.ensures.back ∙ take-append-drop n rest) in
     record {
       count = search rules;
-      lawful = subst (All AreStreams) (sym items) (all_more c.loop-row.devices.items d inv.lawful c.device_streams.ensures.lawful);
+      lawful = subst (All AreStreams) (sym items) (all_more AreStreams c.loop-row.devices.items d inv.lawful c.device_streams.ensures.lawful);
+      late = λ first. subst (All HasNoLate) (sym items) (all_more HasNoLate c.loop-row.devices.items d (inv.late first) (c.device_streams.ensures.late first));
       left = search rules;
       total = omega (arith, total, sc, back);
-      each = subst (λ (ds : List DeviceStreams). streams_of (take (i + 1) rows) ds ++ others ≡ streams) (sym items)
-          (step_each rows i c.loop-row.devices.items d own others rest streams c.loop-row-test.true inv.count c.device_streams.ensures.are split inv.each);
+      each = subst (λ (ds : List DeviceStreams). told_of form (take (i + 1) rows) ds ++ others ≡ streams) (sym items)
+          (step_each form rows i c.loop-row.devices.items d own others rest streams c.loop-row-test.true inv.count c.device_streams.ensures.are split inv.each);
     }

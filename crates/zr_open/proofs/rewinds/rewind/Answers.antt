@@ -1,5 +1,5 @@
 use Rattle.std.proofs.Common.{rules, ◌≡◌, ◌∙◌, ◌+◌, ◌≤◌, ℕ, List, [], Option, Some, None, inl, inr, Err, false, refl, sym, ap, subst, arith}
-use Rattle.std.specs.Prelude.{IfSome, if◌then◌else◌}
+use Rattle.std.specs.Prelude.{if◌then◌else◌}
 use Rattle.zr_shelf.specs.Disks.{Stand}
 use Rattle.zr_image.specs.Current.{slots_of}
 use Rattle.zr_image.specs.StateOf.{AreObjects, devices_at}
@@ -27,18 +27,14 @@ use Rattle.zr_open.specs.Shown.{IsShownBeside}
 use Rattle.zr_open.proofs.Refusing.{looked_refusal, root_refusal}
 use Rattle.zr_open.specs.Rewound.{rewound}
 use Rattle.zr_roots.specs.Standing.{Stands}
-use Rattle.zr_open.specs.Roots.{FindsBeside, HasParts, IsSavedRoot, meta_of, saved_in, told_root}
+use Rattle.zr_open.specs.Roots.{HasParts, IsBeside, IsSavedRoot, meta_of, told_root}
 use Rattle.zr_open.specs.declared.look.Looked.{Looked}
 use Rattle.zr_open.specs.declared.saved.SavedRoot.{SavedRoot}
-use Rattle.zr_open.specs.declared.saved.Beside.TheVariants.{Saved}
 use Rattle.zr_open.proofs.Beside.{head_at, no_block, saved_disks, saved_moved}
 use Rattle.zr_open.proofs.Rewinding.{rewound_disks, saved_are, saved_held, saved_objects}
 use Rattle.zr_open.proofs.Showing.{ShowsSaved, saved_with, shows_it, state}
 use Rattle.zr_open.proofs.Views.{store_same}
 use Rattle.zr_open.proofs.rewinds.rewind.Goals as goal
-
-looked_is : (sizes : List ℕ) (tells : Type 0) (disks : List (List ℕ)) (o : Option Looked) (l : Looked) → o ≡ Some l → IfSome o (IsLooked sizes tells disks) → IsLooked sizes tells disks l
-looked_is sizes tells disks o l is h = subst (λ (x : Option Looked). IfSome x (IsLooked sizes tells disks)) is h
 
 pub returns-in_err-looked-clause-disks : goal.returns-in_err-looked-clause-disks
 returns-in_err-looked-clause-disks g c = λ t. works_still (g.S.Shelf.world c.args.shelf.now) (g.S.Shelf.world c.look.new.shelf) (c.in_err-looked.ensures.still t)
@@ -57,43 +53,40 @@ returns-in_err-looked-clause-refused g c = λ r is.
 pub returns-in_default-clause-disks : goal.returns-in_default-clause-disks
 returns-in_default-clause-disks g c = λ t. works_still (g.S.Shelf.world c.args.shelf.now) (g.S.Shelf.world c.look.new.shelf) (c.in_ok-looked.ensures.still t)
 
-pub returns-in_default-into_beside-clause-disks : goal.returns-in_default-into_beside-clause-disks
-returns-in_default-into_beside-clause-disks g c = λ t. works_still (g.S.Shelf.world c.args.shelf.now) (g.S.Shelf.world c.look.new.shelf) (c.in_ok-looked.ensures.still t)
-
-pub returns-in_default-into_beside-clause-refused : goal.returns-in_default-into_beside-clause-refused
-returns-in_default-into_beside-clause-refused g c = λ r is.
+pub returns-in_default-clause-refused : goal.returns-in_default-clause-refused
+returns-in_default-clause-refused g c = λ r is.
     let sizes = g.S.Shelf.sizes c.args.shelf.now in
     let tells = g.S.Shelf.tells c.args.shelf.now in
     let disks = (g.S.Shelf.world c.args.shelf.now).now.seen in
-    let l = c.in-Some.looked in
-    let h = looked_is sizes tells disks _ l c.in-Some.is c.in_ok-looked.ensures.looked in
+    let l = c.in_ok-looked.looked in
+    let h = c.in_ok-looked.ensures.looked in
     let u = l.found.root in
     inr (inr (
       u,
       h.finds,
       inr (
         cc,
-        (l.root.head, head_at tells disks (slots_of u h.finds.seen) l.found.slots u l.root h.slots h.at.head h.at.stands, no_block tells disks l.found.slots u l.root l.beside (λ s same. (let other = c.in_default-into_beside.not-Saved in let own = c.into_beside.ensures ∙ same in search (rules, other, own))) h.at.served h.at.beside),
+        (l.root.head, head_at tells disks (slots_of u h.finds.seen) l.found.slots u l.root h.slots h.at.head h.at.stands, no_block tells disks l.found.slots u l.root l.saved (λ s same. (let other = c.in_default.not-Some in let own = c.into_saved.ensures ∙ same in search (rules, other, own))) h.at.beside),
       ),
     ))
 
-pub returns-in_default-into_beside-clause-unsaved : goal.returns-in_default-into_beside-clause-unsaved
-returns-in_default-into_beside-clause-unsaved g c = λ t is.
+pub returns-in_default-clause-unsaved : goal.returns-in_default-clause-unsaved
+returns-in_default-clause-unsaved g c = λ t is.
     let sizes = g.S.Shelf.sizes c.args.shelf.now in
     let tells = g.S.Shelf.tells c.args.shelf.now in
     let w = g.S.Shelf.world c.args.shelf.now in
     let disks = w.now.seen in
-    let l = c.in-Some.looked in
-    let h = looked_is sizes tells disks _ l c.in-Some.is c.in_ok-looked.ensures.looked in
+    let l = c.in_ok-looked.looked in
+    let h = c.in_ok-looked.ensures.looked in
     let u = l.found.root in
     let these = slots_of u h.finds.seen in
     let sound = g.S.Shelf.sound c.args.shelf.now t in
-    let none = no_block tells disks l.found.slots u l.root l.beside (λ s same. (let other = c.in_default-into_beside.not-Saved in let own = c.into_beside.ensures ∙ same in search (rules, other, own))) h.at.served h.at.beside in
+    let none = no_block tells disks l.found.slots u l.root l.saved (λ s same. (let other = c.in_default.not-Some in let own = c.into_saved.ensures ∙ same in search (rules, other, own))) h.at.beside in
     let shown : ShowsSaved w.now.paths disks these (told_root u l.root) = record { root = None; shown = subst (λ (x : Option (List ℕ)). IsShownBeside disks these (told_root u l.root) x None) (sym none) tt; state = None; is = refl } in
     let stands = subst (λ (ss : List (Option ℕ)). Stands disks ss u l.root) (sym h.at.same) (h.at.stands t) in
     let same = subst (HasSlots these) (sym h.at.same) h.slots in (
-      state tells t w.now.paths disks sizes sound.sized u l.pool l.root h.finds.seen (h.finds.shown.shows t) h.finds.finds same h.at.uber h.at.head (meta_of (saved_in l.beside)) shown h.at.ready h.at.fresh h.at.parts h.at.mapped stands,
-      shows_it tells t w.now.paths disks sizes sound.sized u l.pool l.root h.finds.seen (h.finds.shown.shows t) h.finds.finds same h.at.uber h.at.head (meta_of (saved_in l.beside)) shown h.at.ready h.at.fresh h.at.parts h.at.mapped stands,
+      state tells t w.now.paths disks sizes sound.sized u l.pool l.root h.finds.seen (h.finds.shown.shows t) h.finds.finds same h.at.uber h.at.head (meta_of l.saved) shown h.at.ready h.at.fresh h.at.parts h.at.mapped stands,
+      shows_it tells t w.now.paths disks sizes sound.sized u l.pool l.root h.finds.seen (h.finds.shown.shows t) h.finds.finds same h.at.uber h.at.head (meta_of l.saved) shown h.at.ready h.at.fresh h.at.parts h.at.mapped stands,
       refl,
     )
 
@@ -135,7 +128,7 @@ record Back (sizes : List ℕ) (tells : Type 0) (disks : List (List ℕ)) (l : L
   disks_are : (cut : List (Option ℕ)) → IsCut s.uber l.found.slots cut → HasItsDisks sizes cut s.uber
   past : s.uber.txg ≤ l.found.root.txg + 1
 
-back_of : (sizes : List ℕ) (tells : Type 0) (disks : List (List ℕ)) (l : Looked) (s : SavedRoot) → IsLooked sizes tells disks l → FindsBeside tells disks l.found.slots l.found.root l.root (Saved s) → Back sizes tells disks l s
+back_of : (sizes : List ℕ) (tells : Type 0) (disks : List (List ℕ)) (l : Looked) (s : SavedRoot) → IsLooked sizes tells disks l → IsBeside tells disks l.found.slots l.found.root l.root (Some s) → Back sizes tells disks l s
 back_of sizes tells disks l s h (block, has, saved) = record {
   block = block;
   has = has;
@@ -144,8 +137,8 @@ back_of sizes tells disks l s h (block, has, saved) = record {
   past = let p = saved.is_saved.past in omega (arith, p);
 }
 
-back_is : (sizes : List ℕ) (tells : Type 0) (disks : List (List ℕ)) (l : Looked) (s : SavedRoot) → IsLooked sizes tells disks l → l.beside ≡ Saved s → Back sizes tells disks l s
-back_is sizes tells disks l s h is = back_of sizes tells disks l s h (subst (FindsBeside tells disks l.found.slots l.found.root l.root) is h.at.beside)
+back_is : (sizes : List ℕ) (tells : Type 0) (disks : List (List ℕ)) (l : Looked) (s : SavedRoot) → IsLooked sizes tells disks l → l.saved ≡ Some s → Back sizes tells disks l s
+back_is sizes tells disks l s h is = back_of sizes tells disks l s h (subst (IsBeside tells disks l.found.slots l.found.root l.root) is h.at.beside)
 
 -- the cut slots are those of the devices of the saved root
 own_cut : (slots cut : List (Option ℕ)) (saved next : Uber) (txg : ℕ) → next ≡ rewound saved txg → IsCut next slots cut → IsCut saved slots cut
@@ -164,10 +157,10 @@ show-requires-clause-pool g c =
     let sizes = g.S.Shelf.sizes c.args.shelf.now in
     let tells = g.S.Shelf.tells c.args.shelf.now in
     let disks = (g.S.Shelf.world c.args.shelf.now).now.seen in
-    let l = c.in-Some.looked in
-    let s = c.in-Saved.saved in
-    let h = looked_is sizes tells disks _ l c.in-Some.is c.in_ok-looked.ensures.looked in
-    let b = back_is sizes tells disks l s h (sym c.into_beside.ensures ∙ c.in-Saved.is) in
+    let l = c.in_ok-looked.looked in
+    let s = c.in-Some.saved in
+    let h = c.in_ok-looked.ensures.looked in
+    let b = back_is sizes tells disks l s h (sym c.into_saved.ensures ∙ c.in-Some.is) in
     let place = place_disks sizes l.found.slots c.own_slots.result s.uber c.rewound-root.result (l.found.root.txg + 1) c.rewound-root.ensures.is c.own_slots.ensures.own b.disks_are in
     subst (λ (ns : List ℕ). IsOpen ns c.in_ok-pool.pool) (sym c.in_ok-looked.ensures.sizes) (c.in_ok-pool.ensures.open sizes place)
 
@@ -186,10 +179,10 @@ returns-clause-pool g c =
     let sizes = g.S.Shelf.sizes c.args.shelf.now in
     let tells = g.S.Shelf.tells c.args.shelf.now in
     let disks = (g.S.Shelf.world c.args.shelf.now).now.seen in
-    let l = c.in-Some.looked in
-    let s = c.in-Saved.saved in
-    let h = looked_is sizes tells disks _ l c.in-Some.is c.in_ok-looked.ensures.looked in
-    let b = back_is sizes tells disks l s h (sym c.into_beside.ensures ∙ c.in-Saved.is) in
+    let l = c.in_ok-looked.looked in
+    let s = c.in-Some.saved in
+    let h = c.in_ok-looked.ensures.looked in
+    let b = back_is sizes tells disks l s h (sym c.into_saved.ensures ∙ c.in-Some.is) in
     let place = place_disks sizes l.found.slots c.own_slots.result s.uber c.rewound-root.result (l.found.root.txg + 1) c.rewound-root.ensures.is c.own_slots.ensures.own b.disks_are in
     subst (λ (ns : List ℕ). IsOpen ns c.in_ok-pool.pool) (sym (c.in_ok-show.ensures.sizes ∙ c.in_ok-looked.ensures.sizes)) (c.in_ok-pool.ensures.open sizes place)
 
@@ -198,10 +191,10 @@ returns-clause-rewound g c =
     let sizes = g.S.Shelf.sizes c.args.shelf.now in
     let tells = g.S.Shelf.tells c.args.shelf.now in
     let disks = (g.S.Shelf.world c.args.shelf.now).now.seen in
-    let l = c.in-Some.looked in
-    let s = c.in-Saved.saved in
-    let h = looked_is sizes tells disks _ l c.in-Some.is c.in_ok-looked.ensures.looked in
-    let b = back_is sizes tells disks l s h (sym c.into_beside.ensures ∙ c.in-Saved.is) in
+    let l = c.in_ok-looked.looked in
+    let s = c.in-Some.saved in
+    let h = c.in_ok-looked.ensures.looked in
+    let b = back_is sizes tells disks l s h (sym c.into_saved.ensures ∙ c.in-Some.is) in
     let u = l.found.root in (
       u,
       h.finds,
@@ -220,8 +213,8 @@ returns-clause-shown g c = λ t.
     let sizes = g.S.Shelf.sizes c.args.shelf.now in
     let tells = g.S.Shelf.tells c.args.shelf.now in
     let disks = (g.S.Shelf.world c.args.shelf.now).now.seen in
-    let l = c.in-Some.looked in
-    let h = looked_is sizes tells disks _ l c.in-Some.is c.in_ok-looked.ensures.looked in
+    let l = c.in_ok-looked.looked in
+    let h = c.in_ok-looked.ensures.looked in
     let u = l.found.root in (
       u,
       h.finds,
@@ -241,10 +234,10 @@ returns-clause-objects g c = λ t.
     let tells = g.S.Shelf.tells c.args.shelf.now in
     let w = g.S.Shelf.world c.args.shelf.now in
     let disks = w.now.seen in
-    let l = c.in-Some.looked in
-    let s = c.in-Saved.saved in
-    let h = looked_is sizes tells disks _ l c.in-Some.is c.in_ok-looked.ensures.looked in
-    let b = back_is sizes tells disks l s h (sym c.into_beside.ensures ∙ c.in-Saved.is) in
+    let l = c.in_ok-looked.looked in
+    let s = c.in-Some.saved in
+    let h = c.in_ok-looked.ensures.looked in
+    let b = back_is sizes tells disks l s h (sym c.into_saved.ensures ∙ c.in-Some.is) in
     let u = l.found.root in
     let txg = u.txg + 1 in
     let pool = c.in_ok-pool.pool in
@@ -274,8 +267,8 @@ returns-clause-objects g c = λ t.
     let stands = subst (λ (ss : List (Option ℕ)). Stands disks ss u l.root) (sym h.at.same) (h.at.stands t) in
     let same = subst (HasSlots these) (sym h.at.same) h.slots in
     record {
-      state = state tells t w.now.paths disks sizes sound.sized u l.pool l.root h.finds.seen (h.finds.shown.shows t) h.finds.finds same h.at.uber h.at.head (meta_of (saved_in l.beside)) shown h.at.ready h.at.fresh h.at.parts h.at.mapped stands;
-      shown = shows_it tells t w.now.paths disks sizes sound.sized u l.pool l.root h.finds.seen (h.finds.shown.shows t) h.finds.finds same h.at.uber h.at.head (meta_of (saved_in l.beside)) shown h.at.ready h.at.fresh h.at.parts h.at.mapped stands;
+      state = state tells t w.now.paths disks sizes sound.sized u l.pool l.root h.finds.seen (h.finds.shown.shows t) h.finds.finds same h.at.uber h.at.head (meta_of l.saved) shown h.at.ready h.at.fresh h.at.parts h.at.mapped stands;
+      shown = shows_it tells t w.now.paths disks sizes sound.sized u l.pool l.root h.finds.seen (h.finds.shown.shows t) h.finds.finds same h.at.uber h.at.head (meta_of l.saved) shown h.at.ready h.at.fresh h.at.parts h.at.mapped stands;
       saved = record { objects = objects; devs = devices_at w.now.paths these s.uber };
       saved_is = refl;
       holds = record {

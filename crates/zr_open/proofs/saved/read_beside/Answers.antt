@@ -5,7 +5,7 @@ use Rattle.zr_store.specs.Store.{Stored}
 use Rattle.zr_sync.specs.declared.fault.Fault.TheVariants.{No}
 use Rattle.zr_roots.specs.Standing.{Stands, blocks_of}
 use Rattle.zr_open.specs.Roots.{told_root}
-use Rattle.zr_open.proofs.Beside.{cut_blocks, cut_stands, head_cut, saved_disks}
+use Rattle.zr_open.proofs.Beside.{cut_blocks, cut_stands, saved_disks}
 use Rattle.zr_open.proofs.Refusing.{unread_saved}
 use Rattle.zr_open.proofs.Showing.{are, objects, own_rows}
 use Rattle.zr_open.proofs.saved.read_beside.Goals as goal
@@ -22,22 +22,6 @@ pub returns-in-Err-clause-refused : goal.returns-in-Err-clause-refused
 returns-in-Err-clause-refused g c = λ r is.
     let given : c.fault_of.result ≡ No r = cc in
     elim (unread_saved c.in-Err.error c.fault_of.result c.in-Err.ensures.unread c.fault_of.ensures r given) [ inl own ↦ inl own | inr eight ↦ inr (eight, (c.in-Some.block, c.in-Some.is)) ]
-
-pub returns-then-not-is_served-clause-beside : goal.returns-then-not-is_served-clause-beside
-returns-then-not-is_served-clause-beside g c =
-    let is = subst (λ (b : List ℕ). IsSavedUber (told_root c.args.found.now.root c.args.current.now) b c.in-Some-saved_uber.uber) c.as_slice.ensures (c.in-Some-saved_uber.ensures (told_root c.args.found.now.root c.args.current.now) refl refl) in (
-      c.in-Some.block,
-      c.in-Some.is,
-      (
-        c.in-Some-saved_uber.uber,
-        is.spelled,
-        (
-          c.in-Ok.root.head,
-          head_cut _ _ c.args.found.now.slots c.own_slots.result c.in-Some-saved_uber.uber c.in-Ok.root c.own_slots.ensures.own c.in-Ok.ensures.head c.in-Ok.ensures.stands,
-          λ served. (let yes = c.is_served.ensures.1 served in let no = c.if-not-is_served.true in cc),
-        ),
-      ),
-    )
 
 pub own_slots-requires-clause-few : goal.own_slots-requires-clause-few
 own_slots-requires-clause-few g c = (c.in-Some-saved_uber.ensures (told_root c.args.found.now.root c.args.current.now) refl refl).spelled.lawful.head.devices
@@ -88,7 +72,6 @@ returns-clause-beside g c =
                   (are tells t disks sizes sound.sized u pool root [] is.spelled.lawful ready own.fresh own.parts mapped stands)),
             );
         space = (pool.space, own.parts.space, own.room);
-        served = c.is_served.ensures.0 c.if-not-is_served.false;
         clear = c.in-Ok.ensures.clear;
         fits = c.in-Ok.ensures.fits;
       },

@@ -59,9 +59,9 @@ returns-clause-step g c = λ told paths before stood.
       | else-is_closing w ↦ ap (λ p. p.pool) w.self-is ∙ sym (ap (λ (b : Bool). left_of b y) (sym c.is_closing.ensures ∙ w.if-is_closing.false))
     ] in
     let told_part = open_turns old new before.told (g.S.Shelf.tells shelf) (g.S.Shelf.tells c.open_line-done.new.shelf) told behind command x y r there
-        c.open_line-done.ensures.acts c.open_line-done.ensures.stays c.open_line-done.ensures.cause c.open_line-done.ensures.answer c.open_line-done.ensures.refused in
+    c.open_line-done.ensures.acts c.open_line-done.ensures.stays c.open_line-done.ensures.cause c.open_line-done.ensures.answer c.open_line-done.ensures.refused in
     let account_part = open_accounts old new before command x y (stood.account ∙ c.in-Some.is) c.as_slice.result.now (paths ∙ sym c.as_slice.ensures) (g.S.Shelf.sizes shelf) (g.S.Shelf.sizes c.open_line-done.new.shelf) (g.S.Shelf.sound shelf told).sized (g.S.Shelf.sound c.open_line-done.new.shelf behind).sized r
-        c.open_line-done.ensures.answer (c.open_line-done.ensures.account told) (c.open_line-done.ensures.account_no told) c.open_line-done.ensures.pool c.open_line-done.ensures.pool_no in
+    c.open_line-done.ensures.answer (c.open_line-done.ensures.account told) (c.open_line-done.ensures.account_no told) c.open_line-done.ensures.pool c.open_line-done.ensures.pool_no in
     subst (λ (o : Option OpenPool). IfOk c.answer_of-2.result (λ found. IfSome found (λ answer. Leads old new before command o answer))) (sym left)
     (subst (λ q. IfOk q (λ found. IfSome found (λ answer. Leads old new before command (left_of (is_closing command r) y) answer))) (sym c.answer_of-2.ensures)
     (each_with_account old new before command (left_of (is_closing command r) y) (answer_of r) told_part account_part))
