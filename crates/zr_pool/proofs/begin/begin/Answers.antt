@@ -1,6 +1,7 @@
 use Rattle.std.proofs.Common.{false, None, Err, ◌∙◌, ap, refl, sym, subst}
 use Rattle.zr_base.specs.declared.space.CkptPart.{CkptPart}
 use Rattle.std.specs.Prelude.{IfOk, IfSome}
+use Rattle.std.proofs.lemmas.Result.{err_from_is_err_and}
 use Rattle.zr_script.specs.declared.command.Command.{Command}
 use Rattle.zr_sync.specs.States.{HasCheckpoint, HoldsState}
 use Rattle.zr_base.specs.declared.refusal.Refusal.{Refusal}
@@ -12,12 +13,10 @@ use Rattle.zr_open.proofs.Refusing.{back_refusal, looked_refusal, not_kept_shown
 use Rattle.zr_pool.specs.Accounts.{Begins, BeginsNone}
 use Rattle.zr_pool.specs.Plain.{IsMade, IsOpeningCause, shelf_of}
 use Rattle.zr_pool.specs.Turns.{IsClosedRefusal}
-use Rattle.zr_pool.proofs.Refused.{group_cause, opened_as, rewind_cause}
+use Rattle.zr_pool.proofs.Leavings.{in_the_way, is_new, not_begun}
+use Rattle.zr_pool.proofs.Refused.{fault_same, group_cause, rewind_cause}
 use Rattle.zr_sync.proofs.Disks.{works_still}
 use Rattle.zr_pool.proofs.begin.begin.Goals as goal
-
-pub returns-in-Import-clause-disks : goal.returns-in-Import-clause-disks
-returns-in-Import-clause-disks g c = λ told. works_still _ _ (c.import.ensures.still told)
 
 pub returns-in_ok-made-in-Create-clause-made : goal.returns-in_ok-made-in-Create-clause-made
 returns-in_ok-made-in-Create-clause-made g c = λ told.
@@ -29,89 +28,170 @@ returns-in_ok-made-in-CreateOld-clause-made g c = λ told.
     let Holds = HoldsState (g.S.Shelf.tells c.create-in-CreateOld.new.shelf) (g.S.Shelf.world c.create-in-CreateOld.new.shelf).now.seen c.in_ok-made-in-CreateOld.made in
     subst (λ (command : Command). IsMade (shelf_of (g.S.Shelf.world c.args.shelf.now).now) Holds command) (sym c.in-CreateOld.is) (record { objects = c.in_ok-made-in-CreateOld.ensures.objects told; checkpoint = subst (λ (k : CkptPart). HasCheckpoint k None false) (sym c.in_ok-made-in-CreateOld.ensures.clear) (refl, refl) })
 
-pub returns-in-Import-clause-made : goal.returns-in-Import-clause-made
-returns-in-Import-clause-made g c = λ told.
-    let shelf = shelf_of (g.S.Shelf.world c.args.shelf.now).now in
-    let disks = (g.S.Shelf.world c.import.new.shelf).now.seen in
-    let tells = g.S.Shelf.tells c.import.new.shelf in
-    subst (λ (command : Command). IfOk c.import.result (λ found. IfSome found (λ pool. IsMade shelf (HoldsState tells disks pool) command))) (sym c.in-Import.is) (c.import.ensures.objects told)
-
-pub returns-in-ImportRewind-clause-made : goal.returns-in-ImportRewind-clause-made
-returns-in-ImportRewind-clause-made g c = λ told.
-    let shelf = shelf_of (g.S.Shelf.world c.args.shelf.now).now in
-    let disks = (g.S.Shelf.world c.rewind.new.shelf).now.seen in
-    let tells = g.S.Shelf.tells c.rewind.new.shelf in
-    subst (λ (command : Command). IfOk c.rewind.result (λ found. IfSome found (λ pool. IsMade shelf (HoldsState tells disks pool) command))) (sym c.in-ImportRewind.is)
-    (opened_as (HoldsSaved shelf.paths shelf.disks tells disks) (λ pool. IsMade shelf (HoldsState tells disks pool) cmd.ImportRewind) c.rewind.result (λ pool h. (h.state, h.saved, h.shown, h.saved_is, h.holds)) (c.rewind.ensures.objects told))
-
-pub returns-in-Import-clause-refused : goal.returns-in-Import-clause-refused
-returns-in-Import-clause-refused g c = λ r is.
-    let old = c.args.shelf.now in
-    subst (λ (command : Command). IsClosedRefusal command r) (sym c.in-Import.is) (looked_refusal (g.S.Shelf.sizes old) (g.S.Shelf.tells old) (g.S.Shelf.world old).now.seen r (c.import.ensures.refused r is))
-
-pub returns-in-ImportRewind-clause-refused : goal.returns-in-ImportRewind-clause-refused
-returns-in-ImportRewind-clause-refused g c = λ r is.
-    let old = c.args.shelf.now in
-    subst (λ (command : Command). IsClosedRefusal command r) (sym c.in-ImportRewind.is) (rewind_refusal (g.S.Shelf.sizes old) (g.S.Shelf.tells old) (g.S.Shelf.world old).now.seen r (c.rewind.ensures.refused r is))
-
-pub returns-in-Import-clause-cause : goal.returns-in-Import-clause-cause
-returns-in-Import-clause-cause g c = λ told r is. subst (λ (command : Command). IsOpeningCause (shelf_of (g.S.Shelf.world c.args.shelf.now).now) command r) (sym c.in-Import.is) tt
-
-pub returns-in-ImportRewind-clause-cause : goal.returns-in-ImportRewind-clause-cause
-returns-in-ImportRewind-clause-cause g c = λ told r is.
-    let shelf = shelf_of (g.S.Shelf.world c.args.shelf.now).now in
-    subst (λ (command : Command). IsOpeningCause shelf command r) (sym c.in-ImportRewind.is) (rewind_cause shelf r (λ none. c.rewind.ensures.unsaved told (is ∙ ap (λ (x : Refusal). Err (No x)) none)))
-
-pub returns-in-ImportTxg-clause-made : goal.returns-in-ImportTxg-clause-made
-returns-in-ImportTxg-clause-made g c = λ told.
-    let shelf = shelf_of (g.S.Shelf.world c.args.shelf.now).now in
-    let disks = (g.S.Shelf.world c.go_back.new.shelf).now.seen in
-    let tells = g.S.Shelf.tells c.go_back.new.shelf in
-    let txg = c.in-ImportTxg.txg in
-    subst (λ (command : Command). IfOk c.go_back.result (λ found. IfSome found (λ pool. IsMade shelf (HoldsState tells disks pool) command))) (sym c.in-ImportTxg.is)
-    (opened_as (HoldsGroup shelf.paths shelf.disks txg tells disks) (λ pool. IsMade shelf (HoldsState tells disks pool) (cmd.ImportTxg txg)) c.go_back.result (λ pool h. (h.state, h.shown, h.holds)) (c.go_back.ensures.objects told))
-
-pub returns-in-ImportTxg-clause-refused : goal.returns-in-ImportTxg-clause-refused
-returns-in-ImportTxg-clause-refused g c = λ r is.
-    let old = c.args.shelf.now in
-    subst (λ (command : Command). IsClosedRefusal command r) (sym c.in-ImportTxg.is) (back_refusal (g.S.Shelf.sizes old) (g.S.Shelf.tells old) (g.S.Shelf.world old).now.seen c.in-ImportTxg.txg r (c.go_back.ensures.refused r is))
-
-pub returns-in-ImportTxg-clause-cause : goal.returns-in-ImportTxg-clause-cause
-returns-in-ImportTxg-clause-cause g c = λ told r is.
-    let old = c.args.shelf.now in
-    let shelf = shelf_of (g.S.Shelf.world old).now in
-    let txg = c.in-ImportTxg.txg in
-    subst (λ (command : Command). IsOpeningCause shelf command r) (sym c.in-ImportTxg.is)
-    (group_cause shelf txg r (λ oldest kept. not_kept_shown (g.S.Shelf.sizes old) (g.S.Shelf.tells old) (g.S.Shelf.world old).now.seen txg r told oldest kept (c.go_back.ensures.refused r is)))
-
 -- ---- the account
 
-pub returns-in-Import-clause-begins : goal.returns-in-Import-clause-begins
-returns-in-Import-clause-begins g c = λ told.
+pub returns-in_ok-made-in-Create-clause-begins : goal.returns-in_ok-made-in-Create-clause-begins
+returns-in_ok-made-in-Create-clause-begins g c = λ told.
+    let paths = c.args.paths.now in
     let shelf = c.args.shelf.now in
-    subst (λ (command : Command). IfOk c.import.result (λ found. IfSome found (Begins c.args.paths.now (g.S.Shelf.sizes shelf) (g.S.Shelf.world shelf).now.seen command))) (sym c.in-Import.is) c.import.ensures.room
+    let sizes = g.S.Shelf.sizes shelf in
+    let disks = (g.S.Shelf.world shelf).now.seen in
+    let made = c.in_ok-made-in-Create.made in
+    let done = c.in_ok-made-in-Create.ensures in
+    let at = c.in-Create in
+    subst (λ (command : Command). Begins paths sizes disks command made) (sym at.is)
+    (is_new (g.S.Shelf.tells shelf) told 2 at.guid paths sizes disks at.devs c.as_slice.result.now c.as_slice.ensures c.in_ok-named-in-Create.named.items c.as_slice-in-Create-2.result.now c.as_slice-in-Create-2.ensures.value c.in_ok-named-in-Create.ensures.slots
+    at.name c.name_of-name.result made (c.name_of-name.ensures.name ∙ c.as_slice-in-Create.ensures) done.allowed done.named done.devices done.clear done.txg done.empty done.root done.settled)
 
-pub returns-in-Import-clause-begins_no : goal.returns-in-Import-clause-begins_no
-returns-in-Import-clause-begins_no g c = λ told r is.
+pub returns-in_err-made-in-Create-clause-begins_no : goal.returns-in_err-made-in-Create-clause-begins_no
+returns-in_err-made-in-Create-clause-begins_no g c = λ told r is.
+    let paths = c.args.paths.now in
+    let shelf = c.args.shelf.now in
+    let sizes = g.S.Shelf.sizes shelf in
+    let disks = (g.S.Shelf.world shelf).now.seen in
+    let q = err_from_is_err_and c.from_residual-in_err-made-in-Create.result c.from_residual-in_err-made-in-Create.ensures.1 in
+    let e = fault_same c.in_err-made-in-Create.field-0.0 q.0 r c.from_residual-in_err-made-in-Create.result q.1 q.2 is in
+    let at = c.in-Create in
+    subst (λ (command : Command). BeginsNone paths sizes disks command r) (sym at.is)
+    (in_the_way (g.S.Shelf.tells shelf) told 2 at.guid paths sizes disks at.devs c.as_slice.result.now c.as_slice.ensures c.in_ok-named-in-Create.named.items c.as_slice-in-Create-2.result.now c.as_slice-in-Create-2.ensures.value c.in_ok-named-in-Create.ensures.slots
+    r (c.create.ensures.refused r (c.in_err-made-in-Create.was ∙ ap Err e)))
+
+pub returns-in_ok-made-in-CreateOld-clause-begins : goal.returns-in_ok-made-in-CreateOld-clause-begins
+returns-in_ok-made-in-CreateOld-clause-begins g c = λ told.
+    let paths = c.args.paths.now in
+    let shelf = c.args.shelf.now in
+    let sizes = g.S.Shelf.sizes shelf in
+    let disks = (g.S.Shelf.world shelf).now.seen in
+    let made = c.in_ok-made-in-CreateOld.made in
+    let done = c.in_ok-made-in-CreateOld.ensures in
+    let at = c.in-CreateOld in
+    subst (λ (command : Command). Begins paths sizes disks command made) (sym at.is)
+    (is_new (g.S.Shelf.tells shelf) told 1 at.guid paths sizes disks at.devs c.as_slice-in-CreateOld.result.now c.as_slice-in-CreateOld.ensures c.in_ok-named-in-CreateOld.named.items c.as_slice-in-CreateOld-3.result.now c.as_slice-in-CreateOld-3.ensures.value c.in_ok-named-in-CreateOld.ensures.slots
+    at.name c.name_of-name-in-CreateOld.result made (c.name_of-name-in-CreateOld.ensures.name ∙ c.as_slice-in-CreateOld-2.ensures) done.allowed done.named done.devices done.clear done.txg done.empty done.root done.settled)
+
+pub returns-in_err-made-in-CreateOld-clause-begins_no : goal.returns-in_err-made-in-CreateOld-clause-begins_no
+returns-in_err-made-in-CreateOld-clause-begins_no g c = λ told r is.
+    let paths = c.args.paths.now in
+    let shelf = c.args.shelf.now in
+    let sizes = g.S.Shelf.sizes shelf in
+    let disks = (g.S.Shelf.world shelf).now.seen in
+    let q = err_from_is_err_and c.from_residual-in_err-made-in-CreateOld.result c.from_residual-in_err-made-in-CreateOld.ensures.1 in
+    let e = fault_same c.in_err-made-in-CreateOld.field-0.0 q.0 r c.from_residual-in_err-made-in-CreateOld.result q.1 q.2 is in
+    let at = c.in-CreateOld in
+    subst (λ (command : Command). BeginsNone paths sizes disks command r) (sym at.is)
+    (in_the_way (g.S.Shelf.tells shelf) told 1 at.guid paths sizes disks at.devs c.as_slice-in-CreateOld.result.now c.as_slice-in-CreateOld.ensures c.in_ok-named-in-CreateOld.named.items c.as_slice-in-CreateOld-3.result.now c.as_slice-in-CreateOld-3.ensures.value c.in_ok-named-in-CreateOld.ensures.slots
+    r (c.create-in-CreateOld.ensures.refused r (c.in_err-made-in-CreateOld.was ∙ ap Err e)))
+
+pub returns-in_default-clause-begins_no : goal.returns-in_default-clause-begins_no
+returns-in_default-clause-begins_no g c = λ told r is.
+    not_begun c.args.paths.now (g.S.Shelf.sizes c.args.shelf.now) (g.S.Shelf.world c.args.shelf.now).now.seen c.args.command.now r c.in_default.not-Create c.in_default.not-CreateOld
+
+-- ---- pools that are opened
+
+pub returns-in_ok-import-in-Import-clause-disks : goal.returns-in_ok-import-in-Import-clause-disks
+returns-in_ok-import-in-Import-clause-disks g c = λ told. works_still _ _ (c.import.ensures.still told)
+
+pub returns-in_err-import-in-Import-clause-disks : goal.returns-in_err-import-in-Import-clause-disks
+returns-in_err-import-in-Import-clause-disks g c = λ told. works_still _ _ (c.import.ensures.still told)
+
+pub returns-in_ok-import-in-Import-clause-made : goal.returns-in_ok-import-in-Import-clause-made
+returns-in_ok-import-in-Import-clause-made g c = λ told.
+    let shelf = shelf_of (g.S.Shelf.world c.args.shelf.now).now in
+    let Holds = HoldsState (g.S.Shelf.tells c.import.new.shelf) (g.S.Shelf.world c.import.new.shelf).now.seen c.in_ok-import-in-Import.field-0 in
+    let h = c.in_ok-import-in-Import.ensures.objects told in
+    subst (λ (command : Command). IsMade shelf Holds command) (sym c.in-Import.is) h
+
+pub returns-in_ok-import-in-Import-clause-begins : goal.returns-in_ok-import-in-Import-clause-begins
+returns-in_ok-import-in-Import-clause-begins g c = λ told.
+    let shelf = c.args.shelf.now in
+    subst (λ (command : Command). Begins c.args.paths.now (g.S.Shelf.sizes shelf) (g.S.Shelf.world shelf).now.seen command c.in_ok-import-in-Import.field-0) (sym c.in-Import.is) c.in_ok-import-in-Import.ensures.room
+
+pub returns-in_err-import-in-Import-clause-refused : goal.returns-in_err-import-in-Import-clause-refused
+returns-in_err-import-in-Import-clause-refused g c = λ r is.
+    let q = err_from_is_err_and c.from_residual-in_err-import-in-Import.result c.from_residual-in_err-import-in-Import.ensures.1 in
+    let e = fault_same c.in_err-import-in-Import.field-0.0 q.0 r c.from_residual-in_err-import-in-Import.result q.1 q.2 is in
+    let was = c.in_err-import-in-Import.was ∙ ap Err e in
+    let old = c.args.shelf.now in
+    subst (λ (command : Command). IsClosedRefusal command r) (sym c.in-Import.is) (looked_refusal (g.S.Shelf.sizes old) (g.S.Shelf.tells old) (g.S.Shelf.world old).now.seen r (c.import.ensures.refused r was))
+
+pub returns-in_err-import-in-Import-clause-cause : goal.returns-in_err-import-in-Import-clause-cause
+returns-in_err-import-in-Import-clause-cause g c = λ told r is.
+    let q = err_from_is_err_and c.from_residual-in_err-import-in-Import.result c.from_residual-in_err-import-in-Import.ensures.1 in
+    let e = fault_same c.in_err-import-in-Import.field-0.0 q.0 r c.from_residual-in_err-import-in-Import.result q.1 q.2 is in
+    let was = c.in_err-import-in-Import.was ∙ ap Err e in
+    let old = c.args.shelf.now in
+    let shelf = shelf_of (g.S.Shelf.world old).now in
+    subst (λ (command : Command). IsOpeningCause shelf command r) (sym c.in-Import.is) tt
+
+pub returns-in_err-import-in-Import-clause-begins_no : goal.returns-in_err-import-in-Import-clause-begins_no
+returns-in_err-import-in-Import-clause-begins_no g c = λ told r is.
     let shelf = c.args.shelf.now in
     subst (λ (command : Command). BeginsNone c.args.paths.now (g.S.Shelf.sizes shelf) (g.S.Shelf.world shelf).now.seen command r) (sym c.in-Import.is) tt
 
-pub returns-in-ImportRewind-clause-begins : goal.returns-in-ImportRewind-clause-begins
-returns-in-ImportRewind-clause-begins g c = λ told.
-    let shelf = c.args.shelf.now in
-    subst (λ (command : Command). IfOk c.rewind.result (λ found. IfSome found (Begins c.args.paths.now (g.S.Shelf.sizes shelf) (g.S.Shelf.world shelf).now.seen command))) (sym c.in-ImportRewind.is) c.rewind.ensures.room
+pub returns-in_ok-rewind-in-ImportRewind-clause-made : goal.returns-in_ok-rewind-in-ImportRewind-clause-made
+returns-in_ok-rewind-in-ImportRewind-clause-made g c = λ told.
+    let shelf = shelf_of (g.S.Shelf.world c.args.shelf.now).now in
+    let Holds = HoldsState (g.S.Shelf.tells c.rewind.new.shelf) (g.S.Shelf.world c.rewind.new.shelf).now.seen c.in_ok-rewind-in-ImportRewind.field-0 in
+    let h = c.in_ok-rewind-in-ImportRewind.ensures.objects told in
+    subst (λ (command : Command). IsMade shelf Holds command) (sym c.in-ImportRewind.is) (h.state, h.saved, h.shown, h.saved_is, h.holds)
 
-pub returns-in-ImportRewind-clause-begins_no : goal.returns-in-ImportRewind-clause-begins_no
-returns-in-ImportRewind-clause-begins_no g c = λ told r is.
+pub returns-in_ok-rewind-in-ImportRewind-clause-begins : goal.returns-in_ok-rewind-in-ImportRewind-clause-begins
+returns-in_ok-rewind-in-ImportRewind-clause-begins g c = λ told.
+    let shelf = c.args.shelf.now in
+    subst (λ (command : Command). Begins c.args.paths.now (g.S.Shelf.sizes shelf) (g.S.Shelf.world shelf).now.seen command c.in_ok-rewind-in-ImportRewind.field-0) (sym c.in-ImportRewind.is) c.in_ok-rewind-in-ImportRewind.ensures.room
+
+pub returns-in_err-rewind-in-ImportRewind-clause-refused : goal.returns-in_err-rewind-in-ImportRewind-clause-refused
+returns-in_err-rewind-in-ImportRewind-clause-refused g c = λ r is.
+    let q = err_from_is_err_and c.from_residual-in_err-rewind-in-ImportRewind.result c.from_residual-in_err-rewind-in-ImportRewind.ensures.1 in
+    let e = fault_same c.in_err-rewind-in-ImportRewind.field-0.0 q.0 r c.from_residual-in_err-rewind-in-ImportRewind.result q.1 q.2 is in
+    let was = c.in_err-rewind-in-ImportRewind.was ∙ ap Err e in
+    let old = c.args.shelf.now in
+    subst (λ (command : Command). IsClosedRefusal command r) (sym c.in-ImportRewind.is) (rewind_refusal (g.S.Shelf.sizes old) (g.S.Shelf.tells old) (g.S.Shelf.world old).now.seen r (c.rewind.ensures.refused r was))
+
+pub returns-in_err-rewind-in-ImportRewind-clause-cause : goal.returns-in_err-rewind-in-ImportRewind-clause-cause
+returns-in_err-rewind-in-ImportRewind-clause-cause g c = λ told r is.
+    let q = err_from_is_err_and c.from_residual-in_err-rewind-in-ImportRewind.result c.from_residual-in_err-rewind-in-ImportRewind.ensures.1 in
+    let e = fault_same c.in_err-rewind-in-ImportRewind.field-0.0 q.0 r c.from_residual-in_err-rewind-in-ImportRewind.result q.1 q.2 is in
+    let was = c.in_err-rewind-in-ImportRewind.was ∙ ap Err e in
+    let old = c.args.shelf.now in
+    let shelf = shelf_of (g.S.Shelf.world old).now in
+    subst (λ (command : Command). IsOpeningCause shelf command r) (sym c.in-ImportRewind.is) (rewind_cause shelf r (λ none. c.rewind.ensures.unsaved told (was ∙ ap (λ (x : Refusal). Err (No x)) none)))
+
+pub returns-in_err-rewind-in-ImportRewind-clause-begins_no : goal.returns-in_err-rewind-in-ImportRewind-clause-begins_no
+returns-in_err-rewind-in-ImportRewind-clause-begins_no g c = λ told r is.
     let shelf = c.args.shelf.now in
     subst (λ (command : Command). BeginsNone c.args.paths.now (g.S.Shelf.sizes shelf) (g.S.Shelf.world shelf).now.seen command r) (sym c.in-ImportRewind.is) tt
 
-pub returns-in-ImportTxg-clause-begins : goal.returns-in-ImportTxg-clause-begins
-returns-in-ImportTxg-clause-begins g c = λ told.
-    let shelf = c.args.shelf.now in
-    subst (λ (command : Command). IfOk c.go_back.result (λ found. IfSome found (Begins c.args.paths.now (g.S.Shelf.sizes shelf) (g.S.Shelf.world shelf).now.seen command))) (sym c.in-ImportTxg.is) c.go_back.ensures.room
+pub returns-in_ok-go_back-in-ImportTxg-clause-made : goal.returns-in_ok-go_back-in-ImportTxg-clause-made
+returns-in_ok-go_back-in-ImportTxg-clause-made g c = λ told.
+    let shelf = shelf_of (g.S.Shelf.world c.args.shelf.now).now in
+    let Holds = HoldsState (g.S.Shelf.tells c.go_back.new.shelf) (g.S.Shelf.world c.go_back.new.shelf).now.seen c.in_ok-go_back-in-ImportTxg.field-0 in
+    let h = c.in_ok-go_back-in-ImportTxg.ensures.objects told in
+    subst (λ (command : Command). IsMade shelf Holds command) (sym c.in-ImportTxg.is) (h.state, h.shown, h.holds)
 
-pub returns-in-ImportTxg-clause-begins_no : goal.returns-in-ImportTxg-clause-begins_no
-returns-in-ImportTxg-clause-begins_no g c = λ told r is.
+pub returns-in_ok-go_back-in-ImportTxg-clause-begins : goal.returns-in_ok-go_back-in-ImportTxg-clause-begins
+returns-in_ok-go_back-in-ImportTxg-clause-begins g c = λ told.
+    let shelf = c.args.shelf.now in
+    subst (λ (command : Command). Begins c.args.paths.now (g.S.Shelf.sizes shelf) (g.S.Shelf.world shelf).now.seen command c.in_ok-go_back-in-ImportTxg.field-0) (sym c.in-ImportTxg.is) c.in_ok-go_back-in-ImportTxg.ensures.room
+
+pub returns-in_err-go_back-in-ImportTxg-clause-refused : goal.returns-in_err-go_back-in-ImportTxg-clause-refused
+returns-in_err-go_back-in-ImportTxg-clause-refused g c = λ r is.
+    let q = err_from_is_err_and c.from_residual-in_err-go_back-in-ImportTxg.result c.from_residual-in_err-go_back-in-ImportTxg.ensures.1 in
+    let e = fault_same c.in_err-go_back-in-ImportTxg.field-0.0 q.0 r c.from_residual-in_err-go_back-in-ImportTxg.result q.1 q.2 is in
+    let was = c.in_err-go_back-in-ImportTxg.was ∙ ap Err e in
+    let old = c.args.shelf.now in
+    subst (λ (command : Command). IsClosedRefusal command r) (sym c.in-ImportTxg.is) (back_refusal (g.S.Shelf.sizes old) (g.S.Shelf.tells old) (g.S.Shelf.world old).now.seen c.in-ImportTxg.txg r (c.go_back.ensures.refused r was))
+
+pub returns-in_err-go_back-in-ImportTxg-clause-cause : goal.returns-in_err-go_back-in-ImportTxg-clause-cause
+returns-in_err-go_back-in-ImportTxg-clause-cause g c = λ told r is.
+    let q = err_from_is_err_and c.from_residual-in_err-go_back-in-ImportTxg.result c.from_residual-in_err-go_back-in-ImportTxg.ensures.1 in
+    let e = fault_same c.in_err-go_back-in-ImportTxg.field-0.0 q.0 r c.from_residual-in_err-go_back-in-ImportTxg.result q.1 q.2 is in
+    let was = c.in_err-go_back-in-ImportTxg.was ∙ ap Err e in
+    let old = c.args.shelf.now in
+    let shelf = shelf_of (g.S.Shelf.world old).now in
+    subst (λ (command : Command). IsOpeningCause shelf command r) (sym c.in-ImportTxg.is) (group_cause shelf c.in-ImportTxg.txg r (λ oldest kept. not_kept_shown (g.S.Shelf.sizes old) (g.S.Shelf.tells old) (g.S.Shelf.world old).now.seen c.in-ImportTxg.txg r told oldest kept (c.go_back.ensures.refused r was)))
+
+pub returns-in_err-go_back-in-ImportTxg-clause-begins_no : goal.returns-in_err-go_back-in-ImportTxg-clause-begins_no
+returns-in_err-go_back-in-ImportTxg-clause-begins_no g c = λ told r is.
     let shelf = c.args.shelf.now in
     subst (λ (command : Command). BeginsNone c.args.paths.now (g.S.Shelf.sizes shelf) (g.S.Shelf.world shelf).now.seen command r) (sym c.in-ImportTxg.is) tt
