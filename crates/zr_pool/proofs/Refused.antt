@@ -117,12 +117,6 @@ pub group_cause : (shelf : Shelf) (txg : ℕ) (r : Refusal) → ((oldest : ℕ) 
 group_cause shelf txg (refusal.GroupNotKept oldest) why = why oldest refl
 group_cause shelf txg r why = tt
 
--- what a pool that is opened is said to be, by what is known of it
-pub opened_as : (A B : OpenPool → Type 0) (r : Result (Option OpenPool) Fault) → ((pool : OpenPool) → A pool → B pool) → IfOk r (λ o. IfSome o A) → IfOk r (λ o. IfSome o B)
-opened_as A B (Ok None) each h = tt
-opened_as A B (Ok (Some pool)) each h = each pool h
-opened_as A B (Err e) each h = tt
-
 -- ---- a removal
 
 -- why no removal begins
