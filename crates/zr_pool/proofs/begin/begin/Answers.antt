@@ -1,6 +1,7 @@
 use Rattle.std.proofs.Common.{false, None, Err, ◌∙◌, ap, refl, sym, subst}
 use Rattle.zr_base.specs.declared.space.CkptPart.{CkptPart}
 use Rattle.std.specs.Prelude.{IfOk, IfSome}
+use Rattle.std.proofs.lemmas.Result.{err_from_is_err_and}
 use Rattle.zr_script.specs.declared.command.Command.{Command}
 use Rattle.zr_sync.specs.States.{HasCheckpoint, HoldsState}
 use Rattle.zr_base.specs.declared.refusal.Refusal.{Refusal}
@@ -12,7 +13,8 @@ use Rattle.zr_open.proofs.Refusing.{back_refusal, looked_refusal, not_kept_shown
 use Rattle.zr_pool.specs.Accounts.{Begins, BeginsNone}
 use Rattle.zr_pool.specs.Plain.{IsMade, IsOpeningCause, shelf_of}
 use Rattle.zr_pool.specs.Turns.{IsClosedRefusal}
-use Rattle.zr_pool.proofs.Refused.{group_cause, opened_as, rewind_cause}
+use Rattle.zr_pool.proofs.Leavings.{in_the_way, is_new, not_begun}
+use Rattle.zr_pool.proofs.Refused.{fault_same, group_cause, opened_as, rewind_cause}
 use Rattle.zr_sync.proofs.Disks.{works_still}
 use Rattle.zr_pool.proofs.begin.begin.Goals as goal
 
@@ -115,3 +117,59 @@ pub returns-in-ImportTxg-clause-begins_no : goal.returns-in-ImportTxg-clause-beg
 returns-in-ImportTxg-clause-begins_no g c = λ told r is.
     let shelf = c.args.shelf.now in
     subst (λ (command : Command). BeginsNone c.args.paths.now (g.S.Shelf.sizes shelf) (g.S.Shelf.world shelf).now.seen command r) (sym c.in-ImportTxg.is) tt
+
+pub returns-in_ok-made-in-Create-clause-begins : goal.returns-in_ok-made-in-Create-clause-begins
+returns-in_ok-made-in-Create-clause-begins g c = λ told.
+    let paths = c.args.paths.now in
+    let shelf = c.args.shelf.now in
+    let sizes = g.S.Shelf.sizes shelf in
+    let disks = (g.S.Shelf.world shelf).now.seen in
+    let made = c.in_ok-made-in-Create.made in
+    let done = c.in_ok-made-in-Create.ensures in
+    let at = c.in-Create in
+    subst (λ (command : Command). Begins paths sizes disks command made) (sym at.is)
+    (is_new (g.S.Shelf.tells shelf) told 2 at.guid paths sizes disks at.devs c.as_slice.result.now c.as_slice.ensures c.in_ok-named-in-Create.named.items c.as_slice-in-Create-2.result.now c.as_slice-in-Create-2.ensures.value c.in_ok-named-in-Create.ensures.slots
+    at.name c.name_of-name.result made (c.name_of-name.ensures.name ∙ c.as_slice-in-Create.ensures) done.allowed done.named done.devices done.clear done.txg done.empty done.root done.settled)
+
+pub returns-in_err-made-in-Create-clause-begins_no : goal.returns-in_err-made-in-Create-clause-begins_no
+returns-in_err-made-in-Create-clause-begins_no g c = λ told r is.
+    let paths = c.args.paths.now in
+    let shelf = c.args.shelf.now in
+    let sizes = g.S.Shelf.sizes shelf in
+    let disks = (g.S.Shelf.world shelf).now.seen in
+    let q = err_from_is_err_and c.from_residual-in_err-made-in-Create.result c.from_residual-in_err-made-in-Create.ensures.1 in
+    let e = fault_same c.in_err-made-in-Create.field-0.0 q.0 r c.from_residual-in_err-made-in-Create.result q.1 q.2 is in
+    let at = c.in-Create in
+    subst (λ (command : Command). BeginsNone paths sizes disks command r) (sym at.is)
+    (in_the_way (g.S.Shelf.tells shelf) told 2 at.guid paths sizes disks at.devs c.as_slice.result.now c.as_slice.ensures c.in_ok-named-in-Create.named.items c.as_slice-in-Create-2.result.now c.as_slice-in-Create-2.ensures.value c.in_ok-named-in-Create.ensures.slots
+    r (c.create.ensures.refused r (c.in_err-made-in-Create.was ∙ ap Err e)))
+
+pub returns-in_ok-made-in-CreateOld-clause-begins : goal.returns-in_ok-made-in-CreateOld-clause-begins
+returns-in_ok-made-in-CreateOld-clause-begins g c = λ told.
+    let paths = c.args.paths.now in
+    let shelf = c.args.shelf.now in
+    let sizes = g.S.Shelf.sizes shelf in
+    let disks = (g.S.Shelf.world shelf).now.seen in
+    let made = c.in_ok-made-in-CreateOld.made in
+    let done = c.in_ok-made-in-CreateOld.ensures in
+    let at = c.in-CreateOld in
+    subst (λ (command : Command). Begins paths sizes disks command made) (sym at.is)
+    (is_new (g.S.Shelf.tells shelf) told 1 at.guid paths sizes disks at.devs c.as_slice-in-CreateOld.result.now c.as_slice-in-CreateOld.ensures c.in_ok-named-in-CreateOld.named.items c.as_slice-in-CreateOld-3.result.now c.as_slice-in-CreateOld-3.ensures.value c.in_ok-named-in-CreateOld.ensures.slots
+    at.name c.name_of-name-in-CreateOld.result made (c.name_of-name-in-CreateOld.ensures.name ∙ c.as_slice-in-CreateOld-2.ensures) done.allowed done.named done.devices done.clear done.txg done.empty done.root done.settled)
+
+pub returns-in_err-made-in-CreateOld-clause-begins_no : goal.returns-in_err-made-in-CreateOld-clause-begins_no
+returns-in_err-made-in-CreateOld-clause-begins_no g c = λ told r is.
+    let paths = c.args.paths.now in
+    let shelf = c.args.shelf.now in
+    let sizes = g.S.Shelf.sizes shelf in
+    let disks = (g.S.Shelf.world shelf).now.seen in
+    let q = err_from_is_err_and c.from_residual-in_err-made-in-CreateOld.result c.from_residual-in_err-made-in-CreateOld.ensures.1 in
+    let e = fault_same c.in_err-made-in-CreateOld.field-0.0 q.0 r c.from_residual-in_err-made-in-CreateOld.result q.1 q.2 is in
+    let at = c.in-CreateOld in
+    subst (λ (command : Command). BeginsNone paths sizes disks command r) (sym at.is)
+    (in_the_way (g.S.Shelf.tells shelf) told 1 at.guid paths sizes disks at.devs c.as_slice-in-CreateOld.result.now c.as_slice-in-CreateOld.ensures c.in_ok-named-in-CreateOld.named.items c.as_slice-in-CreateOld-3.result.now c.as_slice-in-CreateOld-3.ensures.value c.in_ok-named-in-CreateOld.ensures.slots
+    r (c.create-in-CreateOld.ensures.refused r (c.in_err-made-in-CreateOld.was ∙ ap Err e)))
+
+pub returns-in_default-clause-begins_no : goal.returns-in_default-clause-begins_no
+returns-in_default-clause-begins_no g c = λ told r is.
+    not_begun c.args.paths.now (g.S.Shelf.sizes c.args.shelf.now) (g.S.Shelf.world c.args.shelf.now).now.seen c.args.command.now r c.in_default.not-Create c.in_default.not-CreateOld

@@ -2,8 +2,6 @@ use Rattle.std.proofs.Common.{◌∙◌, ap, refl, sym, Err}
 use Rattle.std.proofs.lemmas.Result.{err_from_is_err_and}
 use Rattle.zr_shelf.specs.Moments.{World}
 use Rattle.zr_sync.specs.declared.open.OpenPool.{OpenPool}
-use Rattle.zr_pool.specs.Turns.{is_on_objects, is_on_pool, is_table}
-use Rattle.zr_pool.proofs.Blaming.{kind_blameless}
 use Rattle.zr_pool.proofs.Leavings.{opener_refused}
 use Rattle.zr_pool.proofs.Refused.{fault_same}
 use Rattle.zr_pool.proofs.Staying.{same_state, stays_still}
@@ -41,18 +39,6 @@ returns-in_err-removal_line-clause-stays g c = λ p h r is.
 
 -- ---- the account
 
-pub returns-in_ok-object_line-clause-account : goal.returns-in_ok-object_line-clause-account
-returns-in_ok-object_line-clause-account g c = λ told. c.in_ok-object_line.ensures.account told c.args.paths.now
-
-pub returns-in_ok-table_line-clause-account : goal.returns-in_ok-table_line-clause-account
-returns-in_ok-table_line-clause-account g c = λ told. c.in_ok-table_line.ensures.account told
-
-pub returns-in_ok-pool_line-clause-account : goal.returns-in_ok-pool_line-clause-account
-returns-in_ok-pool_line-clause-account g c = λ told. c.in_ok-pool_line.ensures.account told
-
-pub returns-in_ok-removal_line-clause-account : goal.returns-in_ok-removal_line-clause-account
-returns-in_ok-removal_line-clause-account g c = λ told. c.in_ok-removal_line.ensures.account told
-
 pub returns-in_err-object_line-clause-account_no : goal.returns-in_err-object_line-clause-account_no
 returns-in_err-object_line-clause-account_no g c = λ told r is.
     let q = err_from_is_err_and c.from_residual.result c.from_residual.ensures.1 in
@@ -83,17 +69,3 @@ returns-in_err-removal_line-clause-account_no g c = λ told r is.
 pub returns-then-is_opener-clause-account_no : goal.returns-then-is_opener-clause-account_no
 returns-then-is_opener-clause-account_no g c = λ told r is.
     opener_refused c.args.paths.now (g.S.Shelf.sizes c.args.shelf.now) (g.S.Shelf.world c.args.shelf.now).now.seen c.args.pool.now c.args.command.now r (sym c.is_opener.ensures ∙ c.if-is_opener.true)
-
--- ---- what tells of a fault
-
-pub returns-in_ok-object_line-clause-blamed : goal.returns-in_ok-object_line-clause-blamed
-returns-in_ok-object_line-clause-blamed g c = λ tells. absurd (kind_blameless is_on_objects refl c.args.command.now c.in_ok-object_line.field-0 (sym c.is_on_objects.ensures ∙ c.if-is_on_objects.true) tells)
-
-pub returns-in_ok-table_line-clause-blamed : goal.returns-in_ok-table_line-clause-blamed
-returns-in_ok-table_line-clause-blamed g c = λ tells. absurd (kind_blameless is_table refl c.args.command.now c.in_ok-table_line.field-0 (sym c.is_table.ensures ∙ c.if-is_table.true) tells)
-
-pub returns-in_ok-pool_line-clause-blamed : goal.returns-in_ok-pool_line-clause-blamed
-returns-in_ok-pool_line-clause-blamed g c = λ tells. absurd (kind_blameless is_on_pool refl c.args.command.now c.in_ok-pool_line.field-0 (sym c.is_on_pool.ensures ∙ c.if-is_on_pool.true) tells)
-
-pub returns-in_ok-removal_line-clause-blamed : goal.returns-in_ok-removal_line-clause-blamed
-returns-in_ok-removal_line-clause-blamed g c = c.in_ok-removal_line.ensures.blamed
