@@ -1,5 +1,5 @@
 -- Which answers tell that a device failed.
-use Rattle.std.proofs.Common.{◌≡◌, ℕ, Bool, true, false, List, Option, Some, None, Result, Ok, Err, subst}
+use Rattle.std.proofs.Common.{◌≡◌, ℕ, List, Option, Some, None, Result, Ok, Err, subst}
 use Rattle.std.specs.Prelude.{IfOk, IfSome}
 use Rattle.zr_base.specs.Counts.{HasRisen}
 use Rattle.zr_base.specs.declared.refusal.Refusal.{Refusal}
@@ -24,11 +24,6 @@ pub step_blames : (policy : Policy) (sizes : List ℕ) (t : Type 0) (c1 c2 : Cou
 step_blames policy sizes t c1 c2 before now old new (Copied n) h tells = absurd tells
 step_blames policy sizes t c1 c2 before now old new (Gone d) h tells = absurd tells
 step_blames policy sizes t c1 c2 before now old new (Cancelled d) h tells = h.failed
-
--- no answer to a line of a kind that has no such step
-pub kind_blameless : (kind : Command → Bool) → kind cmd.StepEvac ≡ false → (command : Command) (answer : Reply) → kind command ≡ true → TellsFault command answer → ⊥
-kind_blameless kind unlike cmd.StepEvac answer is tells = cc
-kind_blameless kind unlike command answer is tells = tells
 
 -- no refusal, and no other line that is done
 no_blameless : (command : Command) (r : Refusal) → TellsFault command (reply.No r) → ⊥

@@ -27,7 +27,7 @@ use Rattle.zr_sync.specs.declared.fault.Fault.{Fault}
 use Rattle.zr_sync.specs.declared.fault.Fault.TheVariants.{No}
 use Rattle.zr_sync.specs.declared.open.OpenPool.{OpenPool}
 use Rattle.zr_vdev.specs.Copies.{CopiesUnits}
-use Rattle.zr_pool.specs.Accounts.{Condenses, CopiesSome, Evacuates, IsCreateCause, IsNamedCause, IsNew, IsRemovalCause, Leaves, LetsGo, PutsBack, Refuses, Turns}
+use Rattle.zr_pool.specs.Accounts.{BeginsNone, Condenses, CopiesSome, Evacuates, IsCreateCause, IsNamedCause, IsNew, IsRemovalCause, Leaves, LetsGo, PutsBack, Refuses, Turns}
 use Rattle.zr_pool.specs.Replies.{condense_reply, evac_reply}
 use Rattle.zr_pool.specs.Turns.{is_opener}
 
@@ -141,3 +141,10 @@ opener_refused paths sizes disks old cmd.Import r is = refl
 opener_refused paths sizes disks old cmd.ImportRewind r is = refl
 opener_refused paths sizes disks old (cmd.ImportTxg txg) r is = refl
 opener_refused paths sizes disks old command r is = absurd (cc)
+
+-- and no other line begins one
+pub not_begun : (paths : List (List ℕ)) (sizes : List ℕ) (disks : List (List ℕ)) (command : Command) (r : Refusal)
+    → ((name : List ℕ) (guid : ℕ) (devs : List (List ℕ)) → command ≡ cmd.Create name guid devs → ⊥) → ((name : List ℕ) (guid : ℕ) (devs : List (List ℕ)) → command ≡ cmd.CreateOld name guid devs → ⊥) → BeginsNone paths sizes disks command r
+not_begun paths sizes disks (cmd.Create name guid devs) r new old = absurd (new name guid devs refl)
+not_begun paths sizes disks (cmd.CreateOld name guid devs) r new old = absurd (old name guid devs refl)
+not_begun paths sizes disks command r new old = tt
