@@ -81,16 +81,16 @@ module _ (old new : Stand) (before : DeviceState) (command : Command) (x y : Ope
       → IfOk r (λ found. IfSome found (λ answer. Turns paths s1 old.seen x command answer new.seen y)) → ((n : Refusal) → r ≡ Err (No n) → Refuses paths s1 old.seen x command n y)
       → OnOk r (IsOpen s2 y) → ((n : Refusal) → r ≡ Err (No n) → IsOpen s2 y)
       → IfOk (answer_of r) (λ found. IfSome found (λ answer. Accounts old new before command (left_of (is_closing command r) y) answer))
-  open_accounts (Ok None) a h no lawful lawful_no = tt
-  open_accounts (Ok (Some answer)) a h no lawful lawful_no = record {
+  open_accounts (Ok None) a h refused lawful lawful_no = tt
+  open_accounts (Ok (Some answer)) a h refused lawful lawful_no = record {
     turn = as_account answer (left_of (is_closing command (Ok (Some answer))) y) (closes command answer y a) h;
     lawful = lawful_left (sizes_of new.seen) (is_closing command (Ok (Some answer))) y (subst (λ (sizes : List ℕ). IsOpen sizes y) (sym sized_new) lawful);
   }
-  open_accounts (Err (No n)) a h no lawful lawful_no = record {
-    turn = as_account (reply.No n) (Some y) (stays_no command n y) (no n refl);
+  open_accounts (Err (No n)) a h refused lawful lawful_no = record {
+    turn = as_account (reply.No n) (Some y) (stays_no command n y) (refused n refl);
     lawful = subst (λ (sizes : List ℕ). IsOpen sizes y) (sym sized_new) (lawful_no n refl);
   }
-  open_accounts (Err (Stops stop)) a h no lawful lawful_no = tt
+  open_accounts (Err (Stops stop)) a h refused lawful lawful_no = tt
 
 -- ---- where none is open
 
@@ -117,9 +117,9 @@ module _ (old new : Stand) (before : DeviceState) (command : Command) (pool : Op
   pub closed_accounts : (r : Result (Option Reply) Fault) → IfOk r (λ found. IfSome found (λ answer. answer ≡ reply.Done)) → IfOk r (λ found. IfSome found (λ answer. IsTurn false command answer (is_some pool)))
       → IfSome pool (Begins paths s1 old.seen command) → ((n : Refusal) → r ≡ Err (No n) → BeginsNone paths s1 old.seen command n) → OnErr r (pool ≡ None) → IfSome pool (IsOpen s2)
       → IfOk (answer_of r) (λ found. IfSome found (λ answer. Accounts old new before command pool answer))
-  closed_accounts (Ok None) done turn h no closed lawful = tt
-  closed_accounts (Ok (Some answer)) done turn h no closed lawful =
+  closed_accounts (Ok None) done turn h refused closed lawful = tt
+  closed_accounts (Ok (Some answer)) done turn h refused closed lawful =
       let is_open : is_some pool ≡ true = (subst (λ (a : Reply). IsTurn false command a (is_some pool)) done turn).1 in
       record { turn = closed_by answer done is_open h; lawful = lawful_new lawful }
-  closed_accounts (Err (No n)) done turn h no closed lawful = record { turn = closed_no n closed (no n refl); lawful = lawful_new lawful }
-  closed_accounts (Err (Stops stop)) done turn h no closed lawful = tt
+  closed_accounts (Err (No n)) done turn h refused closed lawful = record { turn = closed_no n closed (refused n refl); lawful = lawful_new lawful }
+  closed_accounts (Err (Stops stop)) done turn h refused closed lawful = tt
