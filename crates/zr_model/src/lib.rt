@@ -1,10 +1,9 @@
 //! What a pool of plain objects answers, without devices, blocks or addresses.
 //!
 //! The definitions in specs/ are split by how often they change: the objects, the state of a pool, what one command does
-//! to it, and a run of commands. The trait `Pool` is all that a run over lines
-//! knows of a pool: one call for one command, whatever the pool stands on.
+//! to it, and the points of a run of commands.
 #![tactic(auto)]
 
-mod pool;
+mod actor;
 
-pub use pool::{Actor, Pool, Stop};
+pub use actor::Actor;

@@ -8,7 +8,7 @@ use Rattle.zr_script.specs.declared.reply.Reply.{Reply}
 use Rattle.zr_script.specs.declared.reply.Reply.TheVariants as reply
 use Rattle.zr_shelf.specs.Disks.{Stand}
 use Rattle.zr_model.specs.State.{State, PoolState, ShelfPart, Empty, Refused, Is, IsOpened, Work, no_pool, untold, created}
-use Rattle.zr_model.specs.Runs.{TurnsTo}
+use Rattle.zr_command.specs.Meanings.{TurnsTo}
 use Rattle.zr_moves.specs.Answers.{rewound}
 use Rattle.zr_sync.specs.States.{HoldsState}
 use Rattle.zr_sync.specs.declared.fault.Fault.{Fault}

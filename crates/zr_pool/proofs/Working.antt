@@ -6,8 +6,8 @@ use Rattle.zr_base.specs.declared.space.CkptPart.{CkptPart}
 use Rattle.zr_base.specs.declared.space.CkptPart.TheVariants.{Clear, Held, Discarding}
 use Rattle.zr_base.specs.declared.space.DevPart.{DevPart}
 use Rattle.zr_image.specs.StateOf.{is_discarding}
-use Rattle.zr_model.specs.declared.pool.Actor.{Actor}
-use Rattle.zr_model.specs.declared.pool.Actor.TheVariants.{Evac, Discard, Condense}
+use Rattle.zr_model.specs.declared.actor.Actor.{Actor}
+use Rattle.zr_model.specs.declared.actor.Actor.TheVariants.{Evac, Discard, Condense}
 use Rattle.zr_removal.specs.Refusals.{HasWork}
 use Rattle.zr_rules.specs.Places.{is_leaving, state_of_dev}
 use Rattle.zr_rules.specs.Space.{Space}

@@ -1,7 +1,7 @@
 -- How what was done, refused or stopped is told to a run.
 use Rattle.std.specs.Prelude.{Bool, true, false, Option, Some, Result, Ok, Err}
-use Rattle.zr_model.specs.declared.pool.Stop as model
-use Rattle.zr_model.specs.declared.pool.Stop.TheVariants as run
+use Rattle.zr_command.specs.declared.pool.Stop as model
+use Rattle.zr_command.specs.declared.pool.Stop.TheVariants as run
 use Rattle.zr_script.specs.declared.command.Command.{Command}
 use Rattle.zr_script.specs.declared.command.Command.TheVariants as cmd
 use Rattle.zr_script.specs.declared.reply.Reply.{Reply}

@@ -10,9 +10,10 @@ use Rattle.zr_lines.specs.Sought.{IsDamaged}
 use Rattle.zr_open.specs.Opened.{IsImportRefusal}
 use Rattle.zr_lines.specs.Answers.{IsNoRoom, IsSumRefusal, IsReadRefusal, IsMakeRefusal, IsDropRefusal}
 use Rattle.zr_model.specs.State.{State, Work, no_pool}
-use Rattle.zr_model.specs.declared.pool.Actor.{Actor}
-use Rattle.zr_model.specs.declared.pool.Actor.TheVariants.{Evac, Discard, Condense}
-use Rattle.zr_model.specs.Runs.{Meaning, Point, Shelf, Turn}
+use Rattle.zr_model.specs.declared.actor.Actor.{Actor}
+use Rattle.zr_model.specs.declared.actor.Actor.TheVariants.{Evac, Discard, Condense}
+use Rattle.zr_command.specs.Meanings.{Meaning}
+use Rattle.zr_model.specs.Runs.{Point, Shelf, Turn}
 use Rattle.zr_sync.specs.Pools.{IsOpen}
 use Rattle.zr_sync.specs.declared.open.OpenPool.{OpenPool}
 use Rattle.zr_pool.specs.Accounts.{Turns, Begins, BeginsNone}

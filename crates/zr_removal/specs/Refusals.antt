@@ -12,8 +12,8 @@ use Rattle.zr_rules.specs.Places.{is_leaving, part_of, state_of_dev}
 use Rattle.zr_rules.specs.Space.{Space}
 use Rattle.zr_rules.specs.Steps.{has_condensing}
 use Rattle.zr_space.specs.Metadata.{turning_on}
-use Rattle.zr_model.specs.declared.pool.Actor.{Actor}
-use Rattle.zr_model.specs.declared.pool.Actor.TheVariants.{Evac, Discard, Condense}
+use Rattle.zr_model.specs.declared.actor.Actor.{Actor}
+use Rattle.zr_model.specs.declared.actor.Actor.TheVariants.{Evac, Discard, Condense}
 use Rattle.zr_sync.specs.declared.open.OpenPool.{OpenPool}
 use Rattle.zr_txg.specs.Changes.{block_count}
 use Rattle.zr_removal.specs.Devices.{IsOnlyOne}

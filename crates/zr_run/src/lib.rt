@@ -8,7 +8,7 @@
 ghost use Rattle.std.specs.Prelude.{◌≡◌, ◌⊎◌, [], ◌≤◌, map};
 ghost use Rattle.std.specs.String.{string_bytes};
 ghost use Rattle.zr_base.specs.Counts.{HasRisen};
-ghost use Rattle.zr_model.specs.Runs.{MayBeDamaged};
+ghost use Rattle.zr_command.specs.Meanings.{MayBeDamaged};
 ghost use Rattle.zr_session.specs.Answers.{IsDone, TellsBadLine, TellsLimit, TellsFault, TellsDamage, AnswersTaken, AnswersFront, AnswersPartly};
 ghost use Rattle.zr_session.specs.Generated.{TellsTally, TellsPartly, TellsFaultThere, TellsUnserved, TellsDamageThere, TellsNothing, Never};
 ghost use Rattle.zr_session.specs.Started.{RunsTo, StopsAtDevice};

@@ -10,7 +10,8 @@ use Rattle.zr_script.specs.Grammar.{IsLine}
 use Rattle.zr_script.specs.Lines.{lines_of}
 use Rattle.zr_script.specs.ReplyText as text
 use Rattle.zr_script.specs.ReplyText.{last_line}
-use Rattle.zr_model.specs.Runs.{Meaning, Turn, point, texts, Asks, IsBad, bytes_to}
+use Rattle.zr_command.specs.Meanings.{Meaning, IsBad}
+use Rattle.zr_model.specs.Runs.{Turn, point, texts, Asks, bytes_to}
 use Rattle.zr_session.specs.Agenda.{Item, Given, rounds_of, agenda, IsDue}
 use Rattle.zr_session.specs.Answers.{IsOpenLine, Reach, HasReached, IsBetween, IsNextText, reply, bad_line, limit, fault, damage, IsAtBadLine, IsAtCommand, IsAtDamage, IsDone}
 use Rattle.zr_session.specs.declared.replies.Replies.TheVariants.{Sent}

@@ -6,7 +6,8 @@ use Rattle.std.proofs.lemmas.Bool.Decides.{eqb_tells}
 use Rattle.std.proofs.lemmas.List.{append-nil}
 use Rattle.zr_shelf.specs.Disks.{Stand, taken_to}
 use Rattle.zr_script.specs.Lines.{lines_of, before_lines}
-use Rattle.zr_model.specs.Runs.{Meaning, Turn, point, Run, end_of, texts, Asks, bytes_to}
+use Rattle.zr_command.specs.Meanings.{Meaning, Run}
+use Rattle.zr_model.specs.Runs.{Turn, point, end_of, texts, Asks, bytes_to}
 use Rattle.zr_session.specs.Agenda.{Item, Given, rounds_of, agenda, Plays}
 use Rattle.zr_session.specs.Answers.{IsOpenLine}
 use Rattle.zr_session.specs.declared.replies.Replies.TheVariants.{Sent}

@@ -3,7 +3,7 @@ use Rattle.std.proofs.Common.{◌≡◌, ◌≤◌, ◌<◌, ◌+◌, ◌⊎◌,
 use Rattle.std.proofs.lemmas.List.{append-nil, take_more, map-append}
 use Rattle.zr_shelf.specs.Disks.{Stand, with_disk}
 use Rattle.zr_script.specs.CommandLine.{CommandLine}
-use Rattle.zr_model.specs.Runs.{Meaning}
+use Rattle.zr_command.specs.Meanings.{Meaning}
 use Rattle.zr_session.specs.Answers.{IsStarted, paths_in, rounds_in, IsAttached, IsPartlyAttached, AnswersFront}
 use Rattle.zr_session.specs.Generated.{Task, task_in, TellsNothing}
 use Rattle.zr_session.specs.Started.{RunsTo, StopsAtDevice}

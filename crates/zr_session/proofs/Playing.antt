@@ -6,8 +6,9 @@ use Rattle.std.proofs.lemmas.List.Concat.{flat_map-append}
 use Rattle.zr_shelf.specs.Disks.{Stand}
 use Rattle.zr_script.specs.declared.command.Command.{Command}
 use Rattle.zr_script.specs.declared.reply.Reply.{Reply}
-use Rattle.zr_model.specs.declared.pool.Actor.{Actor}
-use Rattle.zr_model.specs.Runs.{Meaning, Point, Turn, point, turn, Run, end_of, step_of}
+use Rattle.zr_model.specs.declared.actor.Actor.{Actor}
+use Rattle.zr_command.specs.Meanings.{Meaning, Run, step_of}
+use Rattle.zr_model.specs.Runs.{Point, Turn, point, turn, end_of}
 use Rattle.zr_session.specs.Agenda.{Item, Given, Inserted, round, rounds_of, agenda, GivesNone, IsGiven, Plays, IsDue}
 use Rattle.zr_session.specs.declared.end.End.{End}
 use Rattle.zr_session.specs.declared.replies.Replies.{Replies}

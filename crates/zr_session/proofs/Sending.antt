@@ -9,7 +9,8 @@ use Rattle.zr_script.specs.declared.command.Command.{Command}
 use Rattle.zr_script.specs.declared.reply.Reply.{Reply}
 use Rattle.zr_script.specs.ReplyText as text
 use Rattle.zr_script.specs.ReplyText.{reply_text, last_line}
-use Rattle.zr_model.specs.Runs.{Meaning, point, turn, TurnsTo, IsOutside}
+use Rattle.zr_command.specs.Meanings.{Meaning, TurnsTo}
+use Rattle.zr_model.specs.Runs.{point, turn, IsOutside}
 use Rattle.zr_session.specs.declared.replies.Replies.{Replies}
 use Rattle.zr_session.specs.declared.end.End.{End}
 use Rattle.zr_session.specs.declared.end.End.TheVariants.{Answered, BadWords, InputFault, OutputFault, DiskFault, BadLine, Damaged, AttachFault, InputLimit, NoMemory}

@@ -5,7 +5,8 @@ use Rattle.std.proofs.lemmas.List.Concat.{flat_map-append}
 use Rattle.zr_shelf.specs.Disks.{Stand}
 use Rattle.zr_script.specs.declared.command.Command.{Command}
 use Rattle.zr_script.specs.declared.reply.Reply.{Reply}
-use Rattle.zr_model.specs.Runs.{Meaning, Point, Turn, point, turn, end_of}
+use Rattle.zr_command.specs.Meanings.{Meaning}
+use Rattle.zr_model.specs.Runs.{Point, Turn, point, turn, end_of}
 use Rattle.zr_session.specs.Agenda.{Item, Given, Inserted, rounds_of, agenda, IsGiven, Plays}
 use Rattle.zr_session.specs.Tally.{Answer, answer_of}
 use Rattle.zr_session.specs.Generated.{given_answers, given_count}

@@ -2,9 +2,10 @@
 use Rattle.std.specs.Prelude.{◌≡◌, ℕ, List, [], ◌∷◌, map, replicate, MatchBool}
 use Rattle.std.specs.List.{flat_map}
 use Rattle.zr_script.specs.declared.command.Command.{Command}
-use Rattle.zr_model.specs.declared.pool.Actor.{Actor}
-use Rattle.zr_model.specs.declared.pool.Actor.TheVariants.{Evac, Discard, Condense}
-use Rattle.zr_model.specs.Runs.{Meaning, Point, Turn, step_of}
+use Rattle.zr_model.specs.declared.actor.Actor.{Actor}
+use Rattle.zr_model.specs.declared.actor.Actor.TheVariants.{Evac, Discard, Condense}
+use Rattle.zr_command.specs.Meanings.{Meaning, step_of}
+use Rattle.zr_model.specs.Runs.{Point, Turn}
 
 -- a line or command that is given, or a step of an actor that is put in where there is work
 pub data Item (A : Type 0) : Type 0 where

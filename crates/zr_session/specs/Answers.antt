@@ -9,7 +9,8 @@ use Rattle.zr_script.specs.CommandLine.{CommandLine, IsCommandLine}
 use Rattle.zr_script.specs.Grammar.{IsLine}
 use Rattle.zr_script.specs.Lines.{lines_of}
 use Rattle.zr_script.specs.ReplyText.{reply_text, BadLine, InputLimit, DiskFault, Damage, last_line}
-use Rattle.zr_model.specs.Runs.{Point, Turn, point, Meaning, Run, end_of, texts, Asks, IsBad, bytes_to}
+use Rattle.zr_command.specs.Meanings.{Meaning, Run, IsBad}
+use Rattle.zr_model.specs.Runs.{Point, Turn, point, end_of, texts, Asks, bytes_to}
 use Rattle.zr_words.specs.Choosing.{chosen}
 use Rattle.zr_session.specs.Agenda.{Item, agenda, Plays, IsDue}
 

@@ -4,7 +4,7 @@ use Rattle.zr_base.specs.Counts.{HasRisen}
 use Rattle.zr_shelf.specs.Counts.{Counts}
 use Rattle.zr_shelf.specs.Disks.{Stand}
 use Rattle.zr_script.specs.CommandLine.{CommandLine}
-use Rattle.zr_model.specs.Runs.{Meaning}
+use Rattle.zr_command.specs.Meanings.{Meaning}
 use Rattle.zr_session.specs.Answers.{rounds_in, IsAttached, IsPartlyAttached, IsDone, TellsBadLine, TellsLimit, TellsFault, TellsDamage, AnswersTaken, AnswersFront, AnswersPartly}
 use Rattle.zr_session.specs.Generated.{Task, task_in, TellsTally, TellsPartly, TellsFaultThere, TellsUnserved, TellsDamageThere, TellsNothing}
 use Rattle.zr_session.specs.declared.end.End.{End}

@@ -6,7 +6,8 @@ use Rattle.zr_script.specs.declared.command.Command.{Command}
 use Rattle.zr_script.specs.CommandLine.{CommandLine}
 use Rattle.zr_script.specs.Generated.{script_of}
 use Rattle.zr_script.specs.ReplyText.{BadLine, DiskFault, Damage, last_line}
-use Rattle.zr_model.specs.Runs.{Meaning, Point, Turn, point, Run, end_of}
+use Rattle.zr_command.specs.Meanings.{Meaning, Run}
+use Rattle.zr_model.specs.Runs.{Point, Turn, point, end_of}
 use Rattle.zr_session.specs.Tally.{Answer, answer_of, generated_text}
 use Rattle.zr_session.specs.Agenda.{Item, Given, Inserted, agenda, IsGiven, Plays, IsDue}
 use Rattle.zr_session.specs.Answers.{paths_in, rounds_in}

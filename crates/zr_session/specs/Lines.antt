@@ -9,7 +9,8 @@ use Rattle.zr_script.specs.declared.reply.Reply.{Reply}
 use Rattle.zr_script.specs.Grammar.{IsLine}
 use Rattle.zr_script.specs.ReplyText as text
 use Rattle.zr_script.specs.ReplyText.{reply_text, last_line}
-use Rattle.zr_model.specs.Runs.{Meaning, Point, Turn, point, turn, Run, end_of, Asks}
+use Rattle.zr_command.specs.Meanings.{Meaning, Run}
+use Rattle.zr_model.specs.Runs.{Point, Turn, point, turn, end_of, Asks}
 use Rattle.zr_session.specs.Agenda.{Item, Given, rounds_of, GivesNone, Plays, IsDue}
 use Rattle.zr_session.specs.declared.replies.Replies.{Replies}
 use Rattle.zr_session.specs.declared.replies.Replies.TheVariants.{Sent, Kept}

@@ -3,7 +3,8 @@ use Rattle.std.specs.Prelude.{◌≡◌, ℕ, ◌+◌, ◌^◌, ◌≤◌, ◌<�
 use Rattle.std.specs.List.{flat_map}
 use Rattle.zr_shelf.specs.Disks.{Stand}
 use Rattle.zr_script.specs.Lines.{lines_of}
-use Rattle.zr_model.specs.Runs.{Meaning, Turn, point, Run, end_of, texts, Asks, bytes_to}
+use Rattle.zr_command.specs.Meanings.{Meaning, Run}
+use Rattle.zr_model.specs.Runs.{Turn, point, end_of, texts, Asks, bytes_to}
 use Rattle.zr_session.specs.Agenda.{Item, agenda, Plays}
 use Rattle.zr_session.specs.Answers.{IsOpenLine}
 use Rattle.zr_session.specs.Lines.{StandsForOne}

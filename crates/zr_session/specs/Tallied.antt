@@ -3,7 +3,8 @@ use Rattle.std.specs.Prelude.{◌≡◌, ℕ, suc, List, ◌++◌, count_by}
 use Rattle.std.specs.List.{flat_map}
 use Rattle.zr_shelf.specs.Disks.{Stand}
 use Rattle.zr_script.specs.declared.command.Command.{Command}
-use Rattle.zr_model.specs.Runs.{Meaning, point}
+use Rattle.zr_command.specs.Meanings.{Meaning}
+use Rattle.zr_model.specs.Runs.{point}
 use Rattle.zr_session.specs.Tally.{Answer, is_refused, is_accepted, sum_text}
 use Rattle.zr_session.specs.Agenda.{Item, IsGiven, IsDue}
 use Rattle.zr_session.specs.Generated.{given_answers, given_count}

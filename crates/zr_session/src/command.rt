@@ -5,7 +5,7 @@ ghost use Rattle.zr_shelf.specs.Disks.{sent_more};
 ghost use Rattle.zr_base.specs.declared.refusal.Refusal.TheVariants as refusal;
 ghost use Rattle.zr_script.specs.Grammar.{IsLine};
 ghost use Rattle.zr_script.specs.ReplyText.{last_line, BadLine, Damage};
-ghost use Rattle.zr_model.specs.Runs.{MayBeDamaged};
+ghost use Rattle.zr_command.specs.Meanings.{MayBeDamaged};
 ghost use Rattle.zr_session.specs.Ends.{HasCause};
 ghost use Rattle.zr_session.specs.Lines.{StandsForOne, DoesCommand, StopsAtCommand, SendsPartly, SendsReplyPartly, Tells, told_for};
 ghost use Rattle.zr_session.specs.declared.end.End.TheVariants as is_end;
@@ -15,7 +15,7 @@ use crate::replies::Replies;
 use std::alloc::Global;
 use zr_base::{Dva, NoMemory};
 use zr_choose::Chooser;
-use zr_model::{Pool, Stop};
+use zr_command::{Pool, Stop};
 use zr_script::{Command, Reply, Word, put_line, reply_bytes};
 use zr_shelf::{Desk, DeskErr};
 

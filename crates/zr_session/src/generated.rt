@@ -6,7 +6,7 @@ ghost use Rattle.std.specs.Prelude.{◌≡◌, ◌≤◌, ℕ, List, length, map
 ghost use Rattle.std.specs.List.{AllByRecursion, list_all};
 ghost use Rattle.zr_shelf.specs.Counts.{NoneFell};
 ghost use Rattle.zr_script.specs.Words.{is_path, are_different};
-ghost use Rattle.zr_model.specs.Runs.{MayBeDamaged};
+ghost use Rattle.zr_command.specs.Meanings.{MayBeDamaged};
 ghost use Rattle.zr_gen.specs.Spelled.{HasLine};
 ghost use Rattle.zr_session.specs.Agenda.{agenda};
 ghost use Rattle.zr_session.specs.Ends.{HasCause, GeneratesAs};
@@ -23,7 +23,7 @@ use crate::rounds::do_rounds;
 use crate::tally::Tally;
 use std::alloc::Global;
 use zr_gen::script_of;
-use zr_model::Pool;
+use zr_command::Pool;
 use zr_script::Command;
 use zr_shelf::Desk;
 use zr_words::Device;

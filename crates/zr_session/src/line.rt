@@ -3,7 +3,7 @@ ghost use Rattle.std.specs.Prelude.{◌≡◌, ◌≢◌, true, false, ◌∷◌
 ghost use Rattle.zr_shelf.specs.Counts.{NoneFell};
 ghost use Rattle.zr_session.specs.Answers.{IsOpenLine};
 ghost use Rattle.zr_script.specs.declared.command.Command.TheVariants.{Quit};
-ghost use Rattle.zr_model.specs.Runs.{MayBeDamaged};
+ghost use Rattle.zr_command.specs.Meanings.{MayBeDamaged};
 ghost use Rattle.zr_session.specs.Ends.{HasCause};
 ghost use Rattle.zr_session.specs.Lines.{StandsForOne, AnswersLine, StopsAtLine};
 
@@ -14,7 +14,7 @@ use crate::replies::Replies;
 use crate::rounds::do_rounds;
 use memchr::memchr;
 use std::alloc::Global;
-use zr_model::Pool;
+use zr_command::Pool;
 use zr_script::{Command, parse_line};
 use zr_shelf::Desk;
 

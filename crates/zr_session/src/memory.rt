@@ -9,7 +9,8 @@ use crate::table::ObjectTable;
 use std::alloc::Global;
 use zr_base::{Blob, Items, NoMemory};
 use zr_choose::Chooser;
-use zr_model::{Actor, Pool, Stop};
+use zr_command::{Pool, Stop};
+use zr_model::Actor;
 use zr_script::{Command, Reply};
 use zr_shelf::Shelf;
 
@@ -110,7 +111,7 @@ impl MemoryPool {
 
 impl Pool for MemoryPool {
     ghost use Rattle.std.specs.Prelude.{◌≡◌, length};
-    ghost use Rattle.zr_model.specs.Runs.{plain};
+    ghost use Rattle.zr_command.specs.Meanings.{plain};
     ghost use Rattle.zr_session.specs.Memory.{state_in};
 
     ghost paths = { λ p. p.paths };

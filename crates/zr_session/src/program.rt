@@ -9,7 +9,7 @@ ghost use Rattle.std.specs.String.{string_bytes};
 ghost use Rattle.zr_base.specs.Counts.{HasRisen};
 ghost use Rattle.zr_shelf.specs.Counts.{NoneFell};
 ghost use Rattle.zr_shelf.specs.declared.desk.DeskErr.TheVariants.{Failed};
-ghost use Rattle.zr_model.specs.Runs.{MayBeDamaged, plain};
+ghost use Rattle.zr_command.specs.Meanings.{MayBeDamaged, plain};
 ghost use Rattle.zr_session.specs.Answers.{paths_in, IsAttached, IsPartlyAttached, IsDone, TellsBadLine, TellsLimit, TellsFault, TellsDamage, AnswersTaken, AnswersFront, AnswersPartly};
 ghost use Rattle.zr_session.specs.Ends.{HasCause, EndsBy, IsOpenedTo};
 ghost use Rattle.zr_session.specs.Generated.{TellsTally, TellsPartly, TellsFaultThere, TellsUnserved, TellsDamageThere, TellsNothing, Never};
@@ -27,7 +27,7 @@ use crate::session::serve;
 use std::alloc::Global;
 use zr_base::{Blob, Items, NoMemory};
 use zr_choose::Chooser;
-use zr_model::Pool;
+use zr_command::Pool;
 use zr_shelf::{Desk, DeskErr};
 use zr_words::{CommandLine, Device, chooser_named, parse_words};
 

@@ -4,7 +4,7 @@
 //! any other, and the run may stop at it. Its reply is sent where replies are.
 ghost use Rattle.std.specs.Prelude.{◌≡◌, ◌∷◌, [], ℕ, List, map, IfErr, OnOk};
 ghost use Rattle.zr_shelf.specs.Counts.{NoneFell};
-ghost use Rattle.zr_model.specs.Runs.{MayBeDamaged, step_of};
+ghost use Rattle.zr_command.specs.Meanings.{MayBeDamaged, step_of};
 ghost use Rattle.zr_session.specs.Agenda.{Inserted, rounds_of};
 ghost use Rattle.zr_session.specs.Ends.{HasCause};
 ghost use Rattle.zr_session.specs.Lines.{StandsForOne, DoesSteps, StopsWithinSteps};
@@ -14,7 +14,8 @@ use crate::course::Course;
 use crate::end::End;
 use crate::replies::Replies;
 use std::alloc::Global;
-use zr_model::{Actor, Pool};
+use zr_command::Pool;
+use zr_model::Actor;
 use zr_script::Command;
 use zr_shelf::Desk;
 

@@ -6,7 +6,7 @@ ghost use Rattle.std.specs.Prelude.{◌≡◌, ◌≢◌, ◌∷◌, ◌++◌, [
 ghost use Rattle.zr_shelf.specs.Counts.{NoneFell};
 ghost use Rattle.zr_shelf.specs.Disks.{Stand};
 ghost use Rattle.zr_session.specs.Answers.{IsOpenLine};
-ghost use Rattle.zr_model.specs.Runs.{MayBeDamaged};
+ghost use Rattle.zr_command.specs.Meanings.{MayBeDamaged};
 ghost use Rattle.zr_session.specs.Ends.{HasCause, EndsAs};
 ghost use Rattle.zr_session.specs.Lines.{StandsForOne, AnswersLine, StopsAtLine, StopsAtRest};
 ghost use Rattle.zr_session.specs.Progress.{StandsAt};
@@ -16,7 +16,7 @@ use crate::course::Course;
 use crate::end::End;
 use crate::line::{answer_line, split_line};
 use std::alloc::{AllocError, Global};
-use zr_model::Pool;
+use zr_command::Pool;
 use zr_script::MAX_LINE;
 use zr_shelf::{Desk, DeskErr};
 

@@ -5,7 +5,7 @@
 ghost use Rattle.std.specs.Prelude.{◌≡◌, [], ◌+◌, ◌<◌, ◌≤◌, ◌^◌, ℕ, List, length, IfOk, IfErr, OnOk};
 ghost use Rattle.zr_shelf.specs.Counts.{NoneFell};
 ghost use Rattle.zr_shelf.specs.Disks.{Stand};
-ghost use Rattle.zr_model.specs.Runs.{MayBeDamaged};
+ghost use Rattle.zr_command.specs.Meanings.{MayBeDamaged};
 ghost use Rattle.zr_session.specs.Ends.{HasCause, EndsAs};
 ghost use Rattle.zr_session.specs.Progress.{StandsAt};
 
@@ -14,7 +14,7 @@ use crate::course::Course;
 use crate::end::End;
 use crate::script::Script;
 use std::alloc::Global;
-use zr_model::Pool;
+use zr_command::Pool;
 use zr_shelf::{Desk, DeskErr};
 
 /// The most bytes that are taken at a time.

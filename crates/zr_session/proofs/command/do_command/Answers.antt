@@ -1,5 +1,5 @@
 use Rattle.std.proofs.Common.{refl, ap, ◌∙◌, Err}
-use Rattle.zr_model.specs.Runs.{MayBeDamaged}
+use Rattle.zr_command.specs.Meanings.{MayBeDamaged}
 use Rattle.zr_session.specs.declared.end.End.TheVariants.{DiskFault, Damaged}
 use Rattle.zr_session.specs.Ends.{HasCause}
 use Rattle.zr_session.specs.Lines.{StopsAtCommand}

@@ -1,5 +1,5 @@
 use Rattle.std.proofs.Common.{ℕ, [], ◌∷◌, refl, sym, subst}
-use Rattle.zr_model.specs.Runs.{step_of}
+use Rattle.zr_command.specs.Meanings.{step_of}
 use Rattle.zr_session.specs.Agenda.{Inserted, GivesNone}
 use Rattle.zr_session.specs.Lines.{StopsWithinSteps}
 use Rattle.zr_session.proofs.Sending.{err_with, for_one}

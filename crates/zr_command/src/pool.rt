@@ -10,8 +10,9 @@ ghost use Rattle.zr_base.specs.declared.refusal.Refusal.TheVariants as refusal;
 ghost use Rattle.zr_base.specs.declared.space.Dva.{Dva};
 ghost use Rattle.zr_script.specs.Grammar.{IsLine};
 ghost use Rattle.zr_shelf.specs.Counts.{NoneFell};
-ghost use Rattle.zr_model.specs.Runs.{Meaning, point, TurnsTo, MayBeDamaged, KeepsOutside, step_of};
-ghost use Rattle.zr_model.specs.declared.pool.Stop.TheVariants.{DiskFault, Damaged};
+ghost use Rattle.zr_command.specs.Meanings.{Meaning, TurnsTo, MayBeDamaged, step_of};
+ghost use Rattle.zr_model.specs.Runs.{point, KeepsOutside};
+ghost use Rattle.zr_command.specs.declared.pool.Stop.TheVariants.{DiskFault, Damaged};
 
 use std::alloc::{AllocError, Global};
 use zr_base::{Blob, Dva, Items, NoMemory};
@@ -35,7 +36,7 @@ pub enum Stop {
 
 impl From<NoMemory> for Stop {
     ghost use Rattle.std.specs.Prelude.{◌≡◌};
-    ghost use Rattle.zr_model.specs.declared.pool.Stop.TheVariants as stop;
+    ghost use Rattle.zr_command.specs.declared.pool.Stop.TheVariants as stop;
 
     ghost from_gives = { λ _ e. e ≡ stop.NoMemory };
 
@@ -46,24 +47,13 @@ impl From<NoMemory> for Stop {
 
 impl From<AllocError> for Stop {
     ghost use Rattle.std.specs.Prelude.{◌≡◌};
-    ghost use Rattle.zr_model.specs.declared.pool.Stop.TheVariants as stop;
+    ghost use Rattle.zr_command.specs.declared.pool.Stop.TheVariants as stop;
 
     ghost from_gives = { λ _ e. e ≡ stop.NoMemory };
 
     fn from(_error: AllocError) -> Stop {
         Stop::NoMemory
     }
-}
-
-/// What works on an open pool in the background, a step at a time, after zpool-remove(8) and zpool-checkpoint(8).
-#[derive(Clone, Copy, Debug, PartialEq, Eq)]
-pub enum Actor {
-    /// Copies what a device that is leaving still has.
-    Evac,
-    /// Gives back what a checkpoint kept that is being discarded.
-    Discard,
-    /// Condenses the mapping of a removed device.
-    Condense,
 }
 
 /// A pool on the devices of the words.
