@@ -11,7 +11,11 @@ mod chains;
 #[cfg(test)]
 mod choosers;
 #[cfg(test)]
+mod condensings;
+#[cfg(test)]
 mod entries;
+#[cfg(test)]
+mod evacuations;
 #[cfg(test)]
 mod mappings;
 #[cfg(test)]
