@@ -217,6 +217,7 @@ module _ (sizes both all : List ℕ) (u : Uber) (lawful : IsUber u) (long : leng
     }
 
     half_ring : (sl n k : ℕ) → n < 4 → k < 32 → (ring_block (size_at sl) (disk half.now.seen sl) n k ≡ ring_block (size_at sl) (disk a.now.seen sl) n k) ⊎ ((k ≡ place) × (ring_block (size_at sl) (disk half.now.seen sl) n k ≡ uber_block u))
+    unfolding halfway
     half_ring sl n k few low = ⊎_elim even odd (even_or_odd sizes both [] u long a behind whole_disks big_both big_none halfway n few)
       where
         first_is : (Contains both sl → (m : ℕ) → (m ≡ 0) ⊎ (m ≡ 2) → (n ≢ m) ⊎ (k ≢ place)) → ring_block (size_at sl) (disk half.now.seen sl) n k ≡ ring_block (size_at sl) (disk a.now.seen sl) n k

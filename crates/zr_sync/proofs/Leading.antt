@@ -1,5 +1,5 @@
 -- What the next root of a commit leads to while it is published.
-use Rattle.std.proofs.Common.{◌≡◌, ◌∙◌, ℕ, ◌+◌, Bool, List, [], Option, Some, inl, inr, refl, sym, ap, subst}
+use Rattle.std.proofs.Common.{◌≡◌, ◌∙◌, ℕ, Bool, List, inl, inr, refl, sym, ap, subst}
 use Rattle.zr_bptr.specs.declared.Ptr.{Ptr}
 use Rattle.zr_label.specs.Blocks.{IsUber}
 use Rattle.zr_label.specs.declared.root.Uber.{Uber}

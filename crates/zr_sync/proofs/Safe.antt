@@ -8,13 +8,11 @@ use Rattle.zr_base.specs.declared.space.DevRow.{DevRow}
 use Rattle.zr_base.specs.declared.space.Dva.{Dva}
 use Rattle.zr_bptr.specs.declared.Bptr.{Bptr}
 use Rattle.zr_bptr.specs.declared.Ptr.{Ptr}
-use Rattle.zr_bptr.specs.declared.Tree.{Tree}
 use Rattle.zr_cache.specs.declared.table.Cache.{Cache}
 use Rattle.zr_commit.specs.Heads.{StoresHead}
 use Rattle.zr_image.specs.Reading.{store_of}
 use Rattle.zr_meta.specs.declared.Head.{Head}
 use Rattle.zr_objset.proofs.Keeping.{tree_same}
-use Rattle.zr_root.specs.Streams.{IsTreeFor}
 use Rattle.zr_rules.specs.Devices.{Devices}
 use Rattle.zr_rules.specs.Equation.{devices_in}
 use Rattle.zr_rules.specs.Resolve.{leads_to}
