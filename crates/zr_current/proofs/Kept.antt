@@ -1,5 +1,5 @@
 -- What the slots show where only units were written.
-use Rattle.std.proofs.Common.{◌≡◌, ℕ, zero, suc, ◌+◌, ◌<◌, ◌≤◌, List, [], ◌∷◌, length, map, Option, Some, None, sym, ◌∙◌, subst, arith}
+use Rattle.std.proofs.Common.{◌≡◌, ℕ, zero, suc, ◌<◌, ◌≤◌, List, [], ◌∷◌, length, map, Option, Some, None, sym, ◌∙◌, subst, arith}
 use Rattle.std.specs.Prelude.{MatchOption, slice_index}
 use Rattle.zr_image.specs.Current.{ShowsAll, seen_at}
 use Rattle.zr_label.specs.Blocks.{SpellsNewer, SpellsUber}
@@ -8,7 +8,7 @@ use Rattle.zr_label.specs.declared.root.Label.{Label}
 use Rattle.zr_label.specs.declared.root.Newer.{Newer}
 use Rattle.zr_label.specs.declared.root.Seen.{Seen}
 use Rattle.zr_label.specs.declared.root.Uber.{Uber}
-use Rattle.zr_scan.specs.Scan.{AreRoots, HasNoLabel, IsFirstLabel, IsLabelOf, Shows, ShowsLabel, ShowsNewer, block_of, ring_block}
+use Rattle.zr_scan.specs.Scan.{AreRoots, HasNoLabel, IsLabelOf, Shows, ShowsLabel, ShowsNewer, block_of, ring_block}
 use Rattle.zr_shelf.specs.Disks.{disk}
 use Rattle.zr_shelf.specs.Moments.{World}
 use Rattle.zr_sync.specs.Pools.{IsOpen}

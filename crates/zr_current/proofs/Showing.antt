@@ -1,5 +1,5 @@
 -- Behind a root that was put into their rings something is seen of the slots.
-use Rattle.std.proofs.Common.{◌≡◌, ◌≢◌, ◌⊎◌, inl, inr, ℕ, zero, suc, ◌+◌, ◌^◌, ◌<◌, ◌≤◌, Bool, true, false, List, [], ◌∷◌, ◌++◌, codes, drop, take, length, map, Option, Some, None, refl, sym, ◌∙◌, ap, subst, arith}
+use Rattle.std.proofs.Common.{◌≡◌, ◌≢◌, ◌⊎◌, inl, inr, ℕ, zero, suc, ◌+◌, ◌^◌, ◌<◌, Bool, true, false, List, [], ◌∷◌, ◌++◌, codes, drop, take, length, map, Option, Some, None, refl, sym, ◌∙◌, ap, subst, arith}
 use Rattle.std.specs.Prelude.{Contains, MatchOption}
 use Rattle.std.specs.Str.{bytes_eq}
 use Rattle.std.proofs.lemmas.Bool.{cases_eq, cases_lt}
@@ -12,7 +12,7 @@ use Rattle.zr_bptr.proofs.Spelled.{word_back}
 use Rattle.zr_bptr.specs.Fields.{word_at}
 use Rattle.zr_image.specs.Current.{ShowsAll, seen_at}
 use Rattle.zr_label.proofs.Ubers.{one_uber}
-use Rattle.zr_label.specs.Blocks.{IsUber, SpellsNewer, SpellsUber, uber_block}
+use Rattle.zr_label.specs.Blocks.{IsUber, SpellsUber, uber_block}
 use Rattle.zr_label.specs.Geometry.{slot_of}
 use Rattle.zr_label.specs.declared.root.Label.{Label}
 use Rattle.zr_label.specs.declared.root.Newer.{Newer}
