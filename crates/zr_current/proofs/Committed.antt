@@ -230,7 +230,7 @@ module _ (sizes : List ℕ) (pool : OpenPool) (reset : Bool) (last u : Uber) (be
       subst (λ (size : ℕ). ring_block size (disk mid.now.seen sl) n k ≡ ring_block size (disk before.now.seen sl) n k) (sym (length_at before.now.seen sizes sl sized))
       (part_kept sizes pool ready sl (ring_slot_at (slice_index sizes sl) n k) before mid (ring_aside (slice_index sizes sl) n k few low) wrote)
 
-  puts : PutsRoot before.now.seen now.now.seen u
+  pub puts : PutsRoot before.now.seen now.now.seen u
   puts = record {
     count = published.count ∙ count_of before.now.seen mid.now.seen mid_sizes;
     sizes = λ sl. published.sizes sl ∙ same_size sl;

@@ -3,3 +3,4 @@ pub mod Put
 pub mod Published
 pub mod Committed
 pub mod Kept
+pub mod Showing

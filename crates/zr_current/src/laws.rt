@@ -24,6 +24,12 @@ pub fn commit_is_current()
         → IsUber u → IsNextRoot pool reset u → WritesIntoFree pool before mid → IsShownFrom sizes pool u mid now → IsCurrentOn now.now.seen u pool }
 {}
 
+/// And something is seen of the slots there: they show that root as the current one.
+pub fn commit_is_shown()
+    ensures { (sizes : List ℕ) (pool : OpenPool) (reset : Bool) (last u : Uber) (before mid now : World) → IsOpen sizes pool → GoesOnFrom last pool → map length before.now.seen ≡ sizes → IsShownFor before.now.seen last pool
+        → IsUber u → IsNextRoot pool reset u → WritesIntoFree pool before mid → IsShownFrom sizes pool u mid now → IsShownFor now.now.seen u pool }
+{}
+
 /// Where nothing but units was written, the slots show what they showed: so the current root stays the current one.
 pub fn units_are_not_shown()
     ensures { (sizes : List ℕ) (pool : OpenPool) (before now : World) (u : Uber) → IsOpen sizes pool → map length before.now.seen ≡ sizes → WritesIntoFree pool before now → IsShownFor before.now.seen u pool → IsShownFor now.now.seen u pool }

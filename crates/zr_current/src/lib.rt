@@ -6,4 +6,4 @@
 
 mod laws;
 
-pub use laws::{commit_goes_on, commit_is_current, units_are_not_shown};
+pub use laws::{commit_goes_on, commit_is_current, commit_is_shown, units_are_not_shown};

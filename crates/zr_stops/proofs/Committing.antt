@@ -1,20 +1,26 @@
 -- A crash shows the objects from before a group, or those that it commits.
-use Rattle.std.proofs.Common.{◌≡◌, ◌⊎◌, inl, inr, ℕ, ◌<◌, ◌≤◌, List, [], map, length, Ok, sym, ◌∙◌, ap, subst, arith}
-use Rattle.std.specs.Prelude.{Contains, slice_index, unwrap_or}
+use Rattle.std.proofs.Common.{◌≡◌, ◌⊎◌, inl, inr, ℕ, ◌<◌, ◌≤◌, Bool, List, [], map, length, Option, Ok, sym, ◌∙◌, ap, subst, arith}
+use Rattle.std.specs.Prelude.{Contains, slice_index, slice_index_or, unwrap_or}
+use Rattle.std.proofs.lemmas.Bool.{cases_lt}
 use Rattle.std.proofs.lemmas.Bool.Decides.{nat_tests}
+use Rattle.std.proofs.Math.ListN.{get_or-eq_default}
 use Rattle.std.proofs.Math.Path.{fun_ext}
+use Rattle.zr_base.specs.declared.space.DevPart.{DevPart}
+use Rattle.zr_base.specs.declared.space.DevRow.{DevRow}
 use Rattle.zr_base.specs.declared.space.Dva.{Dva}
 use Rattle.zr_bptr.specs.declared.Bptr.{Bptr}
 use Rattle.zr_bptr.specs.declared.Ptr.{Ptr}
 use Rattle.std.specs.Prelude.{take}
-use Rattle.zr_current.proofs.Committed.{large}
+use Rattle.zr_current.proofs.Committed.{goes_on, large}
 use Rattle.zr_current.proofs.Kept.{shown_still}
-use Rattle.zr_current.specs.Current.{HasSlots, IsShownFor}
+use Rattle.zr_current.specs.Current.{GoesOnFrom, HasSlots, IsShownFor}
+use Rattle.zr_current.specs.Next.{IsNextOf}
 use Rattle.zr_found.proofs.Alone.{one_meaning}
 use Rattle.zr_image.specs.Current.{slots_of}
 use Rattle.zr_image.specs.Honest.{IsLeft}
 use Rattle.zr_image.specs.Reading.{store_of}
 use Rattle.zr_image.specs.StateOf.{AreObjects}
+use Rattle.zr_label.specs.Blocks.{IsUber, no_row}
 use Rattle.zr_label.specs.Geometry.{whole}
 use Rattle.zr_label.specs.declared.root.Uber.{Uber}
 use Rattle.zr_model.specs.Objects.{Objects}
@@ -23,27 +29,33 @@ use Rattle.zr_open.proofs.Left.{objects_meant}
 use Rattle.zr_open.proofs.Same.{shown_objects}
 use Rattle.zr_open.specs.Shown.{Shows}
 use Rattle.zr_rules.specs.Equation.{devices_in}
-use Rattle.zr_shelf.proofs.Runs.{joined, weaker}
+use Rattle.zr_rules.specs.Places.{is_gone, is_leaving, no_part, part_of}
+use Rattle.zr_shelf.proofs.Runs.{joined, stays, weaker}
 use Rattle.zr_shelf.specs.Disks.{Stand}
-use Rattle.zr_shelf.specs.Moments.{Throughout, World}
+use Rattle.zr_shelf.specs.Moments.{IsStill, Throughout, World}
+use Rattle.zr_slots.specs.Phases.{IsPublished, IsPublishedInPart}
 use Rattle.zr_slots.specs.Tables.{IsSlotInBoth}
+use Rattle.zr_space.specs.Paths.{AreInService}
 use Rattle.zr_store.specs.Store.{Stored}
 use Rattle.zr_sync.proofs.Holding.{below_labels, published_bytes}
 use Rattle.zr_sync.proofs.Rings.{address_keeps, uber_long}
 use Rattle.zr_sync.proofs.Standing.{head_same}
+use Rattle.zr_sync.specs.Commits.{IsNextRoot, PublishesRoot}
 use Rattle.zr_sync.specs.Heads.{HasHead, head_of}
-use Rattle.zr_sync.specs.Pools.{IsOpen}
+use Rattle.zr_sync.specs.Leads.{CommitsObjects, LeadsTo}
+use Rattle.zr_sync.specs.Pools.{IsAfter, IsOpen}
 use Rattle.zr_sync.specs.Writes.{WritesIntoFree}
 use Rattle.zr_sync.specs.declared.open.OpenPool.{OpenPool}
 use Rattle.zr_sync.specs.declared.open.Table.{Table}
 use Rattle.zr_vdev.specs.Runs.{view_of}
 use Rattle.zr_view.specs.Views.{View, address_bytes}
 use Rattle.zr_stops.proofs.Grouped.{group_writes}
-use Rattle.zr_stops.proofs.Images.{group_leaves, group_reads, group_sizes}
-use Rattle.zr_stops.proofs.Putting.{IsPutting, putting_throughout, torn, units_kept}
+use Rattle.zr_stops.proofs.Images.{group_leaves, group_reads, group_sizes, leaves_now}
+use Rattle.zr_stops.proofs.Putting.{IsPutting, almost_throughout, begun_throughout, putting_throughout, torn, units_kept}
 use Rattle.zr_stops.proofs.Torn.{torn_shows}
 use Rattle.zr_stops.specs.Either.{CommitsGroup, ShowsEither}
-use Rattle.zr_stops.specs.Last.{HasLast, LeavesLast}
+use Rattle.zr_stops.specs.Groups.{IsInGroup}
+use Rattle.zr_stops.specs.Last.{HasLast, IsCommitted, LeavesLast}
 use Rattle.zr_stops.specs.Torn.{ShowsOneOf}
 
 -- ---- images on which each address reads the same
@@ -67,76 +79,41 @@ module _ (pool : OpenPool) (a b : List (List ℕ)) (same : (x : Dva) → address
   head_kept : (root : Ptr) (len : ℕ) → HasHead a pool root len → HasHead b pool root len
   head_kept root len has = head_same (take pool.table.count pool.table.rows) then now (head_of pool) root len same has
 
--- ---- a commit
+-- ---- devices in service
 
-module _ (sizes : List ℕ) (last u : Uber) (first old new : OpenPool) (before after : Objects) (begin start mid now : World) (c : CommitsGroup sizes last u first old new before after begin start mid now) where
+-- a pool with the same table has them too
+row_same : (sizes : List ℕ) (x y : OpenPool) → IsOpen sizes x → IsOpen sizes y → y.table ≡ x.table → (d : ℕ) → (part_of y.space.parts.devs d).row ≡ (part_of x.space.parts.devs d).row
+row_same sizes x y o q table d = elim (cases_lt d x.table.count) [
+  | inl lt ↦ q.rows d (let n = count in omega (arith, n, lt)) ∙ (ap (λ (t : Table). slice_index_or t.rows d no_row) table ∙ sym (o.rows d lt))
+  | inr ge ↦
+      let n = o.devices in let m = q.devices in let k = count in
+      ap (λ (p : DevPart). p.row) (get_or-eq_default y.space.parts.devs no_part {n = d} (omega (arith, k, m, ge))) ∙ sym (ap (λ (p : DevPart). p.row) (get_or-eq_default x.space.parts.devs no_part {n = d} (omega (arith, n, ge))))
+]
+  where
+    count : y.table.count ≡ x.table.count
+    count = ap (λ (t : Table). t.count) table
+
+pub service_same : (sizes : List ℕ) (x y : OpenPool) → IsOpen sizes x → IsOpen sizes y → y.table ≡ x.table → AreInService (devices_in x.space) → AreInService (devices_in y.space)
+service_same sizes x y o q table on = record {
+  there = λ d. ap (λ (r : DevRow). is_gone r.state) (row_same sizes x y o q table d) ∙ on.there d;
+  stays = λ d. ap (λ (r : DevRow). is_leaving r.state) (row_same sizes x y o q table d) ∙ on.stays d;
+}
+
+-- ---- a group, and the root behind it
+
+module _ (sizes : List ℕ) (last : Uber) (first old : OpenPool) (before after : Objects) (begin start mid : World) (was : IsCommitted sizes begin.now last first before) (from : GoesOnFrom last first) (on : AreInService (devices_in first.space))
+    (group : IsInGroup first begin old start) (ready : IsOpen sizes old) (blocks : WritesIntoFree old start mid) where
   wrote : WritesIntoFree first begin mid
-  wrote = group_writes first begin old new start mid c.group c.wrote
+  wrote = group_writes first begin old old start mid group blocks
 
   reads : HasLast mid.now.seen last first before
-  reads = group_reads sizes last first before begin mid c.was wrote
+  reads = group_reads sizes last first before begin mid was wrote
 
   shown_mid : IsShownFor mid.now.seen last first
-  shown_mid = shown_still sizes first begin mid c.was.ready c.was.sized wrote last c.was.shown
+  shown_mid = shown_still sizes first begin mid was.ready was.sized wrote last was.shown
 
   mid_sizes : map length mid.now.seen ≡ sizes
-  mid_sizes = group_sizes sizes last first before begin mid c.was wrote
-
-  large_slot : (root : Uber) (sl : ℕ) → IsSlotInBoth root u old.table.slots sl → 8388608 ≤ whole (slice_index sizes sl)
-  large_slot root sl h =
-      let at = h.at_index in
-      let known : h.index < u.count = let is = at.in_root in grind (arith, nat_tests, is) in
-      let count = c.next.count in
-      let from = c.from.count in
-      let table = ap (λ (t : Table). t.count) c.group.table in
-      large sizes old c.ready h.index sl (omega (arith, known, count, from, table)) at.here
-
-  big_both : (sl : ℕ) → Contains c.shown.both sl → 8388608 ≤ whole (slice_index sizes sl)
-  big_both sl has = large_slot (unwrap_or old.last u) sl (c.shown.in_both sl has)
-
-  big_all : (sl : ℕ) → Contains c.shown.all sl → 8388608 ≤ whole (slice_index sizes sl)
-  big_all sl has = large_slot u sl (c.shown.in_all sl has)
-
-  abbrev Putting : Stand → Type 0
-  Putting = IsPutting sizes c.shown.both c.shown.all u c.lawful (uber_long u c.lawful) mid mid_sizes big_both big_all
-
-  module _ (stand : Stand) (putting : Putting stand) (image : List (List ℕ)) (left : IsLeft stand image) where
-    -- each address of a pool reads as before the root was put
-    address_kept : (pool : OpenPool) → IsOpen sizes pool → (x : Dva) → address_bytes (view_of image pool.table.slots pool.space) x ≡ address_bytes (view_of mid.now.seen pool.table.slots pool.space) x
-    address_kept pool ready x =
-        address_keeps sizes pool.table.slots (devices_in pool.space) (below_labels sizes pool ready) u c.lawful mid.now.seen image
-        (units_kept sizes c.shown.both c.shown.all u c.lawful (uber_long u c.lawful) mid mid_sizes big_both big_all pool.table.slots (devices_in pool.space) (below_labels sizes pool ready) stand putting image left) x
-
-    address_now : (x : Dva) → address_bytes (view_of image new.table.slots new.space) x ≡ address_bytes (view_of now.now.seen new.table.slots new.space) x
-    address_now x = address_kept new c.done.ready x ∙ sym (published_bytes sizes c.shown.both c.shown.all u (Ok tt) mid now new c.done.ready c.lawful c.shown.published x)
-
-    one : ShowsOneOf image last u first
-    one =
-        torn_shows first mid.now.seen image shown_mid.seen last u c.lawful c.next shown_mid.shown shown_mid.current shown_mid.slots
-        (torn sizes c.shown.both c.shown.all u c.lawful (uber_long u c.lawful) mid mid_sizes big_both big_all stand putting image left)
-
-    module _ (paths : List (List ℕ)) (p : PoolState) (shows : Shows paths image p) where
-      is_before : shows.root.uber ≡ last → p.objects ≡ before
-      is_before same =
-          let slots = subst (λ (w : Uber). HasSlots (slots_of w shows.seen) first.table.slots) same (one.slots shows.seen shows.shown shows.root.uber shows.current) in
-          let head = head_kept first mid.now.seen image (address_kept first c.was.ready) last.root last.len reads.head in
-          one_meaning (store_of (view_of image first.table.slots first.space)) first.dir p.objects before
-          (shown_objects paths image sizes last first p c.was.ready c.on c.from head shows same slots) (objects_kept first mid.now.seen image (address_kept first c.was.ready) before reads.objects)
-
-      is_after : shows.root.uber ≡ u → p.objects ≡ after
-      is_after same =
-          let slots =
-          subst (λ (t : Table). HasSlots (slots_of u shows.seen) t.slots) (sym c.table) (subst (λ (w : Uber). HasSlots (slots_of w shows.seen) first.table.slots) same (one.slots shows.seen shows.shown shows.root.uber shows.current)) in
-          let head = head_kept new now.now.seen image address_now u.root u.len c.done.head in
-          one_meaning (store_of (view_of image new.table.slots new.space)) new.dir p.objects after
-          (shown_objects paths image sizes u new p c.done.ready c.still_on c.to head shows same slots)
-          (objects_kept new now.now.seen image address_now after (objects_meant (Unit {0}) now.now.seen new after c.done.empty c.done.objects))
-
-      either : (p.objects ≡ before) ⊎ (p.objects ≡ after)
-      either = elim (one.one shows.seen shows.shown shows.root.uber shows.current) [
-        | inl same ↦ inl (is_before same)
-        | inr same ↦ inr (is_after same)
-      ]
+  mid_sizes = group_sizes sizes last first before begin mid was wrote
 
   -- while the group is open
   open_either : (stand : Stand) → LeavesLast last first before stand → ShowsEither before after stand
@@ -144,10 +121,136 @@ module _ (sizes : List ℕ) (last u : Uber) (first old new : OpenPool) (before a
       let has = keeps image left.leaves in
       inl
       (one_meaning (store_of (view_of image first.table.slots first.space)) first.dir p.objects before
-      (shown_objects paths image sizes last first p c.was.ready c.on c.from has.head shows (has.current.alone shows.seen shows.shown shows.root.uber shows.current) (has.current.slots shows.seen shows.shown)) has.objects)
+      (shown_objects paths image sizes last first p was.ready on from has.head shows (has.current.alone shows.seen shows.shown shows.root.uber shows.current) (has.current.slots shows.seen shows.shown)) has.objects)
 
-  pub commit_either : Throughout (ShowsEither before after) begin now
-  commit_either =
-      joined (ShowsEither before after) begin mid now (weaker (LeavesLast last first before) (ShowsEither before after) begin mid open_either (group_leaves sizes last first before begin mid c.was wrote))
-      (weaker Putting (ShowsEither before after) mid now (λ stand putting image left paths p shows. either stand putting image left paths p shows)
-      (putting_throughout sizes c.shown.both c.shown.all u c.lawful (uber_long u c.lawful) mid mid_sizes big_both big_all now c.shown.published))
+  group_either : Throughout (ShowsEither before after) begin mid
+  group_either = weaker (LeavesLast last first before) (ShowsEither before after) begin mid open_either (group_leaves sizes last first before begin mid was wrote)
+
+  -- and where nothing is done behind it
+  still_either : (now : World) → IsStill mid now → Throughout (ShowsEither before after) begin now
+  still_either now unmoved = stays (ShowsEither before after) begin mid now group_either unmoved (open_either mid.now (leaves_now sizes last first before begin mid was wrote))
+
+  -- the root is published, and leads to a pool with these objects
+  module _ (u : Uber) (next : OpenPool) (both all : List ℕ) (lawful : IsUber u) (is : IsNextOf last u) (in_both : (slot : ℕ) → Contains both slot → IsSlotInBoth (unwrap_or old.last u) u old.table.slots slot)
+      (in_all : (slot : ℕ) → Contains all slot → IsSlotInBoth u u old.table.slots slot) (next_ready : IsOpen sizes next) (to : GoesOnFrom u next) (table : next.table ≡ first.table)
+      (head : HasHead mid.now.seen next u.root u.len) (objects : AreObjects (store_of (view_of mid.now.seen next.table.slots next.space)) next.dir after) where
+    large_slot : (root : Uber) (sl : ℕ) → IsSlotInBoth root u old.table.slots sl → 8388608 ≤ whole (slice_index sizes sl)
+    large_slot root sl h =
+        let at = h.at_index in
+        let known : h.index < u.count = let is_in = at.in_root in grind (arith, nat_tests, is_in) in
+        let count = is.count in
+        let own = from.count in
+        let same = ap (λ (t : Table). t.count) group.table in
+        large sizes old ready h.index sl (omega (arith, known, count, own, same)) at.here
+
+    big_both : (sl : ℕ) → Contains both sl → 8388608 ≤ whole (slice_index sizes sl)
+    big_both sl has = large_slot (unwrap_or old.last u) sl (in_both sl has)
+
+    big_all : (sl : ℕ) → Contains all sl → 8388608 ≤ whole (slice_index sizes sl)
+    big_all sl has = large_slot u sl (in_all sl has)
+
+    abbrev Putting : Stand → Type 0
+    Putting = IsPutting sizes both all u lawful (uber_long u lawful) mid mid_sizes big_both big_all
+
+    module _ (stand : Stand) (putting : Putting stand) (image : List (List ℕ)) (left : IsLeft stand image) where
+      -- each address of a pool reads as before the root was put
+      address_kept : (pool : OpenPool) → IsOpen sizes pool → (x : Dva) → address_bytes (view_of image pool.table.slots pool.space) x ≡ address_bytes (view_of mid.now.seen pool.table.slots pool.space) x
+      address_kept pool pool_ready x =
+          address_keeps sizes pool.table.slots (devices_in pool.space) (below_labels sizes pool pool_ready) u lawful mid.now.seen image
+          (units_kept sizes both all u lawful (uber_long u lawful) mid mid_sizes big_both big_all pool.table.slots (devices_in pool.space) (below_labels sizes pool pool_ready) stand putting image left) x
+
+      one : ShowsOneOf image last u first
+      one =
+          torn_shows first mid.now.seen image shown_mid.seen last u lawful is shown_mid.shown shown_mid.current shown_mid.slots
+          (torn sizes both all u lawful (uber_long u lawful) mid mid_sizes big_both big_all stand putting image left)
+
+      module _ (paths : List (List ℕ)) (p : PoolState) (shows : Shows paths image p) where
+        is_before : shows.root.uber ≡ last → p.objects ≡ before
+        is_before same =
+            let slots = subst (λ (w : Uber). HasSlots (slots_of w shows.seen) first.table.slots) same (one.slots shows.seen shows.shown shows.root.uber shows.current) in
+            let kept = head_kept first mid.now.seen image (address_kept first was.ready) last.root last.len reads.head in
+            one_meaning (store_of (view_of image first.table.slots first.space)) first.dir p.objects before
+            (shown_objects paths image sizes last first p was.ready on from kept shows same slots) (objects_kept first mid.now.seen image (address_kept first was.ready) before reads.objects)
+
+        is_after : shows.root.uber ≡ u → p.objects ≡ after
+        is_after same =
+            let slots =
+            subst (λ (t : Table). HasSlots (slots_of u shows.seen) t.slots) (sym table) (subst (λ (w : Uber). HasSlots (slots_of w shows.seen) first.table.slots) same (one.slots shows.seen shows.shown shows.root.uber shows.current)) in
+            let kept = head_kept next mid.now.seen image (address_kept next next_ready) u.root u.len head in
+            one_meaning (store_of (view_of image next.table.slots next.space)) next.dir p.objects after
+            (shown_objects paths image sizes u next p next_ready (service_same sizes first next was.ready next_ready table on) to kept shows same slots)
+            (objects_kept next mid.now.seen image (address_kept next next_ready) after objects)
+
+        either : (p.objects ≡ before) ⊎ (p.objects ≡ after)
+        either = elim (one.one shows.seen shows.shown shows.root.uber shows.current) [
+          | inl same ↦ inl (is_before same)
+          | inr same ↦ inr (is_after same)
+        ]
+
+    -- at each moment while it is put
+    put_either : (now : World) → Throughout Putting mid now → Throughout (ShowsEither before after) begin now
+    put_either now putting = joined (ShowsEither before after) begin mid now group_either (weaker Putting (ShowsEither before after) mid now (λ stand put image left paths p shows. either stand put image left paths p shows) putting)
+
+    whole_either : (now : World) → IsPublished sizes both all u mid now → Throughout (ShowsEither before after) begin now
+    whole_either now p = put_either now (putting_throughout sizes both all u lawful (uber_long u lawful) mid mid_sizes big_both big_all now p)
+
+    part_either : (now : World) → IsPublishedInPart sizes both all u mid now → Throughout (ShowsEither before after) begin now
+    part_either now (inl unmoved) = still_either now unmoved
+    part_either now (inr (inl p)) = put_either now (begun_throughout sizes both all u lawful (uber_long u lawful) mid mid_sizes big_both big_all p.first now p.before p.wrote)
+    part_either now (inr (inr p)) = put_either now (almost_throughout sizes both all u lawful (uber_long u lawful) mid mid_sizes big_both big_all p.first p.half p.second p.before p.wrote p.between p.durable now p.rest)
+
+-- ---- a commit that succeeded
+
+pub commit_either : (sizes : List ℕ) (last u : Uber) (first old new : OpenPool) (before after : Objects) (begin start mid now : World) → CommitsGroup sizes last u first old new before after begin start mid now → Throughout (ShowsEither before after) begin now
+commit_either sizes last u first old new before after begin start mid now c =
+    whole_either sizes last first old before after begin start mid c.was c.from c.on c.group c.ready c.wrote u new c.shown.both c.shown.all c.lawful c.next c.shown.in_both c.shown.in_all c.done.ready c.to c.table
+    (head_kept new now.now.seen mid.now.seen same u.root u.len c.done.head)
+    (objects_kept new now.now.seen mid.now.seen same after (objects_meant (Unit {0}) now.now.seen new after c.done.empty c.done.objects)) now c.shown.published
+  where
+    same : (x : Dva) → address_bytes (view_of mid.now.seen new.table.slots new.space) x ≡ address_bytes (view_of now.now.seen new.table.slots new.space) x
+    same x = sym (published_bytes sizes c.shown.both c.shown.all u (Ok tt) mid now new c.done.ready c.lawful c.shown.published x)
+
+-- ---- a commit, wherever it stops
+
+-- the pool goes on from its root through a group
+pub group_from : (last : Uber) (first old : OpenPool) (begin start : World) → IsInGroup first begin old start → GoesOnFrom last first → GoesOnFrom last old
+group_from last first old begin start group from = record {
+  last = group.last ∙ from.last;
+  guid = group.guid ∙ from.guid;
+  count = ap (λ (t : Table). t.count) group.table ∙ from.count;
+  rows = ap (λ (t : Table). t.rows) group.table ∙ from.rows;
+}
+
+pub next_of : (sizes : List ℕ) (reset : Bool) (last u : Uber) (old : OpenPool) → IsOpen sizes old → GoesOnFrom last old → IsNextRoot old reset u → IsNextOf last u
+next_of sizes reset last u old ready from next = record {
+  txg = next.txg ∙ (subst (λ (o : Option Uber). IsAfter o old.group.txg) from.last ready.after).1;
+  guid = next.guid ∙ from.guid;
+  count = next.count ∙ from.count;
+  rows = next.rows ∙ from.rows;
+}
+
+module _ (sizes : List ℕ) (reset : Bool) (last : Uber) (first old : OpenPool) (before after : Objects) (begin start now : World) (was : IsCommitted sizes begin.now last first before) (from : GoesOnFrom last first) (on : AreInService (devices_in first.space))
+    (group : IsInGroup first begin old start) (ready : IsOpen sizes old) where
+  module _ (mid : World) (blocks : WritesIntoFree old start mid) (u : Uber) (lawful : IsUber u) (next_root : IsNextRoot old reset u) (leads : LeadsTo sizes mid.now.seen old u after) where
+    is : IsNextOf last u
+    is = next_of sizes reset last u old ready (group_from last first old begin start group from) next_root
+
+    to : GoesOnFrom u leads.next
+    to = goes_on old leads.next reset u leads.last next_root leads.same
+
+    table : leads.next.table ≡ first.table
+    table = leads.same.table ∙ group.table
+
+    objects : AreObjects (store_of (view_of mid.now.seen leads.next.table.slots leads.next.space)) leads.next.dir after
+    objects = objects_meant (Unit {0}) mid.now.seen leads.next after leads.empty leads.holds
+
+    root_either : PublishesRoot sizes old u mid now → Throughout (ShowsEither before after) begin now
+    root_either (inl unmoved) = still_either sizes last first old before after begin start mid was from on group ready blocks now unmoved
+    root_either (inr (inl part)) =
+        part_either sizes last first old before after begin start mid was from on group ready blocks u leads.next part.both part.all lawful is part.in_both part.in_all leads.ready to table leads.head objects now part.published
+    root_either (inr (inr shown)) =
+        whole_either sizes last first old before after begin start mid was from on group ready blocks u leads.next shown.both shown.all lawful is shown.in_both shown.in_all leads.ready to table leads.head objects now shown.published
+
+  pub stopped_either : CommitsObjects sizes old reset after start now → Throughout (ShowsEither before after) begin now
+  stopped_either (mid, blocks, inl unmoved) = still_either sizes last first old before after begin start mid was from on group ready blocks now unmoved
+  stopped_either (mid, blocks, inr (u, lawful, next_root, leads, published)) = root_either mid blocks u lawful next_root leads published

@@ -11,7 +11,7 @@ use Rattle.zr_vdev.specs.declared.kind.Kind.TheVariants.{Block}
 use Rattle.zr_stops.specs.Groups.{IsInGroup}
 
 pub begins : (pool : OpenPool) (now : World) → IsInGroup pool now pool now
-begins pool now = record { table = refl; last = refl; open_units = λ d u is. is; written = writes_nothing (IsWriteInto Block pool.table.slots pool.space) now }
+begins pool now = record { table = refl; last = refl; guid = refl; open_units = λ d u is. is; written = writes_nothing (IsWriteInto Block pool.table.slots pool.space) now }
 
 module _ (first : OpenPool) (start : World) (old new : OpenPool) (before now : World) (group : IsInGroup first start old before) where
   into_first : (w : PendingWrite) → IsWriteInto Block old.table.slots old.space w → IsWriteInto Block first.table.slots first.space w
@@ -22,10 +22,11 @@ module _ (first : OpenPool) (start : World) (old new : OpenPool) (before now : W
   group_writes wrote =
       writes_more (IsWriteInto Block first.table.slots first.space) start before now group.written (widen (IsWriteInto Block old.table.slots old.space) (IsWriteInto Block first.table.slots first.space) into_first before now wrote)
 
-  pub line_stays : WritesIntoFree old before now → KeepsOthers Block old.space new.space → new.table ≡ old.table → new.last ≡ old.last → IsInGroup first start new now
-  line_stays wrote keeps table last = record {
+  pub line_stays : WritesIntoFree old before now → KeepsOthers Block old.space new.space → new.table ≡ old.table → new.last ≡ old.last → new.guid ≡ old.guid → IsInGroup first start new now
+  line_stays wrote keeps table last guid = record {
     table = table ∙ group.table;
     last = last ∙ group.last;
+    guid = guid ∙ group.guid;
     open_units = λ d u is. group.open_units d u (keeps.writable d u is);
     written = group_writes wrote;
   }

@@ -22,7 +22,8 @@ use Rattle.zr_model.specs.Objects.{Objects}
 use Rattle.zr_root.proofs.Beside.{bytes_beside}
 use Rattle.zr_rules.specs.Equation.{devices_in}
 use Rattle.zr_rules.specs.Places.{in_address}
-use Rattle.zr_rules.specs.Roles.{is_live_role}
+use Rattle.zr_rules.specs.Resolve.{leads_to}
+use Rattle.zr_rules.specs.Roles.{Role, is_live_role, is_meta_role}
 use Rattle.zr_rules.specs.Space.{OpenSets, Space, is_born, role_at}
 use Rattle.zr_scan.specs.Scan.{Shows, block_of, ring_block}
 use Rattle.zr_shelf.proofs.Doings.{added_throughout}
@@ -32,7 +33,7 @@ use Rattle.zr_shelf.specs.Doings.{Adds}
 use Rattle.zr_shelf.specs.Doings.Adds.{added_none, added}
 use Rattle.zr_shelf.specs.Moments.{Throughout, World}
 use Rattle.zr_store.proofs.Meeting.{at_each}
-use Rattle.zr_sync.specs.Heads.{HasHead, head_of}
+use Rattle.zr_sync.specs.Heads.{HasHead, IsInMetadata, head_of}
 use Rattle.zr_sync.specs.Objects.{account_of}
 use Rattle.zr_sync.specs.Writes.{WritesIntoFree}
 use Rattle.zr_sync.specs.declared.open.OpenPool.{OpenPool}
@@ -43,7 +44,7 @@ use Rattle.zr_vdev.specs.Stores.{IsStoredAt, IsWriteInto, is_open_role}
 use Rattle.zr_vdev.specs.declared.kind.Kind.TheVariants.{Block}
 use Rattle.zr_view.specs.Runs.{bytes_from}
 use Rattle.zr_view.specs.Views.{View, address_bytes, slot_of}
-use Rattle.zr_stops.specs.Last.{HasLast, IsCommitted, IsOutOfReach, IsSettled, LeavesLast}
+use Rattle.zr_stops.specs.Last.{HasLast, IsCommitted, IsSettled, LeavesLast}
 
 -- ---- roles
 
@@ -56,6 +57,17 @@ settled_live s settled d u live =
   where
     has_born : OpenSets → Bool
     has_born o = has_unit o.born u
+
+meta_closed : (r : Role) → is_meta_role r ≡ true → is_open_role r ≡ false
+meta_closed r is = grind (arith, is)
+
+-- no unit to which the address leads is free or the open group's own
+abbrev IsOutOfReach : Space → Dva → Type 0
+IsOutOfReach s a = (d u : ℕ) → leads_to (devices_in s) a d u ≡ true → is_open_role (role_at s d u) ≡ false
+
+-- so it is with metadata
+metadata_out : (s : Space) (a : Dva) → IsInMetadata s a → IsOutOfReach s a
+metadata_out s a lies d u leads = meta_closed (role_at s d u) (lies d u leads)
 
 inside : (a : Dva) (u : ℕ) → a.start ≤ u → u < a.start + a.len → in_address a a.dev u ≡ true
 inside a u low high = grind (arith, nat_tests, low, high)
@@ -186,7 +198,7 @@ module _ (sizes : List ℕ) (u : Uber) (pool : OpenPool) (objects : Objects) (st
       lawful = was.head.lawful;
       length_is = was.head.length_is;
       stands = λ t is.
-          bytes_beside (store_of then) (store_of now) t (head_bytes (head_of pool)) (λ b met. address_kept b.at (at_each (IsOutOfReach pool.space) (tree_reach (store_of then) t) b.at (was.safe t is) met)) (was.head.stands t is);
+          bytes_beside (store_of then) (store_of now) t (head_bytes (head_of pool)) (λ b met. address_kept b.at (metadata_out pool.space b.at (at_each (IsInMetadata pool.space) (tree_reach (store_of then) t) b.at (was.safe t is) met))) (was.head.stands t is);
     }
 
     block_kept : (b : Bptr) → IsStoredAt Block pool.space None b.at → (store_of now).bytes b ≡ was.objects.stored.bytes b
@@ -200,11 +212,21 @@ module _ (sizes : List ℕ) (u : Uber) (pool : OpenPool) (objects : Objects) (st
     pub last_kept : HasLast image u pool objects
     last_kept = record { current = current_kept; head = head_kept; objects = objects_kept }
 
+-- at each moment from where the group began, and now
+group_pending : (sizes : List ℕ) (u : Uber) (pool : OpenPool) (objects : Objects) (before now : World) (was : IsCommitted sizes before.now u pool objects) → WritesIntoFree pool before now
+    → Throughout (IsPending sizes u pool objects before.now was) before now × IsPending sizes u pool objects before.now was now.now
+group_pending sizes u pool objects before now was wrote =
+    added_throughout (IsPending sizes u pool objects before.now was) (Allowed sizes u pool objects before.now was) (pending_step sizes u pool objects before.now was) before now wrote (pending_start sizes u pool objects before.now was)
+
+pending_leaves : (sizes : List ℕ) (u : Uber) (pool : OpenPool) (objects : Objects) (before : World) (was : IsCommitted sizes before.now u pool objects) (stand : Stand) → IsPending sizes u pool objects before.now was stand → LeavesLast u pool objects stand
+pending_leaves sizes u pool objects before was stand pending image leaves = last_kept sizes u pool objects before.now was image (crash_clear sizes u pool objects before.now was stand pending image leaves)
+
 pub group_leaves : (sizes : List ℕ) (u : Uber) (pool : OpenPool) (objects : Objects) (before now : World) → IsCommitted sizes before.now u pool objects → WritesIntoFree pool before now → Throughout (LeavesLast u pool objects) before now
 group_leaves sizes u pool objects before now was wrote =
-    weaker (IsPending sizes u pool objects before.now was) (LeavesLast u pool objects) before now
-    (λ stand pending image leaves. last_kept sizes u pool objects before.now was image (crash_clear sizes u pool objects before.now was stand pending image leaves))
-    (added_throughout (IsPending sizes u pool objects before.now was) (Allowed sizes u pool objects before.now was) (pending_step sizes u pool objects before.now was) before now wrote (pending_start sizes u pool objects before.now was)).0
+    weaker (IsPending sizes u pool objects before.now was) (LeavesLast u pool objects) before now (pending_leaves sizes u pool objects before was) (group_pending sizes u pool objects before now was wrote).0
+
+pub leaves_now : (sizes : List ℕ) (u : Uber) (pool : OpenPool) (objects : Objects) (before now : World) → IsCommitted sizes before.now u pool objects → WritesIntoFree pool before now → LeavesLast u pool objects now.now
+leaves_now sizes u pool objects before now was wrote = pending_leaves sizes u pool objects before was now.now (group_pending sizes u pool objects before now was wrote).1
 
 -- the disks read so too
 pub group_reads : (sizes : List ℕ) (u : Uber) (pool : OpenPool) (objects : Objects) (before now : World) → IsCommitted sizes before.now u pool objects → WritesIntoFree pool before now → HasLast now.now.seen u pool objects

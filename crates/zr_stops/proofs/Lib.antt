@@ -3,3 +3,4 @@ pub mod Grouped
 pub mod Torn
 pub mod Putting
 pub mod Committing
+pub mod Ending

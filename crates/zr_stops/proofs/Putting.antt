@@ -13,14 +13,14 @@ use Rattle.zr_label.specs.declared.root.Uber.{Uber}
 use Rattle.zr_rules.specs.Devices.{Devices}
 use Rattle.zr_scan.specs.Puts.{puts, root_places}
 use Rattle.zr_scan.specs.Scan.{block_of, ring_block}
-use Rattle.zr_shelf.proofs.Doings.{added_throughout}
+use Rattle.zr_shelf.proofs.Doings.{added_throughout, writes_nothing}
 use Rattle.zr_shelf.proofs.Runs.{goes_on, joined, started}
 use Rattle.zr_shelf.specs.Disks.{IsUntouched, Meets, PendingWrite, Stand, disk, flushed, part}
 use Rattle.zr_shelf.specs.Doings.{Adds, WritesOnly}
 use Rattle.zr_shelf.specs.Doings.Adds.{added_none, added}
 use Rattle.zr_shelf.specs.Moments.{Throughout, World}
 use Rattle.zr_shelf.specs.Publish.{WasAsked}
-use Rattle.zr_slots.specs.Phases.{IsPublished, IsRootPut}
+use Rattle.zr_slots.specs.Phases.{HaveRoot, IsFlushed, IsPublished, IsRootPut}
 use Rattle.zr_sync.proofs.Rings.{EndBelowLabels, KeepsUnits, put_clear}
 use Rattle.zr_view.specs.Views as views
 use Rattle.zr_stops.specs.Torn.{MayHaveRoot}
@@ -168,57 +168,100 @@ module _ (sizes both all : List ℕ) (u : Uber) (lawful : IsUber u) (long : leng
 
   -- ---- the moments
 
-  module _ (b : World) (p : IsPublished sizes both all u a b) where
-    half_ring : (sl n k : ℕ) → n < 4 → k < 32 → (ring_block (size_at sl) (disk p.half.now.seen sl) n k ≡ ring_block (size_at sl) (disk a.now.seen sl) n k) ⊎ ((k ≡ place) × (ring_block (size_at sl) (disk p.half.now.seen sl) n k ≡ uber_block u))
-    half_ring sl n k few low = ⊎_elim even odd (even_or_odd sizes both all u long a b whole_disks big_both big_all p n few)
-      where
-        first_is : (Contains both sl → (m : ℕ) → (m ≡ 0) ⊎ (m ≡ 2) → (n ≢ m) ⊎ (k ≢ place)) → ring_block (size_at sl) (disk p.half.now.seen sl) n k ≡ ring_block (size_at sl) (disk a.now.seen sl) n k
-        first_is differ = ring_first sizes both all u long a b whole_disks big_both big_all p sl n k few low differ
+  seen_lengths : (old new : World) (Put : PendingWrite → Type 0) → WritesOnly Put old new → map length new.now.seen ≡ map length old.now.seen
+  seen_lengths old new Put writes = (added_throughout (λ (s : Stand). map length s.seen ≡ map length old.now.seen) Put step old new writes refl).1
+    where
+      step : (x y : Stand) → Adds Put x y → map length x.seen ≡ map length old.now.seen → map length y.seen ≡ map length old.now.seen
+      step x y (added_none is) same = ap (λ (s : Stand). map length s.seen) is ∙ same
+      step x y (added w may written) same = written.seen.sizes ∙ same
 
-        even : (n ≡ 0) ⊎ (n ≡ 2) → (ring_block (size_at sl) (disk p.half.now.seen sl) n k ≡ ring_block (size_at sl) (disk a.now.seen sl) n k) ⊎ ((k ≡ place) × (ring_block (size_at sl) (disk p.half.now.seen sl) n k ≡ uber_block u))
+  seen_free : (old new : World) (Put : PendingWrite → Type 0) → ((w : PendingWrite) → Put w → IsPut w) → WritesOnly Put old new → (sl at : ℕ) → ((w : PendingWrite) → IsPut w → ¬ Meets w sl at 4096)
+      → part (disk new.now.seen sl) at 4096 ≡ part (disk old.now.seen sl) at 4096
+  seen_free old new Put is_put writes sl at free = (added_throughout (λ (s : Stand). part (disk s.seen sl) at 4096 ≡ part (disk old.now.seen sl) at 4096) Put step old new writes refl).1
+    where
+      step : (x y : Stand) → Adds Put x y → part (disk x.seen sl) at 4096 ≡ part (disk old.now.seen sl) at 4096 → part (disk y.seen sl) at 4096 ≡ part (disk old.now.seen sl) at 4096
+      step x y (added_none is) same = ap (λ (s : Stand). part (disk s.seen sl) at 4096) is ∙ same
+      step x y (added w may written) same = written.seen.bytes sl at 4096 (free w (is_put w may), tt) ∙ same
+
+  -- from the first flush on, while the root is put into the first labels
+  pub begun_throughout : (first b : World) → IsFlushed a first → WritesOnly (IsRootPut sizes both 0 u) first b → Throughout IsPutting a b
+  begun_throughout first b before wrote =
+      let rest_first : IsPutting first.now = subst IsPutting (sym before.step) (at_rest a.now base_start) in
+      joined IsPutting a first b (goes_on IsPutting _ a a first (started IsPutting a) before rest_first) (added_throughout IsPutting (IsRootPut sizes both 0 u) (putting_step (IsRootPut sizes both 0 u) (λ w put. inl put)) first b wrote rest_first).0
+
+  -- and from the second one on, while it is put into the others
+  module _ (first half second : World) (before : IsFlushed a first) (wrote : WritesOnly (IsRootPut sizes both 0 u) first half) (between : IsFlushed half second) (durable : HaveRoot sizes both 0 u second.now.durable) where
+    none_in : (sl : ℕ) → Contains [] sl → ⊥
+    none_in sl has = let lt = has.1 in omega (arith, lt)
+
+    big_none : (sl : ℕ) → Contains [] sl → 8388608 ≤ whole (slice_index sizes sl)
+    big_none sl has = absurd (none_in sl has)
+
+    abbrev behind : World
+    behind = record { now = flushed second.now; past = second.now ∷ second.past }
+
+    -- as a root that is published there alone
+    halfway : IsPublished sizes both [] u a behind
+    halfway = record {
+      first = first;
+      half = half;
+      second = second;
+      whole = second;
+      before = before;
+      wrote = wrote;
+      between = between;
+      rest = writes_nothing (IsRootPut sizes [] 1 u) second;
+      behind = record { past = refl; step = refl };
+      durable = durable;
+      all_durable = record { one = λ sl has. absurd (none_in sl has); other = λ sl has. absurd (none_in sl has) };
+    }
+
+    half_ring : (sl n k : ℕ) → n < 4 → k < 32 → (ring_block (size_at sl) (disk half.now.seen sl) n k ≡ ring_block (size_at sl) (disk a.now.seen sl) n k) ⊎ ((k ≡ place) × (ring_block (size_at sl) (disk half.now.seen sl) n k ≡ uber_block u))
+    unfolding halfway
+    half_ring sl n k few low = ⊎_elim even odd (even_or_odd sizes both [] u long a behind whole_disks big_both big_none halfway n few)
+      where
+        first_is : (Contains both sl → (m : ℕ) → (m ≡ 0) ⊎ (m ≡ 2) → (n ≢ m) ⊎ (k ≢ place)) → ring_block (size_at sl) (disk half.now.seen sl) n k ≡ ring_block (size_at sl) (disk a.now.seen sl) n k
+        first_is differ = ring_first sizes both [] u long a behind whole_disks big_both big_none halfway sl n k few low differ
+
+        even : (n ≡ 0) ⊎ (n ≡ 2) → (ring_block (size_at sl) (disk half.now.seen sl) n k ≡ ring_block (size_at sl) (disk a.now.seen sl) n k) ⊎ ((k ≡ place) × (ring_block (size_at sl) (disk half.now.seen sl) n k ≡ uber_block u))
         even is = elim (cases_eq k place) [
           | inl here ↦ (elim (has_or both sl) [
-            | inl has ↦ inr (here, ap (λ (j : ℕ). ring_block (size_at sl) (disk p.half.now.seen sl) n j) here ∙ stands_first sizes both all u long a b whole_disks big_both big_all p sl n is has)
+            | inl has ↦ inr (here, ap (λ (j : ℕ). ring_block (size_at sl) (disk half.now.seen sl) n j) here ∙ stands_first sizes both [] u long a behind whole_disks big_both big_none halfway sl n is has)
             | inr none ↦ inl (first_is (λ has m at. absurd (none has)))
           ])
           | inr away ↦ inl (first_is (λ has m at. inr away))
         ]
 
-        odd : (n ≡ 1) ⊎ (n ≡ 3) → (ring_block (size_at sl) (disk p.half.now.seen sl) n k ≡ ring_block (size_at sl) (disk a.now.seen sl) n k) ⊎ ((k ≡ place) × (ring_block (size_at sl) (disk p.half.now.seen sl) n k ≡ uber_block u))
-        odd is = inl (first_is (λ has m at. inl (λ same. not_odd sizes both all u long a b whole_disks big_both big_all p m n at is (sym same))))
+        odd : (n ≡ 1) ⊎ (n ≡ 3) → (ring_block (size_at sl) (disk half.now.seen sl) n k ≡ ring_block (size_at sl) (disk a.now.seen sl) n k) ⊎ ((k ≡ place) × (ring_block (size_at sl) (disk half.now.seen sl) n k ≡ uber_block u))
+        odd is = inl (first_is (λ has m at. inl (λ same. not_odd sizes both [] u long a behind whole_disks big_both big_none halfway m n at is (sym same))))
 
-    seen_lengths : (old new : World) (Put : PendingWrite → Type 0) → WritesOnly Put old new → map length new.now.seen ≡ map length old.now.seen
-    seen_lengths old new Put writes = (added_throughout (λ (s : Stand). map length s.seen ≡ map length old.now.seen) Put step old new writes refl).1
-      where
-        step : (x y : Stand) → Adds Put x y → map length x.seen ≡ map length old.now.seen → map length y.seen ≡ map length old.now.seen
-        step x y (added_none is) same = ap (λ (s : Stand). map length s.seen) is ∙ same
-        step x y (added w may written) same = written.seen.sizes ∙ same
-
-    seen_free : (old new : World) (Put : PendingWrite → Type 0) → ((w : PendingWrite) → Put w → IsPut w) → WritesOnly Put old new → (sl at : ℕ) → ((w : PendingWrite) → IsPut w → ¬ Meets w sl at 4096)
-        → part (disk new.now.seen sl) at 4096 ≡ part (disk old.now.seen sl) at 4096
-    seen_free old new Put is_put writes sl at free = (added_throughout (λ (s : Stand). part (disk s.seen sl) at 4096 ≡ part (disk old.now.seen sl) at 4096) Put step old new writes refl).1
-      where
-        step : (x y : Stand) → Adds Put x y → part (disk x.seen sl) at 4096 ≡ part (disk old.now.seen sl) at 4096 → part (disk y.seen sl) at 4096 ≡ part (disk old.now.seen sl) at 4096
-        step x y (added_none is) same = ap (λ (s : Stand). part (disk s.seen sl) at 4096) is ∙ same
-        step x y (added w may written) same = written.seen.bytes sl at 4096 (free w (is_put w may), tt) ∙ same
-
-    base_half : IsBase p.half.now.seen
+    pub base_half : IsBase half.now.seen
     base_half = record {
-      lengths = seen_lengths p.first p.half (IsRootPut sizes both 0 u) p.wrote ∙ ap (λ (ds : List (List ℕ)). map length ds) (flush_seen a p.first p.before);
-      free = λ sl at free. seen_free p.first p.half (IsRootPut sizes both 0 u) (λ w put. inl put) p.wrote sl at free ∙ ap (λ (ds : List (List ℕ)). part (disk ds sl) at 4096) (flush_seen a p.first p.before);
+      lengths = seen_lengths first half (IsRootPut sizes both 0 u) wrote ∙ ap (λ (ds : List (List ℕ)). map length ds) (flush_seen a first before);
+      free = λ sl at free. seen_free first half (IsRootPut sizes both 0 u) (λ w put. inl put) wrote sl at free ∙ ap (λ (ds : List (List ℕ)). part (disk ds sl) at 4096) (flush_seen a first before);
       rings = half_ring;
     }
 
-    base_end : IsBase b.now.seen
+    pub rest_second : IsPutting second.now
+    rest_second = subst IsPutting (sym between.step) (at_rest half.now base_half)
+
+    half_throughout : Throughout IsPutting a second
+    half_throughout = goes_on IsPutting _ a half second (begun_throughout first half before wrote) between rest_second
+
+    pub almost_throughout : (b : World) → WritesOnly (IsRootPut sizes all 1 u) second b → Throughout IsPutting a b
+    almost_throughout b rest = joined IsPutting a second b half_throughout (added_throughout IsPutting (IsRootPut sizes all 1 u) (putting_step (IsRootPut sizes all 1 u) (λ w put. inr put)) second b rest rest_second).0
+
+  module _ (b : World) (p : IsPublished sizes both all u a b) where
+    pub base_end : IsBase b.now.seen
     base_end = record {
       lengths =
           ap (λ (ds : List (List ℕ)). map length ds) (flush_seen p.whole b p.behind)
           ∙ (seen_lengths p.second p.whole (IsRootPut sizes all 1 u) p.rest
-          ∙ (ap (λ (ds : List (List ℕ)). map length ds) (flush_seen p.half p.second p.between) ∙ base_half.lengths));
+          ∙ (ap (λ (ds : List (List ℕ)). map length ds) (flush_seen p.half p.second p.between) ∙ (base_half p.first p.half p.second p.before p.wrote p.between p.durable).lengths));
       free = λ sl at free.
           ap (λ (ds : List (List ℕ)). part (disk ds sl) at 4096) (flush_seen p.whole b p.behind)
           ∙ (seen_free p.second p.whole (IsRootPut sizes all 1 u) (λ w put. inr put) p.rest sl at free
-          ∙ (ap (λ (ds : List (List ℕ)). part (disk ds sl) at 4096) (flush_seen p.half p.second p.between) ∙ base_half.free sl at free));
+          ∙ (ap (λ (ds : List (List ℕ)). part (disk ds sl) at 4096) (flush_seen p.half p.second p.between) ∙ (base_half p.first p.half p.second p.before p.wrote p.between p.durable).free sl at free));
       rings = λ sl n k few low.
           subst (λ (size : ℕ). (ring_block size (disk b.now.seen sl) n k ≡ ring_block size (disk a.now.seen sl) n k) ⊎ ((k ≡ place) × (ring_block size (disk b.now.seen sl) n k ≡ uber_block u))) (length_at a.now.seen sizes sl whole_disks)
           ((puts_root sizes both all u long a b whole_disks big_both big_all p).rings sl n k few low);
@@ -227,14 +270,8 @@ module _ (sizes both all : List ℕ) (u : Uber) (lawful : IsUber u) (long : leng
     -- at each moment from the first flush to the last
     pub putting_throughout : Throughout IsPutting a b
     putting_throughout =
-        let rest_first : IsPutting p.first.now = subst IsPutting (sym p.before.step) (at_rest a.now base_start) in
-        let first = goes_on IsPutting _ a a p.first (started IsPutting a) p.before rest_first in
-        let wrote = added_throughout IsPutting (IsRootPut sizes both 0 u) (putting_step (IsRootPut sizes both 0 u) (λ w put. inl put)) p.first p.half p.wrote rest_first in
-        let rest_second : IsPutting p.second.now = subst IsPutting (sym p.between.step) (at_rest p.half.now base_half) in
-        let second = goes_on IsPutting _ a p.half p.second (joined IsPutting a p.first p.half first wrote.0) p.between rest_second in
-        let more = added_throughout IsPutting (IsRootPut sizes all 1 u) (putting_step (IsRootPut sizes all 1 u) (λ w put. inr put)) p.second p.whole p.rest rest_second in
         let whole_seen : IsBase p.whole.now.seen = subst IsBase (flush_seen p.whole b p.behind) base_end in
-        goes_on IsPutting _ a p.whole b (joined IsPutting a p.second p.whole second more.0) p.behind (subst IsPutting (sym p.behind.step) (at_rest p.whole.now whole_seen))
+        goes_on IsPutting _ a p.whole b (almost_throughout p.first p.half p.second p.before p.wrote p.between p.durable p.whole p.rest) p.behind (subst IsPutting (sym p.behind.step) (at_rest p.whole.now whole_seen))
 
   -- ---- units
 

@@ -37,5 +37,4 @@ pub record CommitsGroup (sizes : List ℕ) (last u : Uber) (first old new : Open
   pub next : IsNextOf last u
   pub done : IsCommitted sizes now.now u new after
   pub to : GoesOnFrom u new
-  pub still_on : AreInService (devices_in new.space)
   pub table : new.table ≡ first.table

@@ -11,5 +11,6 @@ use Rattle.zr_vdev.specs.Stores.{is_open_role}
 pub record IsInGroup (first : OpenPool) (start : World) (pool : OpenPool) (now : World) : Type 0 where
   pub table : pool.table ≡ first.table
   pub last : pool.last ≡ first.last
+  pub guid : pool.guid ≡ first.guid
   pub open_units : (d u : ℕ) → is_open_role (role_at pool.space d u) ≡ true → is_open_role (role_at first.space d u) ≡ true
   pub written : WritesIntoFree first start now

@@ -1,34 +1,17 @@
 -- The last root of an open pool, on the disks and on what a crash may leave of them.
-use Rattle.std.specs.Prelude.{◌≡◌, ℕ, true, false, List, [], All, length, map}
-use Rattle.zr_base.specs.declared.space.Dva.{Dva}
-use Rattle.zr_bptr.specs.declared.Bptr.{Bptr}
-use Rattle.zr_bptr.specs.declared.Ptr.{Ptr}
-use Rattle.zr_bptr.specs.declared.Tree.{Tree}
+use Rattle.std.specs.Prelude.{◌≡◌, ℕ, List, [], length, map}
 use Rattle.zr_current.specs.Current.{IsCurrentOn, IsShownFor}
 use Rattle.zr_image.specs.Reading.{store_of}
 use Rattle.zr_image.specs.StateOf.{AreObjects}
 use Rattle.zr_label.specs.declared.root.Uber.{Uber}
 use Rattle.zr_model.specs.Objects.{Objects}
-use Rattle.zr_root.specs.Streams.{IsTreeFor}
-use Rattle.zr_rules.specs.Equation.{devices_in}
-use Rattle.zr_rules.specs.Resolve.{leads_to}
-use Rattle.zr_rules.specs.Space.{Space, nothing_opened, opened_of, role_at}
+use Rattle.zr_rules.specs.Space.{Space, nothing_opened, opened_of}
 use Rattle.zr_shelf.specs.Disks.{IsAtRest, MayLeave, Stand}
-use Rattle.zr_sync.specs.Heads.{HasHead}
+use Rattle.zr_sync.specs.Heads.{HasHead, HasSafeHead}
 use Rattle.zr_sync.specs.Objects.{HoldsObjects}
 use Rattle.zr_sync.specs.Pools.{IsOpen}
 use Rattle.zr_sync.specs.declared.open.OpenPool.{OpenPool}
-use Rattle.zr_tree.specs.Trees.{tree_reach}
 use Rattle.zr_vdev.specs.Runs.{view_of}
-use Rattle.zr_vdev.specs.Stores.{is_open_role}
-
--- no unit to which the address leads is free or the open group's own
-abbrev pub IsOutOfReach : Space → Dva → Type 0
-IsOutOfReach s a = (d u : ℕ) → leads_to (devices_in s) a d u ≡ true → is_open_role (role_at s d u) ≡ false
-
--- the blocks of the head lie in units that are in use
-abbrev pub HasSafeHead : List (List ℕ) → OpenPool → Ptr → ℕ → Type 0
-HasSafeHead disks pool root len = (t : Tree) → IsTreeFor len root t → All (λ (b : Bptr). IsOutOfReach pool.space b.at) (tree_reach (store_of (view_of disks pool.table.slots pool.space)) t)
 
 -- no unit is the open group's own
 abbrev pub IsSettled : Space → Type 0

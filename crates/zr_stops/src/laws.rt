@@ -1,19 +1,22 @@
 //! The laws, as calls that do nothing: a caller learns them by their contracts.
-ghost use Rattle.std.specs.Prelude.{◌≡◌, ℕ, List};
+ghost use Rattle.std.specs.Prelude.{◌≡◌, ℕ, Bool, List, ◌∷◌, map, length};
 ghost use Rattle.zr_label.specs.declared.root.Uber.{Uber};
 ghost use Rattle.zr_model.specs.Objects.{Objects};
 ghost use Rattle.zr_model.specs.State.{PoolState};
 ghost use Rattle.zr_open.specs.Shown.{Shows};
-ghost use Rattle.zr_current.specs.Current.{GoesOnFrom};
+ghost use Rattle.zr_current.specs.Current.{GoesOnFrom, IsShownFor};
 ghost use Rattle.zr_rules.specs.Equation.{devices_in};
 ghost use Rattle.zr_shelf.specs.Moments.{Throughout, World};
 ghost use Rattle.zr_space.specs.Paths.{AreInService};
+ghost use Rattle.zr_sync.specs.Leads.{CommitsObjects};
 ghost use Rattle.zr_sync.specs.Pools.{IsOpen};
 ghost use Rattle.zr_sync.specs.Writes.{WritesIntoFree};
 ghost use Rattle.zr_sync.specs.declared.open.OpenPool.{OpenPool};
 ghost use Rattle.zr_stops.specs.Either.{CommitsGroup, ShowsEither};
 ghost use Rattle.zr_vdev.specs.Stores.{KeepsOthers};
 ghost use Rattle.zr_vdev.specs.declared.kind.Kind.TheVariants.{Block};
+ghost use Rattle.zr_stops.specs.Ends.{EndsCommitted};
+ghost use Rattle.zr_stops.specs.Follows.{Commit, FollowOn, ShowsAmong, Stood, last_of};
 ghost use Rattle.zr_stops.specs.Groups.{IsInGroup};
 ghost use Rattle.zr_stops.specs.Last.{HasLast, IsCommitted, LeavesLast};
 
@@ -24,7 +27,7 @@ pub fn a_group_begins()
 
 /// What a line writes of blocks lies in units that were free when its group began.
 pub fn lines_stay_in_their_group()
-    ensures { (first old new : OpenPool) (start before now : World) → IsInGroup first start old before → WritesIntoFree old before now → KeepsOthers Block old.space new.space → new.table ≡ old.table → new.last ≡ old.last
+    ensures { (first old new : OpenPool) (start before now : World) → IsInGroup first start old before → WritesIntoFree old before now → KeepsOthers Block old.space new.space → new.table ≡ old.table → new.last ≡ old.last → new.guid ≡ old.guid
         → IsInGroup first start new now }
 {}
 
@@ -45,4 +48,26 @@ pub fn the_last_root_is_shown()
 pub fn a_commit_leaves_one_of_two_states()
     ensures { (sizes : List ℕ) (last u : Uber) (first old new : OpenPool) (before after : Objects) (begin start mid now : World) → CommitsGroup sizes last u first old new before after begin start mid now
         → Throughout (ShowsEither before after) begin now }
+{}
+
+/// A commit of a pool whose last root the slots showed leaves it committed, by what the commit says of its end: so the next group
+/// begins as this one did.
+pub fn a_commit_leaves_the_pool_committed()
+    ensures { (sizes : List ℕ) (reset : Bool) (last : Uber) (old new : OpenPool) (objects : Objects) (before now : World) → IsOpen sizes old → GoesOnFrom last old → map length before.now.seen ≡ sizes → IsShownFor before.now.seen last old
+        → EndsCommitted sizes reset old new objects before now → (u : Uber) × GoesOnFrom u new × IsCommitted sizes now.now u new objects }
+{}
+
+/// Behind one commit after another, each with the lines of its group before it, the pool stands committed. At each moment from
+/// the first of them on, whatever pool an honest crash shows has the objects behind one of them.
+pub fn groups_follow()
+    ensures stands { (sizes : List ℕ) (first : Commit) (more : List Commit) → Stood sizes first → FollowOn sizes first more → Stood sizes (last_of first more) }
+    ensures shows { (sizes : List ℕ) (first : Commit) (more : List Commit) → Stood sizes first → FollowOn sizes first more → Throughout (ShowsAmong (map (λ (c : Commit). c.objects) (first ∷ more))) first.now (last_of first more).now }
+{}
+
+/// A commit that stops anywhere, before its root is published or while it is, leaves one of two states too: at each moment from
+/// where the group begins, whatever pool an honest crash shows has the objects from before the group, or those that the commit
+/// was of.
+pub fn a_stopped_commit_leaves_one_of_two_states()
+    ensures { (sizes : List ℕ) (reset : Bool) (last : Uber) (first old : OpenPool) (before after : Objects) (begin start now : World) → IsCommitted sizes begin.now last first before → GoesOnFrom last first → AreInService (devices_in first.space)
+        → IsInGroup first begin old start → IsOpen sizes old → CommitsObjects sizes old reset after start now → Throughout (ShowsEither before after) begin now }
 {}

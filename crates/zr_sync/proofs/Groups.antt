@@ -81,6 +81,42 @@ ended sizes reset x y u height o next lawful tall commits txg none rest turned =
       disks = o.disks;
     })
 
+-- the pool that goes on from a root with nothing changed yet
+abbrev pub next_pool : OpenPool → Uber → OpenPool
+next_pool x u = record x { last = Some u; group = record { txg = x.group.txg + 1; objects = [] } }
+
+-- it is open where the root is the next one
+pub next_open : (sizes : List ℕ) (reset : Bool) (x : OpenPool) (u : Uber) → IsOpen sizes x → IsNextRoot x reset u → IsUber u → IsOpen sizes (next_pool x u)
+next_open sizes reset x u o next lawful =
+    let first = o.first in
+    record {
+      version = o.version;
+      guid = o.guid;
+      name = o.name;
+      some = o.some;
+      few = o.few;
+      table = rows_later x.version x.group.txg x.table.count x.table.rows o.table;
+      slots = o.slots;
+      first = omega (arith, first);
+      after = (lawful, ap (λ (n : ℕ). n + 1) (sym next.txg));
+      group = empty_lawful (record { txg = x.group.txg + 1; objects = [] }) refl;
+      limits = empty_limits (record { txg = x.group.txg + 1; objects = [] }) refl;
+      dir = o.dir;
+      head = o.head;
+      streams = o.streams;
+      count = o.count;
+      cond = o.cond;
+      turned = o.turned;
+      saved = o.saved;
+      checkpoint = o.checkpoint;
+      spelled = o.spelled;
+      devices = o.devices;
+      rows = o.rows;
+      lawful = o.lawful;
+      mounted = o.mounted;
+      disks = o.disks;
+    }
+
 -- the rows of the devices stay
 pub ends_row : (reset : Bool) (old new : Space) → EndsGroup reset old new → (d : ℕ) → (part_of new.parts.devs d).row ≡ (part_of old.parts.devs d).row
 ends_row reset old new h d = h.ended.rows d ∙ ((h.metadata.rows.each d).row ∙ (h.blocks.rows.each d).row)
@@ -104,6 +140,12 @@ part_before {n1 = n1} {n2 = n2} {x = x} {y = y} p u a b h =
     let is : IsShownInPart n1 (record x { space = y.space; cache = y.cache; dir = y.dir; streams = y.streams; cond = y.cond }) u a b =
     subst (λ (o : OpenPool). IsShownInPart n1 o u a b) p.rest (subst (λ (n : List ℕ). IsShownInPart n y u a b) p.sizes h) in
     record { both = is.both; all = is.all; in_both = is.in_both; all_both = is.all_both; in_all = is.in_all; all_all = is.all_all; published = is.published }
+
+-- a root is published for the pool as it was before its blocks were written
+pub publishes_before : {n1 n2 : List ℕ} {c1 c2 : Counts} {t1 t2 : Type 0} {w1 w2 : World} {x y : OpenPool} → WritesAll n1 n2 c1 c2 t1 t2 w1 w2 x y → (u : Uber) (a b : World) → PublishesRoot n2 y u a b → PublishesRoot n1 x u a b
+publishes_before p u a b (inl unmoved) = inl unmoved
+publishes_before p u a b (inr (inl part)) = inr (inl (part_before p u a b part))
+publishes_before p u a b (inr (inr shown)) = inr (inr (shown_before p u a b shown))
 
 -- where it stops before a root is published, blocks alone were written
 pub stops_early : {n1 n2 : List ℕ} {c1 c2 : Counts} {t1 t2 : Type 0} {w1 w2 : World} {x y : OpenPool} → WritesAll n1 n2 c1 c2 t1 t2 w1 w2 x y → t1 → (reset : Bool) → WritesRoot n1 x reset w1 w2

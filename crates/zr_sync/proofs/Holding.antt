@@ -68,7 +68,7 @@ below_labels sizes pool o d slot lt is =
     subst (λ (r : DevRow). unit_at r.units ≤ label_at (slice_index sizes slot) 2) (sym (o.rows d inside)) (units_below (slice_index sizes slot) _ (o.disks d slot inside is))
 
 -- what is held where each address has its bytes
-same_holds : (slots : List (Option ℕ)) (t1 t2 : Type 0) (before now : List (List ℕ)) (x : Space) (c : Cache) (s : Stored) → t2 → ((a : Dva) → address_bytes (view_of now slots x) a ≡ address_bytes (view_of before slots x) a)
+pub same_holds : (slots : List (Option ℕ)) (t1 t2 : Type 0) (before now : List (List ℕ)) (x : Space) (c : Cache) (s : Stored) → t2 → ((a : Dva) → address_bytes (view_of now slots x) a ≡ address_bytes (view_of before slots x) a)
     → HoldsBlocks Block slots t1 before x None c s → HoldsBlocks Block slots t2 now x None c s
 same_holds slots t1 t2 before now x c s told same held = record {
   told = told;

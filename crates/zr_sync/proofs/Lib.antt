@@ -17,3 +17,5 @@ pub mod Anew
 pub mod MappingWords
 pub mod Moving
 pub mod SetsFrom
+pub mod Safe
+pub mod Leading

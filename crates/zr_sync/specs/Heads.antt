@@ -1,9 +1,11 @@
 -- The head of an open pool, as it stands on the disks.
-use Rattle.std.specs.Prelude.{◌≡◌, ℕ, List, [], ◌∷◌, ◌++◌, length, take, Option, Some, None}
+use Rattle.std.specs.Prelude.{◌≡◌, ℕ, true, List, [], ◌∷◌, ◌++◌, All, length, take, Option, Some, None}
 use Rattle.zr_base.specs.declared.space.CondPart.{CondPart}
 use Rattle.zr_base.specs.declared.space.DevRow.{DevRow}
 use Rattle.zr_base.specs.declared.space.DevState.{DevState}
 use Rattle.zr_base.specs.declared.space.DevState.TheVariants.{On, Leaving, Gone}
+use Rattle.zr_base.specs.declared.space.Dva.{Dva}
+use Rattle.zr_bptr.specs.declared.Bptr.{Bptr}
 use Rattle.zr_bptr.specs.declared.Ptr.{Ptr}
 use Rattle.zr_bptr.specs.declared.Tree.{Tree}
 use Rattle.zr_meta.specs.declared.CondAt.{CondAt}
@@ -12,6 +14,11 @@ use Rattle.zr_meta.specs.declared.Stream.{Stream}
 use Rattle.zr_meta.specs.Heads.{IsHead, head_bytes}
 use Rattle.zr_root.specs.Streams.{HasBytes, IsTreeFor}
 use Rattle.zr_image.specs.Reading.{store_of}
+use Rattle.zr_rules.specs.Equation.{devices_in}
+use Rattle.zr_rules.specs.Resolve.{leads_to}
+use Rattle.zr_rules.specs.Roles.{is_meta_role}
+use Rattle.zr_rules.specs.Space.{Space, role_at}
+use Rattle.zr_tree.specs.Trees.{tree_reach}
 use Rattle.zr_view.specs.Views.{View}
 use Rattle.zr_vdev.specs.Caches.{AreRead}
 use Rattle.zr_vdev.specs.Runs.{view_of}
@@ -59,3 +66,15 @@ pub record StandsHead (table : List DevRow) (view : View) (h : Head) (root : Ptr
 -- the disks have the pool's head at this root
 abbrev pub HasHead : List (List ℕ) → OpenPool → Ptr → ℕ → Type 0
 HasHead disks pool root len = StandsHead (take pool.table.count pool.table.rows) (view_of disks pool.table.slots pool.space) (head_of pool) root len
+
+-- each unit to which the address leads has metadata
+abbrev pub IsInMetadata : Space → Dva → Type 0
+IsInMetadata s a = (d u : ℕ) → leads_to (devices_in s) a d u ≡ true → is_meta_role (role_at s d u) ≡ true
+
+-- the blocks of the tree of that length with this root lie in units of metadata
+abbrev pub LiesInMetadata : Space → View → Ptr → ℕ → Type 0
+LiesInMetadata space view root len = (t : Tree) → IsTreeFor len root t → All (λ (b : Bptr). IsInMetadata space b.at) (tree_reach (store_of view) t)
+
+-- The blocks of the pool's head at this root lie in units of metadata. So none of these units is free, or the open group's own.
+abbrev pub HasSafeHead : List (List ℕ) → OpenPool → Ptr → ℕ → Type 0
+HasSafeHead disks pool root len = LiesInMetadata pool.space (view_of disks pool.table.slots pool.space) root len

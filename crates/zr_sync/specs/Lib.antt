@@ -11,3 +11,4 @@ pub mod States
 pub mod Streams
 pub mod Anew
 pub mod Mappings
+pub mod Leads

@@ -18,8 +18,9 @@ ghost use Rattle.zr_sync.specs.Anew.{AreRenewed, RenewsLogs};
 ghost use Rattle.zr_sync.specs.Commits.{EndsGroup, IsNextRoot, IsShownFrom, WritesRoot};
 ghost use Rattle.zr_model.specs.Objects.{Objects};
 ghost use Rattle.zr_sync.specs.Objects.{HoldsObjects};
-ghost use Rattle.zr_sync.specs.Heads.{HasHead, IsSeen};
+ghost use Rattle.zr_sync.specs.Heads.{HasHead, HasSafeHead, IsSeen};
 ghost use Rattle.zr_sync.specs.Holds.{AreTreesStored, HasBlocks, HasWritten};
+ghost use Rattle.zr_sync.specs.Leads.{CommitsObjects};
 ghost use Rattle.zr_sync.specs.Pools.{IsOpen, IsSamePool, none_turned};
 ghost use Rattle.zr_sync.specs.Writes.{WorksOnDisks, WritesAll, WritesIntoFree, WritesMetadata};
 ghost use Rattle.zr_sync.specs.declared.logs.Logs.TheVariants.{Anew};
@@ -129,6 +130,7 @@ fn write_metadata<S: Shelf, P: Place>(
     ensures least { IfOk result (λ head. 8 ≤ head.1) }
     ensures short { IfOk result (λ head. head.1 ≤ 35016) }
     ensures stands { IsSeen (S.tells shelf.old) (S.world shelf.old).now.seen pool.old → IfOk result (λ head. HasHead (S.world shelf.new).now.seen pool.new head.0 head.1) }
+    ensures safe { IsSeen (S.tells shelf.old) (S.world shelf.old).now.seen pool.old → IfOk result (λ head. HasSafeHead (S.world shelf.new).now.seen pool.new head.0 head.1) }
     ensures anew { reset ≡ true → logs ≡ Anew → OnOk result (AreRenewed pool.old.version pool.old.space pool.new.streams.items pool.old.table.count) }
 {
     turn_metadata(alloc, pool, shelf, pick, logs)?;
@@ -156,6 +158,7 @@ fn write_all<S: Shelf, P: Place>(
     ensures least { IfOk result (λ head. 8 ≤ head.1) }
     ensures short { IfOk result (λ head. head.1 ≤ 35016) }
     ensures stands { IsSeen (S.tells shelf.old) (S.world shelf.old).now.seen pool.old → IfOk result (λ head. HasHead (S.world shelf.new).now.seen pool.new head.0 head.1) }
+    ensures safe { IsSeen (S.tells shelf.old) (S.world shelf.old).now.seen pool.old → IfOk result (λ head. HasSafeHead (S.world shelf.new).now.seen pool.new head.0 head.1) }
     ensures seen { IsSeen (S.tells shelf.old) (S.world shelf.old).now.seen pool.old → OnOk result (IsSeen (S.tells shelf.new) (S.world shelf.new).now.seen pool.new) }
     ensures objects { (s : Stored) → HasBlocks (S.tells shelf.old) (S.world shelf.old).now.seen pool.old s → AreTreesStored pool.old s → OnOk result (HasWritten (S.tells shelf.new) (S.world shelf.new).now.seen pool.old pool.new s) }
     ensures anew { reset ≡ true → logs ≡ Anew → OnOk result (RenewsLogs pool.old pool.new) }
@@ -186,10 +189,12 @@ fn commit_with<S: Shelf, P: Place>(
     ensures last { OnOk result (IfSome pool.new.last (IsNextRoot pool.old reset)) }
     ensures head { OnOk result (IfSome pool.new.last (λ u. pool.new.head.root ≡ u.root)) }
     ensures stands { IsSeen (S.tells shelf.old) (S.world shelf.old).now.seen pool.old → OnOk result (IfSome pool.new.last (λ u. HasHead (S.world shelf.new).now.seen pool.new u.root u.len)) }
+    ensures safe { IsSeen (S.tells shelf.old) (S.world shelf.old).now.seen pool.old → OnOk result (IfSome pool.new.last (λ u. HasSafeHead (S.world shelf.new).now.seen pool.new u.root u.len)) }
     ensures seen { IsSeen (S.tells shelf.old) (S.world shelf.old).now.seen pool.old → OnOk result (IsSeen (S.tells shelf.new) (S.world shelf.new).now.seen pool.new) }
     ensures shown { S.tells shelf.old → OnOk result (IfSome pool.new.last (λ u. (before : World) × IsShownFrom (S.sizes shelf.old) pool.old u before (S.world shelf.new))) }
     ensures written { S.tells shelf.old → OnOk result (IfSome pool.new.last (λ u. (mid : World) × WritesIntoFree pool.old (S.world shelf.old) mid × IsShownFrom (S.sizes shelf.old) pool.old u mid (S.world shelf.new))) }
     ensures order { S.tells shelf.old → WritesRoot (S.sizes shelf.old) pool.old reset (S.world shelf.old) (S.world shelf.new) }
+    ensures leads { (objects : Objects) → HoldsObjects (S.tells shelf.old) (S.world shelf.old).now.seen pool.old objects → CommitsObjects (S.sizes shelf.old) pool.old reset objects (S.world shelf.old) (S.world shelf.new) }
     ensures space { OnOk result ((before : Space) × Commits reset before pool.new.space) }
     ensures ends { OnOk result (EndsGroup reset pool.old.space pool.new.space) }
     ensures anew { reset ≡ true → logs ≡ Anew → OnOk result (RenewsLogs pool.old pool.new) }
@@ -234,10 +239,12 @@ pub fn commit<S: Shelf, P: Place>(
     ensures last { OnOk result (IfSome pool.new.last (IsNextRoot pool.old reset)) }
     ensures head { OnOk result (IfSome pool.new.last (λ u. pool.new.head.root ≡ u.root)) }
     ensures stands { IsSeen (S.tells shelf.old) (S.world shelf.old).now.seen pool.old → OnOk result (IfSome pool.new.last (λ u. HasHead (S.world shelf.new).now.seen pool.new u.root u.len)) }
+    ensures safe { IsSeen (S.tells shelf.old) (S.world shelf.old).now.seen pool.old → OnOk result (IfSome pool.new.last (λ u. HasSafeHead (S.world shelf.new).now.seen pool.new u.root u.len)) }
     ensures seen { IsSeen (S.tells shelf.old) (S.world shelf.old).now.seen pool.old → OnOk result (IsSeen (S.tells shelf.new) (S.world shelf.new).now.seen pool.new) }
     ensures shown { S.tells shelf.old → OnOk result (IfSome pool.new.last (λ u. (before : World) × IsShownFrom (S.sizes shelf.old) pool.old u before (S.world shelf.new))) }
     ensures written { S.tells shelf.old → OnOk result (IfSome pool.new.last (λ u. (mid : World) × WritesIntoFree pool.old (S.world shelf.old) mid × IsShownFrom (S.sizes shelf.old) pool.old u mid (S.world shelf.new))) }
     ensures order { S.tells shelf.old → WritesRoot (S.sizes shelf.old) pool.old reset (S.world shelf.old) (S.world shelf.new) }
+    ensures leads { (objects : Objects) → HoldsObjects (S.tells shelf.old) (S.world shelf.old).now.seen pool.old objects → CommitsObjects (S.sizes shelf.old) pool.old reset objects (S.world shelf.old) (S.world shelf.new) }
     ensures space { OnOk result ((before : Space) × Commits reset before pool.new.space) }
     ensures ends { OnOk result (EndsGroup reset pool.old.space pool.new.space) }
     ensures empty { OnOk result (pool.new.group.objects ≡ []) }
@@ -269,10 +276,12 @@ pub fn commit_anew<S: Shelf, P: Place>(
     ensures last { OnOk result (IfSome pool.new.last (IsNextRoot pool.old true)) }
     ensures head { OnOk result (IfSome pool.new.last (λ u. pool.new.head.root ≡ u.root)) }
     ensures stands { IsSeen (S.tells shelf.old) (S.world shelf.old).now.seen pool.old → OnOk result (IfSome pool.new.last (λ u. HasHead (S.world shelf.new).now.seen pool.new u.root u.len)) }
+    ensures safe { IsSeen (S.tells shelf.old) (S.world shelf.old).now.seen pool.old → OnOk result (IfSome pool.new.last (λ u. HasSafeHead (S.world shelf.new).now.seen pool.new u.root u.len)) }
     ensures seen { IsSeen (S.tells shelf.old) (S.world shelf.old).now.seen pool.old → OnOk result (IsSeen (S.tells shelf.new) (S.world shelf.new).now.seen pool.new) }
     ensures shown { S.tells shelf.old → OnOk result (IfSome pool.new.last (λ u. (before : World) × IsShownFrom (S.sizes shelf.old) pool.old u before (S.world shelf.new))) }
     ensures written { S.tells shelf.old → OnOk result (IfSome pool.new.last (λ u. (mid : World) × WritesIntoFree pool.old (S.world shelf.old) mid × IsShownFrom (S.sizes shelf.old) pool.old u mid (S.world shelf.new))) }
     ensures order { S.tells shelf.old → WritesRoot (S.sizes shelf.old) pool.old true (S.world shelf.old) (S.world shelf.new) }
+    ensures leads { (objects : Objects) → HoldsObjects (S.tells shelf.old) (S.world shelf.old).now.seen pool.old objects → CommitsObjects (S.sizes shelf.old) pool.old true objects (S.world shelf.old) (S.world shelf.new) }
     ensures space { OnOk result ((before : Space) × Commits true before pool.new.space) }
     ensures ends { OnOk result (EndsGroup true pool.old.space pool.new.space) }
     ensures anew { OnOk result (RenewsLogs pool.old pool.new) }
@@ -306,10 +315,12 @@ pub fn commit_moving<S: Shelf, P: Place>(
     ensures last { OnOk result (IfSome pool.new.last (IsNextRoot pool.old true)) }
     ensures head { OnOk result (IfSome pool.new.last (λ u. pool.new.head.root ≡ u.root)) }
     ensures stands { IsSeen (S.tells shelf.old) (S.world shelf.old).now.seen pool.old → OnOk result (IfSome pool.new.last (λ u. HasHead (S.world shelf.new).now.seen pool.new u.root u.len)) }
+    ensures safe { IsSeen (S.tells shelf.old) (S.world shelf.old).now.seen pool.old → OnOk result (IfSome pool.new.last (λ u. HasSafeHead (S.world shelf.new).now.seen pool.new u.root u.len)) }
     ensures seen { IsSeen (S.tells shelf.old) (S.world shelf.old).now.seen pool.old → OnOk result (IsSeen (S.tells shelf.new) (S.world shelf.new).now.seen pool.new) }
     ensures shown { S.tells shelf.old → OnOk result (IfSome pool.new.last (λ u. (before : World) × IsShownFrom (S.sizes shelf.old) pool.old u before (S.world shelf.new))) }
     ensures written { S.tells shelf.old → OnOk result (IfSome pool.new.last (λ u. (mid : World) × WritesIntoFree pool.old (S.world shelf.old) mid × IsShownFrom (S.sizes shelf.old) pool.old u mid (S.world shelf.new))) }
     ensures order { S.tells shelf.old → WritesRoot (S.sizes shelf.old) pool.old true (S.world shelf.old) (S.world shelf.new) }
+    ensures leads { (objects : Objects) → HoldsObjects (S.tells shelf.old) (S.world shelf.old).now.seen pool.old objects → CommitsObjects (S.sizes shelf.old) pool.old true objects (S.world shelf.old) (S.world shelf.new) }
     ensures space { OnOk result ((before : Space) × Commits true before pool.new.space) }
     ensures ends { OnOk result (EndsGroup true pool.old.space pool.new.space) }
     ensures anew { OnOk result (RenewsLogs pool.old pool.new) }

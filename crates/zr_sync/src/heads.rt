@@ -4,7 +4,7 @@ ghost use Rattle.std.specs.List.{AllByRecursion};
 ghost use Rattle.zr_base.specs.Counts.{HasRisen};
 ghost use Rattle.zr_label.specs.Blocks.{IsMetaRoot};
 ghost use Rattle.zr_meta.specs.Heads.{IsCond, IsHead, IsStream};
-ghost use Rattle.zr_sync.specs.Heads.{HasHead, IsSeen, cond_at, cond_streams, head_of, streams_in};
+ghost use Rattle.zr_sync.specs.Heads.{HasHead, HasSafeHead, IsSeen, cond_at, cond_streams, head_of, streams_in};
 ghost use Rattle.zr_sync.specs.Pools.{AreCondStreams, AreStreams, IsOpen, saved_block};
 ghost use Rattle.zr_sync.specs.Writes.{WritesMetadata};
 ghost use Rattle.zr_sync.specs.declared.stop.Stop.TheVariants.{DiskFault};
@@ -159,6 +159,7 @@ pub fn write_head<S: Shelf, P: Place>(
     ensures least { IfOk result (λ head. 8 ≤ head.1) }
     ensures short { IfOk result (λ head. head.1 ≤ 35016) }
     ensures stands { IsSeen (S.tells shelf.old) (S.world shelf.old).now.seen pool.old → IfOk result (λ head. HasHead (S.world shelf.new).now.seen pool.new head.0 head.1) }
+    ensures safe { IsSeen (S.tells shelf.old) (S.world shelf.old).now.seen pool.old → IfOk result (λ head. HasSafeHead (S.world shelf.new).now.seen pool.new head.0 head.1) }
 {
     let head = head_of(alloc, pool)?;
     let mount = Mount {

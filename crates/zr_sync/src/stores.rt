@@ -17,8 +17,9 @@ ghost use Rattle.zr_tree.specs.Trees.{tree_reach};
 ghost use Rattle.zr_vdev.specs.Mounts.{AreMounted};
 ghost use Rattle.zr_vdev.specs.Runs.{view_of};
 ghost use Rattle.zr_vdev.specs.Stores.{Continues, HoldsBlocks};
+ghost use Rattle.zr_vdev.specs.declared.kind.Kind.TheVariants.{Meta};
 ghost use Rattle.zr_sync.specs.Anew.{HasCountOf};
-ghost use Rattle.zr_sync.specs.Heads.{StandsHead};
+ghost use Rattle.zr_sync.specs.Heads.{LiesInMetadata, StandsHead};
 ghost use Rattle.zr_sync.specs.Words.{HasRoomFor, words_then};
 ghost use Rattle.zr_sync.specs.declared.stop.Stop.TheVariants.{DiskFault};
 
@@ -209,6 +210,7 @@ pub fn put_head<S: Shelf, P: Place>(
     ensures len { IfOk result (λ root. root.1 ≡ 8 * head_words head.now) }
     ensures short { IfOk result (λ head. head.1 ≤ 35016) }
     ensures stands { (s : Stored) → HoldsBlocks mount.entry.kind mount.entry.slots.now (S.tells shelf.old) (S.world shelf.old).now.seen space.old None cache.old s → IfOk result (λ root. StandsHead rows.now (view_of (S.world shelf.new).now.seen mount.entry.slots.now space.new) head.now root.0 root.1) }
+    ensures safe { mount.entry.kind ≡ Meta → (s : Stored) → HoldsBlocks mount.entry.kind mount.entry.slots.now (S.tells shelf.old) (S.world shelf.old).now.seen space.old None cache.old s → IfOk result (λ root. LiesInMetadata space.new (view_of (S.world shelf.new).now.seen mount.entry.slots.now space.new) root.0 root.1) }
 {
     let mut store = Vdev::new(space, shelf, cache, mount);
     Ok(write_head(alloc, &mut store, head, rows)?)

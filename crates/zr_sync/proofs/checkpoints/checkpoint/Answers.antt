@@ -62,6 +62,11 @@ returns-clause-stands g c = λ seen.
     let mid = c.commit.new.shelf in
     c.in_ok-commit_anew.ensures.stands (saves_seen c.commit.new.pool c.save_root.new.pool c.in_ok-save_root.ensures.saves (g.S.Shelf.tells mid) (g.S.Shelf.world mid).now.seen (c.in_ok-commit.ensures.seen seen))
 
+pub returns-clause-safe : goal.returns-clause-safe
+returns-clause-safe g c = λ seen.
+    let mid = c.commit.new.shelf in
+    c.in_ok-commit_anew.ensures.safe (saves_seen c.commit.new.pool c.save_root.new.pool c.in_ok-save_root.ensures.saves (g.S.Shelf.tells mid) (g.S.Shelf.world mid).now.seen (c.in_ok-commit.ensures.seen seen))
+
 pub returns-clause-txg : goal.returns-clause-txg
 returns-clause-txg g c =
     let first = c.in_ok-commit.ensures.txg in

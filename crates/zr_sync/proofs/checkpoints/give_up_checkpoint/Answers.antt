@@ -29,6 +29,11 @@ returns-clause-stands g c = λ seen.
     let old = c.args.shelf.now in
     c.in_ok-commit.ensures.stands (drops_seen c.args.pool.now c.drop_root.new.pool c.in_ok-drop_root.ensures.drops (g.S.Shelf.tells old) (g.S.Shelf.world old).now.seen seen)
 
+pub returns-clause-safe : goal.returns-clause-safe
+returns-clause-safe g c = λ seen.
+    let old = c.args.shelf.now in
+    c.in_ok-commit.ensures.safe (drops_seen c.args.pool.now c.drop_root.new.pool c.in_ok-drop_root.ensures.drops (g.S.Shelf.tells old) (g.S.Shelf.world old).now.seen seen)
+
 pub returns-clause-txg : goal.returns-clause-txg
 returns-clause-txg g c =
     let same = ap (λ (p : OpenPool). p.group.txg) c.in_ok-drop_root.ensures.drops.rest in

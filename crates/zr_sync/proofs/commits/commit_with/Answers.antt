@@ -6,14 +6,16 @@ use Rattle.zr_shelf.specs.Moments.{World}
 use Rattle.zr_shelf.proofs.Doings.{writes_nothing}
 use Rattle.zr_shelf.proofs.Runs.{still}
 use Rattle.zr_sync.specs.Commits.{IsShownFrom}
-use Rattle.zr_sync.specs.Heads.{HasHead, head_of}
+use Rattle.zr_sync.specs.Heads.{HasHead, HasSafeHead, head_of}
 use Rattle.zr_sync.specs.Pools.{IsOpen}
 use Rattle.zr_sync.specs.Writes.{WritesIntoFree}
 use Rattle.zr_sync.proofs.Anew.{renewed_last}
 use Rattle.zr_sync.proofs.Disks.{works_more}
 use Rattle.zr_sync.proofs.Groups.{commits_devices, publishes_then, shown_before, stops_early}
 use Rattle.zr_sync.proofs.Holding.{ended_written}
+use Rattle.zr_sync.proofs.Leading.{blocks_committed, nothing_committed, root_committed}
 use Rattle.zr_sync.proofs.Objects.{now_held}
+use Rattle.zr_sync.proofs.Safe.{ended_safe, safe_same}
 use Rattle.zr_sync.proofs.Standing.{head_same, ended_head, seen_same, seen_devices}
 use Rattle.zr_sync.proofs.Stays.{trees_stored, objects_written}
 use Rattle.zr_txg.specs.Changes.{block_count}
@@ -87,6 +89,19 @@ returns-clause-stands g c = λ seen.
     subst (λ (o : Option Uber). IfSome o (λ (u : Uber). HasHead now c.end_group.new.pool u.root u.len)) (sym c.end_group.ensures.last)
     (ended_head c.args.reset now pool c.end_group.new.pool root len c.end_group.ensures.table c.end_group.ensures.dir c.end_group.ensures.streams c.end_group.ensures.cond c.end_group.ensures.saved c.end_group.ensures.space published)
 
+pub returns-clause-safe : goal.returns-clause-safe
+returns-clause-safe g c = λ seen.
+    let pool = c.write_all.new.pool in
+    let before = (g.S.Shelf.world c.write_all.new.shelf).now.seen in
+    let now = (g.S.Shelf.world c.publish_root.new.shelf).now.seen in
+    let root = c.next_root-next.result.root in
+    let len = c.next_root-next.result.len in
+    let wrote : HasSafeHead before pool root len =
+    subst (λ (r : Ptr). HasSafeHead before pool r len) (sym c.next_root-next.ensures.root_is) (subst (λ (n : ℕ). HasSafeHead before pool c.in_ok-root.root n) (sym c.next_root-next.ensures.len_is) (c.in_ok-root.ensures.safe seen)) in
+    let published = safe_same pool.space (view_of before pool.table.slots pool.space) (view_of now pool.table.slots pool.space) root len (c.publish_root.ensures.bytes (c.write_all.ensures.wrote.told seen.told)) wrote in
+    subst (λ (o : Option Uber). IfSome o (λ (u : Uber). HasSafeHead now c.end_group.new.pool u.root u.len)) (sym c.end_group.ensures.last)
+    (ended_safe c.args.reset now pool c.end_group.new.pool root len c.end_group.ensures.table c.end_group.ensures.space published)
+
 pub returns-clause-seen : goal.returns-clause-seen
 returns-clause-seen g c = λ seen.
     let mid = c.write_all.new.shelf in
@@ -111,6 +126,26 @@ returns-in_err-publish_root-clause-order g c = λ t.
 pub returns-clause-order : goal.returns-clause-order
 returns-clause-order g c = λ t.
     publishes_then c.write_all.ensures.wrote t c.args.reset c.next_root-next.result c.next_root-next.ensures.next (g.S.Shelf.world c.publish_root.new.shelf) (c.publish_root.ensures.order (c.write_all.ensures.wrote.told t))
+
+pub returns-then-txg-clause-leads : goal.returns-then-txg-clause-leads
+returns-then-txg-clause-leads g c = λ objects h. nothing_committed (g.S.Shelf.sizes c.args.shelf.now) c.args.pool.now c.args.reset objects (g.S.Shelf.world c.args.shelf.now)
+
+pub returns-in_err-root-clause-leads : goal.returns-in_err-root-clause-leads
+returns-in_err-root-clause-leads g c = λ objects h. blocks_committed c.write_all.ensures.wrote h.held.told c.args.reset objects
+
+pub returns-in_err-publish_root-clause-leads : goal.returns-in_err-publish_root-clause-leads
+returns-in_err-publish_root-clause-leads g c = λ objects h.
+    let x = c.args.pool.now in
+    root_committed c.write_all.ensures.wrote c.args.reset c.next_root-next.result c.in_ok-root.root c.in_ok-root.len objects (block_count x.group.objects) (g.S.Shelf.world c.publish_root.new.shelf) c.in_ok-root.ensures.pool
+    c.next_root-next.ensures.next c.next_root-next.ensures.lawful c.next_root-next.ensures.root_is c.next_root-next.ensures.len_is (λ seen. c.in_ok-root.ensures.stands seen) c.is_in_order.ensures c.requires.pool.group
+    (λ s held stored. c.in_ok-root.ensures.objects s held stored) (λ t. c.publish_root.ensures.order t) h
+
+pub returns-clause-leads : goal.returns-clause-leads
+returns-clause-leads g c = λ objects h.
+    let x = c.args.pool.now in
+    root_committed c.write_all.ensures.wrote c.args.reset c.next_root-next.result c.in_ok-root.root c.in_ok-root.len objects (block_count x.group.objects) (g.S.Shelf.world c.publish_root.new.shelf) c.in_ok-root.ensures.pool
+    c.next_root-next.ensures.next c.next_root-next.ensures.lawful c.next_root-next.ensures.root_is c.next_root-next.ensures.len_is (λ seen. c.in_ok-root.ensures.stands seen) c.is_in_order.ensures c.requires.pool.group
+    (λ s held stored. c.in_ok-root.ensures.objects s held stored) (λ t. c.publish_root.ensures.order t) h
 
 pub returns-clause-written : goal.returns-clause-written
 returns-clause-written g c = λ t.

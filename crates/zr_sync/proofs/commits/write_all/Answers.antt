@@ -29,6 +29,13 @@ returns-clause-stands g c = λ seen.
     c.write_metadata.ensures.stands
     (seen_trees (g.S.Shelf.sizes first) (g.S.Shelf.sizes mid) (g.S.Shelf.counts first) (g.S.Shelf.counts mid) (g.S.Shelf.tells first) (g.S.Shelf.tells mid) (g.S.Shelf.world first) (g.S.Shelf.world mid) c.args.pool.now c.write_trees.new.pool c.write_trees.ensures.wrote seen)
 
+pub returns-clause-safe : goal.returns-clause-safe
+returns-clause-safe g c = λ seen.
+    let first = c.args.shelf.now in
+    let mid = c.write_trees.new.shelf in
+    c.write_metadata.ensures.safe
+    (seen_trees (g.S.Shelf.sizes first) (g.S.Shelf.sizes mid) (g.S.Shelf.counts first) (g.S.Shelf.counts mid) (g.S.Shelf.tells first) (g.S.Shelf.tells mid) (g.S.Shelf.world first) (g.S.Shelf.world mid) c.args.pool.now c.write_trees.new.pool c.write_trees.ensures.wrote seen)
+
 pub returns-clause-seen : goal.returns-clause-seen
 returns-clause-seen g c = λ seen.
     let first = c.args.shelf.now in

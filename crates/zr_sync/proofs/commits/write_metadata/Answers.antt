@@ -42,6 +42,16 @@ returns-clause-stands g c = λ seen.
     c.write_head.ensures.stands
     (seen_metadata (g.S.Shelf.sizes first) (g.S.Shelf.sizes last) (g.S.Shelf.counts first) (g.S.Shelf.counts last) (g.S.Shelf.tells first) (g.S.Shelf.tells last) (g.S.Shelf.world first) (g.S.Shelf.world last) c.args.pool.now c.write_late_sets.new.pool whole seen)
 
+pub returns-clause-safe : goal.returns-clause-safe
+returns-clause-safe g c = λ seen.
+    let first = c.args.shelf.now in
+    let mid = c.turn_metadata.new.shelf in
+    let last = c.write_late_sets.new.shelf in
+    let left = space_wrote (g.S.Shelf.sizes mid) (g.S.Shelf.counts mid) (g.S.Shelf.tells mid) (g.S.Shelf.world mid) c.turn_metadata.new.pool c.leave_devices.new.pool c.leave_devices.ensures.others c.leave_devices.ensures.rest in
+    let whole = metadata_then c.turn_metadata.ensures.wrote (metadata_then left c.write_late_sets.ensures.wrote) in
+    c.write_head.ensures.safe
+    (seen_metadata (g.S.Shelf.sizes first) (g.S.Shelf.sizes last) (g.S.Shelf.counts first) (g.S.Shelf.counts last) (g.S.Shelf.tells first) (g.S.Shelf.tells last) (g.S.Shelf.world first) (g.S.Shelf.world last) c.args.pool.now c.write_late_sets.new.pool whole seen)
+
 pub returns-clause-anew : goal.returns-clause-anew
 returns-clause-anew g c = λ reset is.
     let was = c.args.pool.now in

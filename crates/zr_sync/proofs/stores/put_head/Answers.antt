@@ -1,5 +1,7 @@
-use Rattle.std.proofs.Common.{◌∙◌, refl, rules}
+use Rattle.std.proofs.Common.{◌≡◌, ◌∙◌, refl, rules}
 use Rattle.zr_vdev.proofs.Follows.{continues_itself}
+use Rattle.zr_vdev.specs.declared.kind.Kind.TheVariants.{Meta}
+use Rattle.zr_sync.proofs.Safe.{stored_safe}
 use Rattle.zr_sync.proofs.Standing.{head_stands}
 use Rattle.zr_sync.proofs.stores.put_head.Goals as goal
 
@@ -12,6 +14,17 @@ returns-clause-stands g c = λ s h.
     let put = c.in_ok-write_head.ensures.stores s (rw (v.space, v.shelf, v.cache, v.lost, v.mount) h) in
     let stands = head_stands store.mount.kind store.mount.slots.now (g.S.Shelf.tells store.shelf.now) (g.S.Shelf.world store.shelf.now).now.seen store.space.now store.lost store.cache.now c.args.rows.now s put.stored c.args.head.now _ _ put.held put.is in
     search (rules, stands, f, mount)
+
+pub returns-clause-safe : goal.returns-clause-safe
+returns-clause-safe g c = λ meta s h.
+    let v = c.new-store.ensures in
+    let f = c.write_head.ensures.follows c.new-store.result (refl, refl, refl, refl, continues_itself _ _ _ _ _ _ _ _) in
+    let mount = f.3 ∙ v.mount in
+    let store = c.write_head.new.store in
+    let put = c.in_ok-write_head.ensures.stores s (rw (v.space, v.shelf, v.cache, v.lost, v.mount) h) in
+    let kind : store.mount.kind ≡ Meta = cc in
+    let safe = stored_safe store.mount.kind store.mount.slots.now (g.S.Shelf.tells store.shelf.now) (g.S.Shelf.world store.shelf.now).now.seen store.space.now store.lost store.cache.now c.args.rows.now s put.stored c.args.head.now _ _ kind put.held put.is in
+    search (rules, safe, f, mount)
 
 pub returns-clause-continues : goal.returns-clause-continues
 returns-clause-continues g c =

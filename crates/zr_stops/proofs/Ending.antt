@@ -1,0 +1,173 @@
+-- A commit leaves the pool committed, and so does one commit after another.
+use Rattle.std.proofs.Common.{◌≡◌, inl, inr, ℕ, zero, suc, ◌+◌, ◌<◌, ◌≤◌, Bool, List, [], ◌∷◌, map, length, Option, Some, None, refl, sym, ◌∙◌, ap, subst, arith}
+use Rattle.std.specs.Prelude.{Contains, IfSome, slice_index, unwrap_or}
+use Rattle.std.proofs.lemmas.Bool.Decides.{nat_tests}
+use Rattle.zr_current.proofs.Committed.{commit_current, goes_on, large, sizes_kept}
+use Rattle.zr_current.proofs.Kept.{shown_still}
+use Rattle.zr_current.proofs.Showing.{commit_shown}
+use Rattle.zr_current.specs.Current.{GoesOnFrom, HasSlots, IsCurrentOn, IsShownFor}
+use Rattle.zr_image.specs.Current.{slots_of}
+use Rattle.zr_label.specs.Blocks.{IsUber}
+use Rattle.zr_label.specs.Geometry.{whole}
+use Rattle.zr_label.specs.declared.root.Uber.{Uber}
+use Rattle.zr_model.specs.Objects.{Objects}
+use Rattle.zr_shelf.proofs.Doings.{flushed_at_rest}
+use Rattle.zr_shelf.proofs.Runs.{joined, started, weaker}
+use Rattle.zr_shelf.specs.Disks.{Stand}
+use Rattle.zr_shelf.specs.Moments.{Throughout, World}
+use Rattle.zr_slots.specs.Tables.{IsSlotInBoth}
+use Rattle.zr_sync.proofs.Rings.{uber_long}
+use Rattle.zr_sync.specs.Commits.{IsNextRoot, IsShownFrom}
+use Rattle.zr_sync.specs.Heads.{HasHead, HasSafeHead}
+use Rattle.zr_sync.specs.Pools.{IsAfter, IsOpen}
+use Rattle.zr_sync.specs.Writes.{WritesIntoFree}
+use Rattle.zr_sync.specs.declared.open.OpenPool.{OpenPool}
+use Rattle.zr_sync.specs.declared.open.Table.{Table}
+use Rattle.zr_stops.proofs.Committing.{commit_either, group_from, next_of, service_same}
+use Rattle.zr_stops.proofs.Images.{group_sizes}
+use Rattle.zr_stops.proofs.Putting.{base_end}
+use Rattle.zr_stops.specs.Either.{ShowsEither}
+use Rattle.zr_stops.specs.Ends.{EndsCommitted}
+use Rattle.zr_stops.specs.Follows.{Commit, FollowOn, IsNextCommit, ShowsAmong, Stood, last_of}
+use Rattle.zr_stops.specs.Groups.{IsInGroup}
+use Rattle.zr_stops.specs.Last.{IsCommitted}
+
+-- ---- a commit
+
+-- there is a last root behind it
+some_last : (o : Option Uber) (txg : ℕ) → IsAfter o txg → 1 < txg → (u : Uber) × (o ≡ Some u)
+some_last None txg after more = absurd (omega (arith, after, more))
+some_last (Some u) txg after more = (u, refl)
+
+-- what is shown for a pool is so for one with the same devices
+shown_same : (disks : List (List ℕ)) (u : Uber) (x y : OpenPool) → y.table ≡ x.table → IsShownFor disks u x → IsShownFor disks u y
+shown_same disks u x y table is = record { seen = is.seen; shown = is.shown; current = is.current; slots = subst (λ (t : Table). HasSlots (slots_of u is.seen) t.slots) (sym table) is.slots }
+
+current_same : (disks : List (List ℕ)) (u : Uber) (x y : OpenPool) → y.table ≡ x.table → IsCurrentOn disks u x → IsCurrentOn disks u y
+current_same disks u x y table is = record { current = is.current; alone = is.alone; slots = λ seen shown. subst (λ (t : Table). HasSlots (slots_of u seen) t.slots) (sym table) (is.slots seen shown) }
+
+module _ (sizes : List ℕ) (reset : Bool) (last u : Uber) (old new : OpenPool) (objects : Objects) (before now : World) (ready : IsOpen sizes old) (from : GoesOnFrom last old) (sized : map length before.now.seen ≡ sizes) (was : IsShownFor before.now.seen last old)
+    (h : EndsCommitted sizes reset old new objects before now) (root : new.last ≡ Some u) where
+  next : IsNextRoot old reset u
+  next = subst (λ (o : Option Uber). IfSome o (IsNextRoot old reset)) root h.last
+
+  lawful : IsUber u
+  lawful = (subst (λ (o : Option Uber). IsAfter o new.group.txg) root h.pool.after).0
+
+  written : (mid : World) × WritesIntoFree old before mid × IsShownFrom sizes old u mid now
+  written = subst (λ (o : Option Uber). IfSome o (λ (v : Uber). (mid : World) × WritesIntoFree old before mid × IsShownFrom sizes old v mid now)) root h.written
+
+  abbrev mid : World
+  mid = written.0
+
+  abbrev shown : IsShownFrom sizes old u mid now
+  shown = written.2
+
+  large_slot : (v : Uber) (sl : ℕ) → IsSlotInBoth v u old.table.slots sl → 8388608 ≤ whole (slice_index sizes sl)
+  large_slot v sl is =
+      let known : is.index < u.count = let in_root = is.at_index.in_root in grind (arith, nat_tests, in_root) in
+      let count = next.count in
+      large sizes old ready is.index sl (omega (arith, known, count)) is.at_index.here
+
+  mid_sizes : map length mid.now.seen ≡ sizes
+  mid_sizes = sizes_kept sizes old ready before mid written.1 ∙ sized
+
+  now_sizes : map length now.now.seen ≡ sizes
+  now_sizes =
+      (base_end sizes shown.both shown.all u lawful (uber_long u lawful) mid mid_sizes (λ sl has. large_slot (unwrap_or old.last u) sl (shown.in_both sl has)) (λ sl has. large_slot u sl (shown.in_all sl has)) now shown.published).lengths
+      ∙ mid_sizes
+
+  pub goes : GoesOnFrom u new
+  goes = goes_on old new reset u root next h.same
+
+  pub committed : IsCommitted sizes now.now u new objects
+  committed = record {
+    ready = h.pool;
+    empty = h.empty;
+    settled = h.ends.ended.opened;
+    rest = flushed_at_rest shown.published.whole.now now.now shown.published.behind.step;
+    sized = now_sizes;
+    shown = shown_same now.now.seen u old new h.same.table (commit_shown sizes old reset last u before mid now ready from sized was lawful next written.1 shown);
+    current = current_same now.now.seen u old new h.same.table (commit_current sizes old reset last u before mid now ready from sized lawful next written.1 shown was.seen was.shown was.current was.slots);
+    head = subst (λ (o : Option Uber). IfSome o (λ (v : Uber). HasHead now.now.seen new v.root v.len)) root h.stands;
+    safe = subst (λ (o : Option Uber). IfSome o (λ (v : Uber). HasSafeHead now.now.seen new v.root v.len)) root h.safe;
+    objects = h.stays;
+  }
+
+pub leaves_committed : (sizes : List ℕ) (reset : Bool) (last : Uber) (old new : OpenPool) (objects : Objects) (before now : World) → IsOpen sizes old → GoesOnFrom last old → map length before.now.seen ≡ sizes → IsShownFor before.now.seen last old
+    → EndsCommitted sizes reset old new objects before now → (u : Uber) × GoesOnFrom u new × IsCommitted sizes now.now u new objects
+leaves_committed sizes reset last old new objects before now ready from sized was h =
+    let first = ready.first in
+    let txg = h.txg in
+    let root = some_last new.last new.group.txg h.pool.after (omega (arith, first, txg)) in
+    (root.0, goes sizes reset last root.0 old new objects before now ready from sized was h root.1, committed sizes reset last root.0 old new objects before now ready from sized was h root.1)
+
+-- ---- one commit after another
+
+module _ (sizes : List ℕ) (a b : Commit) (stood : Stood sizes a) (next : IsNextCommit sizes a b) where
+  abbrev c : IsCommitted sizes a.now.now a.root a.pool a.objects
+  c = stood.committed
+
+  old_from : GoesOnFrom a.root next.old
+  old_from = group_from a.root a.pool next.old a.now next.start next.group stood.from
+
+  old_sized : map length next.start.now.seen ≡ sizes
+  old_sized = group_sizes sizes a.root a.pool a.objects a.now next.start c next.group.written
+
+  old_shown : IsShownFor next.start.now.seen a.root next.old
+  old_shown = shown_same next.start.now.seen a.root a.pool next.old next.group.table (shown_still sizes a.pool a.now next.start c.ready c.sized next.group.written a.root c.shown)
+
+  then_committed : IsCommitted sizes b.now.now b.root b.pool b.objects
+  then_committed = committed sizes next.reset a.root b.root next.old b.pool b.objects next.start b.now next.ready old_from old_sized old_shown next.ends next.root
+
+  then_from : GoesOnFrom b.root b.pool
+  then_from = goes sizes next.reset a.root b.root next.old b.pool b.objects next.start b.now next.ready old_from old_sized old_shown next.ends next.root
+
+  table : b.pool.table ≡ a.pool.table
+  table = next.ends.same.table ∙ next.group.table
+
+  stands_next : Stood sizes b
+  stands_next = record { committed = then_committed; from = then_from; on = service_same sizes a.pool b.pool c.ready then_committed.ready table stood.on }
+
+  shows_next : Throughout (ShowsEither a.objects b.objects) a.now b.now
+  shows_next =
+      let root = subst (λ (o : Option Uber). IfSome o (IsNextRoot next.old next.reset)) next.root next.ends.last in
+      let done = subst (λ (o : Option Uber). IfSome o (λ (v : Uber). (mid : World) × WritesIntoFree next.old next.start mid × IsShownFrom sizes next.old v mid b.now)) next.root next.ends.written in
+      commit_either sizes a.root b.root a.pool next.old b.pool a.objects b.objects a.now next.start done.0 b.now (record {
+        was = c;
+        from = stood.from;
+        on = stood.on;
+        group = next.group;
+        ready = next.ready;
+        wrote = done.1;
+        shown = done.2;
+        lawful = (subst (λ (o : Option Uber). IsAfter o b.pool.group.txg) next.root then_committed.ready.after).0;
+        next = next_of sizes next.reset a.root b.root next.old next.ready old_from root;
+        done = then_committed;
+        to = then_from;
+        table = table;
+      })
+
+pub follow_stands : (sizes : List ℕ) (a : Commit) (more : List Commit) → Stood sizes a → FollowOn sizes a more → Stood sizes (last_of a more)
+follow_stands sizes a [] stood follow = stood
+follow_stands sizes a (b ∷ more) stood follow = follow_stands sizes b more (stands_next sizes a b stood follow.0) follow.1
+
+-- the objects behind each of some commits
+abbrev objects_of : List Commit → List Objects
+objects_of all = map (λ (c : Commit). c.objects) all
+
+first_two : (x y : Objects) (all : List Objects) (stand : Stand) → ShowsEither x y stand → ShowsAmong (x ∷ y ∷ all) stand
+first_two x y all stand shows image left paths p is = elim (shows image left paths p is) [
+  | inl same ↦ (zero, omega arith, sym same)
+  | inr same ↦ (suc zero, omega arith, sym same)
+]
+
+one_more : (x : Objects) (all : List Objects) (stand : Stand) → ShowsAmong all stand → ShowsAmong (x ∷ all) stand
+one_more x all stand shows image left paths p is = let among = shows image left paths p is in (suc among.0, (let lt = among.1 in omega (arith, lt)), among.2)
+
+pub follow_shows : (sizes : List ℕ) (a : Commit) (more : List Commit) → Stood sizes a → FollowOn sizes a more → Throughout (ShowsAmong (objects_of (a ∷ more))) a.now (last_of a more).now
+follow_shows sizes a [] stood follow = started (ShowsAmong (objects_of (a ∷ []))) a.now
+follow_shows sizes a (b ∷ more) stood follow =
+    joined (ShowsAmong (objects_of (a ∷ b ∷ more))) a.now b.now (last_of b more).now
+    (weaker (ShowsEither a.objects b.objects) (ShowsAmong (objects_of (a ∷ b ∷ more))) a.now b.now (first_two a.objects b.objects (objects_of more)) (shows_next sizes a b stood follow.0))
+    (weaker (ShowsAmong (objects_of (b ∷ more))) (ShowsAmong (objects_of (a ∷ b ∷ more))) b.now (last_of b more).now (one_more a.objects (objects_of (b ∷ more))) (follow_shows sizes b more (stands_next sizes a b stood follow.0) follow.1))
