@@ -6,7 +6,7 @@ ghost use Rattle.std.specs.Prelude.{◌≡◌, ◌≤◌, ℕ, List, length, map
 ghost use Rattle.std.specs.List.{AllByRecursion, list_all};
 ghost use Rattle.zr_shelf.specs.Counts.{NoneFell};
 ghost use Rattle.zr_script.specs.Words.{is_path, are_different};
-ghost use Rattle.zr_command.specs.Meanings.{MayBeDamaged};
+ghost use Rattle.zr_command.specs.Meanings.{Disks, disks_of, MayBeDamaged};
 ghost use Rattle.zr_gen.specs.Spelled.{HasLine};
 ghost use Rattle.zr_session.specs.Agenda.{agenda};
 ghost use Rattle.zr_session.specs.Ends.{HasCause, GeneratesAs};
@@ -38,8 +38,8 @@ fn do_commands<P: Pool, D: Desk>(
 ) -> Result<Tally, End>
     requires fits { P.fits pool.old (D.sizes desk.old) }
     requires lines { AllByRecursion HasLine commands.now }
-    ensures done { D.tells desk.old → (D.world desk.old).now.paths ≡ P.paths pool.old → (before : P.meaning.State) → P.stands pool.old (D.world desk.old).now.seen before → IfOk result (λ tally. StandsForOne (P.stands pool.new) (D.world desk.new).now (λ after. DoesCommands P.meaning (agenda course.now.rounds commands.now) tally before after (D.world desk.old).now (D.world desk.new).now)) }
-    ensures stopped { D.tells desk.old → (D.world desk.old).now.paths ≡ P.paths pool.old → (before : P.meaning.State) → P.stands pool.old (D.world desk.old).now.seen before → IfErr result (StopsAmong P.meaning (agenda course.now.rounds commands.now) before (D.world desk.old).now (D.world desk.new).now) }
+    ensures done { D.tells desk.old → (D.world desk.old).now.paths ≡ P.paths pool.old → (before : P.meaning.State) → P.stands pool.old (disks_of (D.world desk.old).now) before → IfOk result (λ tally. StandsForOne (P.stands pool.new) (D.world desk.new).now (λ after. DoesCommands P.meaning (agenda course.now.rounds commands.now) tally before after (D.world desk.old).now (D.world desk.new).now)) }
+    ensures stopped { D.tells desk.old → (D.world desk.old).now.paths ≡ P.paths pool.old → (before : P.meaning.State) → P.stands pool.old (disks_of (D.world desk.old).now) before → IfErr result (StopsAmong P.meaning (agenda course.now.rounds commands.now) before (D.world desk.old).now (D.world desk.new).now) }
     ensures cause { IfErr result (HasCause (MayBeDamaged P.meaning) (D.counts desk.old) (D.counts desk.new)) }
     ensures none_fell { NoneFell (D.counts desk.old) (D.counts desk.new) }
     ensures told { D.tells desk.old → D.tells desk.new }
@@ -75,7 +75,7 @@ pub fn generate<P: Pool, D: Desk>(
     desk: &mut D,
 ) -> End
     requires fits { P.fits pool.old (D.sizes desk.old) }
-    requires closed { (disks : List (List ℕ)) → P.stands pool.old disks P.meaning.none }
+    requires closed { (disks : Disks) → P.stands pool.old disks P.meaning.none }
     requires enough { 3 ≤ length devices.now }
     requires paths { IsTrue (list_all is_path (map path_of devices.now)) }
     requires different { IsTrue (are_different (map path_of devices.now)) }

@@ -6,7 +6,7 @@ ghost use Rattle.std.specs.Prelude.{◌≡◌, ◌≢◌, ◌∷◌, ◌++◌, [
 ghost use Rattle.zr_shelf.specs.Counts.{NoneFell};
 ghost use Rattle.zr_shelf.specs.Disks.{Stand};
 ghost use Rattle.zr_session.specs.Answers.{IsOpenLine};
-ghost use Rattle.zr_command.specs.Meanings.{MayBeDamaged};
+ghost use Rattle.zr_command.specs.Meanings.{disks_of, MayBeDamaged};
 ghost use Rattle.zr_session.specs.Ends.{HasCause, EndsAs};
 ghost use Rattle.zr_session.specs.Lines.{StandsForOne, AnswersLine, StopsAtLine, StopsAtRest};
 ghost use Rattle.zr_session.specs.Progress.{StandsAt};
@@ -49,8 +49,8 @@ impl Script {
     ) -> Result<(), End>
         requires lines { self.old.lines + 1 < 2 ^ 64 }
         requires fits { P.fits pool.old (D.sizes desk.old) }
-        ensures answered { D.tells desk.old → (D.world desk.old).now.paths ≡ P.paths pool.old → (before : P.meaning.State) → P.stands pool.old (D.world desk.old).now.seen before → OnOk result (StandsForOne (P.stands pool.new) (D.world desk.new).now (λ after. AnswersLine P.meaning course.now.rounds (self.old.line.items ++ part.now) before after (D.world desk.old).now (D.world desk.new).now)) }
-        ensures stopped { D.tells desk.old → (D.world desk.old).now.paths ≡ P.paths pool.old → (before : P.meaning.State) → P.stands pool.old (D.world desk.old).now.seen before → IfErr result (StopsAtLine P.meaning course.now.rounds (self.old.line.items ++ part.now) (self.old.lines + 1) before (D.world desk.old).now (D.world desk.new).now) }
+        ensures answered { D.tells desk.old → (D.world desk.old).now.paths ≡ P.paths pool.old → (before : P.meaning.State) → P.stands pool.old (disks_of (D.world desk.old).now) before → OnOk result (StandsForOne (P.stands pool.new) (D.world desk.new).now (λ after. AnswersLine P.meaning course.now.rounds (self.old.line.items ++ part.now) before after (D.world desk.old).now (D.world desk.new).now)) }
+        ensures stopped { D.tells desk.old → (D.world desk.old).now.paths ≡ P.paths pool.old → (before : P.meaning.State) → P.stands pool.old (disks_of (D.world desk.old).now) before → IfErr result (StopsAtLine P.meaning course.now.rounds (self.old.line.items ++ part.now) (self.old.lines + 1) before (D.world desk.old).now (D.world desk.new).now) }
         ensures named { D.tells desk.old → OnOk result ((D.world desk.new).now.paths ≡ (D.world desk.old).now.paths) }
         ensures line { OnOk result (self.new.line.items ≡ []) }
         ensures lines { OnOk result (self.new.lines ≡ self.old.lines + 1) }

@@ -5,7 +5,7 @@
 ghost use Rattle.std.specs.Prelude.{◌≡◌, [], ◌+◌, ◌<◌, ◌≤◌, ◌^◌, ℕ, List, length, IfOk, IfErr, OnOk};
 ghost use Rattle.zr_shelf.specs.Counts.{NoneFell};
 ghost use Rattle.zr_shelf.specs.Disks.{Stand};
-ghost use Rattle.zr_command.specs.Meanings.{MayBeDamaged};
+ghost use Rattle.zr_command.specs.Meanings.{Disks, MayBeDamaged};
 ghost use Rattle.zr_session.specs.Ends.{HasCause, EndsAs};
 ghost use Rattle.zr_session.specs.Progress.{StandsAt};
 
@@ -69,7 +69,7 @@ fn take_piece<P: Pool, D: Desk>(
 /// Answers the whole input.
 pub fn serve<P: Pool, D: Desk>(alloc: Global, course: &Course, pool: &mut P, desk: &mut D) -> End
     requires fits { P.fits pool.old (D.sizes desk.old) }
-    requires closed { (disks : List (List ℕ)) → P.stands pool.old disks P.meaning.none }
+    requires closed { (disks : Disks) → P.stands pool.old disks P.meaning.none }
     ensures ends { D.tells desk.old → (D.world desk.old).now.paths ≡ P.paths pool.old → EndsAs P.meaning course.now.rounds result (D.world desk.old).now (D.world desk.new).now }
     ensures cause { HasCause (MayBeDamaged P.meaning) (D.counts desk.old) (D.counts desk.new) result }
     ensures none_fell { NoneFell (D.counts desk.old) (D.counts desk.new) }
