@@ -9,3 +9,4 @@ pub mod Tallied
 pub mod Generating
 pub mod Going
 pub mod Ending
+pub mod Moments

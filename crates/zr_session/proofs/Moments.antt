@@ -1,0 +1,218 @@
+-- What holds at each moment of a run, one part after another.
+use Rattle.std.proofs.Common.{◌≡◌, ◌⊎◌, inl, inr, ℕ, suc, ◌+◌, ◌-◌, ◌<◌, Bool, true, MatchBool, List, [], ◌∷◌, ◌++◌, length, take, drop, get_or, Result, Ok, Err, IfErr, refl, sym, ap, subst, ◌∙◌, append_assoc, arith}
+use Rattle.std.specs.List.{AllByRecursion}
+use Rattle.std.proofs.lemmas.List.{append-nil, append_cancel_right}
+use Rattle.zr_shelf.specs.declared.desk.DeskErr.{DeskErr}
+use Rattle.zr_shelf.specs.Disks.{Stand, sent_more, taken_to}
+use Rattle.zr_shelf.specs.Moments.{World, Throughout, Gives}
+use Rattle.zr_shelf.proofs.Runs.{started, weaker, joined, on_give}
+use Rattle.zr_script.specs.declared.command.Command.{Command}
+use Rattle.zr_script.specs.declared.reply.Reply.{Reply}
+use Rattle.zr_script.specs.Lines.{lines_of}
+use Rattle.zr_script.specs.ReplyText.{InputLimit, End, last_line}
+use Rattle.zr_model.specs.declared.actor.Actor.{Actor}
+use Rattle.zr_command.specs.Meanings.{Meaning, Disks, disks_of, Run, TurnsTo, step_of}
+use Rattle.zr_model.specs.Runs.{Point, Turn, point, turn, end_of, Asks, IsOutside, KeepsOutside}
+use Rattle.zr_session.specs.Agenda.{Item, Given, Inserted, round, rounds_of, agenda, GivesNone, Plays, IsDue}
+use Rattle.zr_session.specs.Lines.{told_for, told, DoesItems, DoesSteps}
+use Rattle.zr_session.specs.Moments.{IsFrontOf, IsOfLastLine, IsSending, MayStand, resting, under_way, replying, IsCommandMoment, IsMomentOf, IsStepsMoment, IsLineMoment, IsMoment}
+use Rattle.zr_session.specs.Progress.{HasDone, IsAt, IsNext}
+use Rattle.zr_session.specs.declared.replies.Replies.{Replies}
+use Rattle.zr_session.specs.declared.replies.Replies.TheVariants.{Sent}
+use Rattle.zr_session.proofs.Playing.{plays_both, run_both, end_both, told_both, due_more, match_true, same_steps, the_steps, the_rounds, rounds_more, rounds_both, among, among_both, among_rounds, plays_among, due_among}
+
+-- ---- moments of any kind
+
+all_both : (P Q : Stand → Type 0) (stands : List Stand) → AllByRecursion P stands → AllByRecursion Q stands → AllByRecursion (λ s. P s × Q s) stands
+all_both P Q [] h k = tt
+all_both P Q (s ∷ stands) h k = ((h.0, k.0), all_both P Q stands h.1 k.1)
+
+-- what holds at each moment, and what does too
+pub both : (P Q : Stand → Type 0) (old new : World) → Throughout P old new → Throughout Q old new → Throughout (λ s. P s × Q s) old new
+both P Q old new h k =
+    let same : k.more ≡ h.more = append_cancel_right k.more h.more (old.now ∷ old.past) (sym k.joins ∙ h.joins) in
+    record { more = h.more; joins = h.joins; each = all_both P Q h.more h.each (subst (AllByRecursion Q) same k.each) }
+
+-- it holds at the last moment, unless there was none
+pub at_last : (P : Stand → Type 0) (old new : World) → Throughout P old new → (new.now ≡ old.now) ⊎ P new.now
+at_last P old new h = last h.more h.joins h.each
+  where
+    last : (more : List Stand) → new.now ∷ new.past ≡ more ++ old.now ∷ old.past → AllByRecursion P more → (new.now ≡ old.now) ⊎ P new.now
+    last [] joins each = inl cc
+    last (s ∷ more) joins each = let same : s ≡ new.now = cc in inr (subst P same each.0)
+
+-- ---- what is sent
+
+pub nothing_of_last : IsOfLastLine []
+nothing_of_last = (InputLimit, (last_line InputLimit, refl))
+
+-- a call that sends, whatever it came to
+pub sending : (bytes : List ℕ) (old new : World) (r : Result (Unit {0}) DeskErr) → Gives bytes r old new → Throughout (IsSending bytes old.now) old new
+sending bytes old new r call =
+    on_give (IsSending bytes old.now) old old new (started (IsSending bytes old.now) old) ([], (bytes, refl), unsent old.now) bytes r call (λ front back e. (front, (back, e), refl))
+  where
+    unsent : (stand : Stand) → stand ≡ sent_more stand []
+    unsent stand = ap (λ bytes. record { paths = stand.paths; durable = stand.durable; writes = stand.writes; seen = stand.seen; left = stand.left; sent = bytes }) (sym (append-nil stand.sent))
+
+-- ---- one command
+
+-- the pool is at it
+pub at_it : (m : Meaning) (replies : Replies) (command : Command) (state : m.State) (old new : World)
+    → Throughout (λ stand. m.within (point old.now state) command (disks_of stand)) old new → Throughout (IsOutside old.now) old new → Throughout (IsCommandMoment m replies command state old.now) old new
+at_it m replies command state old new h k =
+    weaker _ (IsCommandMoment m replies command state old.now) old new
+    (λ stand (at : m.within (point old.now state) command (disks_of stand) × IsOutside old.now stand). record {
+      part = [];
+      sent = at.1.sent ∙ sym (append-nil old.now.sent);
+      disks = under_way command refl at.0 nothing_of_last;
+    })
+    (both (λ stand. m.within (point old.now state) command (disks_of stand)) (IsOutside old.now) old new h k)
+
+module _ (m : Meaning) (replies : Replies) (command : Command) (state : m.State) (old mid new : World)
+    (h : Throughout (λ stand. m.within (point old.now state) command (disks_of stand)) old mid) (k : KeepsOutside old mid) where
+  -- it is done, and its reply is sent
+  pub then_replied : (after : m.State) (answer : Reply) → m.takes (point old.now state) (turn command answer mid.now after) → m.rests (point mid.now after) (disks_of mid.now)
+      → Throughout (IsSending (told_for replies answer) mid.now) mid new → Throughout (IsCommandMoment m replies command state old.now) old new
+  then_replied after answer takes rests s =
+      joined (IsCommandMoment m replies command state old.now) old mid new (at_it m replies command state old mid h k.since)
+      (weaker (IsSending (told_for replies answer) mid.now) (IsCommandMoment m replies command state old.now) mid new
+      (λ stand at. record {
+        part = at.0;
+        sent = ap (λ s. s.sent) at.2 ∙ ap (λ b. b ++ at.0) k.now.sent;
+        disks = subst (λ s. MayStand m replies (λ c. c ≡ command) (point old.now state) at.0 (disks_of s)) (sym at.2) (replying (turn command answer mid.now after) refl takes rests at.1);
+      }) s)
+
+  -- it is not, and a last line is sent
+  pub then_told : (bytes : List ℕ) (end : End) → bytes ≡ last_line end → m.rests (point old.now state) (disks_of old.now) → Throughout (IsSending bytes mid.now) mid new
+      → Throughout (IsCommandMoment m replies command state old.now) old new
+  then_told bytes end is rests s =
+      joined (IsCommandMoment m replies command state old.now) old mid new (at_it m replies command state old mid h k.since)
+      (weaker (IsSending bytes mid.now) (IsCommandMoment m replies command state old.now) mid new
+      (λ stand at. record {
+        part = at.0;
+        sent = ap (λ s. s.sent) at.2 ∙ ap (λ b. b ++ at.0) k.now.sent;
+        disks = subst (λ s. MayStand m replies (λ c. c ≡ command) (point old.now state) at.0 (disks_of s)) (sym at.2) (there at.0 (end, (at.1.0, at.1.1 ∙ is)) (at_last _ old mid h));
+      }) s)
+    where
+      there : (part : List ℕ) → IsOfLastLine part → ((mid.now ≡ old.now) ⊎ m.within (point old.now state) command (disks_of mid.now)) → MayStand m replies (λ c. c ≡ command) (point old.now state) part (disks_of mid.now)
+      there part last (inl same) = resting (subst (λ s. m.rests (point old.now state) (disks_of s)) (sym same) rests) last
+      there part last (inr at) = under_way command refl at last
+
+-- ---- items
+
+-- what is due for other reasons
+stand_due : (m : Meaning) (replies : Replies) (D E : Command → Type 0) (p : Point m.State) (part : List ℕ) (disks : Disks) → ((c : Command) → D c → E c) → MayStand m replies D p part disks → MayStand m replies E p part disks
+stand_due m replies D E p part disks f (resting rests last) = resting rests last
+stand_due m replies D E p part disks f (under_way c due at last) = under_way c (f c due) at last
+stand_due m replies D E p part disks f (replying t due takes rests front) = replying t (f t.command due) takes rests front
+
+-- a command is the first of the items
+
+-- a command is due of these items
+due_moment : (A : Type 0) (m : Meaning) (Means : A → Command → Type 0) (replies : Replies) (items : List (Item A)) (c : Command) (state : m.State) (old stand : Stand)
+    → IsDue m Means items (point old state) c → IsCommandMoment m replies c state old stand → IsMomentOf A m Means replies items state old stand
+due_moment A m Means replies items c state old stand due h = record {
+  front = [];
+  rest = items;
+  turns = [];
+  part = h.part;
+  due = refl;
+  plays = refl;
+  run = tt;
+  sent = h.sent;
+  disks = stand_due m replies (λ d. d ≡ c) (IsDue m Means items (point old state)) (point old state) h.part (disks_of stand) (λ d same. subst (IsDue m Means items (point old state)) (sym same) due) h.disks;
+}
+
+-- that of a line
+pub given_moment : (A : Type 0) (m : Meaning) (Means : A → Command → Type 0) (replies : Replies) (x : A) (more : List (Item A)) (c : Command) (state : m.State) (old stand : Stand)
+    → Means x c → IsCommandMoment m replies c state old stand → IsMomentOf A m Means replies (Given x ∷ more) state old stand
+given_moment A m Means replies x more c state old stand means h = due_moment A m Means replies (Given x ∷ more) c state old stand means h
+
+-- or a step that has work
+pub step_moment : (A : Type 0) (m : Meaning) (Means : A → Command → Type 0) (replies : Replies) (actor : Actor) (state : m.State) (old stand : Stand)
+    → m.works state actor ≡ true → IsCommandMoment m replies (step_of actor) state old stand → IsMomentOf A m Means replies (Inserted actor ∷ []) state old stand
+step_moment A m Means replies actor state old stand works h =
+    due_moment A m Means replies (Inserted actor ∷ []) (step_of actor) state old stand
+    (match_true (m.works state actor) (step_of actor ≡ step_of actor) (IsDue m Means [] (point old state) (step_of actor)) works refl) h
+
+-- nothing is under way, and no more than a last line is sent
+rest_moment : (A : Type 0) (m : Meaning) (Means : A → Command → Type 0) (replies : Replies) (state : m.State) (old stand : Stand) (part : List ℕ)
+    → m.rests (point old state) (disks_of stand) → stand.sent ≡ old.sent ++ part → IsOfLastLine part → IsMomentOf A m Means replies [] state old stand
+rest_moment A m Means replies state old stand part rests sent last =
+    record { front = []; rest = []; turns = []; part = part; due = refl; plays = refl; run = tt; sent = sent; disks = resting rests last }
+
+-- items that come later
+pub moment_before : (A : Type 0) (m : Meaning) (Means : A → Command → Type 0) (replies : Replies) (xs ys : List (Item A)) (state : m.State) (old stand : Stand)
+    → IsMomentOf A m Means replies xs state old stand → IsMomentOf A m Means replies (xs ++ ys) state old stand
+moment_before A m Means replies xs ys state old stand h =
+    let p = end_of (point old state) h.turns in
+    record {
+      front = h.front;
+      rest = h.rest ++ ys;
+      turns = h.turns;
+      part = h.part;
+      due = ap (λ l. l ++ ys) h.due ∙ append_assoc h.front h.rest ys;
+      plays = h.plays;
+      run = h.run;
+      sent = h.sent;
+      disks = stand_due m replies (IsDue m Means h.rest p) (IsDue m Means (h.rest ++ ys) p) p h.part (disks_of stand) (λ c due. due_more A m Means h.rest ys p c due) h.disks;
+    }
+
+-- items that were done before
+moment_behind : (A : Type 0) (m : Meaning) (Means : A → Command → Type 0) (replies : Replies) (xs ys : List (Item A)) (turns : List (Turn m.State)) (a b : m.State) (old mid stand : Stand)
+    → Plays m Means xs (point old a) turns → Run m (point old a) turns → end_of (point old a) turns ≡ point mid b → mid.sent ≡ old.sent ++ told replies turns
+    → IsMomentOf A m Means replies ys b mid stand → IsMomentOf A m Means replies (xs ++ ys) a old stand
+moment_behind A m Means replies xs ys turns a b old mid stand plays run ends sent h =
+    let last : end_of (point old a) (turns ++ h.turns) ≡ end_of (point mid b) h.turns = end_both (point old a) turns h.turns ∙ ap (λ q. end_of q h.turns) ends in
+    record {
+      front = xs ++ h.front;
+      rest = h.rest;
+      turns = turns ++ h.turns;
+      part = h.part;
+      due = ap (λ l. xs ++ l) h.due ∙ sym (append_assoc xs h.front h.rest);
+      plays = plays_both A m Means xs h.front (point old a) turns h.turns plays (subst (λ q. Plays m Means h.front q h.turns) (sym ends) h.plays);
+      run = run_both m (point old a) turns h.turns run (subst (λ q. Run m q h.turns) (sym ends) h.run);
+      sent = h.sent ∙ (ap (λ s. s ++ (told replies h.turns ++ h.part)) sent ∙ (append_assoc old.sent (told replies turns) (told replies h.turns ++ h.part)
+          ∙ ap (λ s. old.sent ++ s) (sym (append_assoc (told replies turns) (told replies h.turns) h.part) ∙ ap (λ s. s ++ h.part) (sym (told_both replies turns h.turns)))));
+      disks = subst (λ q. MayStand m replies (IsDue m Means h.rest q) q h.part (disks_of stand)) (sym last) h.disks;
+    }
+
+pub moment_after : (A : Type 0) (m : Meaning) (Means : A → Command → Type 0) (replies : Replies) (xs ys : List (Item A)) (a b : m.State) (old mid stand : Stand)
+    → DoesItems A m Means replies xs a b old mid → IsMomentOf A m Means replies ys b mid stand → IsMomentOf A m Means replies (xs ++ ys) a old stand
+moment_after A m Means replies xs ys a b old mid stand d h = moment_behind A m Means replies xs ys d.turns a b old mid stand d.plays d.run d.ends d.sends.sent h
+
+-- a step of one of the actors
+pub steps_moment : (m : Meaning) (replies : Replies) (actors : List Actor) (i : ℕ) (d : Actor) (a b : m.State) (old mid stand : Stand) → i < length actors
+    → DoesSteps m replies (the_steps ⊥ (take i actors)) a b old mid → IsStepsMoment m replies (Inserted (get_or actors i d) ∷ []) b mid stand → IsStepsMoment m replies (the_steps ⊥ actors) a old stand
+steps_moment m replies actors i d a b old mid stand l does h =
+    subst (λ items. IsStepsMoment m replies items a old stand) (same_steps actors i d l)
+    (moment_after ⊥ m GivesNone replies (the_steps ⊥ (take i actors)) (Inserted (get_or actors i d) ∷ the_steps ⊥ (drop (suc i) actors)) a b old mid stand does
+    (moment_before ⊥ m GivesNone replies (Inserted (get_or actors i d) ∷ []) (the_steps ⊥ (drop (suc i) actors)) b mid stand h))
+
+-- one of the rounds
+pub rounds_moment : (m : Meaning) (replies : Replies) (rounds i : ℕ) (a b : m.State) (old mid stand : Stand) → i < rounds
+    → DoesSteps m replies (rounds_of i) a b old mid → IsStepsMoment m replies (the_steps ⊥ round) b mid stand → IsStepsMoment m replies (rounds_of rounds) a old stand
+rounds_moment m replies rounds i a b old mid stand l does h =
+    let left : ℕ = rounds - (i + 1) in
+    let all : (the_rounds ⊥ i ++ the_steps ⊥ round) ++ the_rounds ⊥ left ≡ the_rounds ⊥ rounds =
+    ap (λ l. l ++ the_rounds ⊥ left) (rounds_more ⊥ i) ∙ (rounds_both ⊥ (i + 1) left ∙ ap (the_rounds ⊥) (omega arith)) in
+    subst (λ items. IsStepsMoment m replies items a old stand) all
+    (moment_before ⊥ m GivesNone replies (the_rounds ⊥ i ++ the_steps ⊥ round) (the_rounds ⊥ left) a old stand
+    (moment_after ⊥ m GivesNone replies (the_rounds ⊥ i) (the_steps ⊥ round) a b old mid stand does h))
+
+-- among items of any kind
+pub rounds_moment_among : (A : Type 0) (m : Meaning) (Means : A → Command → Type 0) (replies : Replies) (n : ℕ) (state : m.State) (old stand : Stand)
+    → IsStepsMoment m replies (rounds_of n) state old stand → IsMomentOf A m Means replies (rounds_of n) state old stand
+rounds_moment_among A m Means replies n state old stand h =
+    let p = end_of (point old state) h.turns in
+    record {
+      front = among A h.front;
+      rest = among A h.rest;
+      turns = h.turns;
+      part = h.part;
+      due = sym (among_rounds A n) ∙ (ap (among A) h.due ∙ among_both A h.front h.rest);
+      plays = plays_among A m Means h.front (point old state) h.turns h.plays;
+      run = h.run;
+      sent = h.sent;
+      disks = stand_due m replies (IsDue m GivesNone h.rest p) (IsDue m Means (among A h.rest) p) p h.part (disks_of stand) (λ c due. due_among A m Means h.rest p c due) h.disks;
+    }
