@@ -216,3 +216,50 @@ rounds_moment_among A m Means replies n state old stand h =
       sent = h.sent;
       disks = stand_due m replies (IsDue m GivesNone h.rest p) (IsDue m Means (among A h.rest) p) p h.part (disks_of stand) (λ c due. due_among A m Means h.rest p c due) h.disks;
     }
+
+-- ---- the same of all moments between two points
+
+pub step_moments : (m : Meaning) (replies : Replies) (actor : Actor) (state : m.State) (old new : World) → m.works state actor ≡ true
+    → Throughout (IsCommandMoment m replies (step_of actor) state old.now) old new → Throughout (IsStepsMoment m replies (Inserted actor ∷ []) state old.now) old new
+step_moments m replies actor state old new works h =
+    weaker (IsCommandMoment m replies (step_of actor) state old.now) (IsStepsMoment m replies (Inserted actor ∷ []) state old.now) old new
+    (λ stand at. step_moment ⊥ m GivesNone replies actor state old.now stand works at) h
+
+pub steps_moments : (m : Meaning) (replies : Replies) (actors : List Actor) (i : ℕ) (d : Actor) (a b : m.State) (old mid new : World) → i < length actors
+    → DoesSteps m replies (the_steps ⊥ (take i actors)) a b old.now mid.now → Throughout (IsStepsMoment m replies (the_steps ⊥ actors) a old.now) old mid
+    → Throughout (IsStepsMoment m replies (Inserted (get_or actors i d) ∷ []) b mid.now) mid new → Throughout (IsStepsMoment m replies (the_steps ⊥ actors) a old.now) old new
+steps_moments m replies actors i d a b old mid new l does h k =
+    joined (IsStepsMoment m replies (the_steps ⊥ actors) a old.now) old mid new h
+    (weaker (IsStepsMoment m replies (Inserted (get_or actors i d) ∷ []) b mid.now) (IsStepsMoment m replies (the_steps ⊥ actors) a old.now) mid new
+    (λ stand at. steps_moment m replies actors i d a b old.now mid.now stand l does at) k)
+
+pub rounds_moments : (m : Meaning) (replies : Replies) (rounds i : ℕ) (a b : m.State) (old mid new : World) → i < rounds
+    → DoesSteps m replies (rounds_of i) a b old.now mid.now → Throughout (IsStepsMoment m replies (rounds_of rounds) a old.now) old mid
+    → Throughout (IsStepsMoment m replies (the_steps ⊥ round) b mid.now) mid new → Throughout (IsStepsMoment m replies (rounds_of rounds) a old.now) old new
+rounds_moments m replies rounds i a b old mid new l does h k =
+    joined (IsStepsMoment m replies (rounds_of rounds) a old.now) old mid new h
+    (weaker (IsStepsMoment m replies (the_steps ⊥ round) b mid.now) (IsStepsMoment m replies (rounds_of rounds) a old.now) mid new
+    (λ stand at. rounds_moment m replies rounds i a b old.now mid.now stand l does at) k)
+
+-- the command of a line
+pub command_moments : (m : Meaning) (rounds : ℕ) (line : List ℕ) (c : Command) (state : m.State) (old new : World) → Asks line c
+    → Throughout (IsCommandMoment m Sent c state old.now) old new → Throughout (IsLineMoment m rounds line state old.now) old new
+command_moments m rounds line c state old new asks h =
+    weaker (IsCommandMoment m Sent c state old.now) (IsLineMoment m rounds line state old.now) old new
+    (λ stand at. given_moment (List ℕ) m Asks Sent line (rounds_of rounds) c state old.now stand asks at) h
+
+-- and the rounds behind it
+pub line_moments : (m : Meaning) (rounds : ℕ) (line : List ℕ) (c : Command) (a b : m.State) (old mid new : World) → Asks line c → DoesItems (List ℕ) m Asks Sent (Given line ∷ []) a b old.now mid.now
+    → Throughout (IsCommandMoment m Sent c a old.now) old mid → Throughout (IsStepsMoment m Sent (rounds_of rounds) b mid.now) mid new → Throughout (IsLineMoment m rounds line a old.now) old new
+line_moments m rounds line c a b old mid new asks does h k =
+    joined (IsLineMoment m rounds line a old.now) old mid new (command_moments m rounds line c a old mid asks h)
+    (weaker (IsStepsMoment m Sent (rounds_of rounds) b mid.now) (IsLineMoment m rounds line a old.now) mid new
+    (λ stand at. moment_after (List ℕ) m Asks Sent (Given line ∷ []) (rounds_of rounds) a b old.now mid.now stand does (rounds_moment_among (List ℕ) m Asks Sent rounds b mid.now stand at)) k)
+
+-- a last line is sent, and nothing else is done
+pub told_moments : (A : Type 0) (m : Meaning) (Means : A → Command → Type 0) (replies : Replies) (items : List (Item A)) (state : m.State) (old new : World) (end : End) → m.rests (point old.now state) (disks_of old.now)
+    → Throughout (IsSending (last_line end) old.now) old new → Throughout (IsMomentOf A m Means replies items state old.now) old new
+told_moments A m Means replies items state old new end rests h =
+    weaker (IsSending (last_line end) old.now) (IsMomentOf A m Means replies items state old.now) old new
+    (λ stand at. moment_before A m Means replies [] items state old.now stand
+    (rest_moment A m Means replies state old.now stand at.0 (subst (λ s. m.rests (point old.now state) (disks_of s)) (sym at.2) rests) (ap (λ s. s.sent) at.2) (end, at.1))) h
