@@ -1,11 +1,12 @@
 -- What holds at each moment of a run, one part after another.
-use Rattle.std.proofs.Common.{◌≡◌, ◌⊎◌, inl, inr, ℕ, suc, ◌+◌, ◌-◌, ◌<◌, Bool, true, MatchBool, List, [], ◌∷◌, ◌++◌, length, take, drop, get_or, Result, Ok, Err, IfErr, refl, sym, ap, subst, ◌∙◌, append_assoc, arith}
+use Rattle.std.proofs.Common.{◌≡◌, ◌≢◌, ◌⊎◌, inl, inr, ℕ, suc, ◌+◌, ◌-◌, ◌<◌, Bool, true, MatchBool, List, [], ◌∷◌, ◌++◌, length, take, drop, get_or, Result, Ok, Err, IfErr, refl, sym, ap, subst, ◌∙◌, append_assoc, arith}
 use Rattle.std.specs.List.{AllByRecursion}
 use Rattle.std.proofs.lemmas.List.{append-nil, append_cancel_right}
+use Rattle.std.proofs.lemmas.List.Concat.{flat_map-append}
 use Rattle.zr_shelf.specs.declared.desk.DeskErr.{DeskErr}
 use Rattle.zr_shelf.specs.Disks.{Stand, sent_more, taken_to}
-use Rattle.zr_shelf.specs.Moments.{World, Throughout, Gives}
-use Rattle.zr_shelf.proofs.Runs.{started, weaker, joined, on_give}
+use Rattle.zr_shelf.specs.Moments.{World, Throughout, Gives, Takes}
+use Rattle.zr_shelf.proofs.Runs.{started, weaker, joined, on_give, on_take}
 use Rattle.zr_script.specs.declared.command.Command.{Command}
 use Rattle.zr_script.specs.declared.reply.Reply.{Reply}
 use Rattle.zr_script.specs.Lines.{lines_of}
@@ -14,11 +15,13 @@ use Rattle.zr_model.specs.declared.actor.Actor.{Actor}
 use Rattle.zr_command.specs.Meanings.{Meaning, Disks, disks_of, Run, TurnsTo, step_of}
 use Rattle.zr_model.specs.Runs.{Point, Turn, point, turn, end_of, Asks, IsOutside, KeepsOutside}
 use Rattle.zr_session.specs.Agenda.{Item, Given, Inserted, round, rounds_of, agenda, GivesNone, Plays, IsDue}
+use Rattle.zr_session.specs.Answers.{IsOpenLine}
 use Rattle.zr_session.specs.Lines.{told_for, told, DoesItems, DoesSteps}
 use Rattle.zr_session.specs.Moments.{IsFrontOf, IsOfLastLine, IsSending, MayStand, resting, under_way, replying, IsCommandMoment, IsMomentOf, IsStepsMoment, IsLineMoment, IsMoment}
 use Rattle.zr_session.specs.Progress.{HasDone, IsAt, IsNext}
 use Rattle.zr_session.specs.declared.replies.Replies.{Replies}
 use Rattle.zr_session.specs.declared.replies.Replies.TheVariants.{Sent}
+use Rattle.zr_session.proofs.Going.{due_line, due_last}
 use Rattle.zr_session.proofs.Playing.{plays_both, run_both, end_both, told_both, due_more, match_true, same_steps, the_steps, the_rounds, rounds_more, rounds_both, among, among_both, among_rounds, plays_among, due_among}
 
 -- ---- moments of any kind
@@ -263,3 +266,62 @@ told_moments A m Means replies items state old new end rests h =
     weaker (IsSending (last_line end) old.now) (IsMomentOf A m Means replies items state old.now) old new
     (λ stand at. moment_before A m Means replies [] items state old.now stand
     (rest_moment A m Means replies state old.now stand at.0 (subst (λ s. m.rests (point old.now state) (disks_of s)) (sym at.2) rests) (ap (λ s. s.sent) at.2) (end, at.1))) h
+
+-- ---- a run over the input
+
+the_agenda : (rounds : ℕ) (all lines more : List (List ℕ)) → all ≡ lines ++ more → agenda rounds all ≡ agenda rounds lines ++ agenda rounds more
+the_agenda rounds all lines more e = ap (λ ls. agenda rounds ls) e ∙ flat_map-append (λ (line : List ℕ). Given line ∷ rounds_of rounds) lines more
+
+-- the next line is taken up
+line_is_moment : (m : Meaning) (rounds : ℕ) (opening now stand : Stand) (state : m.State) (line : List ℕ) (number : ℕ) → IsNext m rounds opening now state line number
+    → IsLineMoment m rounds line state now stand → IsMoment m rounds opening stand
+line_is_moment m rounds opening now stand state line number d h =
+    subst (λ items. IsMomentOf (List ℕ) m Asks Sent items m.none opening stand) (sym (the_agenda rounds (lines_of opening.left) d.lines (line ∷ d.more) d.front))
+    (moment_behind (List ℕ) m Asks Sent (agenda rounds d.lines) ((Given line ∷ rounds_of rounds) ++ agenda rounds d.more) d.turns m.none state opening now stand d.done.plays d.done.run d.done.ends d.done.sent
+    (moment_before (List ℕ) m Asks Sent (Given line ∷ rounds_of rounds) (agenda rounds d.more) state now stand h))
+
+-- none is, and no more than a last line is sent
+rest_is_moment : (m : Meaning) (rounds : ℕ) (opening now stand : Stand) (state : m.State) (rest line : List ℕ) (count taken : ℕ) (part : List ℕ) → IsAt m rounds opening now state rest line count taken
+    → m.rests (point now state) (disks_of stand) → stand.sent ≡ now.sent ++ part → IsOfLastLine part → IsMoment m rounds opening stand
+rest_is_moment m rounds opening now stand state rest line count taken part a rests sent last =
+    let more : List (List ℕ) = lines_of (line ++ (rest ++ now.left)) in
+    subst (λ items. IsMomentOf (List ℕ) m Asks Sent items m.none opening stand) (sym (the_agenda rounds (lines_of opening.left) a.lines more (ap lines_of a.input ∙ a.split (rest ++ now.left))))
+    (moment_behind (List ℕ) m Asks Sent (agenda rounds a.lines) (agenda rounds more) a.turns m.none state opening now stand a.done.plays a.done.run a.done.ends a.done.sent
+    (moment_before (List ℕ) m Asks Sent [] (agenda rounds more) state now stand (rest_moment (List ℕ) m Asks Sent state now stand part rests sent last)))
+
+next_moments : (m : Meaning) (rounds : ℕ) (opening : Stand) (mid new : World) (state : m.State) (line : List ℕ) (number : ℕ) → IsNext m rounds opening mid.now state line number
+    → Throughout (IsLineMoment m rounds line state mid.now) mid new → Throughout (IsMoment m rounds opening) mid new
+next_moments m rounds opening mid new state line number d h =
+    weaker (IsLineMoment m rounds line state mid.now) (IsMoment m rounds opening) mid new (λ stand at. line_is_moment m rounds opening mid.now stand state line number d at) h
+
+-- the line that a line feed ends within a piece
+pub part_moments : (m : Meaning) (rounds : ℕ) (opening : Stand) (old mid new : World) (state : m.State) (rest line part more : List ℕ) (count taken : ℕ) → IsAt m rounds opening mid.now state rest line count taken
+    → rest ≡ part ++ 10 ∷ more → IsOpenLine part → Throughout (IsMoment m rounds opening) old mid → Throughout (IsLineMoment m rounds (line ++ part) state mid.now) mid new → Throughout (IsMoment m rounds opening) old new
+part_moments m rounds opening old mid new state rest line part more count taken a e k h l =
+    joined (IsMoment m rounds opening) old mid new h
+    (next_moments m rounds opening mid new state (line ++ part) (count + 1) (due_line m rounds opening mid.now state rest line part more count taken a e k) l)
+
+-- the last line, which none ends
+pub last_moments : (m : Meaning) (rounds : ℕ) (opening : Stand) (mid new : World) (state : m.State) (line : List ℕ) (count taken : ℕ) → length line ≢ 0 → IsAt m rounds opening mid.now state [] line count taken
+    → mid.now.left ≡ [] → Throughout (IsLineMoment m rounds line state mid.now) mid new → Throughout (IsMoment m rounds opening) mid new
+last_moments m rounds opening mid new state [] count taken z a e h = absurd (z refl)
+last_moments m rounds opening mid new state (b ∷ line) count taken z a e h =
+    next_moments m rounds opening mid new state (b ∷ line) (count + 1) (due_last m rounds opening mid.now state b line count taken a e) h
+
+-- a last line is sent
+pub end_moments : (m : Meaning) (rounds : ℕ) (opening : Stand) (old mid new : World) (state : m.State) (rest line : List ℕ) (count taken : ℕ) (end : End) → IsAt m rounds opening mid.now state rest line count taken
+    → m.rests (point mid.now state) (disks_of mid.now) → Throughout (IsMoment m rounds opening) old mid → Throughout (IsSending (last_line end) mid.now) mid new → Throughout (IsMoment m rounds opening) old new
+end_moments m rounds opening old mid new state rest line count taken end a rests h k =
+    joined (IsMoment m rounds opening) old mid new h
+    (weaker (IsSending (last_line end) mid.now) (IsMoment m rounds opening) mid new
+    (λ stand at. rest_is_moment m rounds opening mid.now stand state rest line count taken at.0 a
+    (subst (λ s. m.rests (point mid.now state) (disks_of s)) (sym at.2) rests) (ap (λ s. s.sent) at.2) (end, at.1)) k)
+
+-- a call that takes of the input, whatever it came to
+pub take_moments : (m : Meaning) (rounds : ℕ) (opening : Stand) (old new : World) (state : m.State) (line : List ℕ) (count taken : ℕ) (out : List ℕ) (r : Result ℕ DeskErr) → IsAt m rounds opening old.now state [] line count taken
+    → m.rests (point old.now state) (disks_of old.now) → Takes out r old new → Throughout (IsMoment m rounds opening) old new
+take_moments m rounds opening old new state line count taken out r a rests call =
+    on_take (IsMoment m rounds opening) old old new (started (IsMoment m rounds opening) old) (still old.now.left) out r call still
+  where
+    still : (left : List ℕ) → IsMoment m rounds opening (taken_to old.now left)
+    still left = rest_is_moment m rounds opening old.now (taken_to old.now left) state [] line count taken [] a rests (sym (append-nil old.now.sent)) nothing_of_last
