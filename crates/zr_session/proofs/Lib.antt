@@ -10,3 +10,4 @@ pub mod Generating
 pub mod Going
 pub mod Ending
 pub mod Moments
+pub mod Telling

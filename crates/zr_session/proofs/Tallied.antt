@@ -90,13 +90,13 @@ count_agenda A rounds (x ∷ xs) =
 -- ---- one command more
 
 -- the items of the commands up to one, and behind it
-abbrev up_to : ℕ → List Command → ℕ → List (Item Command)
+abbrev pub up_to : ℕ → List Command → ℕ → List (Item Command)
 up_to rounds commands i = agenda rounds (take i commands)
 
-abbrev behind : ℕ → List Command → ℕ → List (Item Command)
+abbrev pub behind : ℕ → List Command → ℕ → List (Item Command)
 behind rounds commands i = agenda rounds (drop (suc i) commands)
 
-split_agenda : (rounds : ℕ) (commands : List Command) (i : ℕ) (x : Command) → i < length commands → x ≡ get_or commands i x
+pub split_agenda : (rounds : ℕ) (commands : List Command) (i : ℕ) (x : Command) → i < length commands → x ≡ get_or commands i x
     → agenda rounds commands ≡ up_to rounds commands i ++ ((Given x ∷ rounds_of rounds) ++ behind rounds commands i)
 split_agenda rounds commands i x l e =
     ap (agenda rounds) (sym (split_at commands i x l) ∙ ap (λ y. take i commands ++ y ∷ drop (suc i) commands) (sym e))

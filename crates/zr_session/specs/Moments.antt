@@ -1,5 +1,5 @@
 -- How far a run has come at a moment of it, and how the disks may stand then.
-use Rattle.std.specs.Prelude.{◌≡◌, ◌⊎◌, ℕ, List, [], ◌∷◌, ◌++◌}
+use Rattle.std.specs.Prelude.{◌≡◌, ◌⊎◌, ℕ, List, [], ◌∷◌, ◌++◌, MatchOption}
 use Rattle.zr_shelf.specs.Disks.{Stand, sent_more}
 use Rattle.zr_script.specs.declared.command.Command.{Command}
 use Rattle.zr_script.specs.CommandLine.{CommandLine}
@@ -8,10 +8,9 @@ use Rattle.zr_script.specs.ReplyText.{End, last_line}
 use Rattle.zr_command.specs.Meanings.{Meaning, Disks, disks_of, Run}
 use Rattle.zr_model.specs.Runs.{Point, Turn, point, end_of, Asks}
 use Rattle.zr_session.specs.Agenda.{Item, Given, rounds_of, agenda, GivesNone, IsGiven, Plays, IsDue}
-use Rattle.zr_session.specs.Answers.{IsStarted, paths_in, IsAttached}
-use Rattle.zr_session.specs.Generated.{Task, Stage, due_in, HasGenerated, point_in, tally_text}
+use Rattle.zr_session.specs.Answers.{IsStarted, paths_in, rounds_in, IsAttached}
+use Rattle.zr_session.specs.Generated.{Task, task_in, Stage, due_in, HasGenerated, point_in, tally_text}
 use Rattle.zr_session.specs.Lines.{told_for, told}
-use Rattle.zr_session.specs.Started.{RunsTo}
 use Rattle.zr_session.specs.declared.replies.Replies.{Replies}
 use Rattle.zr_session.specs.declared.replies.Replies.TheVariants.{Sent, Kept}
 
@@ -83,10 +82,14 @@ IsGeneratedMoment m task opening stand = IsMomentOf Command m IsGiven Kept (due_
 abbrev pub IsAttaching : List (List ℕ) → Stand → Stand → Type 0
 IsAttaching paths old stand = (front back : List (List ℕ)) × (front ++ back ≡ paths) × IsAttached front old stand
 
--- the words are a command line, and its devices are being attached
-abbrev pub IsOpening : List (List ℕ) → List (List ℕ) → Stand → Stand → Type 0
-IsOpening names words old stand = (line : CommandLine) × IsStarted names words line × IsAttaching (paths_in line) old stand
+-- a moment of the run that a command line asks for
+abbrev pub IsRunMoment : Meaning → CommandLine → Stand → Stand → Type 0
+IsRunMoment m line opening stand = MatchOption line.generate (IsMoment m (rounds_in line) opening stand) (λ n. IsGeneratedMoment m (task_in line n) opening stand)
 
--- a moment of the program: its devices are being attached, or it is one of the run that the words ask for
+-- first ones of its devices are attached and no command is begun, or all are and its run goes on
+abbrev pub IsSessionMoment : Meaning → CommandLine → Stand → Stand → Type 0
+IsSessionMoment m line old stand = IsAttaching (paths_in line) old stand ⊎ ((opening : Stand) × IsAttached (paths_in line) old opening × IsRunMoment m line opening stand)
+
+-- a moment of the program, whose words are a command line
 abbrev pub IsProgramMoment : Meaning → List (List ℕ) → List (List ℕ) → Stand → Stand → Type 0
-IsProgramMoment m names words old stand = IsOpening names words old stand ⊎ RunsTo (IsMoment m) (IsGeneratedMoment m) names words old stand
+IsProgramMoment m names words old stand = (line : CommandLine) × IsStarted names words line × IsSessionMoment m line old stand
