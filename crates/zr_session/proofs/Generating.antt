@@ -7,10 +7,10 @@ use Rattle.zr_script.specs.declared.command.Command.{Command}
 use Rattle.zr_script.specs.ReplyText as text
 use Rattle.zr_script.specs.ReplyText.{last_line}
 use Rattle.zr_command.specs.Meanings.{Meaning}
-use Rattle.zr_model.specs.Runs.{Point, Turn, point, end_of}
+use Rattle.zr_model.specs.Runs.{Point, Turn, point}
 use Rattle.zr_session.specs.Tally.{generated_text}
 use Rattle.zr_session.specs.Agenda.{Item, IsGiven, IsDue}
-use Rattle.zr_session.specs.Generated.{Task, due_in, given_answers, given_count, Stage, HasGenerated, tally_text, IsNextCommand, IsNextUnserved, IsNextDamage, unserved_text, IsNextLine, tally, unserved, fault, damage}
+use Rattle.zr_session.specs.Generated.{Task, due_in, given_answers, given_count, Stage, HasGenerated, tally_text, IsNextCommand, IsNextUnserved, IsNextDamage, unserved_text, tally, unserved, fault, damage}
 use Rattle.zr_session.specs.Lines as sending
 use Rattle.zr_session.specs.Lines.{told, Sends, SendsPartly, Tells, wholly, partly, IsTextFor, StopsAtCommand, DoesItems}
 use Rattle.zr_session.specs.Tallied.{DoesCommands, IsAmong, StopsAmong, at_command, between}

@@ -1,5 +1,5 @@
 -- What holds at each moment of a run, one part after another.
-use Rattle.std.proofs.Common.{◌≡◌, ◌≢◌, ◌⊎◌, inl, inr, ℕ, suc, ◌+◌, ◌-◌, ◌<◌, Bool, true, MatchBool, List, [], ◌∷◌, ◌++◌, length, take, drop, get_or, Result, Ok, Err, IfErr, refl, sym, ap, subst, ◌∙◌, append_assoc, arith}
+use Rattle.std.proofs.Common.{◌≡◌, ◌≢◌, ◌⊎◌, inl, inr, ℕ, suc, ◌+◌, ◌-◌, ◌<◌, true, List, [], ◌∷◌, ◌++◌, length, take, drop, get_or, Result, refl, sym, ap, subst, ◌∙◌, append_assoc, arith}
 use Rattle.std.specs.List.{AllByRecursion}
 use Rattle.std.proofs.lemmas.List.{append-nil, append_cancel_right}
 use Rattle.std.proofs.lemmas.List.Concat.{flat_map-append}
@@ -12,13 +12,13 @@ use Rattle.zr_script.specs.declared.reply.Reply.{Reply}
 use Rattle.zr_script.specs.Lines.{lines_of}
 use Rattle.zr_script.specs.ReplyText.{InputLimit, End, last_line}
 use Rattle.zr_model.specs.declared.actor.Actor.{Actor}
-use Rattle.zr_command.specs.Meanings.{Meaning, Disks, disks_of, Run, TurnsTo, step_of}
+use Rattle.zr_command.specs.Meanings.{Meaning, Disks, disks_of, Run, step_of}
 use Rattle.zr_model.specs.Runs.{Point, Turn, point, turn, end_of, Asks, IsOutside, KeepsOutside}
 use Rattle.zr_session.specs.Agenda.{Item, Given, Inserted, round, rounds_of, agenda, GivesNone, Plays, IsDue}
 use Rattle.zr_session.specs.Answers.{IsOpenLine}
 use Rattle.zr_session.specs.Lines.{told_for, told, DoesItems, DoesSteps}
-use Rattle.zr_session.specs.Moments.{IsFrontOf, IsOfLastLine, IsSending, MayStand, resting, under_way, replying, IsCommandMoment, IsMomentOf, IsStepsMoment, IsLineMoment, IsMoment}
-use Rattle.zr_session.specs.Progress.{HasDone, IsAt, IsNext}
+use Rattle.zr_session.specs.Moments.{IsOfLastLine, IsSending, MayStand, resting, under_way, replying, IsCommandMoment, IsMomentOf, IsStepsMoment, IsLineMoment, IsMoment}
+use Rattle.zr_session.specs.Progress.{IsAt, IsNext}
 use Rattle.zr_session.specs.declared.replies.Replies.{Replies}
 use Rattle.zr_session.specs.declared.replies.Replies.TheVariants.{Sent}
 use Rattle.zr_session.proofs.Going.{due_line, due_last}

@@ -1,5 +1,5 @@
 -- What holds at each moment of a generated run, and while devices are attached.
-use Rattle.std.proofs.Common.{◌≡◌, inl, inr, ℕ, ◌+◌, ◌<◌, List, [], ◌∷◌, ◌++◌, length, map, take, drop, get_or, Option, Some, None, MatchOption, Result, Ok, Err, refl, sym, ap, subst, ◌∙◌, take-append-drop}
+use Rattle.std.proofs.Common.{◌≡◌, inl, inr, ℕ, ◌+◌, ◌<◌, List, [], ◌∷◌, ◌++◌, length, map, take, drop, get_or, Some, None, MatchOption, Result, refl, sym, ap, subst, ◌∙◌, take-append-drop}
 use Rattle.std.proofs.lemmas.List.{map-append}
 use Rattle.zr_shelf.specs.declared.desk.DeskErr.{DeskErr}
 use Rattle.zr_shelf.specs.Disks.{Stand, with_disk}
@@ -9,12 +9,12 @@ use Rattle.zr_script.specs.declared.command.Command.{Command}
 use Rattle.zr_script.specs.declared.reply.Reply.{Reply}
 use Rattle.zr_script.specs.CommandLine.{CommandLine}
 use Rattle.zr_command.specs.Meanings.{Meaning, disks_of}
-use Rattle.zr_model.specs.Runs.{Point, point}
+use Rattle.zr_model.specs.Runs.{point}
 use Rattle.zr_session.specs.Agenda.{Given, rounds_of, agenda, IsGiven}
 use Rattle.zr_session.specs.Answers.{IsStarted, paths_in, rounds_in, IsAttached}
 use Rattle.zr_session.specs.Generated.{Task, task_in, due_in, given_answers}
 use Rattle.zr_session.specs.Lines.{DoesCommand, DoesItems}
-use Rattle.zr_session.specs.Moments.{IsSending, IsCommandMoment, IsMomentOf, IsStepsMoment, IsMoment, IsTelling, IsGeneratedMoment, IsAttaching, IsRunMoment, IsSessionMoment, IsProgramMoment}
+use Rattle.zr_session.specs.Moments.{IsSending, IsCommandMoment, IsMomentOf, IsStepsMoment, IsMoment, IsGeneratedMoment, IsAttaching, IsRunMoment, IsSessionMoment, IsProgramMoment}
 use Rattle.zr_session.specs.Tallied.{DoesCommands}
 use Rattle.zr_session.specs.Tally.{generated_text}
 use Rattle.zr_session.specs.declared.replies.Replies.TheVariants.{Kept}

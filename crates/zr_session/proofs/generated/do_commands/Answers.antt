@@ -1,4 +1,4 @@
-use Rattle.std.proofs.Common.{◌≡◌, ℕ, refl, sym, ◌∙◌, arith}
+use Rattle.std.proofs.Common.{refl, sym, ◌∙◌, arith}
 use Rattle.zr_session.specs.Agenda.{agenda}
 use Rattle.zr_session.specs.Tallied.{StopsAmong}
 use Rattle.zr_session.proofs.Sending.{err_with, fell_more}

@@ -1,4 +1,4 @@
-use Rattle.std.proofs.Common.{◌≡◌, ◌+◌, ℕ, length, take}
+use Rattle.std.proofs.Common.{◌≡◌, ◌+◌, length, take}
 use Rattle.zr_shelf.specs.Counts.{NoneFell}
 use Rattle.zr_command.specs.Meanings.{disks_of}
 use Rattle.zr_shelf.specs.Moments.{Throughout}

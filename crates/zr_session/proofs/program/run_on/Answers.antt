@@ -1,6 +1,6 @@
-use Rattle.std.proofs.Common.{◌≡◌, ◌≢◌, ◌<◌, ℕ, Bool, true, false, List, Option, Some, None, is_some, refl, sym, ap, subst, ◌∙◌, length, map}
+use Rattle.std.proofs.Common.{◌≡◌, ℕ, List, refl, sym, ap, ◌∙◌, map}
 use Rattle.std.specs.String.{string_bytes}
-use Rattle.zr_words.specs.Views.{line_of, device_of, path_of}
+use Rattle.zr_words.specs.Views.{line_of}
 use Rattle.zr_words.specs.Choosing.{chosen}
 use Rattle.zr_session.specs.Answers.{IsStarted, paths_in, IsDone, TellsBadLine, TellsLimit, TellsFault, TellsDamage, AnswersTaken, AnswersPartly}
 use Rattle.zr_session.specs.Ends.{EndsBy, IsOpenedTo}

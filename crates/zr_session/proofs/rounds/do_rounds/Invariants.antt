@@ -1,4 +1,4 @@
-use Rattle.std.proofs.Common.{◌≡◌, ℕ}
+use Rattle.std.proofs.Common.{◌≡◌}
 use Rattle.zr_shelf.specs.Counts.{NoneFell}
 use Rattle.zr_shelf.specs.Moments.{Throughout}
 use Rattle.zr_command.specs.Meanings.{disks_of}

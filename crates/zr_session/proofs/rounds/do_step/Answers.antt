@@ -1,9 +1,8 @@
-use Rattle.std.proofs.Common.{ℕ, [], ◌∷◌, refl, sym, subst}
+use Rattle.std.proofs.Common.{[], ◌∷◌, refl, sym, subst}
 use Rattle.zr_command.specs.Meanings.{step_of}
 use Rattle.zr_session.specs.Agenda.{Inserted, GivesNone}
 use Rattle.zr_session.specs.Lines.{StopsWithinSteps}
 use Rattle.zr_session.proofs.Sending.{err_with, for_one}
-use Rattle.zr_shelf.proofs.Runs.{started}
 use Rattle.zr_session.proofs.Moments.{step_moments}
 use Rattle.zr_session.proofs.Playing.{does_step, stops_step}
 use Rattle.zr_session.proofs.Steps.{step_line}

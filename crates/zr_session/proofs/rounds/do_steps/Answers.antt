@@ -1,6 +1,5 @@
-use Rattle.std.proofs.Common.{◌≡◌, ℕ, refl, sym, subst, ◌∙◌, arith, map}
+use Rattle.std.proofs.Common.{refl, sym, subst, ◌∙◌, arith, map}
 use Rattle.std.proofs.lemmas.Result.{err_from_is_err_and}
-use Rattle.zr_model.specs.declared.actor.Actor.TheVariants.{Evac}
 use Rattle.zr_session.specs.Agenda.{Inserted, GivesNone}
 use Rattle.zr_session.specs.Lines.{StopsWithinSteps}
 use Rattle.zr_session.proofs.Sending.{fell_more}
