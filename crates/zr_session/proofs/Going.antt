@@ -1,9 +1,9 @@
 -- How a run goes on.
-use Rattle.std.proofs.Common.{min, take, length-take-le, add-zero, ◌≡◌, ◌≢◌, ℕ, ◌==◌, false, List, [], ◌∷◌, ◌++◌, length, ◌+◌, ◌≤◌, ◌<◌, ◌^◌, refl, sym, ap, subst, ◌∙◌, append_assoc, inl, inr, arith, length-append}
+use Rattle.std.proofs.Common.{min, take, length-take-le, add-zero, ◌≡◌, ◌≢◌, ℕ, ◌==◌, false, List, [], ◌∷◌, ◌++◌, length, ◌+◌, ◌-◌, ◌≤◌, ◌<◌, ◌^◌, refl, sym, ap, subst, ◌∙◌, append_assoc, inl, inr, arith, length-append}
 use Rattle.std.specs.List.{flat_map}
 use Rattle.std.proofs.lemmas.List.Concat.{flat_map-append}
 use Rattle.std.proofs.lemmas.Bool.Decides.{eqb_tells}
-use Rattle.std.proofs.lemmas.List.{append-nil}
+use Rattle.std.proofs.lemmas.List.{append-nil, length-take}
 use Rattle.zr_shelf.specs.Disks.{Stand, taken_to}
 use Rattle.zr_script.specs.Lines.{lines_of, before_lines}
 use Rattle.zr_command.specs.Meanings.{Meaning, Disks, disks_of, Run}
@@ -290,6 +290,10 @@ at_end meaning rounds opening old new state out line n count taken a t z m =
 
 pub left_end : (old new : Stand) (out : List ℕ) (n : ℕ) → TookPiece n out old new → n ≡ 0 → old.left ≡ [] → new.left ≡ []
 left_end old new out n t z e = ap (λ s. s.left) t.2 ∙ (sym (t.1 ∙ ap (λ k. take k out ++ t.0) z) ∙ e)
+
+-- a piece is no longer than what may still be taken
+pub room_fits : {X : Type 0} (taken most : ℕ) (piece : List X) → taken < 2 ^ 32 → most ≡ min (2 ^ 32 - taken) 65536 → taken + length (take most piece) ≤ 2 ^ 32
+room_fits taken most piece l e = let t = length-take most piece in omega arith
 
 pub start_as : (meaning : Meaning) (rounds : ℕ) (stands : Disks → meaning.State → Type 0) (opening : Stand) (line : List ℕ) (count : ℕ) → ((disks : Disks) → stands disks meaning.none) → line ≡ [] → count ≡ 0
     → StandsAt meaning rounds stands opening opening [] line count 0

@@ -2,14 +2,14 @@
 ghost use Rattle.std.specs.Prelude.{◌≡◌, ◌⊎◌, ℕ, List, IfOk, IfErr, OnOk};
 ghost use Rattle.zr_shelf.specs.Counts.{NoneFell};
 ghost use Rattle.zr_shelf.specs.Disks.{sent_more};
+ghost use Rattle.zr_shelf.specs.Moments.{Throughout};
 ghost use Rattle.zr_base.specs.declared.refusal.Refusal.TheVariants as refusal;
 ghost use Rattle.zr_script.specs.Grammar.{IsLine};
 ghost use Rattle.zr_script.specs.ReplyText.{last_line, BadLine, Damage};
 ghost use Rattle.zr_command.specs.Meanings.{disks_of, MayBeDamaged};
-ghost use Rattle.zr_shelf.specs.Moments.{Throughout};
 ghost use Rattle.zr_session.specs.Ends.{HasCause};
-ghost use Rattle.zr_session.specs.Moments.{IsSending, IsCommandMoment};
 ghost use Rattle.zr_session.specs.Lines.{StandsForOne, DoesCommand, StopsAtCommand, SendsPartly, SendsReplyPartly, Tells, told_for};
+ghost use Rattle.zr_session.specs.Moments.{IsSending, IsCommandMoment};
 ghost use Rattle.zr_session.specs.declared.end.End.TheVariants as is_end;
 
 use crate::end::End;

@@ -197,7 +197,7 @@ pub fn run_in_memory<D: Desk>(
     ensures limit { D.tells desk.old → result ≡ 8 → RunsTo (TellsLimit plain) Never (map (λ c. string_bytes c.name) choosers.now) (map string_bytes words.now) (D.world desk.old).now (D.world desk.new).now }
     // At status 9 memory ran out. All that was sent are the answers to first lines, and with `--gen` nothing.
     ensures memory { D.tells desk.old → result ≡ 9 → ((D.world desk.new).now ≡ (D.world desk.old).now) ⊎ StopsAtDevice (map (λ c. string_bytes c.name) choosers.now) (map string_bytes words.now) (D.world desk.old).now (D.world desk.new).now ⊎ RunsTo (AnswersFront plain) (TellsNothing plain) (map (λ c. string_bytes c.name) choosers.now) (map string_bytes words.now) (D.world desk.old).now (D.world desk.new).now }
-    // At each moment what was sent are the replies to first commands and no more than a front of the next text, and the disks stand as they stood when all devices were attached.
+    // At each moment what was sent are the replies to first commands and no more than a front of the next text, and the disks read as when all devices were attached.
     ensures moments { D.tells desk.old → Throughout (IsProgramMoment plain (map (λ c. string_bytes c.name) choosers.now) (map string_bytes words.now) (D.world desk.old).now) (D.world desk.old) (D.world desk.new) }
     // Where no call failed and no line is a bad one, the whole input is answered, unless it is too long or memory ran out.
     ensures complete { NoneRose (D.counts desk.old) (D.counts desk.new) → (result ≡ 0) ⊎ (result ≡ 1) ⊎ (result ≡ 5) ⊎ (result ≡ 8) ⊎ (result ≡ 9) }

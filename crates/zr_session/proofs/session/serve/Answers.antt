@@ -1,7 +1,6 @@
 use Rattle.std.proofs.Common.{refl, sym, ap, ◌∙◌, arith, length}
-use Rattle.zr_session.proofs.Going.{start_as}
+use Rattle.zr_session.proofs.Going.{start_as, room_fits}
 use Rattle.zr_session.proofs.Ending.{ends_limit}
-use Rattle.std.proofs.lemmas.List.{length-take}
 use Rattle.zr_shelf.proofs.Runs.{started, joined}
 use Rattle.zr_script.specs.ReplyText as text
 use Rattle.zr_session.specs.Moments.{IsMoment}
@@ -38,7 +37,7 @@ pub returns-in-Err-clause-moments : goal.returns-in-Err-clause-moments
 returns-in-Err-clause-moments g c = λ t n.
     let i = c.loop-taken.invariant in
     joined (IsMoment g.P.Pool.meaning c.args.course.now.rounds (g.D.Shelf.world c.args.desk.now).now) (g.D.Shelf.world c.args.desk.now) (g.D.Shelf.world c.loop-taken.desk) (g.D.Shelf.world c.take_piece.new.desk) (i.moments t n)
-    (c.take_piece.ensures.moments (i.told t) (i.named t ∙ (n ∙ sym i.paths)) _ _ (let l = length-take c.min-most.result c.loop-taken.piece in let r = c.min-most.ensures in let f = c.loop-taken-test.true in omega arith) (i.at t n))
+    (c.take_piece.ensures.moments (i.told t) (i.named t ∙ (n ∙ sym i.paths)) _ _ (room_fits c.loop-taken.taken c.min-most.result c.loop-taken.piece c.loop-taken-test.true c.min-most.ensures) (i.at t n))
 
 pub returns-clause-moments : goal.returns-clause-moments
 returns-clause-moments g c = λ t n.
@@ -52,14 +51,14 @@ loop-taken-preserved g c =
     let i = c.loop-taken.invariant in
     let o = c.in-Ok.ensures in
     record {
-      at = λ t n. o.at (i.told t) (i.named t ∙ (n ∙ sym i.paths)) _ _ (let l = length-take c.min-most.result c.loop-taken.piece in let r = c.min-most.ensures in let f = c.loop-taken-test.true in omega arith) (i.at t n);
+      at = λ t n. o.at (i.told t) (i.named t ∙ (n ∙ sym i.paths)) _ _ (room_fits c.loop-taken.taken c.min-most.result c.loop-taken.piece c.loop-taken-test.true c.min-most.ensures) (i.at t n);
       moments = λ t n.
           joined (IsMoment g.P.Pool.meaning c.args.course.now.rounds (g.D.Shelf.world c.args.desk.now).now) (g.D.Shelf.world c.args.desk.now) (g.D.Shelf.world c.loop-taken.desk) (g.D.Shelf.world c.take_piece.new.desk) (i.moments t n)
-          (o.moments (i.told t) (i.named t ∙ (n ∙ sym i.paths)) _ _ (let l = length-take c.min-most.result c.loop-taken.piece in let r = c.min-most.ensures in let f = c.loop-taken-test.true in omega arith) (i.at t n));
+          (o.moments (i.told t) (i.named t ∙ (n ∙ sym i.paths)) _ _ (room_fits c.loop-taken.taken c.min-most.result c.loop-taken.piece c.loop-taken-test.true c.min-most.ensures) (i.at t n));
       named = λ t. o.named (i.told t) ∙ i.named t;
       told = λ t. o.told (i.told t);
       lines = let l = i.lines in let k = o.lines in omega arith;
-      most = let k = o.count.1 in let l = length-take c.min-most.result c.loop-taken.piece in let r = c.min-most.ensures in let f = c.loop-taken-test.true in omega arith;
+      most = let k = o.count.1 in let r = room_fits c.loop-taken.taken c.min-most.result c.loop-taken.piece c.loop-taken-test.true c.min-most.ensures in omega arith;
       short = o.short;
       fits = o.fits;
       paths = o.paths ∙ i.paths;
