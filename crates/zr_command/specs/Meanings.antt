@@ -5,7 +5,7 @@ use Rattle.zr_script.specs.declared.command.Command.{Command}
 use Rattle.zr_script.specs.declared.command.Command.TheVariants as cmd
 use Rattle.zr_script.specs.declared.reply.Reply.{Reply}
 use Rattle.zr_script.specs.Grammar.{IsLine}
-use Rattle.zr_shelf.specs.Disks.{Stand}
+use Rattle.zr_shelf.specs.Disks.{Stand, PendingWrite}
 use Rattle.zr_model.specs.Runs.{Asks, Point, Shelf, Turn, point, turn}
 use Rattle.zr_model.specs.State.{State, no_pool}
 use Rattle.zr_model.specs.Step.{Step, IsServed}
@@ -20,6 +20,15 @@ Moves old new = new ≡ old
 pub record Takes (p : Point State) (t : Turn State) : Type 0 where
   pub step : Step p.shelf.paths p.state t.command t.answer t.point.state
   pub move : Moves p.shelf t.point.shelf
+
+-- the disks at a moment: as the last flush left them, what was written since, and as they read
+pub record Disks : Type 0 where
+  pub durable : List (List ℕ)
+  pub writes : List PendingWrite
+  pub seen : List (List ℕ)
+
+abbrev pub disks_of : Stand → Disks
+disks_of stand = record { durable = stand.durable; writes = stand.writes; seen = stand.seen }
 
 -- What commands mean to a kind of pool.
 pub record Meaning : Type 1 where
@@ -37,10 +46,24 @@ pub record Meaning : Type 1 where
   pub blames : Command → Reply → Type 0
   -- a step of the actor has work there
   pub works : State → Actor → Bool
+  -- the disks may stand so between two commands
+  pub rests : Point State → Disks → Type 0
+  -- and so at a moment of the command from a point, be it done in the end or not
+  pub within : Point State → Command → Disks → Type 0
 
--- what they mean to plain objects, of which none is ever damaged, and which leave no work
+-- what they mean to plain objects, of which none is ever damaged, which leave no work, and for which the disks read the same at each moment
 abbrev pub plain : Meaning
-plain = record { State = State; none = no_pool; takes = Takes; serves = IsServed; damages = λ p command found. ⊥; blames = λ command answer. ⊥; works = λ state actor. false }
+plain = record {
+  State = State;
+  none = no_pool;
+  takes = Takes;
+  serves = IsServed;
+  damages = λ p command found. ⊥;
+  blames = λ command answer. ⊥;
+  works = λ state actor. false;
+  rests = λ p disks. disks.seen ≡ p.shelf.disks;
+  within = λ p command disks. disks.seen ≡ p.shelf.disks;
+}
 
 -- the line that makes a step of the actor
 abbrev pub step_of : Actor → Command
@@ -49,9 +72,9 @@ step_of Discard = cmd.StepDiscard
 step_of Condense = cmd.StepCondense
 
 -- A command was answered and led to some state, for which the pool then stands.
-pub record TurnsTo (m : Meaning) (stands : List (List ℕ) → m.State → Type 0) (before : m.State) (old : Stand) (command : Command) (answer : Reply) (new : Stand) : Type 0 where
+pub record TurnsTo (m : Meaning) (stands : Disks → m.State → Type 0) (before : m.State) (old : Stand) (command : Command) (answer : Reply) (new : Stand) : Type 0 where
   pub after : m.State
-  pub stands_for : stands new.seen after
+  pub stands_for : stands (disks_of new) after
   pub takes : m.takes (point old before) (turn command answer new after)
 
 -- one command after another

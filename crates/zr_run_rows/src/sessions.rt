@@ -81,9 +81,11 @@ impl Pool for DamagedPool {
 
     ghost paths = { λ p. p.paths };
 
-    ghost meaning = { record { State = Unit {0}; none = tt; takes = λ p t. ⊥; serves = λ paths state command. Unit {0}; damages = λ p command found. Unit {0}; blames = λ command answer. ⊥; works = λ state actor. false } };
+    ghost meaning = { record { State = Unit {0}; none = tt; takes = λ p t. ⊥; serves = λ paths state command. Unit {0}; damages = λ p command found. Unit {0}; blames = λ command answer. ⊥; works = λ state actor. false; rests = λ p disks. Unit {0}; within = λ p command disks. Unit {0} } };
 
     ghost stands = { λ p disks state. Unit {0} };
+
+    ghost rests = { λ p stand state named is. tt };
 
     ghost fits = { λ p sizes. length sizes ≡ length p.paths };
 
@@ -147,9 +149,11 @@ impl Pool for BusyPool {
     ghost paths = { λ p. p.paths };
 
     // A state says whether there is work.
-    ghost meaning = { record { State = Bool; none = false; takes = λ p t. Unit {0}; serves = λ paths state command. Unit {0}; damages = λ p command found. ⊥; blames = λ command answer. ⊥; works = λ state actor. state } };
+    ghost meaning = { record { State = Bool; none = false; takes = λ p t. Unit {0}; serves = λ paths state command. Unit {0}; damages = λ p command found. ⊥; blames = λ command answer. ⊥; works = λ state actor. state; rests = λ p disks. Unit {0}; within = λ p command disks. Unit {0} } };
 
     ghost stands = { λ p disks state. state ≡ nat_lt 0 p.left };
+
+    ghost rests = { λ p stand state named is. tt };
 
     ghost fits = { λ p sizes. length sizes ≡ length p.paths };
 

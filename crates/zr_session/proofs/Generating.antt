@@ -7,10 +7,10 @@ use Rattle.zr_script.specs.declared.command.Command.{Command}
 use Rattle.zr_script.specs.ReplyText as text
 use Rattle.zr_script.specs.ReplyText.{last_line}
 use Rattle.zr_command.specs.Meanings.{Meaning}
-use Rattle.zr_model.specs.Runs.{Point, Turn, point, end_of}
+use Rattle.zr_model.specs.Runs.{Point, Turn, point}
 use Rattle.zr_session.specs.Tally.{generated_text}
 use Rattle.zr_session.specs.Agenda.{Item, IsGiven, IsDue}
-use Rattle.zr_session.specs.Generated.{Task, due_in, given_answers, given_count, Stage, HasGenerated, tally_text, IsNextCommand, IsNextUnserved, IsNextDamage, unserved_text, IsNextLine, tally, unserved, fault, damage}
+use Rattle.zr_session.specs.Generated.{Task, due_in, given_answers, given_count, Stage, HasGenerated, tally_text, IsNextCommand, IsNextUnserved, IsNextDamage, unserved_text, tally, unserved, fault, damage}
 use Rattle.zr_session.specs.Lines as sending
 use Rattle.zr_session.specs.Lines.{told, Sends, SendsPartly, Tells, wholly, partly, IsTextFor, StopsAtCommand, DoesItems}
 use Rattle.zr_session.specs.Tallied.{DoesCommands, IsAmong, StopsAmong, at_command, between}
@@ -36,10 +36,10 @@ unfolding is_kept
 not_sent e = subst (λ r. is_kept r) e tt
 
 -- the stage behind items that are done
-abbrev stage : {S : Type 0} → List (Item Command) → List (Item Command) → List (Turn S) → Stage S
+abbrev pub stage : {S : Type 0} → List (Item Command) → List (Item Command) → List (Turn S) → Stage S
 stage front rest turns = record { front = front; rest = rest; turns = turns }
 
-generated : (m : Meaning) (task : Task) (opening mid new : Stand) (state : m.State) (front rest : List (Item Command)) (bytes : List ℕ) → due_in task ≡ front ++ rest
+pub generated : (m : Meaning) (task : Task) (opening mid new : Stand) (state : m.State) (front rest : List (Item Command)) (bytes : List ℕ) → due_in task ≡ front ++ rest
     → (h : DoesItems Command m IsGiven Kept front m.none state opening mid) → Sends mid new bytes → HasGenerated m task opening new (stage front rest h.turns) bytes
 generated m task opening mid new state front rest bytes e h s = record {
   due = e;
@@ -57,7 +57,7 @@ none_generated m task opening =
 
 -- ---- where all is done
 
-all_done : (task : Task) → due_in task ≡ due_in task ++ []
+pub all_done : (task : Task) → due_in task ≡ due_in task ++ []
 all_done task = sym (append-nil (due_in task))
 
 line_partly : (m : Meaning) (task : Task) (opening mid new : Stand) (state : m.State) (end : End) (h : DoesItems Command m IsGiven Kept (due_in task) m.none state opening mid)

@@ -1,12 +1,12 @@
 -- How a run goes on.
-use Rattle.std.proofs.Common.{min, take, length-take-le, add-zero, ◌≡◌, ◌≢◌, ℕ, ◌==◌, false, List, [], ◌∷◌, ◌++◌, length, ◌+◌, ◌≤◌, ◌<◌, ◌^◌, refl, sym, ap, subst, ◌∙◌, append_assoc, inl, inr, arith, length-append}
+use Rattle.std.proofs.Common.{min, take, length-take-le, add-zero, ◌≡◌, ◌≢◌, ℕ, ◌==◌, false, List, [], ◌∷◌, ◌++◌, length, ◌+◌, ◌-◌, ◌≤◌, ◌<◌, ◌^◌, refl, sym, ap, subst, ◌∙◌, append_assoc, inl, inr, arith, length-append}
 use Rattle.std.specs.List.{flat_map}
 use Rattle.std.proofs.lemmas.List.Concat.{flat_map-append}
 use Rattle.std.proofs.lemmas.Bool.Decides.{eqb_tells}
-use Rattle.std.proofs.lemmas.List.{append-nil}
+use Rattle.std.proofs.lemmas.List.{append-nil, length-take}
 use Rattle.zr_shelf.specs.Disks.{Stand, taken_to}
 use Rattle.zr_script.specs.Lines.{lines_of, before_lines}
-use Rattle.zr_command.specs.Meanings.{Meaning, Run}
+use Rattle.zr_command.specs.Meanings.{Meaning, Disks, disks_of, Run}
 use Rattle.zr_model.specs.Runs.{Turn, point, end_of, texts, Asks, bytes_to}
 use Rattle.zr_session.specs.Agenda.{Item, Given, rounds_of, agenda, Plays}
 use Rattle.zr_session.specs.Answers.{IsOpenLine}
@@ -291,43 +291,47 @@ at_end meaning rounds opening old new state out line n count taken a t z m =
 pub left_end : (old new : Stand) (out : List ℕ) (n : ℕ) → TookPiece n out old new → n ≡ 0 → old.left ≡ [] → new.left ≡ []
 left_end old new out n t z e = ap (λ s. s.left) t.2 ∙ (sym (t.1 ∙ ap (λ k. take k out ++ t.0) z) ∙ e)
 
-pub start_as : (meaning : Meaning) (rounds : ℕ) (stands : List (List ℕ) → meaning.State → Type 0) (opening : Stand) (line : List ℕ) (count : ℕ) → ((disks : List (List ℕ)) → stands disks meaning.none) → line ≡ [] → count ≡ 0
+-- a piece is no longer than what may still be taken
+pub room_fits : {X : Type 0} (taken most : ℕ) (piece : List X) → taken < 2 ^ 32 → most ≡ min (2 ^ 32 - taken) 65536 → taken + length (take most piece) ≤ 2 ^ 32
+room_fits taken most piece l e = let t = length-take most piece in omega arith
+
+pub start_as : (meaning : Meaning) (rounds : ℕ) (stands : Disks → meaning.State → Type 0) (opening : Stand) (line : List ℕ) (count : ℕ) → ((disks : Disks) → stands disks meaning.none) → line ≡ [] → count ≡ 0
     → StandsAt meaning rounds stands opening opening [] line count 0
 start_as meaning rounds stands opening line count closed l n = record {
   state = meaning.none;
-  stands_for = closed opening.seen;
+  stands_for = closed (disks_of opening);
   holds = subst (λ x. IsAt meaning rounds opening opening meaning.none [] x count 0) (sym l) (subst (λ x. IsAt meaning rounds opening opening meaning.none [] [] x 0) (sym n) (at_start meaning rounds opening));
 }
 
 -- the same of the state for which the pool stands
-pub stands_line : (meaning : Meaning) (rounds : ℕ) (was stands : List (List ℕ) → meaning.State → Type 0) (opening old new : Stand) (rest line part more : List ℕ) (count taken : ℕ) (left : List ℕ) (number : ℕ)
+pub stands_line : (meaning : Meaning) (rounds : ℕ) (was stands : Disks → meaning.State → Type 0) (opening old new : Stand) (rest line part more : List ℕ) (count taken : ℕ) (left : List ℕ) (number : ℕ)
     → StandsAt meaning rounds was opening old rest line count taken → rest ≡ part ++ 10 ∷ more → IsOpenLine part
-    → ((before : meaning.State) → was old.seen before → StandsForOne stands new (λ after. AnswersLine meaning rounds (line ++ part) before after old new)) → left ≡ [] → number ≡ count + 1
+    → ((before : meaning.State) → was (disks_of old) before → StandsForOne stands new (λ after. AnswersLine meaning rounds (line ++ part) before after old new)) → left ≡ [] → number ≡ count + 1
     → StandsAt meaning rounds stands opening new more left number taken
 stands_line meaning rounds was stands opening old new rest line part more count taken left number a e k f empty is =
     let l = f a.state a.stands_for in
     record { state = l.state; stands_for = l.stands_for; holds = at_line_as meaning rounds opening old new a.state l.state rest line part more count taken left number a.holds e k l.holds empty is }
 
-pub stands_kept : (meaning : Meaning) (rounds : ℕ) (stands : List (List ℕ) → meaning.State → Type 0) (opening now new : Stand) (rest line kept : List ℕ) (count number taken : ℕ)
+pub stands_kept : (meaning : Meaning) (rounds : ℕ) (stands : Disks → meaning.State → Type 0) (opening now new : Stand) (rest line kept : List ℕ) (count number taken : ℕ)
     → StandsAt meaning rounds stands opening now rest line count taken → IsOpenLine rest → new ≡ now → kept ≡ line ++ rest → length kept ≤ 16384 → number ≡ count → StandsAt meaning rounds stands opening new [] kept number taken
 stands_kept meaning rounds stands opening now new rest line kept count number taken a k same e s is = record {
   state = a.state;
-  stands_for = subst (λ (n : Stand). stands n.seen a.state) (sym same) a.stands_for;
+  stands_for = subst (λ (n : Stand). stands (disks_of n) a.state) (sym same) a.stands_for;
   holds = at_kept_as meaning rounds opening now new a.state rest line kept count number taken a.holds k same e s is;
 }
 
-pub stands_piece : (meaning : Meaning) (rounds : ℕ) (stands : List (List ℕ) → meaning.State → Type 0) (opening old new : Stand) (out line : List ℕ) (n count taken : ℕ)
+pub stands_piece : (meaning : Meaning) (rounds : ℕ) (stands : Disks → meaning.State → Type 0) (opening old new : Stand) (out line : List ℕ) (n count taken : ℕ)
     → StandsAt meaning rounds stands opening old [] line count taken → TookPiece n out old new → n ≤ length out → taken + length out ≤ 2 ^ 32 → length out ≤ 65536 → StandsAt meaning rounds stands opening new (take n out) line count (taken + n)
 stands_piece meaning rounds stands opening old new out line n count taken a t l m f = record {
   state = a.state;
-  stands_for = subst (λ (s : Stand). stands s.seen a.state) (sym t.2) a.stands_for;
+  stands_for = subst (λ (s : Stand). stands (disks_of s) a.state) (sym t.2) a.stands_for;
   holds = at_piece meaning rounds opening old new a.state out line n count taken a.holds t l m f;
 }
 
-pub stands_end : (meaning : Meaning) (rounds : ℕ) (stands : List (List ℕ) → meaning.State → Type 0) (opening old new : Stand) (out line : List ℕ) (n count taken : ℕ)
+pub stands_end : (meaning : Meaning) (rounds : ℕ) (stands : Disks → meaning.State → Type 0) (opening old new : Stand) (out line : List ℕ) (n count taken : ℕ)
     → StandsAt meaning rounds stands opening old [] line count taken → TookPiece n out old new → n ≡ 0 → taken ≤ 2 ^ 32 → StandsAt meaning rounds stands opening new [] line count taken
 stands_end meaning rounds stands opening old new out line n count taken a t z m = record {
   state = a.state;
-  stands_for = subst (λ (s : Stand). stands s.seen a.state) (sym t.2) a.stands_for;
+  stands_for = subst (λ (s : Stand). stands (disks_of s) a.state) (sym t.2) a.stands_for;
   holds = at_end meaning rounds opening old new a.state out line n count taken a.holds t z m;
 }

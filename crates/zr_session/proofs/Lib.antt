@@ -9,3 +9,5 @@ pub mod Tallied
 pub mod Generating
 pub mod Going
 pub mod Ending
+pub mod Moments
+pub mod Telling

@@ -19,7 +19,7 @@ match_weaker : (b : Bool) (X Y V W : Type 0) → (X → V) → (Y → W) → Mat
 match_weaker true X Y V W f g h = f h
 match_weaker false X Y V W f g h = g h
 
-match_true : (b : Bool) (X Y : Type 0) → b ≡ true → X → MatchBool b X Y
+pub match_true : (b : Bool) (X Y : Type 0) → b ≡ true → X → MatchBool b X Y
 match_true b X Y e x = subst (λ c. MatchBool c X Y) (sym e) x
 
 match_false : (b : Bool) (X Y : Type 0) → b ≡ false → Y → MatchBool b X Y
@@ -194,7 +194,7 @@ agenda_more A rounds xs x =
 
 -- ---- the steps of actors
 
-same_steps : (actors : List Actor) (i : ℕ) (d : Actor) → i < length actors → the_steps ⊥ (take i actors) ++ (Inserted (get_or actors i d) ∷ the_steps ⊥ (drop (suc i) actors)) ≡ the_steps ⊥ actors
+pub same_steps : (actors : List Actor) (i : ℕ) (d : Actor) → i < length actors → the_steps ⊥ (take i actors) ++ (Inserted (get_or actors i d) ∷ the_steps ⊥ (drop (suc i) actors)) ≡ the_steps ⊥ actors
 same_steps actors i d l =
     sym (map-append (λ (x : Actor). put_in ⊥ x) (take i actors) (get_or actors i d ∷ drop (suc i) actors)) ∙ ap (the_steps ⊥) (split_at actors i d l)
 
@@ -241,7 +241,7 @@ among A [] = []
 among A (Given x ∷ items) = absurd x
 among A (Inserted actor ∷ items) = Inserted actor ∷ among A items
 
-among_both : (A : Type 0) (xs ys : List (Item ⊥)) → among A (xs ++ ys) ≡ among A xs ++ among A ys
+pub among_both : (A : Type 0) (xs ys : List (Item ⊥)) → among A (xs ++ ys) ≡ among A xs ++ among A ys
 among_both A [] ys = refl
 among_both A (Given x ∷ xs) ys = absurd x
 among_both A (Inserted actor ∷ xs) ys = ap (λ l. put_in A actor ∷ l) (among_both A xs ys)
@@ -250,14 +250,14 @@ pub among_rounds : (A : Type 0) (n : ℕ) → among A (the_rounds ⊥ n) ≡ the
 among_rounds A zero = refl
 among_rounds A (suc n) = ap (λ l. the_steps A round ++ l) (among_rounds A n)
 
-plays_among : (A : Type 0) (m : Meaning) (Means : A → Command → Type 0) (items : List (Item ⊥)) (p : Point m.State) (turns : List (Turn m.State)) → Plays m GivesNone items p turns → Plays m Means (among A items) p turns
+pub plays_among : (A : Type 0) (m : Meaning) (Means : A → Command → Type 0) (items : List (Item ⊥)) (p : Point m.State) (turns : List (Turn m.State)) → Plays m GivesNone items p turns → Plays m Means (among A items) p turns
 plays_among A m Means [] p turns h = h
 plays_among A m Means (Given x ∷ items) p turns h = absurd x
 plays_among A m Means (Inserted actor ∷ items) p turns h =
     match_weaker (m.works p.state actor) (PutsIn ⊥ m GivesNone items actor turns) (Plays m GivesNone items p turns) (PutsIn A m Means (among A items) actor turns) (Plays m Means (among A items) p turns)
     (λ i. (i.0, i.1, i.2, i.3, plays_among A m Means items i.0.point i.1 i.4)) (λ i. plays_among A m Means items p turns i) h
 
-due_among : (A : Type 0) (m : Meaning) (Means : A → Command → Type 0) (items : List (Item ⊥)) (p : Point m.State) (c : Command) → IsDue m GivesNone items p c → IsDue m Means (among A items) p c
+pub due_among : (A : Type 0) (m : Meaning) (Means : A → Command → Type 0) (items : List (Item ⊥)) (p : Point m.State) (c : Command) → IsDue m GivesNone items p c → IsDue m Means (among A items) p c
 due_among A m Means [] p c h = absurd h
 due_among A m Means (Given x ∷ items) p c h = absurd x
 due_among A m Means (Inserted actor ∷ items) p c h =

@@ -9,7 +9,7 @@ use Rattle.zr_script.specs.declared.command.Command.{Command}
 use Rattle.zr_script.specs.declared.reply.Reply.{Reply}
 use Rattle.zr_script.specs.ReplyText as text
 use Rattle.zr_script.specs.ReplyText.{reply_text, last_line}
-use Rattle.zr_command.specs.Meanings.{Meaning, TurnsTo}
+use Rattle.zr_command.specs.Meanings.{Meaning, Disks, disks_of, TurnsTo}
 use Rattle.zr_model.specs.Runs.{point, turn, IsOutside}
 use Rattle.zr_session.specs.declared.replies.Replies.{Replies}
 use Rattle.zr_session.specs.declared.end.End.{End}
@@ -28,12 +28,12 @@ pub sends_all : (old mid new : Stand) (bytes : List ℕ) → IsOutside old mid �
 sends_all old mid new bytes o e = sends_from old mid new bytes o (record { left = ap (λ s. s.left) e; sent = ap (λ s. s.sent) e })
 
 -- a command was answered, and the answer handed on
-pub does_by : (meaning : Meaning) (stands : List (List ℕ) → meaning.State → Type 0) (replies : Replies) (command : Command) (before : meaning.State) (old mid new : Stand) (answer : Reply)
+pub does_by : (meaning : Meaning) (stands : Disks → meaning.State → Type 0) (replies : Replies) (command : Command) (before : meaning.State) (old mid new : Stand) (answer : Reply)
     → IsOutside old mid → TurnsTo meaning stands before old command answer mid → new ≡ sent_more mid (told_for replies answer)
     → StandsForOne stands new (λ after. DoesCommand meaning replies command answer before after old new)
 does_by meaning stands replies command before old mid new answer o t s = record {
   state = t.after;
-  stands_for = subst (λ (n : Stand). stands n.seen t.after) (sym s) t.stands_for;
+  stands_for = subst (λ (n : Stand). stands (disks_of n) t.after) (sym s) t.stands_for;
   holds = record {
     takes = subst (λ n. meaning.takes (point old before) (turn command answer n t.after)) (sym s) t.takes;
     sends = sends_all old mid new (told_for replies answer) o s;
@@ -41,7 +41,7 @@ does_by meaning stands replies command before old mid new answer o t s = record 
 }
 
 -- what follows of the state that it stands for
-pub for_one : {S : Type 0} (stands : List (List ℕ) → S → Type 0) (now : Stand) (A B : S → Type 0) → ((state : S) → A state → B state) → StandsForOne stands now A → StandsForOne stands now B
+pub for_one : {S : Type 0} (stands : Disks → S → Type 0) (now : Stand) (A B : S → Type 0) → ((state : S) → A state → B state) → StandsForOne stands now A → StandsForOne stands now B
 for_one stands now A B f h = record { state = h.state; stands_for = h.stands_for; holds = f h.state h.holds }
 
 pub fell_more : (a b c : Counts) → NoneFell a b → NoneFell b c → NoneFell a c

@@ -1,6 +1,6 @@
 -- Generated commands that are done one after another, and what is counted of their replies.
-use Rattle.std.proofs.Common.{◌≡◌, ℕ, zero, suc, ◌+◌, ◌<◌, Bool, true, false, MatchBool, List, [], ◌∷◌, ◌++◌, length, take, drop, get_or, if◌then◌else◌, refl, sym, ap, subst, ◌∙◌, append_assoc, arith, length-append}
-use Rattle.std.proofs.lemmas.List.{append-nil, take_more, length-take-le}
+use Rattle.std.proofs.Common.{◌≡◌, ℕ, zero, suc, ◌+◌, ◌<◌, Bool, true, false, MatchBool, List, [], ◌∷◌, ◌++◌, length, take, drop, get_or, if◌then◌else◌, refl, sym, ap, subst, ◌∙◌, append_assoc, arith}
+use Rattle.std.proofs.lemmas.List.{take_more, length-take-le}
 use Rattle.std.proofs.lemmas.List.Concat.{flat_map-append}
 use Rattle.zr_shelf.specs.Disks.{Stand}
 use Rattle.zr_script.specs.declared.command.Command.{Command}
@@ -11,7 +11,7 @@ use Rattle.zr_session.specs.Agenda.{Item, Given, Inserted, rounds_of, agenda, Is
 use Rattle.zr_session.specs.Tally.{Answer, answer_of}
 use Rattle.zr_session.specs.Generated.{given_answers, given_count}
 use Rattle.zr_session.specs.Lines.{DoesCommand, DoesItems, DoesSteps, StopsAtCommand, StopsWithinSteps}
-use Rattle.zr_session.specs.Tallied.{IsTallyOf, DoesCommands, IsAmong, StopsAmong, at_command, between}
+use Rattle.zr_session.specs.Tallied.{IsTallyOf, DoesCommands, StopsAmong, at_command, between}
 use Rattle.zr_session.specs.declared.end.End.{End}
 use Rattle.zr_session.specs.declared.end.End.TheVariants.{NoMemory}
 use Rattle.zr_session.specs.declared.replies.Replies.TheVariants.{Kept}
@@ -90,13 +90,13 @@ count_agenda A rounds (x ∷ xs) =
 -- ---- one command more
 
 -- the items of the commands up to one, and behind it
-abbrev up_to : ℕ → List Command → ℕ → List (Item Command)
+abbrev pub up_to : ℕ → List Command → ℕ → List (Item Command)
 up_to rounds commands i = agenda rounds (take i commands)
 
-abbrev behind : ℕ → List Command → ℕ → List (Item Command)
+abbrev pub behind : ℕ → List Command → ℕ → List (Item Command)
 behind rounds commands i = agenda rounds (drop (suc i) commands)
 
-split_agenda : (rounds : ℕ) (commands : List Command) (i : ℕ) (x : Command) → i < length commands → x ≡ get_or commands i x
+pub split_agenda : (rounds : ℕ) (commands : List Command) (i : ℕ) (x : Command) → i < length commands → x ≡ get_or commands i x
     → agenda rounds commands ≡ up_to rounds commands i ++ ((Given x ∷ rounds_of rounds) ++ behind rounds commands i)
 split_agenda rounds commands i x l e =
     ap (agenda rounds) (sym (split_at commands i x l) ∙ ap (λ y. take i commands ++ y ∷ drop (suc i) commands) (sym e))

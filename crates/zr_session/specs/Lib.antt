@@ -9,3 +9,4 @@ pub mod Lines
 pub mod Progress
 pub mod Memory
 pub mod Headline
+pub mod Moments

@@ -9,7 +9,7 @@ use Rattle.zr_script.specs.declared.reply.Reply.{Reply}
 use Rattle.zr_script.specs.Grammar.{IsLine}
 use Rattle.zr_script.specs.ReplyText as text
 use Rattle.zr_script.specs.ReplyText.{reply_text, last_line}
-use Rattle.zr_command.specs.Meanings.{Meaning, Run}
+use Rattle.zr_command.specs.Meanings.{Meaning, Disks, disks_of, Run}
 use Rattle.zr_model.specs.Runs.{Point, Turn, point, turn, end_of, Asks}
 use Rattle.zr_session.specs.Agenda.{Item, Given, rounds_of, GivesNone, Plays, IsDue}
 use Rattle.zr_session.specs.declared.replies.Replies.{Replies}
@@ -34,9 +34,9 @@ pub data Tells (end : End) (bytes : List ℕ) (result : End) (old new : Stand) :
   partly : SendsPartly bytes old new result → Tells end bytes result old new
 
 -- The pool stands for some state of which this holds.
-pub record StandsForOne {S : Type 0} (stands : List (List ℕ) → S → Type 0) (now : Stand) (Holds : S → Type 0) : Type 0 where
+pub record StandsForOne {S : Type 0} (stands : Disks → S → Type 0) (now : Stand) (Holds : S → Type 0) : Type 0 where
   pub state : S
-  pub stands_for : stands now.seen state
+  pub stands_for : stands (disks_of now) state
   pub holds : Holds state
 
 -- what is sent for an answer

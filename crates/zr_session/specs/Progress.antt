@@ -3,7 +3,7 @@ use Rattle.std.specs.Prelude.{◌≡◌, ℕ, ◌+◌, ◌^◌, ◌≤◌, ◌<�
 use Rattle.std.specs.List.{flat_map}
 use Rattle.zr_shelf.specs.Disks.{Stand}
 use Rattle.zr_script.specs.Lines.{lines_of}
-use Rattle.zr_command.specs.Meanings.{Meaning, Run}
+use Rattle.zr_command.specs.Meanings.{Meaning, Disks, Run}
 use Rattle.zr_model.specs.Runs.{Turn, point, end_of, texts, Asks, bytes_to}
 use Rattle.zr_session.specs.Agenda.{Item, agenda, Plays}
 use Rattle.zr_session.specs.Answers.{IsOpenLine}
@@ -33,7 +33,7 @@ pub record IsAt (m : Meaning) (rounds : ℕ) (opening now : Stand) (state : m.St
   pub most : taken ≤ 2 ^ 32
 
 -- the pool stands for a state to which the answered lines lead
-abbrev pub StandsAt : (m : Meaning) → ℕ → (List (List ℕ) → m.State → Type 0) → Stand → Stand → List ℕ → List ℕ → ℕ → ℕ → Type 0
+abbrev pub StandsAt : (m : Meaning) → ℕ → (Disks → m.State → Type 0) → Stand → Stand → List ℕ → List ℕ → ℕ → ℕ → Type 0
 StandsAt m rounds stands opening now rest line count taken = StandsForOne stands now (λ state. IsAt m rounds opening now state rest line count taken)
 
 -- this line is the next

@@ -1,5 +1,5 @@
 -- What a run came to, from its words on.
-use Rattle.std.specs.Prelude.{◌≡◌, ◌⊎◌, ℕ, List, MatchOption}
+use Rattle.std.specs.Prelude.{ℕ, List, MatchOption}
 use Rattle.zr_shelf.specs.Disks.{Stand}
 use Rattle.zr_script.specs.CommandLine.{CommandLine}
 use Rattle.zr_session.specs.Answers.{IsStarted, paths_in, rounds_in, IsAttached, IsPartlyAttached}

@@ -2,12 +2,14 @@
 ghost use Rattle.std.specs.Prelude.{◌≡◌, ◌⊎◌, ℕ, List, IfOk, IfErr, OnOk};
 ghost use Rattle.zr_shelf.specs.Counts.{NoneFell};
 ghost use Rattle.zr_shelf.specs.Disks.{sent_more};
+ghost use Rattle.zr_shelf.specs.Moments.{Throughout};
 ghost use Rattle.zr_base.specs.declared.refusal.Refusal.TheVariants as refusal;
 ghost use Rattle.zr_script.specs.Grammar.{IsLine};
 ghost use Rattle.zr_script.specs.ReplyText.{last_line, BadLine, Damage};
-ghost use Rattle.zr_command.specs.Meanings.{MayBeDamaged};
+ghost use Rattle.zr_command.specs.Meanings.{disks_of, MayBeDamaged};
 ghost use Rattle.zr_session.specs.Ends.{HasCause};
 ghost use Rattle.zr_session.specs.Lines.{StandsForOne, DoesCommand, StopsAtCommand, SendsPartly, SendsReplyPartly, Tells, told_for};
+ghost use Rattle.zr_session.specs.Moments.{IsSending, IsCommandMoment};
 ghost use Rattle.zr_session.specs.declared.end.End.TheVariants as is_end;
 
 use crate::end::End;
@@ -23,6 +25,7 @@ use zr_shelf::{Desk, DeskErr};
 fn send<D: Desk>(desk: &mut D, bytes: &[u8]) -> Result<(), End>
     ensures sent { D.tells desk.old → OnOk result ((D.world desk.new).now ≡ sent_more (D.world desk.old).now bytes.now) }
     ensures partly { D.tells desk.old → IfErr result (SendsPartly bytes.now (D.world desk.old).now (D.world desk.new).now) }
+    ensures moments { D.tells desk.old → Throughout (IsSending bytes.now (D.world desk.old).now) (D.world desk.old) (D.world desk.new) }
     ensures cause { IfErr result (HasCause ⊥ (D.counts desk.old) (D.counts desk.new)) }
     ensures sizes { D.sizes desk.new ≡ D.sizes desk.old }
     ensures none_fell { NoneFell (D.counts desk.old) (D.counts desk.new) }
@@ -38,6 +41,7 @@ fn send<D: Desk>(desk: &mut D, bytes: &[u8]) -> Result<(), End>
 /// Sends the last line of a run, which then ends as said, unless that was not sent.
 pub fn tell<D: Desk>(desk: &mut D, text: &[u8], end: End) -> End
     ensures told_it { D.tells desk.old → Tells end text.now result (D.world desk.old).now (D.world desk.new).now }
+    ensures moments { D.tells desk.old → Throughout (IsSending text.now (D.world desk.old).now) (D.world desk.old) (D.world desk.new) }
     ensures cause { (result ≡ end) ⊎ HasCause ⊥ (D.counts desk.old) (D.counts desk.new) result }
     ensures sizes { D.sizes desk.new ≡ D.sizes desk.old }
     ensures none_fell { NoneFell (D.counts desk.old) (D.counts desk.new) }
@@ -52,6 +56,7 @@ pub fn tell<D: Desk>(desk: &mut D, text: &[u8], end: End) -> End
 /// Tells that a line is a bad one.
 pub fn refuse_line<D: Desk>(alloc: Global, number: u64, desk: &mut D) -> End
     ensures told_it { D.tells desk.old → Tells is_end.BadLine (last_line (BadLine number)) result (D.world desk.old).now (D.world desk.new).now }
+    ensures moments { D.tells desk.old → Throughout (IsSending (last_line (BadLine number)) (D.world desk.old).now) (D.world desk.old) (D.world desk.new) }
     ensures cause { HasCause ⊥ (D.counts desk.old) (D.counts desk.new) result }
     ensures sizes { D.sizes desk.new ≡ D.sizes desk.old }
     ensures none_fell { NoneFell (D.counts desk.old) (D.counts desk.new) }
@@ -101,6 +106,7 @@ fn tell_damage<'a, D: Desk>(
     desk: &mut D,
 ) -> End
     ensures told_it { D.tells desk.old → Tells is_end.Damaged (last_line (Damage (refusal.Damaged at.now expected.now found.now))) result (D.world desk.old).now (D.world desk.new).now }
+    ensures moments { D.tells desk.old → Throughout (IsSending (last_line (Damage (refusal.Damaged at.now expected.now found.now))) (D.world desk.old).now) (D.world desk.old) (D.world desk.new) }
     ensures cause { (result ≡ is_end.Damaged) ⊎ HasCause ⊥ (D.counts desk.old) (D.counts desk.new) result }
     ensures sizes { D.sizes desk.new ≡ D.sizes desk.old }
     ensures none_fell { NoneFell (D.counts desk.old) (D.counts desk.new) }
@@ -116,6 +122,7 @@ fn tell_damage<'a, D: Desk>(
 fn hand_on<D: Desk>(alloc: Global, reply: &Reply, replies: Replies, desk: &mut D) -> Result<(), End>
     ensures sent { D.tells desk.old → OnOk result ((D.world desk.new).now ≡ sent_more (D.world desk.old).now (told_for replies reply.now)) }
     ensures partly { D.tells desk.old → IfErr result (SendsReplyPartly replies reply.now (D.world desk.old).now (D.world desk.new).now) }
+    ensures moments { D.tells desk.old → Throughout (IsSending (told_for replies reply.now) (D.world desk.old).now) (D.world desk.old) (D.world desk.new) }
     ensures cause { IfErr result (HasCause ⊥ (D.counts desk.old) (D.counts desk.new)) }
     ensures sizes { D.sizes desk.new ≡ D.sizes desk.old }
     ensures none_fell { NoneFell (D.counts desk.old) (D.counts desk.new) }
@@ -142,9 +149,10 @@ pub fn do_command<P: Pool, D: Desk>(
 ) -> Result<Reply, End>
     requires fits { P.fits pool.old (D.sizes desk.old) }
     requires grammar { (line : List ℕ) × IsLine line command.now }
-    ensures done { D.tells desk.old → (D.world desk.old).now.paths ≡ P.paths pool.old → (before : P.meaning.State) → P.stands pool.old (D.world desk.old).now.seen before → IfOk result (λ reply. StandsForOne (P.stands pool.new) (D.world desk.new).now (λ after. DoesCommand P.meaning replies command.now reply before after (D.world desk.old).now (D.world desk.new).now)) }
-    ensures stopped { D.tells desk.old → (D.world desk.old).now.paths ≡ P.paths pool.old → (before : P.meaning.State) → P.stands pool.old (D.world desk.old).now.seen before → IfErr result (StopsAtCommand P.meaning replies command.now number before (D.world desk.old).now (D.world desk.new).now) }
+    ensures done { D.tells desk.old → (D.world desk.old).now.paths ≡ P.paths pool.old → (before : P.meaning.State) → P.stands pool.old (disks_of (D.world desk.old).now) before → IfOk result (λ reply. StandsForOne (P.stands pool.new) (D.world desk.new).now (λ after. DoesCommand P.meaning replies command.now reply before after (D.world desk.old).now (D.world desk.new).now)) }
+    ensures stopped { D.tells desk.old → (D.world desk.old).now.paths ≡ P.paths pool.old → (before : P.meaning.State) → P.stands pool.old (disks_of (D.world desk.old).now) before → IfErr result (StopsAtCommand P.meaning replies command.now number before (D.world desk.old).now (D.world desk.new).now) }
     ensures named { D.tells desk.old → OnOk result ((D.world desk.new).now.paths ≡ (D.world desk.old).now.paths) }
+    ensures moments { D.tells desk.old → (D.world desk.old).now.paths ≡ P.paths pool.old → (before : P.meaning.State) → P.stands pool.old (disks_of (D.world desk.old).now) before → Throughout (IsCommandMoment P.meaning replies command.now before (D.world desk.old).now) (D.world desk.old) (D.world desk.new) }
     ensures cause { IfErr result (HasCause (MayBeDamaged P.meaning) (D.counts desk.old) (D.counts desk.new)) }
     ensures fits { P.fits pool.new (D.sizes desk.new) }
     ensures paths { P.paths pool.new ≡ P.paths pool.old }

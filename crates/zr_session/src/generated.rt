@@ -5,12 +5,16 @@
 ghost use Rattle.std.specs.Prelude.{◌≡◌, ◌≤◌, ℕ, List, length, map, IfOk, IfErr, OnOk, IsTrue};
 ghost use Rattle.std.specs.List.{AllByRecursion, list_all};
 ghost use Rattle.zr_shelf.specs.Counts.{NoneFell};
+ghost use Rattle.zr_shelf.specs.Moments.{Throughout};
 ghost use Rattle.zr_script.specs.Words.{is_path, are_different};
-ghost use Rattle.zr_command.specs.Meanings.{MayBeDamaged};
+ghost use Rattle.zr_script.specs.declared.command.Command.{Command};
+ghost use Rattle.zr_command.specs.Meanings.{Disks, disks_of, MayBeDamaged};
 ghost use Rattle.zr_gen.specs.Spelled.{HasLine};
-ghost use Rattle.zr_session.specs.Agenda.{agenda};
+ghost use Rattle.zr_session.specs.Agenda.{agenda, IsGiven};
 ghost use Rattle.zr_session.specs.Ends.{HasCause, GeneratesAs};
 ghost use Rattle.zr_session.specs.Lines.{StandsForOne};
+ghost use Rattle.zr_session.specs.Moments.{IsMomentOf, IsGeneratedMoment};
+ghost use Rattle.zr_session.specs.declared.replies.Replies.TheVariants.{Kept};
 ghost use Rattle.zr_session.specs.Tallied.{DoesCommands, StopsAmong};
 ghost use Rattle.zr_words.specs.Views.{path_of};
 
@@ -22,8 +26,8 @@ use crate::replies::Replies;
 use crate::rounds::do_rounds;
 use crate::tally::Tally;
 use std::alloc::Global;
-use zr_gen::script_of;
 use zr_command::Pool;
+use zr_gen::script_of;
 use zr_script::Command;
 use zr_shelf::Desk;
 use zr_words::Device;
@@ -38,8 +42,11 @@ fn do_commands<P: Pool, D: Desk>(
 ) -> Result<Tally, End>
     requires fits { P.fits pool.old (D.sizes desk.old) }
     requires lines { AllByRecursion HasLine commands.now }
-    ensures done { D.tells desk.old → (D.world desk.old).now.paths ≡ P.paths pool.old → (before : P.meaning.State) → P.stands pool.old (D.world desk.old).now.seen before → IfOk result (λ tally. StandsForOne (P.stands pool.new) (D.world desk.new).now (λ after. DoesCommands P.meaning (agenda course.now.rounds commands.now) tally before after (D.world desk.old).now (D.world desk.new).now)) }
-    ensures stopped { D.tells desk.old → (D.world desk.old).now.paths ≡ P.paths pool.old → (before : P.meaning.State) → P.stands pool.old (D.world desk.old).now.seen before → IfErr result (StopsAmong P.meaning (agenda course.now.rounds commands.now) before (D.world desk.old).now (D.world desk.new).now) }
+    ensures done { D.tells desk.old → (D.world desk.old).now.paths ≡ P.paths pool.old → (before : P.meaning.State) → P.stands pool.old (disks_of (D.world desk.old).now) before → IfOk result (λ tally. StandsForOne (P.stands pool.new) (D.world desk.new).now (λ after. DoesCommands P.meaning (agenda course.now.rounds commands.now) tally before after (D.world desk.old).now (D.world desk.new).now)) }
+    ensures stopped { D.tells desk.old → (D.world desk.old).now.paths ≡ P.paths pool.old → (before : P.meaning.State) → P.stands pool.old (disks_of (D.world desk.old).now) before → IfErr result (StopsAmong P.meaning (agenda course.now.rounds commands.now) before (D.world desk.old).now (D.world desk.new).now) }
+    ensures moments { D.tells desk.old → (D.world desk.old).now.paths ≡ P.paths pool.old → (before : P.meaning.State) → P.stands pool.old (disks_of (D.world desk.old).now) before → Throughout (IsMomentOf Command P.meaning IsGiven Kept (agenda course.now.rounds commands.now) before (D.world desk.old).now) (D.world desk.old) (D.world desk.new) }
+    ensures named { D.tells desk.old → OnOk result ((D.world desk.new).now.paths ≡ (D.world desk.old).now.paths) }
+    ensures paths { OnOk result (P.paths pool.new ≡ P.paths pool.old) }
     ensures cause { IfErr result (HasCause (MayBeDamaged P.meaning) (D.counts desk.old) (D.counts desk.new)) }
     ensures none_fell { NoneFell (D.counts desk.old) (D.counts desk.new) }
     ensures told { D.tells desk.old → D.tells desk.new }
@@ -75,11 +82,12 @@ pub fn generate<P: Pool, D: Desk>(
     desk: &mut D,
 ) -> End
     requires fits { P.fits pool.old (D.sizes desk.old) }
-    requires closed { (disks : List (List ℕ)) → P.stands pool.old disks P.meaning.none }
+    requires closed { (disks : Disks) → P.stands pool.old disks P.meaning.none }
     requires enough { 3 ≤ length devices.now }
     requires paths { IsTrue (list_all is_path (map path_of devices.now)) }
     requires different { IsTrue (are_different (map path_of devices.now)) }
     ensures ends { D.tells desk.old → (D.world desk.old).now.paths ≡ P.paths pool.old → GeneratesAs P.meaning (record { number = number; count = count; devs = map path_of devices.now; rounds = course.now.rounds }) result (D.world desk.old).now (D.world desk.new).now }
+    ensures moments { D.tells desk.old → (D.world desk.old).now.paths ≡ P.paths pool.old → Throughout (IsGeneratedMoment P.meaning (record { number = number; count = count; devs = map path_of devices.now; rounds = course.now.rounds }) (D.world desk.old).now) (D.world desk.old) (D.world desk.new) }
     ensures cause { HasCause (MayBeDamaged P.meaning) (D.counts desk.old) (D.counts desk.new) result }
     ensures none_fell { NoneFell (D.counts desk.old) (D.counts desk.new) }
     ensures told { D.tells desk.old → D.tells desk.new }

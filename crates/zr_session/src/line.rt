@@ -1,11 +1,13 @@
 //! Lines within a piece of the input, and what is done for one.
 ghost use Rattle.std.specs.Prelude.{◌≡◌, ◌≢◌, true, false, ◌∷◌, ◌++◌, ℕ, List, IfNone, IfSome, IfErr, OnOk};
 ghost use Rattle.zr_shelf.specs.Counts.{NoneFell};
+ghost use Rattle.zr_shelf.specs.Moments.{Throughout};
 ghost use Rattle.zr_session.specs.Answers.{IsOpenLine};
 ghost use Rattle.zr_script.specs.declared.command.Command.TheVariants.{Quit};
-ghost use Rattle.zr_command.specs.Meanings.{MayBeDamaged};
+ghost use Rattle.zr_command.specs.Meanings.{disks_of, MayBeDamaged};
 ghost use Rattle.zr_session.specs.Ends.{HasCause};
 ghost use Rattle.zr_session.specs.Lines.{StandsForOne, AnswersLine, StopsAtLine};
+ghost use Rattle.zr_session.specs.Moments.{IsLineMoment};
 
 use crate::command::{do_command, refuse_line};
 use crate::course::Course;
@@ -48,8 +50,9 @@ pub fn answer_line<P: Pool, D: Desk>(
     desk: &mut D,
 ) -> Result<(), End>
     requires fits { P.fits pool.old (D.sizes desk.old) }
-    ensures answered { D.tells desk.old → (D.world desk.old).now.paths ≡ P.paths pool.old → (before : P.meaning.State) → P.stands pool.old (D.world desk.old).now.seen before → OnOk result (StandsForOne (P.stands pool.new) (D.world desk.new).now (λ after. AnswersLine P.meaning course.now.rounds line.now before after (D.world desk.old).now (D.world desk.new).now)) }
-    ensures stopped { D.tells desk.old → (D.world desk.old).now.paths ≡ P.paths pool.old → (before : P.meaning.State) → P.stands pool.old (D.world desk.old).now.seen before → IfErr result (StopsAtLine P.meaning course.now.rounds line.now number before (D.world desk.old).now (D.world desk.new).now) }
+    ensures answered { D.tells desk.old → (D.world desk.old).now.paths ≡ P.paths pool.old → (before : P.meaning.State) → P.stands pool.old (disks_of (D.world desk.old).now) before → OnOk result (StandsForOne (P.stands pool.new) (D.world desk.new).now (λ after. AnswersLine P.meaning course.now.rounds line.now before after (D.world desk.old).now (D.world desk.new).now)) }
+    ensures stopped { D.tells desk.old → (D.world desk.old).now.paths ≡ P.paths pool.old → (before : P.meaning.State) → P.stands pool.old (disks_of (D.world desk.old).now) before → IfErr result (StopsAtLine P.meaning course.now.rounds line.now number before (D.world desk.old).now (D.world desk.new).now) }
+    ensures moments { D.tells desk.old → (D.world desk.old).now.paths ≡ P.paths pool.old → (before : P.meaning.State) → P.stands pool.old (disks_of (D.world desk.old).now) before → Throughout (IsLineMoment P.meaning course.now.rounds line.now before (D.world desk.old).now) (D.world desk.old) (D.world desk.new) }
     ensures named { D.tells desk.old → OnOk result ((D.world desk.new).now.paths ≡ (D.world desk.old).now.paths) }
     ensures cause { IfErr result (HasCause (MayBeDamaged P.meaning) (D.counts desk.old) (D.counts desk.new)) }
     ensures fits { P.fits pool.new (D.sizes desk.new) }

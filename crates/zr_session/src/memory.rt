@@ -111,6 +111,7 @@ impl MemoryPool {
 
 impl Pool for MemoryPool {
     ghost use Rattle.std.specs.Prelude.{◌≡◌, length};
+    ghost use Rattle.std.proofs.Common.{refl};
     ghost use Rattle.zr_command.specs.Meanings.{plain};
     ghost use Rattle.zr_session.specs.Memory.{state_in};
 
@@ -119,6 +120,8 @@ impl Pool for MemoryPool {
     ghost meaning = { plain };
 
     ghost stands = { λ p disks state. state ≡ state_in p.paths p.pool };
+
+    ghost rests = { λ p stand state named is. refl };
 
     ghost fits = { λ p sizes. length sizes ≡ length p.paths };
 

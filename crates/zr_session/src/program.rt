@@ -8,11 +8,13 @@ ghost use Rattle.std.specs.Prelude.{◌≡◌, ◌≢◌, ◌⊎◌, [], ◌+◌
 ghost use Rattle.std.specs.String.{string_bytes};
 ghost use Rattle.zr_base.specs.Counts.{HasRisen};
 ghost use Rattle.zr_shelf.specs.Counts.{NoneFell};
+ghost use Rattle.zr_shelf.specs.Moments.{Throughout};
 ghost use Rattle.zr_shelf.specs.declared.desk.DeskErr.TheVariants.{Failed};
 ghost use Rattle.zr_command.specs.Meanings.{MayBeDamaged, plain};
 ghost use Rattle.zr_session.specs.Answers.{paths_in, IsAttached, IsPartlyAttached, IsDone, TellsBadLine, TellsLimit, TellsFault, TellsDamage, AnswersTaken, AnswersFront, AnswersPartly};
 ghost use Rattle.zr_session.specs.Ends.{HasCause, EndsBy, IsOpenedTo};
 ghost use Rattle.zr_session.specs.Generated.{TellsTally, TellsPartly, TellsFaultThere, TellsUnserved, TellsDamageThere, TellsNothing, Never};
+ghost use Rattle.zr_session.specs.Moments.{IsAttaching, IsSessionMoment, IsProgramMoment};
 ghost use Rattle.zr_session.specs.Started.{RunsTo, StopsAtDevice};
 ghost use Rattle.zr_session.specs.Headline.{NoneRose, IsNoCommandLine};
 ghost use Rattle.zr_script.specs.CommandLine.{IsCommandLine};
@@ -46,6 +48,7 @@ pub fn paths_of(alloc: Global, devices: &[Device]) -> Result<Items<Blob>, NoMemo
 fn attach_all<D: Desk>(devices: &[Device], desk: &mut D) -> Result<(), DeskErr>
     ensures done { D.tells desk.old → OnOk result (IsAttached (map path_of devices.now) (D.world desk.old).now (D.world desk.new).now) }
     ensures partly { D.tells desk.old → IfErr result (λ e. IsPartlyAttached (map path_of devices.now) (D.world desk.old).now (D.world desk.new).now) }
+    ensures moments { D.tells desk.old → Throughout (IsAttaching (map path_of devices.now) (D.world desk.old).now) (D.world desk.old) (D.world desk.new) }
     ensures sizes { OnOk result (length (D.sizes desk.new) ≡ length (D.sizes desk.old) + length devices.now) }
     ensures failed { IsErrOf result Failed → HasRisen (D.counts desk.old).attach (D.counts desk.new).attach }
     ensures none_fell { NoneFell (D.counts desk.old) (D.counts desk.new) }
@@ -68,6 +71,7 @@ fn open_session<P: Pool + Drop, D: Desk>(
     requires line { (words : List (List ℕ)) × IsCommandLine words (line_of line.now) }
     requires paths { HasPaths (line_of line.now) }
     ensures ends { D.tells desk.old → IsOpenedTo (EndsBy P.meaning (line_of line.now)) result (paths_in (line_of line.now)) (D.world desk.old).now (D.world desk.new).now }
+    ensures moments { D.tells desk.old → Throughout (IsSessionMoment P.meaning (line_of line.now) (D.world desk.old).now) (D.world desk.old) (D.world desk.new) }
     ensures cause { HasCause (MayBeDamaged P.meaning) (D.counts desk.old) (D.counts desk.new) result }
     ensures told { D.tells desk.old → D.tells desk.new }
 {
@@ -139,6 +143,8 @@ pub fn run_on<P: Pool + Drop, D: Desk>(
     ensures limit { D.tells desk.old → result ≡ 8 → RunsTo (TellsLimit P.meaning) Never (map (λ c. string_bytes c.name) choosers.now) (map string_bytes words.now) (D.world desk.old).now (D.world desk.new).now }
     // At status 9 memory ran out. All that was sent are the answers to first lines, and with `--gen` nothing.
     ensures memory { D.tells desk.old → result ≡ 9 → ((D.world desk.new).now ≡ (D.world desk.old).now) ⊎ StopsAtDevice (map (λ c. string_bytes c.name) choosers.now) (map string_bytes words.now) (D.world desk.old).now (D.world desk.new).now ⊎ RunsTo (AnswersFront P.meaning) (TellsNothing P.meaning) (map (λ c. string_bytes c.name) choosers.now) (map string_bytes words.now) (D.world desk.old).now (D.world desk.new).now }
+    // At each moment what was sent are the replies to first commands and no more than a front of the next text, and the disks stand as such a pool says of the commands that are done, or of the one that is begun.
+    ensures moments { D.tells desk.old → Throughout (IsProgramMoment P.meaning (map (λ c. string_bytes c.name) choosers.now) (map string_bytes words.now) (D.world desk.old).now) (D.world desk.old) (D.world desk.new) }
     // Where no call failed, no damage was met and no line is a bad one, the whole input is answered, unless it is too long or memory ran out.
     ensures complete { NoneRose (D.counts desk.old) (D.counts desk.new) → (result ≡ 0) ⊎ (result ≡ 1) ⊎ (result ≡ 5) ⊎ (result ≡ 6) ⊎ (result ≡ 8) ⊎ (result ≡ 9) }
 {
@@ -191,6 +197,8 @@ pub fn run_in_memory<D: Desk>(
     ensures limit { D.tells desk.old → result ≡ 8 → RunsTo (TellsLimit plain) Never (map (λ c. string_bytes c.name) choosers.now) (map string_bytes words.now) (D.world desk.old).now (D.world desk.new).now }
     // At status 9 memory ran out. All that was sent are the answers to first lines, and with `--gen` nothing.
     ensures memory { D.tells desk.old → result ≡ 9 → ((D.world desk.new).now ≡ (D.world desk.old).now) ⊎ StopsAtDevice (map (λ c. string_bytes c.name) choosers.now) (map string_bytes words.now) (D.world desk.old).now (D.world desk.new).now ⊎ RunsTo (AnswersFront plain) (TellsNothing plain) (map (λ c. string_bytes c.name) choosers.now) (map string_bytes words.now) (D.world desk.old).now (D.world desk.new).now }
+    // At each moment what was sent are the replies to first commands and no more than a front of the next text, and the disks read as when all devices were attached.
+    ensures moments { D.tells desk.old → Throughout (IsProgramMoment plain (map (λ c. string_bytes c.name) choosers.now) (map string_bytes words.now) (D.world desk.old).now) (D.world desk.old) (D.world desk.new) }
     // Where no call failed and no line is a bad one, the whole input is answered, unless it is too long or memory ran out.
     ensures complete { NoneRose (D.counts desk.old) (D.counts desk.new) → (result ≡ 0) ⊎ (result ≡ 1) ⊎ (result ≡ 5) ⊎ (result ≡ 8) ⊎ (result ≡ 9) }
 {

@@ -4,10 +4,12 @@
 //! any other, and the run may stop at it. Its reply is sent where replies are.
 ghost use Rattle.std.specs.Prelude.{◌≡◌, ◌∷◌, [], ℕ, List, map, IfErr, OnOk};
 ghost use Rattle.zr_shelf.specs.Counts.{NoneFell};
-ghost use Rattle.zr_command.specs.Meanings.{MayBeDamaged, step_of};
+ghost use Rattle.zr_shelf.specs.Moments.{Throughout};
+ghost use Rattle.zr_command.specs.Meanings.{disks_of, MayBeDamaged, step_of};
 ghost use Rattle.zr_session.specs.Agenda.{Inserted, rounds_of};
 ghost use Rattle.zr_session.specs.Ends.{HasCause};
 ghost use Rattle.zr_session.specs.Lines.{StandsForOne, DoesSteps, StopsWithinSteps};
+ghost use Rattle.zr_session.specs.Moments.{IsStepsMoment};
 
 use crate::command::do_command;
 use crate::course::Course;
@@ -44,8 +46,9 @@ fn do_step<P: Pool, D: Desk>(
     desk: &mut D,
 ) -> Result<(), End>
     requires fits { P.fits pool.old (D.sizes desk.old) }
-    ensures done { D.tells desk.old → (D.world desk.old).now.paths ≡ P.paths pool.old → (before : P.meaning.State) → P.stands pool.old (D.world desk.old).now.seen before → OnOk result (StandsForOne (P.stands pool.new) (D.world desk.new).now (λ after. DoesSteps P.meaning replies (Inserted actor ∷ []) before after (D.world desk.old).now (D.world desk.new).now)) }
-    ensures stopped { D.tells desk.old → (D.world desk.old).now.paths ≡ P.paths pool.old → (before : P.meaning.State) → P.stands pool.old (D.world desk.old).now.seen before → IfErr result (StopsWithinSteps P.meaning replies (Inserted actor ∷ []) number before (D.world desk.old).now (D.world desk.new).now) }
+    ensures done { D.tells desk.old → (D.world desk.old).now.paths ≡ P.paths pool.old → (before : P.meaning.State) → P.stands pool.old (disks_of (D.world desk.old).now) before → OnOk result (StandsForOne (P.stands pool.new) (D.world desk.new).now (λ after. DoesSteps P.meaning replies (Inserted actor ∷ []) before after (D.world desk.old).now (D.world desk.new).now)) }
+    ensures stopped { D.tells desk.old → (D.world desk.old).now.paths ≡ P.paths pool.old → (before : P.meaning.State) → P.stands pool.old (disks_of (D.world desk.old).now) before → IfErr result (StopsWithinSteps P.meaning replies (Inserted actor ∷ []) number before (D.world desk.old).now (D.world desk.new).now) }
+    ensures moments { D.tells desk.old → (D.world desk.old).now.paths ≡ P.paths pool.old → (before : P.meaning.State) → P.stands pool.old (disks_of (D.world desk.old).now) before → Throughout (IsStepsMoment P.meaning replies (Inserted actor ∷ []) before (D.world desk.old).now) (D.world desk.old) (D.world desk.new) }
     ensures named { D.tells desk.old → OnOk result ((D.world desk.new).now.paths ≡ (D.world desk.old).now.paths) }
     ensures cause { IfErr result (HasCause (MayBeDamaged P.meaning) (D.counts desk.old) (D.counts desk.new)) }
     ensures fits { P.fits pool.new (D.sizes desk.new) }
@@ -80,8 +83,9 @@ fn do_steps<P: Pool, D: Desk>(
     desk: &mut D,
 ) -> Result<(), End>
     requires fits { P.fits pool.old (D.sizes desk.old) }
-    ensures done { D.tells desk.old → (D.world desk.old).now.paths ≡ P.paths pool.old → (before : P.meaning.State) → P.stands pool.old (D.world desk.old).now.seen before → OnOk result (StandsForOne (P.stands pool.new) (D.world desk.new).now (λ after. DoesSteps P.meaning replies (map Inserted actors.now) before after (D.world desk.old).now (D.world desk.new).now)) }
-    ensures stopped { D.tells desk.old → (D.world desk.old).now.paths ≡ P.paths pool.old → (before : P.meaning.State) → P.stands pool.old (D.world desk.old).now.seen before → IfErr result (StopsWithinSteps P.meaning replies (map Inserted actors.now) number before (D.world desk.old).now (D.world desk.new).now) }
+    ensures done { D.tells desk.old → (D.world desk.old).now.paths ≡ P.paths pool.old → (before : P.meaning.State) → P.stands pool.old (disks_of (D.world desk.old).now) before → OnOk result (StandsForOne (P.stands pool.new) (D.world desk.new).now (λ after. DoesSteps P.meaning replies (map Inserted actors.now) before after (D.world desk.old).now (D.world desk.new).now)) }
+    ensures stopped { D.tells desk.old → (D.world desk.old).now.paths ≡ P.paths pool.old → (before : P.meaning.State) → P.stands pool.old (disks_of (D.world desk.old).now) before → IfErr result (StopsWithinSteps P.meaning replies (map Inserted actors.now) number before (D.world desk.old).now (D.world desk.new).now) }
+    ensures moments { D.tells desk.old → (D.world desk.old).now.paths ≡ P.paths pool.old → (before : P.meaning.State) → P.stands pool.old (disks_of (D.world desk.old).now) before → Throughout (IsStepsMoment P.meaning replies (map Inserted actors.now) before (D.world desk.old).now) (D.world desk.old) (D.world desk.new) }
     ensures named { D.tells desk.old → OnOk result ((D.world desk.new).now.paths ≡ (D.world desk.old).now.paths) }
     ensures cause { IfErr result (HasCause (MayBeDamaged P.meaning) (D.counts desk.old) (D.counts desk.new)) }
     ensures fits { P.fits pool.new (D.sizes desk.new) }
@@ -106,8 +110,9 @@ pub fn do_rounds<P: Pool, D: Desk>(
     desk: &mut D,
 ) -> Result<(), End>
     requires fits { P.fits pool.old (D.sizes desk.old) }
-    ensures done { D.tells desk.old → (D.world desk.old).now.paths ≡ P.paths pool.old → (before : P.meaning.State) → P.stands pool.old (D.world desk.old).now.seen before → OnOk result (StandsForOne (P.stands pool.new) (D.world desk.new).now (λ after. DoesSteps P.meaning replies (rounds_of course.now.rounds) before after (D.world desk.old).now (D.world desk.new).now)) }
-    ensures stopped { D.tells desk.old → (D.world desk.old).now.paths ≡ P.paths pool.old → (before : P.meaning.State) → P.stands pool.old (D.world desk.old).now.seen before → IfErr result (StopsWithinSteps P.meaning replies (rounds_of course.now.rounds) number before (D.world desk.old).now (D.world desk.new).now) }
+    ensures done { D.tells desk.old → (D.world desk.old).now.paths ≡ P.paths pool.old → (before : P.meaning.State) → P.stands pool.old (disks_of (D.world desk.old).now) before → OnOk result (StandsForOne (P.stands pool.new) (D.world desk.new).now (λ after. DoesSteps P.meaning replies (rounds_of course.now.rounds) before after (D.world desk.old).now (D.world desk.new).now)) }
+    ensures stopped { D.tells desk.old → (D.world desk.old).now.paths ≡ P.paths pool.old → (before : P.meaning.State) → P.stands pool.old (disks_of (D.world desk.old).now) before → IfErr result (StopsWithinSteps P.meaning replies (rounds_of course.now.rounds) number before (D.world desk.old).now (D.world desk.new).now) }
+    ensures moments { D.tells desk.old → (D.world desk.old).now.paths ≡ P.paths pool.old → (before : P.meaning.State) → P.stands pool.old (disks_of (D.world desk.old).now) before → Throughout (IsStepsMoment P.meaning replies (rounds_of course.now.rounds) before (D.world desk.old).now) (D.world desk.old) (D.world desk.new) }
     ensures named { D.tells desk.old → OnOk result ((D.world desk.new).now.paths ≡ (D.world desk.old).now.paths) }
     ensures cause { IfErr result (HasCause (MayBeDamaged P.meaning) (D.counts desk.old) (D.counts desk.new)) }
     ensures fits { P.fits pool.new (D.sizes desk.new) }

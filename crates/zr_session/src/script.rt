@@ -5,10 +5,13 @@
 ghost use Rattle.std.specs.Prelude.{◌≡◌, ◌≢◌, ◌∷◌, ◌++◌, [], ◌+◌, ◌<◌, ◌≤◌, ◌^◌, ℕ, List, length, IfOk, IfErr, OnOk};
 ghost use Rattle.zr_shelf.specs.Counts.{NoneFell};
 ghost use Rattle.zr_shelf.specs.Disks.{Stand};
+ghost use Rattle.zr_shelf.specs.Moments.{Throughout};
+ghost use Rattle.zr_script.specs.ReplyText.{last_line, BadLine};
 ghost use Rattle.zr_session.specs.Answers.{IsOpenLine};
-ghost use Rattle.zr_command.specs.Meanings.{MayBeDamaged};
+ghost use Rattle.zr_command.specs.Meanings.{disks_of, MayBeDamaged};
 ghost use Rattle.zr_session.specs.Ends.{HasCause, EndsAs};
 ghost use Rattle.zr_session.specs.Lines.{StandsForOne, AnswersLine, StopsAtLine, StopsAtRest};
+ghost use Rattle.zr_session.specs.Moments.{IsSending, IsLineMoment, IsMoment};
 ghost use Rattle.zr_session.specs.Progress.{StandsAt};
 
 use crate::command::refuse_line;
@@ -49,8 +52,9 @@ impl Script {
     ) -> Result<(), End>
         requires lines { self.old.lines + 1 < 2 ^ 64 }
         requires fits { P.fits pool.old (D.sizes desk.old) }
-        ensures answered { D.tells desk.old → (D.world desk.old).now.paths ≡ P.paths pool.old → (before : P.meaning.State) → P.stands pool.old (D.world desk.old).now.seen before → OnOk result (StandsForOne (P.stands pool.new) (D.world desk.new).now (λ after. AnswersLine P.meaning course.now.rounds (self.old.line.items ++ part.now) before after (D.world desk.old).now (D.world desk.new).now)) }
-        ensures stopped { D.tells desk.old → (D.world desk.old).now.paths ≡ P.paths pool.old → (before : P.meaning.State) → P.stands pool.old (D.world desk.old).now.seen before → IfErr result (StopsAtLine P.meaning course.now.rounds (self.old.line.items ++ part.now) (self.old.lines + 1) before (D.world desk.old).now (D.world desk.new).now) }
+        ensures answered { D.tells desk.old → (D.world desk.old).now.paths ≡ P.paths pool.old → (before : P.meaning.State) → P.stands pool.old (disks_of (D.world desk.old).now) before → OnOk result (StandsForOne (P.stands pool.new) (D.world desk.new).now (λ after. AnswersLine P.meaning course.now.rounds (self.old.line.items ++ part.now) before after (D.world desk.old).now (D.world desk.new).now)) }
+        ensures stopped { D.tells desk.old → (D.world desk.old).now.paths ≡ P.paths pool.old → (before : P.meaning.State) → P.stands pool.old (disks_of (D.world desk.old).now) before → IfErr result (StopsAtLine P.meaning course.now.rounds (self.old.line.items ++ part.now) (self.old.lines + 1) before (D.world desk.old).now (D.world desk.new).now) }
+        ensures moments { D.tells desk.old → (D.world desk.old).now.paths ≡ P.paths pool.old → (before : P.meaning.State) → P.stands pool.old (disks_of (D.world desk.old).now) before → Throughout (IsLineMoment P.meaning course.now.rounds (self.old.line.items ++ part.now) before (D.world desk.old).now) (D.world desk.old) (D.world desk.new) }
         ensures named { D.tells desk.old → OnOk result ((D.world desk.new).now.paths ≡ (D.world desk.old).now.paths) }
         ensures line { OnOk result (self.new.line.items ≡ []) }
         ensures lines { OnOk result (self.new.lines ≡ self.old.lines + 1) }
@@ -78,6 +82,7 @@ impl Script {
         ensures line { OnOk result (self.new.line.items ≡ self.old.line.items ++ rest.now) }
         ensures short { OnOk result (length self.new.line.items ≤ 16384) }
         ensures stopped { D.tells desk.old → IfErr result (StopsAtRest (self.old.line.items ++ rest.now) (self.old.lines + 1) (D.world desk.old).now (D.world desk.new).now) }
+        ensures moments { D.tells desk.old → Throughout (IsSending (last_line (BadLine (self.old.lines + 1))) (D.world desk.old).now) (D.world desk.old) (D.world desk.new) }
         ensures lines { self.new.lines ≡ self.old.lines }
         ensures same { OnOk result (desk.new ≡ desk.old) }
         ensures cause { IfErr result (HasCause ⊥ (D.counts desk.old) (D.counts desk.new)) }
@@ -110,6 +115,9 @@ impl Script {
         ensures ends { D.tells desk.old → (D.world desk.old).now.paths ≡ P.paths pool.old → IfErr result (λ end. (opening : Stand) (taken : ℕ)
             → StandsAt P.meaning course.now.rounds (P.stands pool.old) opening (D.world desk.old).now piece.now self.old.line.items self.old.lines taken
             → EndsAs P.meaning course.now.rounds end opening (D.world desk.new).now) }
+        ensures moments { D.tells desk.old → (D.world desk.old).now.paths ≡ P.paths pool.old → (opening : Stand) (taken : ℕ)
+            → StandsAt P.meaning course.now.rounds (P.stands pool.old) opening (D.world desk.old).now piece.now self.old.line.items self.old.lines taken
+            → Throughout (IsMoment P.meaning course.now.rounds opening) (D.world desk.old) (D.world desk.new) }
         ensures named { D.tells desk.old → OnOk result ((D.world desk.new).now.paths ≡ (D.world desk.old).now.paths) }
         ensures lines { OnOk result (self.new.lines ≤ self.old.lines + length piece.now) }
         ensures short { OnOk result (length self.new.line.items ≤ 16384) }
@@ -141,6 +149,9 @@ impl Script {
         ensures ends { D.tells desk.old → (D.world desk.old).now.paths ≡ P.paths pool.old → (D.world desk.old).now.left ≡ [] → (opening : Stand) (taken : ℕ) → taken < 2 ^ 32
             → StandsAt P.meaning course.now.rounds (P.stands pool.old) opening (D.world desk.old).now [] self.now.line.items self.now.lines taken
             → EndsAs P.meaning course.now.rounds result opening (D.world desk.new).now }
+        ensures moments { D.tells desk.old → (D.world desk.old).now.paths ≡ P.paths pool.old → (D.world desk.old).now.left ≡ [] → (opening : Stand) (taken : ℕ)
+            → StandsAt P.meaning course.now.rounds (P.stands pool.old) opening (D.world desk.old).now [] self.now.line.items self.now.lines taken
+            → Throughout (IsMoment P.meaning course.now.rounds opening) (D.world desk.old) (D.world desk.new) }
         ensures cause { HasCause (MayBeDamaged P.meaning) (D.counts desk.old) (D.counts desk.new) result }
         ensures fits { P.fits pool.new (D.sizes desk.new) }
         ensures paths { P.paths pool.new ≡ P.paths pool.old }

@@ -5,8 +5,10 @@
 ghost use Rattle.std.specs.Prelude.{◌≡◌, [], ◌+◌, ◌<◌, ◌≤◌, ◌^◌, ℕ, List, length, IfOk, IfErr, OnOk};
 ghost use Rattle.zr_shelf.specs.Counts.{NoneFell};
 ghost use Rattle.zr_shelf.specs.Disks.{Stand};
-ghost use Rattle.zr_command.specs.Meanings.{MayBeDamaged};
+ghost use Rattle.zr_shelf.specs.Moments.{Throughout};
+ghost use Rattle.zr_command.specs.Meanings.{Disks, MayBeDamaged};
 ghost use Rattle.zr_session.specs.Ends.{HasCause, EndsAs};
+ghost use Rattle.zr_session.specs.Moments.{IsMoment};
 ghost use Rattle.zr_session.specs.Progress.{StandsAt};
 
 use crate::command::tell;
@@ -44,6 +46,9 @@ fn take_piece<P: Pool, D: Desk>(
     ensures ends { D.tells desk.old → (D.world desk.old).now.paths ≡ P.paths pool.old → IfErr result (λ end. (opening : Stand) (taken : ℕ) → taken + length room.old ≤ 2 ^ 32
         → StandsAt P.meaning course.now.rounds (P.stands pool.old) opening (D.world desk.old).now [] script.old.line.items script.old.lines taken
         → EndsAs P.meaning course.now.rounds end opening (D.world desk.new).now) }
+    ensures moments { D.tells desk.old → (D.world desk.old).now.paths ≡ P.paths pool.old → (opening : Stand) (taken : ℕ) → taken + length room.old ≤ 2 ^ 32
+        → StandsAt P.meaning course.now.rounds (P.stands pool.old) opening (D.world desk.old).now [] script.old.line.items script.old.lines taken
+        → Throughout (IsMoment P.meaning course.now.rounds opening) (D.world desk.old) (D.world desk.new) }
     ensures named { D.tells desk.old → OnOk result ((D.world desk.new).now.paths ≡ (D.world desk.old).now.paths) }
     ensures lines { IfOk result (λ n. script.new.lines ≤ script.old.lines + n) }
     ensures short { OnOk result (length script.new.line.items ≤ 16384) }
@@ -69,8 +74,9 @@ fn take_piece<P: Pool, D: Desk>(
 /// Answers the whole input.
 pub fn serve<P: Pool, D: Desk>(alloc: Global, course: &Course, pool: &mut P, desk: &mut D) -> End
     requires fits { P.fits pool.old (D.sizes desk.old) }
-    requires closed { (disks : List (List ℕ)) → P.stands pool.old disks P.meaning.none }
+    requires closed { (disks : Disks) → P.stands pool.old disks P.meaning.none }
     ensures ends { D.tells desk.old → (D.world desk.old).now.paths ≡ P.paths pool.old → EndsAs P.meaning course.now.rounds result (D.world desk.old).now (D.world desk.new).now }
+    ensures moments { D.tells desk.old → (D.world desk.old).now.paths ≡ P.paths pool.old → Throughout (IsMoment P.meaning course.now.rounds (D.world desk.old).now) (D.world desk.old) (D.world desk.new) }
     ensures cause { HasCause (MayBeDamaged P.meaning) (D.counts desk.old) (D.counts desk.new) result }
     ensures none_fell { NoneFell (D.counts desk.old) (D.counts desk.new) }
     ensures told { D.tells desk.old → D.tells desk.new }

@@ -1,8 +1,11 @@
-use Rattle.std.proofs.Common.{refl, ap, ◌∙◌, Err}
+use Rattle.std.proofs.Common.{refl, sym, ap, ◌∙◌, Err}
 use Rattle.zr_command.specs.Meanings.{MayBeDamaged}
 use Rattle.zr_session.specs.declared.end.End.TheVariants.{DiskFault, Damaged}
 use Rattle.zr_session.specs.Ends.{HasCause}
 use Rattle.zr_session.specs.Lines.{StopsAtCommand}
+use Rattle.zr_base.specs.declared.refusal.Refusal.TheVariants as refusal
+use Rattle.zr_script.specs.ReplyText as text
+use Rattle.zr_session.proofs.Moments.{at_it, then_replied, then_told}
 use Rattle.zr_session.proofs.Sending.{err_with, does_by, stops_reply, stops_unserved, stops_fault, stops_damage, cause_told, cause_from}
 use Rattle.zr_session.proofs.command.do_command.Goals as goal
 
@@ -53,3 +56,38 @@ pub returns-in-Err-Damaged-clause-cause : goal.returns-in-Err-Damaged-clause-cau
 returns-in-Err-Damaged-clause-cause g c =
     let met = c.command.ensures.may_damage _ _ _ (c.in-Err-Damaged.is ∙ ap Err c.in-Err-Damaged.field-0-is) in
     cause_told (MayBeDamaged g.P.Pool.meaning) _ _ _ Damaged _ met c.command.ensures.none_fell c.tell_damage.ensures.none_fell c.tell_damage.ensures.cause
+
+-- ---- at each moment
+
+pub returns-in_ok-hand_on-in-Ok-Some-clause-moments : goal.returns-in_ok-hand_on-in-Ok-Some-clause-moments
+returns-in_ok-hand_on-in-Ok-Some-clause-moments g c = λ t n before s.
+    let step = rw (c.in-Ok-Some.is, c.in-Ok-Some.field-0-is) at (c.command.ensures.step t n before s) in
+    let out = c.command.ensures.outside t in
+    then_replied g.P.Pool.meaning c.args.replies c.args.command.now before _ _ _ (c.command.ensures.moments t n before s) out step.after _ step.takes
+    (g.P.Pool.rests _ (g.D.Shelf.world c.command.new.shelf).now step.after (out.now.paths ∙ (n ∙ sym c.command.ensures.paths)) step.stands_for) (c.hand_on.ensures.moments (c.command.ensures.told t))
+
+pub returns-in_err-hand_on-in-Ok-Some-clause-moments : goal.returns-in_err-hand_on-in-Ok-Some-clause-moments
+returns-in_err-hand_on-in-Ok-Some-clause-moments g c = λ t n before s.
+    let step = rw (c.in-Ok-Some.is, c.in-Ok-Some.field-0-is) at (c.command.ensures.step t n before s) in
+    let out = c.command.ensures.outside t in
+    then_replied g.P.Pool.meaning c.args.replies c.args.command.now before _ _ _ (c.command.ensures.moments t n before s) out step.after _ step.takes
+    (g.P.Pool.rests _ (g.D.Shelf.world c.command.new.shelf).now step.after (out.now.paths ∙ (n ∙ sym c.command.ensures.paths)) step.stands_for) (c.hand_on.ensures.moments (c.command.ensures.told t))
+
+pub returns-in-Ok-None-clause-moments : goal.returns-in-Ok-None-clause-moments
+returns-in-Ok-None-clause-moments g c = λ t n before s.
+    then_told g.P.Pool.meaning c.args.replies c.args.command.now before _ _ _ (c.command.ensures.moments t n before s) (c.command.ensures.outside t) _ (text.BadLine c.args.number) refl
+    (g.P.Pool.rests _ (g.D.Shelf.world c.args.desk.now).now before n s) (c.refuse_line.ensures.moments (c.command.ensures.told t))
+
+pub returns-in-Err-DiskFault-clause-moments : goal.returns-in-Err-DiskFault-clause-moments
+returns-in-Err-DiskFault-clause-moments g c = λ t n before s.
+    then_told g.P.Pool.meaning c.args.replies c.args.command.now before _ _ _ (c.command.ensures.moments t n before s) (c.command.ensures.outside t) _ text.DiskFault refl
+    (g.P.Pool.rests _ (g.D.Shelf.world c.args.desk.now).now before n s) (c.tell.ensures.moments (c.command.ensures.told t))
+
+pub returns-in-Err-Damaged-clause-moments : goal.returns-in-Err-Damaged-clause-moments
+returns-in-Err-Damaged-clause-moments g c = λ t n before s.
+    then_told g.P.Pool.meaning c.args.replies c.args.command.now before _ _ _ (c.command.ensures.moments t n before s) (c.command.ensures.outside t) _ (text.Damage (refusal.Damaged c.in-Err-Damaged.at c.in-Err-Damaged.expected c.in-Err-Damaged.found)) refl
+    (g.P.Pool.rests _ (g.D.Shelf.world c.args.desk.now).now before n s) (rw c.in-Err-Damaged.field-0-is at (c.tell_damage.ensures.moments (c.command.ensures.told t)))
+
+pub returns-in-Err-NoMemory-clause-moments : goal.returns-in-Err-NoMemory-clause-moments
+returns-in-Err-NoMemory-clause-moments g c = λ t n before s.
+    at_it g.P.Pool.meaning c.args.replies c.args.command.now before _ _ (c.command.ensures.moments t n before s) (c.command.ensures.outside t).since

@@ -1,8 +1,9 @@
-use Rattle.std.proofs.Common.{◌≡◌, ℕ, refl, sym, ◌∙◌, arith}
+use Rattle.std.proofs.Common.{refl, sym, ◌∙◌, arith}
 use Rattle.zr_session.specs.Agenda.{agenda}
 use Rattle.zr_session.specs.Tallied.{StopsAmong}
 use Rattle.zr_session.proofs.Sending.{err_with, fell_more}
 use Rattle.zr_session.proofs.Tallied.{one_more, stops_at, stops_between, stops_behind_command}
+use Rattle.zr_session.proofs.Telling.{given_moments, behind_moments}
 use Rattle.zr_session.proofs.generated.do_commands.Goals as goal
 
 pub returns-in_err-reply-clause-stopped : goal.returns-in_err-reply-clause-stopped
@@ -46,6 +47,11 @@ loop-index-preserved g c =
             stands_for = f.stands_for;
             holds = one_more g.P.Pool.meaning c.args.course.now.rounds c.args.commands.now c.loop-index.index c.index-commands-index.result _ c.loop-index.tally _ before d.state e.state f.state _ _ _ _ (let e = i.last in let l = c.loop-index-test.true in omega arith) c.index-commands-index.is d.holds e.holds c.in_ok-add.ensures.more f.holds;
           };
+      moments = λ t n before s.
+          let d = i.done t n before s in
+          let e = o.done (i.told t) (i.named t ∙ (n ∙ sym i.paths)) d.state d.stands_for in
+          behind_moments g.P.Pool.meaning c.args.course.now.rounds c.args.commands.now c.loop-index.index c.index-commands-index.result _ c.loop-index.tally before d.state e.state _ _ _ _ (let e = i.last in let l = c.loop-index-test.true in omega arith) c.index-commands-index.is d.holds e.holds (i.moments t n before s) (c.do_command.ensures.moments (i.told t) (i.named t ∙ (n ∙ sym i.paths)) d.state d.stands_for)
+          (c.do_rounds.ensures.moments (o.told (i.told t)) (o.named (i.told t) ∙ (i.named t ∙ (n ∙ (sym i.paths ∙ sym o.paths)))) e.state e.stands_for);
       named = λ t. r.named (o.told (i.told t)) ∙ (o.named (i.told t) ∙ i.named t);
       told = λ t. r.told (o.told (i.told t));
       count = let a = c.in_ok-add.ensures.count in let b = i.count in omega arith;
@@ -55,3 +61,24 @@ loop-index-preserved g c =
       sizes = r.sizes ∙ (o.sizes ∙ i.sizes);
       none_fell = fell_more _ _ _ i.none_fell (fell_more _ _ _ o.none_fell r.none_fell);
     }
+
+pub returns-in_err-reply-clause-moments : goal.returns-in_err-reply-clause-moments
+returns-in_err-reply-clause-moments g c = λ t n before s.
+    let i = c.loop-index.invariant in
+    let d = i.done t n before s in
+    given_moments g.P.Pool.meaning c.args.course.now.rounds c.args.commands.now c.loop-index.index c.index-commands-index.result c.loop-index.tally before d.state _ _ _ (let e = i.last in let l = c.loop-index-test.true in omega arith) c.index-commands-index.is d.holds (i.moments t n before s) (c.do_command.ensures.moments (i.told t) (i.named t ∙ (n ∙ sym i.paths)) d.state d.stands_for)
+
+pub returns-in_err-add-clause-moments : goal.returns-in_err-add-clause-moments
+returns-in_err-add-clause-moments g c = λ t n before s.
+    let i = c.loop-index.invariant in
+    let d = i.done t n before s in
+    given_moments g.P.Pool.meaning c.args.course.now.rounds c.args.commands.now c.loop-index.index c.index-commands-index.result c.loop-index.tally before d.state _ _ _ (let e = i.last in let l = c.loop-index-test.true in omega arith) c.index-commands-index.is d.holds (i.moments t n before s) (c.do_command.ensures.moments (i.told t) (i.named t ∙ (n ∙ sym i.paths)) d.state d.stands_for)
+
+pub returns-in_err-do_rounds-clause-moments : goal.returns-in_err-do_rounds-clause-moments
+returns-in_err-do_rounds-clause-moments g c = λ t n before s.
+    let i = c.loop-index.invariant in
+    let o = c.in_ok-reply.ensures in
+    let d = i.done t n before s in
+    let e = o.done (i.told t) (i.named t ∙ (n ∙ sym i.paths)) d.state d.stands_for in
+    behind_moments g.P.Pool.meaning c.args.course.now.rounds c.args.commands.now c.loop-index.index c.index-commands-index.result _ c.loop-index.tally before d.state e.state _ _ _ _ (let e = i.last in let l = c.loop-index-test.true in omega arith) c.index-commands-index.is d.holds e.holds (i.moments t n before s) (c.do_command.ensures.moments (i.told t) (i.named t ∙ (n ∙ sym i.paths)) d.state d.stands_for)
+    (c.do_rounds.ensures.moments (o.told (i.told t)) (o.named (i.told t) ∙ (i.named t ∙ (n ∙ (sym i.paths ∙ sym o.paths)))) e.state e.stands_for)

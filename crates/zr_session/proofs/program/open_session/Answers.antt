@@ -5,6 +5,7 @@ use Rattle.zr_session.specs.Answers.{paths_in, IsAttached, IsPartlyAttached}
 use Rattle.zr_words.specs.Views.{line_of, path_of}
 use Rattle.zr_session.proofs.Devices.{paths_same}
 use Rattle.zr_session.proofs.Opening.{opened_by, named_first, by_serving, by_generating}
+use Rattle.zr_session.proofs.Telling.{opening_moments, serving_moments, generating_moments}
 use Rattle.zr_session.proofs.program.open_session.Goals as goal
 
 pub returns-in-Err-Failed-clause-ends : goal.returns-in-Err-Failed-clause-ends
@@ -48,3 +49,33 @@ returns-clause-ends g c = λ t.
     opened_by g.P.Pool.meaning (line_of c.args.line.now) c.serve.result _ _ _ _ d
     (by_serving g.P.Pool.meaning (line_of c.args.line.now) _ c.serve.result _ _ c.in-None.is c.unwrap_or.ensures
     (c.serve.ensures.ends (c.attach_all.ensures.told t) (named_first _ _ _ _ (s ∙ z) d (c.in-Ok-closed.ensures.paths ∙ (c.in-Ok.ensures ∙ same)))))
+
+pub returns-in-Err-Failed-clause-moments : goal.returns-in-Err-Failed-clause-moments
+returns-in-Err-Failed-clause-moments g c = λ t.
+    let same : map path_of c.as_slice-devices.result.now ≡ paths_in (line_of c.args.line.now) = ap (map path_of) c.as_slice-devices.ensures.value ∙ sym (paths_same c.args.line.now.devices.items) in
+    opening_moments g.P.Pool.meaning (line_of c.args.line.now) _ _ _ same (c.attach_all.ensures.moments t)
+
+pub returns-in-Err-NoMemory-clause-moments : goal.returns-in-Err-NoMemory-clause-moments
+returns-in-Err-NoMemory-clause-moments g c = λ t.
+    let same : map path_of c.as_slice-devices.result.now ≡ paths_in (line_of c.args.line.now) = ap (map path_of) c.as_slice-devices.ensures.value ∙ sym (paths_same c.args.line.now.devices.items) in
+    opening_moments g.P.Pool.meaning (line_of c.args.line.now) _ _ _ same (c.attach_all.ensures.moments t)
+
+pub returns-in-Some-clause-moments : goal.returns-in-Some-clause-moments
+returns-in-Some-clause-moments g c = λ t.
+    let same : map path_of c.as_slice-devices.result.now ≡ paths_in (line_of c.args.line.now) = ap (map path_of) c.as_slice-devices.ensures.value ∙ sym (paths_same c.args.line.now.devices.items) in
+    let d : IsAttached (paths_in (line_of c.args.line.now)) (g.D.Shelf.world c.args.desk.now).now (g.D.Shelf.world c.attach_all.new.desk).now =
+    subst (λ ps. IsAttached ps (g.D.Shelf.world c.args.desk.now).now (g.D.Shelf.world c.attach_all.new.desk).now) same (c.in-Ok-attach_all.ensures.done t) in
+    let s = (g.D.Shelf.sound c.args.desk.now t).paths in
+    let z = ap length c.requires.none in
+    generating_moments g.P.Pool.meaning (line_of c.args.line.now) _ (c.in-Some.number, c.in-Some.count) _ _ _ _ c.in-Some.is same c.unwrap_or.ensures d (c.attach_all.ensures.moments t)
+    (c.generate.ensures.moments (c.attach_all.ensures.told t) (named_first _ _ _ _ (s ∙ z) d (c.in-Ok-closed.ensures.paths ∙ (c.in-Ok.ensures ∙ same))))
+
+pub returns-clause-moments : goal.returns-clause-moments
+returns-clause-moments g c = λ t.
+    let same : map path_of c.as_slice-devices.result.now ≡ paths_in (line_of c.args.line.now) = ap (map path_of) c.as_slice-devices.ensures.value ∙ sym (paths_same c.args.line.now.devices.items) in
+    let d : IsAttached (paths_in (line_of c.args.line.now)) (g.D.Shelf.world c.args.desk.now).now (g.D.Shelf.world c.attach_all.new.desk).now =
+    subst (λ ps. IsAttached ps (g.D.Shelf.world c.args.desk.now).now (g.D.Shelf.world c.attach_all.new.desk).now) same (c.in-Ok-attach_all.ensures.done t) in
+    let s = (g.D.Shelf.sound c.args.desk.now t).paths in
+    let z = ap length c.requires.none in
+    serving_moments g.P.Pool.meaning (line_of c.args.line.now) _ _ _ _ _ c.in-None.is same c.unwrap_or.ensures d (c.attach_all.ensures.moments t)
+    (c.serve.ensures.moments (c.attach_all.ensures.told t) (named_first _ _ _ _ (s ∙ z) d (c.in-Ok-closed.ensures.paths ∙ (c.in-Ok.ensures ∙ same))))

@@ -1,12 +1,13 @@
-use Rattle.std.proofs.Common.{◌≡◌, ◌≢◌, ◌<◌, ℕ, Bool, true, false, List, Option, Some, None, is_some, refl, sym, ap, subst, ◌∙◌, length, map}
+use Rattle.std.proofs.Common.{◌≡◌, ℕ, List, refl, sym, ap, ◌∙◌, map}
 use Rattle.std.specs.String.{string_bytes}
-use Rattle.zr_words.specs.Views.{line_of, device_of, path_of}
+use Rattle.zr_words.specs.Views.{line_of}
 use Rattle.zr_words.specs.Choosing.{chosen}
 use Rattle.zr_session.specs.Answers.{IsStarted, paths_in, IsDone, TellsBadLine, TellsLimit, TellsFault, TellsDamage, AnswersTaken, AnswersPartly}
 use Rattle.zr_session.specs.Ends.{EndsBy, IsOpenedTo}
 use Rattle.zr_session.specs.Generated.{TellsTally, TellsPartly, TellsFaultThere, TellsUnserved, TellsDamageThere, Never}
 use Rattle.zr_session.proofs.Devices.{is_chosen, none_chosen}
 use Rattle.zr_session.proofs.Opening.{end_from, opened_with, runs_to, memory_at}
+use Rattle.zr_session.proofs.Telling.{program_moments}
 use Rattle.zr_session.proofs.program.run_on.Goals.{After-drop-line-in-Ok-Some}
 use Rattle.zr_session.proofs.program.run_on.Goals as goal
 
@@ -66,3 +67,6 @@ returns-in-Some-clause-unattached g c = λ t r. (line_of c.in-Ok-Some.line, star
 
 pub returns-in-Some-clause-memory : goal.returns-in-Some-clause-memory
 returns-in-Some-clause-memory g c = λ t r. memory_at g.P.Pool.meaning _ _ (line_of c.in-Ok-Some.line) _ _ (started g c) (opened g c 9 t r)
+
+pub returns-in-Some-clause-moments : goal.returns-in-Some-clause-moments
+returns-in-Some-clause-moments g c = λ t. program_moments g.P.Pool.meaning _ _ (line_of c.in-Ok-Some.line) _ _ (started g c) (c.open_session.ensures.moments t)

@@ -1,5 +1,8 @@
-use Rattle.std.proofs.Common.{◌≡◌, ℕ}
+use Rattle.std.proofs.Common.{◌≡◌}
 use Rattle.zr_shelf.specs.Counts.{NoneFell}
+use Rattle.zr_shelf.specs.Moments.{Throughout}
+use Rattle.zr_command.specs.Meanings.{disks_of}
+use Rattle.zr_session.specs.Moments.{IsStepsMoment}
 use Rattle.zr_session.specs.Agenda.{rounds_of}
 use Rattle.zr_session.specs.Lines.{StandsForOne, DoesSteps}
 use Rattle.zr_session.proofs.rounds.do_rounds.Given as goal
@@ -9,8 +12,10 @@ invariant-loop-done g l =
     let desk = g.D.Shelf in
     let pool = g.P.Pool in
     record {
-      done : desk.tells l.fn.desk → (desk.world l.fn.desk).now.paths ≡ pool.paths l.fn.pool → (before : pool.meaning.State) → pool.stands l.fn.pool (desk.world l.fn.desk).now.seen before
+      done : desk.tells l.fn.desk → (desk.world l.fn.desk).now.paths ≡ pool.paths l.fn.pool → (before : pool.meaning.State) → pool.stands l.fn.pool (disks_of (desk.world l.fn.desk).now) before
           → StandsForOne (pool.stands l.pool) (desk.world l.desk).now (λ after. DoesSteps pool.meaning l.replies (rounds_of l._done) before after (desk.world l.fn.desk).now (desk.world l.desk).now);
+      moments : desk.tells l.fn.desk → (desk.world l.fn.desk).now.paths ≡ pool.paths l.fn.pool → (before : pool.meaning.State) → pool.stands l.fn.pool (disks_of (desk.world l.fn.desk).now) before
+          → Throughout (IsStepsMoment pool.meaning l.replies (rounds_of l.course.rounds) before (desk.world l.fn.desk).now) (desk.world l.fn.desk) (desk.world l.desk);
       named : desk.tells l.fn.desk → (desk.world l.desk).now.paths ≡ (desk.world l.fn.desk).now.paths;
       told : desk.tells l.fn.desk → desk.tells l.desk;
       fits : pool.fits l.pool (desk.sizes l.desk);

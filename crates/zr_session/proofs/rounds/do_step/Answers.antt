@@ -1,8 +1,9 @@
-use Rattle.std.proofs.Common.{ℕ, [], ◌∷◌, refl, sym, subst}
+use Rattle.std.proofs.Common.{[], ◌∷◌, refl, sym, subst}
 use Rattle.zr_command.specs.Meanings.{step_of}
 use Rattle.zr_session.specs.Agenda.{Inserted, GivesNone}
 use Rattle.zr_session.specs.Lines.{StopsWithinSteps}
 use Rattle.zr_session.proofs.Sending.{err_with, for_one}
+use Rattle.zr_session.proofs.Moments.{step_moments}
 use Rattle.zr_session.proofs.Playing.{does_step, stops_step}
 use Rattle.zr_session.proofs.Steps.{step_line}
 use Rattle.zr_session.proofs.rounds.do_step.Goals as goal
@@ -23,3 +24,13 @@ returns-clause-done g c = λ t n before s.
     let works = c.if-not-has_work.ensures.works _ before s in
     let done = rw c.step_of.ensures at (c.in_ok-do_command.ensures.done t n before s) in
     for_one _ _ _ _ (λ after d. does_step ⊥ g.P.Pool.meaning GivesNone c.args.replies c.args.actor _ before after _ _ (sym works) d) done
+
+pub returns-in_err-do_command-clause-moments : goal.returns-in_err-do_command-clause-moments
+returns-in_err-do_command-clause-moments g c = λ t n before s.
+    let works = c.if-not-has_work.ensures.works _ before s in
+    step_moments g.P.Pool.meaning c.args.replies c.args.actor before _ _ (sym works) (rw c.step_of.ensures at (c.do_command.ensures.moments t n before s))
+
+pub returns-clause-moments : goal.returns-clause-moments
+returns-clause-moments g c = λ t n before s.
+    let works = c.if-not-has_work.ensures.works _ before s in
+    step_moments g.P.Pool.meaning c.args.replies c.args.actor before _ _ (sym works) (rw c.step_of.ensures at (c.do_command.ensures.moments t n before s))

@@ -1,5 +1,7 @@
 use Rattle.std.proofs.Common.{◌≡◌, ◌≤◌, ◌-◌, ◌^◌, [], length}
 use Rattle.zr_shelf.specs.Counts.{NoneFell}
+use Rattle.zr_shelf.specs.Moments.{Throughout}
+use Rattle.zr_session.specs.Moments.{IsMoment}
 use Rattle.zr_session.specs.Progress.{StandsAt}
 use Rattle.zr_session.proofs.session.serve.Given as goal
 
@@ -10,6 +12,7 @@ invariant-loop-taken g l =
     record {
       at : desk.tells l.fn.desk → (desk.world l.fn.desk).now.paths ≡ pool.paths l.fn.pool
           → StandsAt pool.meaning l.course.rounds (pool.stands l.pool) (desk.world l.fn.desk).now (desk.world l.desk).now [] l.script.line.items l.script.lines l.taken;
+      moments : desk.tells l.fn.desk → (desk.world l.fn.desk).now.paths ≡ pool.paths l.fn.pool → Throughout (IsMoment pool.meaning l.course.rounds (desk.world l.fn.desk).now) (desk.world l.fn.desk) (desk.world l.desk);
       named : desk.tells l.fn.desk → (desk.world l.desk).now.paths ≡ (desk.world l.fn.desk).now.paths;
       told : desk.tells l.fn.desk → desk.tells l.desk;
       lines : l.script.lines ≤ l.taken;

@@ -1,6 +1,8 @@
 use Rattle.std.proofs.Common.{◌≡◌, ◌≤◌, ◌+◌, ℕ, length}
 use Rattle.zr_shelf.specs.Counts.{NoneFell}
 use Rattle.zr_shelf.specs.Disks.{Stand}
+use Rattle.zr_shelf.specs.Moments.{Throughout}
+use Rattle.zr_session.specs.Moments.{IsMoment}
 use Rattle.zr_session.specs.Progress.{StandsAt}
 use Rattle.zr_session.proofs.script.Script.take_up.Given as goal
 
@@ -12,6 +14,9 @@ invariant-loop-part g l =
       at : desk.tells l.fn.desk → (desk.world l.fn.desk).now.paths ≡ pool.paths l.fn.pool → (opening : Stand) (taken : ℕ)
           → StandsAt pool.meaning l.course.rounds (pool.stands l.fn.pool) opening (desk.world l.fn.desk).now l.piece l.fn.self.line.items l.fn.self.lines taken
           → StandsAt pool.meaning l.course.rounds (pool.stands l.pool) opening (desk.world l.desk).now l.rest l.self.line.items l.self.lines taken;
+      moments : desk.tells l.fn.desk → (desk.world l.fn.desk).now.paths ≡ pool.paths l.fn.pool → (opening : Stand) (taken : ℕ)
+          → StandsAt pool.meaning l.course.rounds (pool.stands l.fn.pool) opening (desk.world l.fn.desk).now l.piece l.fn.self.line.items l.fn.self.lines taken
+          → Throughout (IsMoment pool.meaning l.course.rounds opening) (desk.world l.fn.desk) (desk.world l.desk);
       named : desk.tells l.fn.desk → (desk.world l.desk).now.paths ≡ (desk.world l.fn.desk).now.paths;
       told : desk.tells l.fn.desk → desk.tells l.desk;
       lines : l.self.lines + length l.rest ≤ l.fn.self.lines + length l.piece;
