@@ -27,7 +27,7 @@ use Rattle.zr_reckon.specs.Pieces.{ends_of, copies_of, IsWholeCopy, IsFreeable}
 use Rattle.zr_reckon.proofs.Bits.{is_deferred_block}
 use Rattle.zr_reckon.proofs.RoleSets.{held_is, kept_is, deferred_is}
 use Rattle.zr_reckon.proofs.MoreSets.{all_come, all_go, has_append}
-use Rattle.zr_reckon.proofs.Counting.{sum_grows, sum_less}
+use Rattle.zr_reckon.proofs.Counting.{sum_as, sum_grows, sum_less, sum_zero}
 use Rattle.zr_reckon.proofs.Frames.{words_move, kept_same, room_grows, sized, streams_same, gone_same, sum_same, on_sum_same, on_same}
 use Rattle.zr_reckon.proofs.Placed.{beyond}
 use Rattle.zr_reckon.proofs.FreedKinds.{is_old_live, is_new_live, is_old_copy, live_held, freed_live_held, freed_copy_held, kept_live_held, freed_kept, kept_live_kept, live_not_kept, freed_live_deferred, live_not_deferred, kept_live_deferred, freed_copy_deferred, copy_not_deferred, live_split, live_no_copy, freed_room, kept_room, freed_from_held, kept_from_held}
@@ -505,6 +505,12 @@ module _ (old new : Space) (a : Dva) (birth : ℕ) (f : Frees old new a birth) w
 
         each_marked : (d : ℕ) → marked d ≤ on_count blocks d
         each_marked d = choose (is_leaving (state_of_dev old.parts.devs d)) (on_count blocks d)
+
+    pub none_marked : ((d : ℕ) → is_leaving (state_of_dev old.parts.devs d) ≡ false) → sum_by marked (range_with_len 0 (length old.parts.devs)) ≡ 0
+    none_marked none =
+        let s = sum_as marked (λ d. 0) (range_with_len 0 (length old.parts.devs)) (λ d. ap (λ (b : Bool). if b then on_count blocks d else 0) (none d)) in
+        let z = sum_zero (range_with_len 0 (length old.parts.devs)) in
+        omega (arith, s, z)
 
     pub free_words : (groups objects : ℕ) → (sizes new groups objects).words ≤ (sizes old groups objects).words + 4 * touch (devices_in old) a
     free_words groups objects =

@@ -283,6 +283,19 @@ pub freed_room : (old new : Space) (a : Dva) (birth : ℕ) → Frees old new a b
 freed_room old new a birth f = on_grow old new f.frame.devices (λ d. (f.frame.each d).row) is_coming_role is_coming_role
     (λ d u is. ap is_coming_role (f.roles d u) ∙ by_use old new a birth f d u (λ r. is_coming_role r ≡ true) is (freed_coming (role_at old d u) is) (kept_coming (role_at old d u) is))
 
+free_stays : (r : Role) → is_free_role r ≡ true → is_free_role (freed r) ≡ true
+free_stays Free is = refl
+free_stays _ is = absurd (cc)
+
+free_stays_kept : (r : Role) → is_free_role r ≡ true → is_free_role (kept_of r) ≡ true
+free_stays_kept Free is = refl
+free_stays_kept _ is = absurd (cc)
+
+-- what is free stays so
+pub freed_free : (old new : Space) (a : Dva) (birth : ℕ) → Frees old new a birth → free_units old ≤ free_units new
+freed_free old new a birth f = on_grow old new f.frame.devices (λ d. (f.frame.each d).row) is_free_role is_free_role
+    (λ d u is. ap is_free_role (f.roles d u) ∙ by_use old new a birth f d u (λ r. is_free_role r ≡ true) is (free_stays (role_at old d u) is) (free_stays_kept (role_at old d u) is))
+
 pub ended_room : (reset : Bool) (old new : Space) → Commits reset old new → room_to_come old ≤ room new
 ended_room reset old new c = on_grow old new c.devices c.rows is_coming_role is_room_role (λ d u is. ap is_room_role (c.roles d u) ∙ by_reset reset d u is)
   where

@@ -14,6 +14,7 @@ pub mod Ended
 pub mod Finished
 pub mod Frames
 pub mod FreePieces
+pub mod FreeUnit
 pub mod FreedKinds
 pub mod FreeOn
 pub mod Gaps

@@ -1,11 +1,13 @@
 //! What a free of a block does to the counts.
-ghost use Rattle.std.specs.Prelude.{◌≡◌, ℕ, ◌+◌, ◌*◌, ◌≤◌};
+ghost use Rattle.std.specs.Prelude.{◌≡◌, ℕ, ◌+◌, ◌*◌, ◌≤◌, false};
 ghost use Rattle.zr_base.specs.declared.space.Dva.{Dva};
 ghost use Rattle.zr_reckon.specs.Pieces.{IsFreeable};
 ghost use Rattle.zr_reckon.specs.Uses.{room, AreInService, IsWhole};
-ghost use Rattle.zr_rules.specs.Columns.{sizes};
+ghost use Rattle.zr_rules.specs.Columns.{free_units, sizes};
 ghost use Rattle.zr_rules.specs.Equation.{devices_in};
 ghost use Rattle.zr_rules.specs.Frees.{Frees};
+ghost use Rattle.zr_rules.specs.Places.{is_leaving, state_of_dev};
+ghost use Rattle.zr_rules.specs.Resolve.{IsRanked};
 ghost use Rattle.zr_rules.specs.Space.{Space, IsLawful};
 ghost use Rattle.zr_rules.specs.Steps.{touch};
 
@@ -27,6 +29,17 @@ pub fn a_free_adds_four_words_a_piece()
     ensures uncopied { (old new : Space) (a : Dva) (birth blocks objects : ℕ) → Frees old new a birth → IsLawful old
         → (sizes new blocks objects).uncopied ≤ (sizes old blocks objects).uncopied }
     ensures room { (old new : Space) (a : Dva) (birth : ℕ) → Frees old new a birth → room old ≤ room new }
+    ensures free { (old new : Space) (a : Dva) (birth : ℕ) → Frees old new a birth → free_units old ≤ free_units new }
     ensures others { (old new : Space) (a : Dva) (birth blocks objects : ℕ) → Frees old new a birth
         → sizes new blocks objects ≡ record (sizes old blocks objects) { words = (sizes new blocks objects).words; uncopied = (sizes new blocks objects).uncopied } }
+{}
+
+/// A free of one unit passes each removed device once at most, and leads to one unit that has one copy at most. So it adds a
+/// word for each removed device, four for the unit where its device is leaving, and three for its copy; and where no device
+/// is leaving three for the unit alone.
+pub fn a_free_of_a_unit_adds_seven_words()
+    ensures words { (old new : Space) (a : Dva) (birth blocks objects : ℕ) → Frees old new a birth → IsLawful old → IsFreeable old a → IsRanked (devices_in old) → a.len ≡ 1
+        → (sizes new blocks objects).words ≤ (sizes old blocks objects).words + (sizes old blocks objects).gone + 7 }
+    ensures there { (old new : Space) (a : Dva) (birth blocks objects : ℕ) → Frees old new a birth → IsLawful old → IsFreeable old a → IsRanked (devices_in old) → a.len ≡ 1
+        → ((d : ℕ) → is_leaving (state_of_dev old.parts.devs d) ≡ false) → (sizes new blocks objects).words ≤ (sizes old blocks objects).words + (sizes old blocks objects).gone + 3 }
 {}
