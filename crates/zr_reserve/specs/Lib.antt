@@ -1,0 +1,3 @@
+pub mod Covered
+pub mod Ends
+pub mod Wrote
