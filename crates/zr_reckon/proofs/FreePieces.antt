@@ -23,12 +23,13 @@ use Rattle.zr_rules.specs.Columns.{device_words, units_from, late_meta_units, la
 use Rattle.zr_rules.specs.Frees.{Frees, in_any, keeps, is_copy_of, freed_role}
 use Rattle.zr_rules.specs.Steps.{touch}
 use Rattle.zr_reckon.specs.Uses.{is_room_role, room, AllAre, IsWhole}
+use Rattle.zr_reckon.specs.Base.{device_base, base_words}
 use Rattle.zr_reckon.specs.Pieces.{ends_of, copies_of, IsWholeCopy, IsFreeable}
 use Rattle.zr_reckon.proofs.Bits.{is_deferred_block}
 use Rattle.zr_reckon.proofs.RoleSets.{held_is, kept_is, deferred_is}
 use Rattle.zr_reckon.proofs.MoreSets.{all_come, all_go, has_append}
 use Rattle.zr_reckon.proofs.Counting.{sum_as, sum_grows, sum_less, sum_zero}
-use Rattle.zr_reckon.proofs.Frames.{words_move, kept_same, room_grows, sized, streams_same, gone_same, sum_same, on_sum_same, on_same}
+use Rattle.zr_reckon.proofs.Frames.{words_move, base_moves, kept_same, room_grows, sized, streams_same, gone_same, sum_same, on_sum_same, on_same}
 use Rattle.zr_reckon.proofs.Placed.{beyond}
 use Rattle.zr_reckon.proofs.FreedKinds.{is_old_live, is_new_live, is_old_copy, live_held, freed_live_held, freed_copy_held, kept_live_held, freed_kept, kept_live_kept, live_not_kept, freed_live_deferred, live_not_deferred, kept_live_deferred, freed_copy_deferred, copy_not_deferred, live_split, live_no_copy, freed_room, kept_room, freed_from_held, kept_from_held}
 use Rattle.zr_reckon.proofs.Leads.{ways, leads_into, into_leads, passes_into, into_passes}
@@ -423,10 +424,12 @@ module _ (old new : Space) (a : Dva) (birth : ℕ) (f : Frees old new a birth) w
       kind_freed : (kind : Role → Bool) (d u : ℕ) → kind (role_at new d u) ≡ (if in_any blocks d u then kind (freed (role_at old d u)) else (if in_any copies d u then kind (freed (role_at old d u)) else kind (role_at old d u)))
       kind_freed kind d u = ap kind (role_is d u) ∙ (rw is (push kind (in_any blocks d u) (in_any copies d u) (freed (role_at old d u)) (freed (role_at old d u)) (role_at old d u)))
 
-      freed_each : (d : ℕ) → device_words new d ≤ device_words old d + (on_count passed d + 3 * on_count blocks d + 3 * on_count copies d + marked d)
+      freed_each : (d : ℕ) → (device_words new d ≤ device_words old d + (on_count passed d + 3 * on_count blocks d + 3 * on_count copies d + marked d))
+          × (device_base new d ≤ device_base old d + (on_count passed d + 3 * on_count blocks d + 3 * on_count copies d + marked d))
       freed_each d =
           let v = old.parts.version in
           let w = words_move old new d f.frame.version (f.frame.each d) in
+          let b = base_moves old new d f.frame.version (f.frame.each d) in
           let fresh = fresh_words d in
           let held = all_go v (part_of old.parts.devs d).held (part_of new.parts.devs d).held (on_dev d blocks ++ on_dev d copies) (l.sets d).held.maximal (n.sets d).held.maximal
           (λ u. held_bits _ _ _ _ _ (in_any blocks d u) (in_any copies d u) (held_is new d u n ∙ kind_freed is_held_role d u) (held_is old d u l) (has_here d u blocks copies)
@@ -441,17 +444,19 @@ module _ (old new : Space) (a : Dva) (birth : ℕ) (f : Frees old new a birth) w
           let a1 = two_passes old is_old_live is_new_live d blocks old_not_new in
           let a2 = two_passes old is_old_copy (λ r. false) d copies (λ r h. refl) in
           let k = length-append (on_dev d blocks) (on_dev d copies) in
-          omega (arith, w, fresh, held, deferred, kept, few, a1, a2, k)
+          (omega (arith, w, fresh, held, deferred, kept, few, a1, a2, k), omega (arith, b, fresh, held, kept, a1, a2, k))
 
     -- where the checkpoint may have the block
     module _ (is : keeps old.parts.ckpt birth ≡ true) where
       kind_kept : (kind : Role → Bool) (d u : ℕ) → kind (role_at new d u) ≡ (if in_any blocks d u then kind (kept_of (role_at old d u)) else (if in_any copies d u then kind (freed (role_at old d u)) else kind (role_at old d u)))
       kind_kept kind d u = ap kind (role_is d u) ∙ (rw is (push kind (in_any blocks d u) (in_any copies d u) (kept_of (role_at old d u)) (freed (role_at old d u)) (role_at old d u)))
 
-      kept_each : (d : ℕ) → device_words new d ≤ device_words old d + (on_count passed d + 3 * on_count blocks d + 3 * on_count copies d + marked d)
+      kept_each : (d : ℕ) → (device_words new d ≤ device_words old d + (on_count passed d + 3 * on_count blocks d + 3 * on_count copies d + marked d))
+          × (device_base new d ≤ device_base old d + (on_count passed d + 3 * on_count blocks d + 3 * on_count copies d + marked d))
       kept_each d =
           let v = old.parts.version in
           let w = words_move old new d f.frame.version (f.frame.each d) in
+          let b = base_moves old new d f.frame.version (f.frame.each d) in
           let fresh = fresh_words d in
           let held = all_go v (part_of old.parts.devs d).held (part_of new.parts.devs d).held (on_dev d new_blocks ++ on_dev d copies) (l.sets d).held.maximal (n.sets d).held.maximal
           (λ u. kept_held_bits _ _ _ _ _ _ (in_any blocks d u) (in_any copies d u) (is_old_live (role_at old d u)) (is_new_live (role_at old d u))
@@ -472,26 +477,40 @@ module _ (old new : Space) (a : Dva) (birth : ℕ) (f : Frees old new a birth) w
           let a1 = two_passes old is_old_live is_new_live d blocks old_not_new in
           let a2 = two_passes old is_old_copy (λ r. false) d copies (λ r h. refl) in
           let k = length-append (on_dev d new_blocks) (on_dev d copies) in
-          omega (arith, w, fresh, held, deferred, kept, few1, few2, a1, a2, k)
+          (omega (arith, w, fresh, held, deferred, kept, few1, few2, a1, a2, k), omega (arith, b, fresh, held, kept, few1, a1, a2, k))
 
-    each : (d : ℕ) → device_words new d ≤ device_words old d + (on_count passed d + 3 * on_count blocks d + 3 * on_count copies d + marked d)
+    each : (d : ℕ) → (device_words new d ≤ device_words old d + (on_count passed d + 3 * on_count blocks d + 3 * on_count copies d + marked d))
+        × (device_base new d ≤ device_base old d + (on_count passed d + 3 * on_count blocks d + 3 * on_count copies d + marked d))
     each d = by_test (keeps old.parts.ckpt birth) refl
       where
-        by_test : (b : Bool) → keeps old.parts.ckpt birth ≡ b → device_words new d ≤ device_words old d + (on_count passed d + 3 * on_count blocks d + 3 * on_count copies d + marked d)
+        by_test : (b : Bool) → keeps old.parts.ckpt birth ≡ b → (device_words new d ≤ device_words old d + (on_count passed d + 3 * on_count blocks d + 3 * on_count copies d + marked d))
+            × (device_base new d ≤ device_base old d + (on_count passed d + 3 * on_count blocks d + 3 * on_count copies d + marked d))
         by_test true is = kept_each is d
         by_test false is = freed_each is d
 
-    -- a word for each run of a removed device, three for each that is there and each copy, and one for each that is marked
-    pub words_by_kind : (groups objects : ℕ) → (sizes new groups objects).words ≤ (sizes old groups objects).words + length passed + 3 * length blocks + 3 * length copies + sum_by marked (range_with_len 0 (length old.parts.devs))
-    words_by_kind groups objects =
+    by_kind : (was now : ℕ → ℕ) → ((d : ℕ) → now d ≤ was d + (on_count passed d + 3 * on_count blocks d + 3 * on_count copies d + marked d))
+        → sum_by now (range_with_len 0 (length old.parts.devs)) ≤ sum_by was (range_with_len 0 (length old.parts.devs)) + length passed + 3 * length blocks + 3 * length copies + sum_by marked (range_with_len 0 (length old.parts.devs))
+    by_kind was now grows =
         let i = length old.parts.devs in
-        let s = ap (λ (j : ℕ). sum_by (device_words new) (range_with_len 0 j)) f.frame.devices in
-        let g = sum_grows (device_words new) (device_words old) (λ d. on_count passed d + 3 * on_count blocks d + 3 * on_count copies d + marked d) (range_with_len 0 i) each in
+        let g = sum_grows now was (λ d. on_count passed d + 3 * on_count blocks d + 3 * on_count copies d + marked d) (range_with_len 0 i) grows in
         let b = sum_of_kinds (on_count passed) (on_count blocks) (on_count copies) marked (range_with_len 0 i) in
         let x = sum_on passed i in
         let y = sum_on blocks i in
         let z = sum_on copies i in
-        omega (arith, s, g, b, x, y, z)
+        omega (arith, g, b, x, y, z)
+
+    -- a word for each run of a removed device, three for each that is there and each copy, and one for each that is marked
+    pub words_by_kind : (groups objects : ℕ) → (sizes new groups objects).words ≤ (sizes old groups objects).words + length passed + 3 * length blocks + 3 * length copies + sum_by marked (range_with_len 0 (length old.parts.devs))
+    words_by_kind groups objects =
+        let s = ap (λ (j : ℕ). sum_by (device_words new) (range_with_len 0 j)) f.frame.devices in
+        let g = by_kind (device_words old) (device_words new) (λ d. (each d).0) in
+        omega (arith, s, g)
+
+    pub base_by_kind : base_words new ≤ base_words old + length passed + 3 * length blocks + 3 * length copies + sum_by marked (range_with_len 0 (length old.parts.devs))
+    base_by_kind =
+        let s = ap (λ (j : ℕ). sum_by (device_base new) (range_with_len 0 j)) f.frame.devices in
+        let g = by_kind (device_base old) (device_base new) (λ d. (each d).1) in
+        omega (arith, s, g)
 
     pub marked_few : sum_by marked (range_with_len 0 (length old.parts.devs)) ≤ length blocks
     marked_few =

@@ -17,9 +17,10 @@ use Rattle.zr_rules.specs.Columns.{sizes}
 use Rattle.zr_rules.specs.Equation.{devices_in}
 use Rattle.zr_rules.specs.Frees.{Frees}
 use Rattle.zr_rules.specs.Space.{Space, IsLawful}
+use Rattle.zr_reckon.specs.Base.{base_words}
 use Rattle.zr_reckon.specs.Pieces.{ends, copies_at, ends_of, IsFreeable}
 use Rattle.zr_reckon.proofs.Counting.{sum_less}
-use Rattle.zr_reckon.proofs.FreePieces.{words_by_kind, marked_few, none_marked}
+use Rattle.zr_reckon.proofs.FreePieces.{words_by_kind, base_by_kind, marked_few, none_marked}
 use Rattle.zr_reckon.proofs.Leads.{parts_of, ways}
 
 -- ---- one part
@@ -216,11 +217,31 @@ module _ (old new : Space) (a : Dva) (birth : ℕ) (f : Frees old new a birth) (
       let c = few_copies (devices_in old) free.rising ranked hops a.dev a.start a.len one in
       omega (arith, w, m, p, e, c)
 
+  pub unit_base : (blocks objects : ℕ) → base_words new ≤ base_words old + (sizes old blocks objects).gone + 7
+  unit_base blocks objects =
+      let hops = length old.parts.devs in
+      let w = base_by_kind old new a birth f l free short in
+      let m = marked_few old new a birth f l free short in
+      let p = few_ways old.parts.devs free.rising ranked hops a.dev a.start a.len one in
+      let e = few_ends (devices_in old) free.rising ranked hops a.dev a.start a.len one in
+      let c = few_copies (devices_in old) free.rising ranked hops a.dev a.start a.len one in
+      omega (arith, w, m, p, e, c)
+
   -- and three where none is leaving
   pub unit_words_there : ((d : ℕ) → is_leaving (state_of_dev old.parts.devs d) ≡ false) → (blocks objects : ℕ) → (sizes new blocks objects).words ≤ (sizes old blocks objects).words + (sizes old blocks objects).gone + 3
   unit_words_there none blocks objects =
       let hops = length old.parts.devs in
       let w = words_by_kind old new a birth f l free short blocks objects in
+      let m = none_marked old new a birth f l free short none in
+      let p = few_ways old.parts.devs free.rising ranked hops a.dev a.start a.len one in
+      let e = few_ends (devices_in old) free.rising ranked hops a.dev a.start a.len one in
+      let c = ap (λ (ms : List Dva). length ms) (no_copies (devices_in old) (ends_of (devices_in old) a) none) in
+      omega (arith, w, m, p, e, c)
+
+  pub unit_base_there : ((d : ℕ) → is_leaving (state_of_dev old.parts.devs d) ≡ false) → (blocks objects : ℕ) → base_words new ≤ base_words old + (sizes old blocks objects).gone + 3
+  unit_base_there none blocks objects =
+      let hops = length old.parts.devs in
+      let w = base_by_kind old new a birth f l free short in
       let m = none_marked old new a birth f l free short none in
       let p = few_ways old.parts.devs free.rising ranked hops a.dev a.start a.len one in
       let e = few_ends (devices_in old) free.rising ranked hops a.dev a.start a.len one in

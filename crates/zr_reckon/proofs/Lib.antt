@@ -22,6 +22,7 @@ pub mod GroupRoom
 pub mod Lates
 pub mod Leads
 pub mod MetaPlaced
+pub mod MetaTurns
 pub mod MoreSets
 pub mod Placed
 pub mod RoleKinds

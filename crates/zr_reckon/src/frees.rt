@@ -1,8 +1,9 @@
 //! What a free of a block does to the counts.
 ghost use Rattle.std.specs.Prelude.{◌≡◌, ℕ, ◌+◌, ◌*◌, ◌≤◌, false};
 ghost use Rattle.zr_base.specs.declared.space.Dva.{Dva};
+ghost use Rattle.zr_reckon.specs.Base.{base_words};
 ghost use Rattle.zr_reckon.specs.Pieces.{IsFreeable};
-ghost use Rattle.zr_reckon.specs.Uses.{room, AreInService, IsWhole};
+ghost use Rattle.zr_reckon.specs.Uses.{room, dropped_units, AreInService, IsWhole};
 ghost use Rattle.zr_rules.specs.Columns.{free_units, sizes};
 ghost use Rattle.zr_rules.specs.Equation.{devices_in};
 ghost use Rattle.zr_rules.specs.Frees.{Frees};
@@ -30,6 +31,7 @@ pub fn a_free_adds_four_words_a_piece()
         → (sizes new blocks objects).uncopied ≤ (sizes old blocks objects).uncopied }
     ensures room { (old new : Space) (a : Dva) (birth : ℕ) → Frees old new a birth → room old ≤ room new }
     ensures free { (old new : Space) (a : Dva) (birth : ℕ) → Frees old new a birth → free_units old ≤ free_units new }
+    ensures given { (old new : Space) (a : Dva) (birth : ℕ) → Frees old new a birth → dropped_units new ≤ dropped_units old }
     ensures others { (old new : Space) (a : Dva) (birth blocks objects : ℕ) → Frees old new a birth
         → sizes new blocks objects ≡ record (sizes old blocks objects) { words = (sizes new blocks objects).words; uncopied = (sizes new blocks objects).uncopied } }
 {}
@@ -40,6 +42,10 @@ pub fn a_free_adds_four_words_a_piece()
 pub fn a_free_of_a_unit_adds_seven_words()
     ensures words { (old new : Space) (a : Dva) (birth blocks objects : ℕ) → Frees old new a birth → IsLawful old → IsFreeable old a → IsRanked (devices_in old) → a.len ≡ 1
         → (sizes new blocks objects).words ≤ (sizes old blocks objects).words + (sizes old blocks objects).gone + 7 }
+    ensures base { (old new : Space) (a : Dva) (birth blocks objects : ℕ) → Frees old new a birth → IsLawful old → IsFreeable old a → IsRanked (devices_in old) → a.len ≡ 1
+        → base_words new ≤ base_words old + (sizes old blocks objects).gone + 7 }
     ensures there { (old new : Space) (a : Dva) (birth blocks objects : ℕ) → Frees old new a birth → IsLawful old → IsFreeable old a → IsRanked (devices_in old) → a.len ≡ 1
         → ((d : ℕ) → is_leaving (state_of_dev old.parts.devs d) ≡ false) → (sizes new blocks objects).words ≤ (sizes old blocks objects).words + (sizes old blocks objects).gone + 3 }
+    ensures base_there { (old new : Space) (a : Dva) (birth blocks objects : ℕ) → Frees old new a birth → IsLawful old → IsFreeable old a → IsRanked (devices_in old) → a.len ≡ 1
+        → ((d : ℕ) → is_leaving (state_of_dev old.parts.devs d) ≡ false) → base_words new ≤ base_words old + (sizes old blocks objects).gone + 3 }
 {}
