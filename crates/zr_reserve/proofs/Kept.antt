@@ -1,5 +1,6 @@
 -- That a commit finds room, and leaves what is owed.
 use Rattle.std.proofs.Common.{◌≡◌, ℕ, ◌+◌, ◌*◌, ◌<◌, ◌≤◌, max, Bool, true, false, List, refl, ◌∙◌, sym, ap, subst, arith}
+use Rattle.std.specs.Int.{div_ceil}
 use Rattle.std.specs.List.{sum_by}
 use Rattle.std.proofs.lemmas.Nat.{mul-le}
 use Rattle.zr_base.specs.declared.space.Dva.{Dva}
@@ -8,18 +9,20 @@ use Rattle.zr_base.specs.declared.space.DevPart.{DevPart}
 use Rattle.zr_base.specs.declared.space.Sizes.{Sizes}
 use Rattle.zr_base.specs.Extents.{IsMaximal}
 use Rattle.zr_owed.specs.Room.{HasRoom, IsCommit}
-use Rattle.zr_owed.proofs.RoomLaws.{commit_keeps}
+use Rattle.zr_owed.proofs.RoomLaws.{commit_keeps, parts, tree_units_mono}
 use Rattle.zr_rules.specs.Columns.{free_units, late_blocks, late_meta_units, late1_meta, late2_meta, sizes}
 use Rattle.zr_rules.specs.Owed.{head_units, metadata_units, tree_blocks, words_to_come}
 use Rattle.zr_rules.specs.Places.{part_of}
 use Rattle.zr_rules.specs.Space.{Space, IsLawful}
 use Rattle.zr_rules.specs.Steps.{Commits}
-use Rattle.zr_reckon.specs.Uses.{dropped_units, freed_words, room, second_late_words, HasLateSets}
-use Rattle.zr_reckon.proofs.Ended.{end_words, reset_words, end_first, end_second, end_none, end_others}
+use Rattle.zr_reckon.specs.Uses.{room, second_late_words, HasLateSets}
+use Rattle.zr_reckon.proofs.BaseWords.{reset_base, words_split}
+use Rattle.zr_reckon.proofs.Ended.{end_words, end_first, end_second, end_none, end_others}
 use Rattle.zr_reckon.proofs.Frames.{sum_same}
 use Rattle.zr_reckon.proofs.GroupRoom.{begin_room, ended_room}
+use Rattle.zr_reckon.proofs.MetaTurns.{none_dropped}
 use Rattle.zr_reckon.proofs.RoomUnits.{room_is, turning_most}
-use Rattle.zr_reserve.specs.Covered.{IsCovered, HasFewMetadata}
+use Rattle.zr_reserve.specs.Covered.{AddsNothing, IsCovered, words_ahead}
 use Rattle.zr_reserve.specs.Ends.{IsBegun, EndsGroup}
 use Rattle.zr_reserve.specs.Wrote.{Wrote}
 use Rattle.zr_reserve.proofs.Counted.{same_gone, same_streams}
@@ -34,24 +37,54 @@ is_covered s changed objects l h = let r = room_is s l changed objects in let e 
 
 -- ---- at each moment
 
-pub finds_room : (old new : Space) (most blocks frees metadata changed objects : ℕ) → Wrote old new most blocks frees metadata → IsCovered old changed objects
-    → blocks ≤ tree_blocks (sizes old changed objects) → metadata ≤ metadata_units (sizes old changed objects) → 0 < free_units new
-finds_room old new most blocks frees metadata changed objects w covered b m =
-    let t = turning_most old changed objects in
+pub three_fit : (s : Space) (changed objects : ℕ) → IsCovered s changed objects
+    → tree_blocks (sizes s changed objects) + (sizes s changed objects).uncopied + 3 * metadata_units (sizes s changed objects) ≤ free_units s
+three_fit s changed objects covered = let t = turning_most s changed objects in omega (arith, t, covered)
+
+pub finds_room : (old mid : Space) (changed objects most blocks frees metadata given : ℕ) → IsCovered old changed objects → Wrote old mid most blocks frees metadata given
+    → blocks ≤ tree_blocks (sizes old changed objects) → metadata ≤ metadata_units (sizes old changed objects) → 0 < free_units mid
+finds_room old mid changed objects most blocks frees metadata given covered w b m =
+    let t = three_fit old changed objects covered in
     let f = w.free in
-    omega (arith, t, f, covered, b, m)
+    omega (arith, t, f, b, m)
+
+pub finds_room_later : (reset : Bool) (start old mid : Space) (changed objects most blocks frees metadata given : ℕ) → IsLawful start → IsCovered start changed objects
+    → AddsNothing reset start old → IsLawful old → Wrote old mid most blocks frees metadata given
+    → blocks ≤ tree_blocks (sizes start changed objects) → metadata ≤ metadata_units (sizes start changed objects) → 0 < free_units mid
+finds_room_later reset start old mid changed objects most blocks frees metadata given l covered n k w b m =
+    let e = (has_room start changed objects l covered).enough in
+    let r = n.room in
+    let i = room_is old k 0 0 in
+    let t = turning_most old 0 0 in
+    let p = n.past in
+    let f = w.free in
+    omega (arith, e, r, i, t, p, f, b, m)
 
 -- ---- behind it
 
+-- fewer streams take no longer head
+head_less : (more fewer : Sizes) → fewer.streams ≤ more.streams → head_units fewer ≤ head_units more
+head_less more fewer le =
+    let a = parts (535 + 17 * fewer.streams) 512 (omega arith) in
+    let b = parts (535 + 17 * more.streams) 512 (omega arith) in
+    tree_units_mono (div_ceil (535 + 17 * fewer.streams) 512) (div_ceil (535 + 17 * more.streams) 512) (omega (arith, a, b, le))
+
 -- what tree blocks add to the words is what was owed for them
-grown : (gone owed blocks frees : ℕ) → blocks ≤ owed → frees ≤ owed → blocks + frees * (gone + 7) ≤ 2 * (gone + 4) * owed
-grown gone owed blocks frees b f =
-    let p = mul-le frees (gone + 7) owed (gone + 7) f (omega arith) in
+grown : (gone owed most blocks frees : ℕ) → most ≤ gone + 7 → blocks ≤ owed → frees ≤ owed → blocks + frees * most ≤ 2 * (gone + 4) * owed
+grown gone owed most blocks frees le b f =
+    let p = mul-le frees most owed (gone + 7) f le in
     omega (arith, p, b)
 
-module _ (reset : Bool) (old mid new : Space) (changed objects blocks frees metadata : ℕ) (e : EndsGroup reset old mid new changed objects blocks frees metadata) where
+pub nothing_added : (reset : Bool) (s : Space) → AddsNothing reset s s
+nothing_added reset s = record { words = by_kind reset; streams = omega arith; uncopied = omega arith; past = omega arith; room = omega arith }
+  where
+    by_kind : (b : Bool) → words_ahead b s ≤ (sizes s 0 0).words
+    by_kind true = let w = words_split s 0 0 in omega (arith, w)
+    by_kind false = omega arith
+
+module _ (reset : Bool) (start old mid new : Space) (changed objects most blocks frees metadata given : ℕ) (l : IsLawful start) (n : AddsNothing reset start old) (e : EndsGroup reset (sizes start changed objects) old mid new most blocks frees metadata given) where
   abbrev before : Sizes
-  before = sizes old changed objects
+  before = sizes start changed objects
 
   abbrev after : Sizes
   after = sizes new 0 0
@@ -68,18 +101,19 @@ module _ (reset : Bool) (old mid new : Space) (changed objects blocks frees meta
   rows : (d : ℕ) → (part_of mid.parts.devs d).row ≡ (part_of old.parts.devs d).row
   rows d = (e.wrote.each d).row
 
-  room_left : room old ≤ room new + blocks
+  room_left : room start ≤ room new + blocks
   room_left =
+      let a = n.room in
       let b = begin_room old e.begun.lawful e.begun.none in
       let w = e.wrote.room in
-      let n = ended_room reset mid new e.ends in
-      omega (arith, b, w, n)
+      let z = ended_room reset mid new e.ends in
+      omega (arith, a, b, w, z)
 
   other_counts : after ≡ record (sizes mid 0 0) { words = after.words; turning = after.turning; past = after.past }
   other_counts = end_others reset mid new e.ends e.wrote.lawful 0 0
 
-  streams_stay : after.streams ≡ before.streams
-  streams_stay = ap (λ (z : Sizes). z.streams) other_counts ∙ same_streams old mid _ _ _ _ e.wrote
+  streams_stay : after.streams ≡ (sizes old 0 0).streams
+  streams_stay = ap (λ (z : Sizes). z.streams) other_counts ∙ same_streams old mid _ _ _ _ _ e.wrote
 
   uncopied_stays : after.uncopied ≡ (sizes mid 0 0).uncopied
   uncopied_stays = ap (λ (z : Sizes). z.uncopied) other_counts
@@ -87,43 +121,63 @@ module _ (reset : Bool) (old mid new : Space) (changed objects blocks frees meta
   late_stays : late1_meta mid.parts.devs ≡ late1_meta old.parts.devs
   late_stays = sum_same old mid e.wrote.devices rows (λ (p : DevPart). late_meta_units p.late1) (λ d. ap late_meta_units (e.wrote.each d).late1)
 
+  ahead_grows : (b : Bool) → words_ahead b mid ≤ words_ahead b old + blocks + frees * most
+  ahead_grows true = e.wrote.base
+  ahead_grows false = e.wrote.words
+
+  fewer_heads : head_units after ≤ head_units before
+  fewer_heads = let s = n.streams in head_less before after (omega (arith, s, streams_stay))
+
   -- with the words that the new root has no more, and what its late sets name
-  is_commit : (dropped : ℕ) → after.words + dropped ≡ (sizes mid 0 0).words → late1_meta new.parts.devs ≤ before.past → late2_meta new.parts.devs ≤ before.past
-      → IsCommit before after (room old) (room new) blocks (sizes mid 0 0).words (sizes mid 0 0).uncopied (sum_by (λ (a : Dva). a.len) new.meta) dropped (late1_meta new.parts.devs) (late2_meta new.parts.devs)
+  is_commit : (dropped : ℕ) → after.words + dropped ≡ words_ahead reset mid → late1_meta new.parts.devs ≤ before.past → late2_meta new.parts.devs ≤ before.past
+      → IsCommit before after (room start) (room new) blocks (words_ahead reset mid) (sizes mid 0 0).uncopied (sum_by (λ (a : Dva). a.len) new.meta) dropped (late1_meta new.parts.devs) (late2_meta new.parts.devs)
   is_commit dropped words late1 late2 =
-      let w = e.wrote.words in
+      let w = ahead_grows reset in
+      let v = n.words in
       let u = e.wrote.uncopied in
-      let g = grown (sizes old 0 0).gone (tree_blocks before) blocks frees e.put e.freed in
+      let x = n.uncopied in
+      let s = n.streams in
+      let g = grown before.gone (tree_blocks before) most blocks frees e.words_of_a_free e.blocks_put e.blocks_freed in
       let m = e.few.few in
-      let h = ap (λ (n : ℕ). head_units (record after { streams = n })) streams_stay in
       record {
-        wrote = e.put;
-        grew = omega (arith, w, u, g);
-        metadata_is = omega (arith, m, h, streams_stay, words);
+        wrote = e.blocks_put;
+        grew = omega (arith, w, v, u, x, g);
+        metadata_is = omega (arith, m, fewer_heads, s, streams_stay, words);
         late1_is = late1;
         late2_is = late2;
         room = room_left;
         new_words = omega (arith, words);
         new_uncopied = omega (arith, uncopied_stays);
-        old_uncopied = omega (arith, uncopied_stays, u);
+        old_uncopied = omega (arith, uncopied_stays, u, x);
         none = refl;
-        streams = omega (arith, streams_stay);
+        streams = omega (arith, s, streams_stay);
         new_past = refl;
         no_snaps = refl;
       }
 
-  covered_with : (dropped : ℕ) → after.words + dropped ≡ (sizes mid 0 0).words → late1_meta new.parts.devs ≤ before.past → late2_meta new.parts.devs ≤ before.past → IsCovered old changed objects → IsCovered new 0 0
+  covered_with : (dropped : ℕ) → after.words + dropped ≡ words_ahead reset mid → late1_meta new.parts.devs ≤ before.past → late2_meta new.parts.devs ≤ before.past → IsCovered start changed objects → IsCovered new 0 0
   covered_with dropped words late1 late2 covered =
-      is_covered new 0 0 lawful (commit_keeps before after (room old) (room new) _ _ _ _ _ _ _ (is_commit dropped words late1 late2) (has_room old changed objects e.begun.lawful covered))
+      is_covered new 0 0 lawful (commit_keeps before after (room start) (room new) _ _ _ _ _ _ _ (is_commit dropped words late1 late2) (has_room start changed objects l covered))
 
-pub keeps_room : (reset : Bool) (old mid new : Space) (changed objects blocks frees metadata : ℕ) → EndsGroup reset old mid new changed objects blocks frees metadata → IsCovered old changed objects → IsCovered new 0 0
-keeps_room true old mid new changed objects blocks frees metadata e covered =
+pub keeps_room_later : (reset : Bool) (start old mid new : Space) (changed objects most blocks frees metadata given : ℕ) → IsLawful start → IsCovered start changed objects
+    → AddsNothing reset start old → EndsGroup reset (sizes start changed objects) old mid new most blocks frees metadata given → IsCovered new 0 0
+keeps_room_later true start old mid new changed objects most blocks frees metadata given l covered n e =
     let none = end_none mid new e.ends e.wrote.lawful in
-    covered_with true old mid new changed objects blocks frees metadata e (freed_words mid) (reset_words mid new e.ends e.wrote.lawful e.late_sets 0 0) (omega (arith, none)) (omega (arith, none)) covered
-keeps_room false old mid new changed objects blocks frees metadata e covered =
+    let base = reset_base mid new 0 0 e.ends e.wrote.lawful e.late_sets in
+    covered_with true start old mid new changed objects most blocks frees metadata given l n e 0 (omega (arith, base)) (omega (arith, none)) (omega (arith, none)) covered
+keeps_room_later false start old mid new changed objects most blocks frees metadata given l covered n e =
     let first = end_first mid new e.ends e.wrote.lawful in
     let second = end_second mid new e.ends e.wrote.lawful in
-    let given = e.given refl in
-    let stays = late_stays false old mid new changed objects blocks frees metadata e in
-    covered_with false old mid new changed objects blocks frees metadata e (second_late_words mid) (end_words mid new e.ends e.wrote.lawful (late_mid false old mid new changed objects blocks frees metadata e) e.late_sets 0 0)
-    (omega (arith, first, given)) (omega (arith, second, stays)) covered
+    let late = e.late refl in
+    let waits = e.wrote.waits in
+    let none = none_dropped old e.begun.lawful e.begun.none in
+    let stays = late_stays false start old mid new changed objects most blocks frees metadata given l n e in
+    let past = n.past in
+    covered_with false start old mid new changed objects most blocks frees metadata given l n e (second_late_words mid)
+    (end_words mid new e.ends e.wrote.lawful (late_mid false start old mid new changed objects most blocks frees metadata given l n e) e.late_sets 0 0)
+    (omega (arith, first, late, waits, none)) (omega (arith, second, stays, past)) covered
+
+pub keeps_room : (reset : Bool) (old mid new : Space) (changed objects most blocks frees metadata given : ℕ) → IsCovered old changed objects
+    → EndsGroup reset (sizes old changed objects) old mid new most blocks frees metadata given → IsCovered new 0 0
+keeps_room reset old mid new changed objects most blocks frees metadata given covered e =
+    keeps_room_later reset old old mid new changed objects most blocks frees metadata given e.begun.lawful covered (nothing_added reset old) e
