@@ -1,5 +1,5 @@
 -- What one event does to the counts, and events one after another.
-use Rattle.std.proofs.Common.{◌≡◌, ℕ, ◌+◌, ◌*◌, ◌≤◌, Bool, false, List, [], ◌∷◌, length, refl, ◌∙◌, sym, ap, ap₂, subst, arith, if◌then◌else◌}
+use Rattle.std.proofs.Common.{◌≡◌, ℕ, ◌+◌, ◌*◌, ◌≤◌, Bool, false, List, [], ◌∷◌, length, refl, ◌∙◌, sym, ap, subst, arith, if◌then◌else◌}
 use Rattle.std.specs.Prelude.{count_by, sum_by}
 use Rattle.std.proofs.Math.Path.{fun_ext}
 use Rattle.std.proofs.lemmas.List.Sums.{sum_by-cons}
@@ -9,7 +9,7 @@ use Rattle.zr_base.specs.declared.space.DevRow.{DevRow}
 use Rattle.zr_base.specs.declared.space.Entry.{Entry}
 use Rattle.zr_base.specs.declared.space.Policy.{Policy}
 use Rattle.zr_base.specs.declared.space.Sizes.{Sizes}
-use Rattle.zr_rules.specs.Columns.{free_units, sizes}
+use Rattle.zr_rules.specs.Columns.{sizes}
 use Rattle.zr_rules.specs.Devices.{Devices}
 use Rattle.zr_rules.specs.Equation.{devices_in}
 use Rattle.zr_rules.specs.Frees.{Allocates, AllocatesMeta, DropsMeta, Frees, IsSamePart}
@@ -17,7 +17,7 @@ use Rattle.zr_rules.specs.Places.{is_leaving, part_of, state_of_dev}
 use Rattle.zr_rules.specs.Resolve.{IsRanked}
 use Rattle.zr_rules.specs.Space.{Space, IsLawful}
 use Rattle.zr_reckon.specs.Base.{base_words}
-use Rattle.zr_reckon.specs.Coming.{room_to_come, KeepsRecords}
+use Rattle.zr_reckon.specs.Coming.{KeepsRecords}
 use Rattle.zr_reckon.specs.Pieces.{IsFreeable}
 use Rattle.zr_reckon.proofs.Frames.{gone_same, streams_same}
 use Rattle.zr_reckon.proofs.FreePieces.{free_uncopied}
@@ -235,8 +235,11 @@ pub counted_there : (old new : Space) (events : List Event) → Happen events ol
 counted_there old new events h l ranked none =
     all_counted ((sizes old 0 0).gone + 3) Fine
     (λ a b at birth fine f l' free one. let w = unit_words_there a b at birth f l' free fine.0 one fine.2 0 0 in let v = unit_base_there a b at birth f l' free fine.0 one fine.2 0 0 in let g = fine.1 in (omega (arith, w, g), omega (arith, v, g)))
-    (λ a b blocks frees metadata given w fine. (still_ranked a b _ blocks frees metadata given w fine.0, same_gone a b _ blocks frees metadata given w ∙ fine.1,
-    λ d. ap (λ (r : DevRow). is_leaving r.state) (w.each d).row ∙ fine.2 d))
+    (λ a b blocks frees metadata given w fine. (
+      still_ranked a b _ blocks frees metadata given w fine.0,
+      same_gone a b _ blocks frees metadata given w ∙ fine.1,
+      λ d. ap (λ (r : DevRow). is_leaving r.state) (w.each d).row ∙ fine.2 d,
+    ))
     events old new l (ranked, refl, none) h
   where
     Fine : Space → Type 0

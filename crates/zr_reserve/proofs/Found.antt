@@ -1,11 +1,11 @@
 -- Where a unit is free, a run of one unit is found.
-use Rattle.std.proofs.Common.{◌≡◌, ℕ, zero, suc, ◌+◌, ◌*◌, ◌/◌, ◌<◌, ◌≤◌, Bool, true, false, List, [], ◌∷◌, length, refl, ◌∙◌, sym, ap, arith, cond, ⊎_elim}
+use Rattle.std.proofs.Common.{◌≡◌, ℕ, zero, suc, ◌+◌, ◌/◌, ◌<◌, Bool, true, false, length, refl, ◌∙◌, ap, arith, ⊎_elim}
 use Rattle.std.specs.Prelude.{filter}
 use Rattle.std.specs.List.{sum_by, range_with_len}
 use Rattle.std.proofs.lemmas.Bool.{cases_lt}
 use Rattle.std.proofs.lemmas.Bool.Decides.{nat_tests}
 use Rattle.std.proofs.lemmas.List.Sums.{sum_by-cons}
-use Rattle.zr_rules.specs.Columns.{free_of, free_units, on_devices, role_count}
+use Rattle.zr_rules.specs.Columns.{free_of, free_units, role_count}
 use Rattle.zr_rules.specs.Placement.{HasNoPlacement, HasRunSomewhere}
 use Rattle.zr_rules.specs.Places.{count_below, is_on, state_of_dev, units_of_dev}
 use Rattle.zr_rules.specs.Roles.{is_free_role}

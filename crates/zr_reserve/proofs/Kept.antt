@@ -1,20 +1,17 @@
 -- That a commit finds room, and leaves what is owed.
-use Rattle.std.proofs.Common.{◌≡◌, ℕ, ◌+◌, ◌*◌, ◌<◌, ◌≤◌, max, Bool, true, false, List, refl, ◌∙◌, sym, ap, subst, arith}
+use Rattle.std.proofs.Common.{◌≡◌, ℕ, ◌+◌, ◌-◌, ◌*◌, ◌<◌, ◌≤◌, Bool, true, false, List, refl, ◌∙◌, sym, ap, subst, arith}
 use Rattle.std.specs.Int.{div_ceil}
-use Rattle.std.specs.List.{sum_by}
 use Rattle.std.proofs.lemmas.Nat.{mul-le}
-use Rattle.zr_base.specs.declared.space.Dva.{Dva}
 use Rattle.zr_base.specs.declared.space.LateRun.{LateRun}
 use Rattle.zr_base.specs.declared.space.DevPart.{DevPart}
 use Rattle.zr_base.specs.declared.space.Sizes.{Sizes}
 use Rattle.zr_base.specs.Extents.{IsMaximal}
 use Rattle.zr_owed.specs.Room.{HasRoom, IsCommit}
-use Rattle.zr_owed.proofs.RoomLaws.{commit_keeps, parts, tree_units_mono}
+use Rattle.zr_owed.proofs.RoomLaws.{commit_fits, commit_keeps, parts, tree_units_mono}
 use Rattle.zr_rules.specs.Columns.{free_units, late_blocks, late_meta_units, late1_meta, late2_meta, sizes}
-use Rattle.zr_rules.specs.Owed.{head_units, metadata_units, tree_blocks, words_to_come}
+use Rattle.zr_rules.specs.Owed.{head_units, metadata_units, tree_blocks}
 use Rattle.zr_rules.specs.Places.{part_of}
 use Rattle.zr_rules.specs.Space.{Space, IsLawful}
-use Rattle.zr_rules.specs.Steps.{Commits}
 use Rattle.zr_reckon.specs.Uses.{room, second_late_words, HasLateSets}
 use Rattle.zr_reckon.proofs.BaseWords.{reset_base, words_split}
 use Rattle.zr_reckon.proofs.Ended.{end_words, end_first, end_second, end_none, end_others}
@@ -23,9 +20,9 @@ use Rattle.zr_reckon.proofs.GroupRoom.{begin_room, ended_room}
 use Rattle.zr_reckon.proofs.MetaTurns.{none_dropped}
 use Rattle.zr_reckon.proofs.RoomUnits.{room_is, turning_most}
 use Rattle.zr_reserve.specs.Covered.{AddsNothing, IsCovered, words_ahead}
-use Rattle.zr_reserve.specs.Ends.{IsBegun, EndsGroup}
-use Rattle.zr_reserve.specs.Wrote.{Wrote}
-use Rattle.zr_reserve.proofs.Counted.{same_gone, same_streams}
+use Rattle.zr_reserve.specs.Ends.{EndsGroup}
+use Rattle.zr_reserve.specs.Wrote.{Wrote, units_of}
+use Rattle.zr_reserve.proofs.Counted.{same_streams}
 
 -- ---- the two forms of what is owed
 
@@ -128,10 +125,10 @@ module _ (reset : Bool) (start old mid new : Space) (changed objects most blocks
   fewer_heads : head_units after ≤ head_units before
   fewer_heads = let s = n.streams in head_less before after (omega (arith, s, streams_stay))
 
-  -- with the words that the new root has no more, and what its late sets name
-  is_commit : (dropped : ℕ) → after.words + dropped ≡ words_ahead reset mid → late1_meta new.parts.devs ≤ before.past → late2_meta new.parts.devs ≤ before.past
-      → IsCommit before after (room start) (room new) blocks (words_ahead reset mid) (sizes mid 0 0).uncopied (sum_by (λ (a : Dva). a.len) new.meta) dropped (late1_meta new.parts.devs) (late2_meta new.parts.devs)
-  is_commit dropped words late1 late2 =
+  -- with the words that the new root has no more, what its late sets name, and so much room set aside
+  is_commit : (spare dropped : ℕ) → after.words + dropped ≡ words_ahead reset mid → late1_meta new.parts.devs ≤ before.past → late2_meta new.parts.devs ≤ before.past
+      → IsCommit before after (room start - spare) (room new - spare) blocks (words_ahead reset mid) (sizes mid 0 0).uncopied (units_of new.meta) dropped (late1_meta new.parts.devs) (late2_meta new.parts.devs)
+  is_commit spare dropped words late1 late2 =
       let w = ahead_grows reset in
       let v = n.words in
       let u = e.wrote.uncopied in
@@ -145,7 +142,7 @@ module _ (reset : Bool) (start old mid new : Space) (changed objects most blocks
         metadata_is = omega (arith, m, fewer_heads, s, streams_stay, words);
         late1_is = late1;
         late2_is = late2;
-        room = room_left;
+        room = omega (arith, room_left);
         new_words = omega (arith, words);
         new_uncopied = omega (arith, uncopied_stays);
         old_uncopied = omega (arith, uncopied_stays, u, x);
@@ -155,27 +152,49 @@ module _ (reset : Bool) (start old mid new : Space) (changed objects most blocks
         no_snaps = refl;
       }
 
-  covered_with : (dropped : ℕ) → after.words + dropped ≡ words_ahead reset mid → late1_meta new.parts.devs ≤ before.past → late2_meta new.parts.devs ≤ before.past → IsCovered start changed objects → IsCovered new 0 0
-  covered_with dropped words late1 late2 covered =
-      is_covered new 0 0 lawful (commit_keeps before after (room start) (room new) _ _ _ _ _ _ _ (is_commit dropped words late1 late2) (has_room start changed objects l covered))
+-- a commit as the counts see it, with so much room set aside
+abbrev IsMade : Bool → Space → Space → Space → ℕ → ℕ → ℕ → ℕ → Type 0
+IsMade reset start mid new changed objects blocks spare =
+    (dropped : ℕ) × IsCommit (sizes start changed objects) (sizes new 0 0) (room start - spare) (room new - spare) blocks (words_ahead reset mid) (sizes mid 0 0).uncopied (units_of new.meta) dropped (late1_meta new.parts.devs) (late2_meta new.parts.devs)
 
-pub keeps_room_later : (reset : Bool) (start old mid new : Space) (changed objects most blocks frees metadata given : ℕ) → IsLawful start → IsCovered start changed objects
-    → AddsNothing reset start old → EndsGroup reset (sizes start changed objects) old mid new most blocks frees metadata given → IsCovered new 0 0
-keeps_room_later true start old mid new changed objects most blocks frees metadata given l covered n e =
+made : (reset : Bool) (start old mid new : Space) (changed objects most blocks frees metadata given spare : ℕ) → IsLawful start → AddsNothing reset start old
+    → EndsGroup reset (sizes start changed objects) old mid new most blocks frees metadata given → IsMade reset start mid new changed objects blocks spare
+made true start old mid new changed objects most blocks frees metadata given spare l n e =
     let none = end_none mid new e.ends e.wrote.lawful in
     let base = reset_base mid new 0 0 e.ends e.wrote.lawful e.late_sets in
-    covered_with true start old mid new changed objects most blocks frees metadata given l n e 0 (omega (arith, base)) (omega (arith, none)) (omega (arith, none)) covered
-keeps_room_later false start old mid new changed objects most blocks frees metadata given l covered n e =
+    (0, is_commit true start old mid new changed objects most blocks frees metadata given l n e spare 0 (omega (arith, base)) (omega (arith, none)) (omega (arith, none)))
+made false start old mid new changed objects most blocks frees metadata given spare l n e =
     let first = end_first mid new e.ends e.wrote.lawful in
     let second = end_second mid new e.ends e.wrote.lawful in
     let late = e.late refl in
     let waits = e.wrote.waits in
     let none = none_dropped old e.begun.lawful e.begun.none in
     let stays = late_stays false start old mid new changed objects most blocks frees metadata given l n e in
-    let past = n.past in
-    covered_with false start old mid new changed objects most blocks frees metadata given l n e (second_late_words mid)
-    (end_words mid new e.ends e.wrote.lawful (late_mid false start old mid new changed objects most blocks frees metadata given l n e) e.late_sets 0 0)
-    (omega (arith, first, late, waits, none)) (omega (arith, second, stays, past)) covered
+    let past = n.past in (
+      second_late_words mid,
+      is_commit false start old mid new changed objects most blocks frees metadata given l n e spare (second_late_words mid)
+          (end_words mid new e.ends e.wrote.lawful (late_mid false start old mid new changed objects most blocks frees metadata given l n e) e.late_sets 0 0)
+          (omega (arith, first, late, waits, none)) (omega (arith, second, stays, past)),
+    )
+
+-- room that was set aside is there behind the commit too
+pub kept_with : (reset : Bool) (start old mid new : Space) (changed objects most blocks frees metadata given spare : ℕ) → IsLawful start → AddsNothing reset start old
+    → EndsGroup reset (sizes start changed objects) old mid new most blocks frees metadata given → HasRoom (sizes start changed objects) (room start - spare) → HasRoom (sizes new 0 0) (room new - spare)
+kept_with reset start old mid new changed objects most blocks frees metadata given spare l n e h =
+    commit_keeps _ _ _ _ _ _ _ _ _ _ _ (made reset start old mid new changed objects most blocks frees metadata given spare l n e).1 h
+
+-- the new root's metadata is what was owed for it
+pub metadata_few : (reset : Bool) (start old mid new : Space) (changed objects most blocks frees metadata given : ℕ) → IsLawful start → AddsNothing reset start old
+    → EndsGroup reset (sizes start changed objects) old mid new most blocks frees metadata given → units_of new.meta ≤ metadata_units (sizes start changed objects)
+metadata_few reset start old mid new changed objects most blocks frees metadata given l n e =
+    commit_fits _ _ _ _ _ _ _ _ _ _ _ (made reset start old mid new changed objects most blocks frees metadata given 0 l n e).1
+
+pub keeps_room_later : (reset : Bool) (start old mid new : Space) (changed objects most blocks frees metadata given : ℕ) → IsLawful start → IsCovered start changed objects
+    → AddsNothing reset start old → EndsGroup reset (sizes start changed objects) old mid new most blocks frees metadata given → IsCovered new 0 0
+keeps_room_later reset start old mid new changed objects most blocks frees metadata given l covered n e =
+    let h = (has_room start changed objects l covered).enough in
+    let k = (kept_with reset start old mid new changed objects most blocks frees metadata given 0 l n e (record { enough = omega (arith, h) })).enough in
+    is_covered new 0 0 (e.ends.lawful e.wrote.lawful) (record { enough = omega (arith, k) })
 
 pub keeps_room : (reset : Bool) (old mid new : Space) (changed objects most blocks frees metadata given : ℕ) → IsCovered old changed objects
     → EndsGroup reset (sizes old changed objects) old mid new most blocks frees metadata given → IsCovered new 0 0

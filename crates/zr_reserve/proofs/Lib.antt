@@ -1,3 +1,6 @@
+pub mod Commanded
 pub mod Counted
-pub mod Kept
 pub mod Found
+pub mod Held
+pub mod Kept
+pub mod Stepped

@@ -1,3 +1,4 @@
+pub mod Commands
 pub mod Covered
 pub mod Ends
 pub mod Wrote

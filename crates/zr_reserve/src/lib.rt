@@ -7,5 +7,8 @@
 //! body.
 #![tactic(auto)]
 
+pub mod checkpoints;
+pub mod commands;
 pub mod commits;
 pub mod events;
+pub mod steps;
