@@ -67,7 +67,7 @@ head_less more fewer le =
     tree_units_mono (div_ceil (535 + 17 * fewer.streams) 512) (div_ceil (535 + 17 * more.streams) 512) (omega (arith, a, b, le))
 
 -- what tree blocks add to the words is what was owed for them
-grown : (gone owed most blocks frees : ℕ) → most ≤ gone + 7 → blocks ≤ owed → frees ≤ owed → blocks + frees * most ≤ 2 * (gone + 4) * owed
+pub grown : (gone owed most blocks frees : ℕ) → most ≤ gone + 7 → blocks ≤ owed → frees ≤ owed → blocks + frees * most ≤ 2 * (gone + 4) * owed
 grown gone owed most blocks frees le b f =
     let p = mul-le frees most owed (gone + 7) f le in
     omega (arith, p, b)

@@ -4,3 +4,4 @@ pub mod Found
 pub mod Held
 pub mod Kept
 pub mod Stepped
+pub mod Trees

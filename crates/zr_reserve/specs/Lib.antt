@@ -1,4 +1,5 @@
 pub mod Commands
 pub mod Covered
 pub mod Ends
+pub mod Streams
 pub mod Wrote

@@ -12,3 +12,4 @@ pub mod commands;
 pub mod commits;
 pub mod events;
 pub mod steps;
+pub mod streams;
