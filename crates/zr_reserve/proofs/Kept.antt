@@ -60,7 +60,7 @@ finds_room_later reset start old mid changed objects most blocks frees metadata 
 -- ---- behind it
 
 -- fewer streams take no longer head
-head_less : (more fewer : Sizes) → fewer.streams ≤ more.streams → head_units fewer ≤ head_units more
+pub head_less : (more fewer : Sizes) → fewer.streams ≤ more.streams → head_units fewer ≤ head_units more
 head_less more fewer le =
     let a = parts (535 + 17 * fewer.streams) 512 (omega arith) in
     let b = parts (535 + 17 * more.streams) 512 (omega arith) in

@@ -14,17 +14,21 @@ use Rattle.zr_base.specs.declared.space.Entry.{Entry}
 use Rattle.zr_base.specs.declared.space.Sizes.{Sizes}
 use Rattle.zr_base.specs.Trees.{tree_units}
 use Rattle.zr_owed.proofs.RoomLaws.{log_units, other_units, parts, past_fits, tree_units_mono}
-use Rattle.zr_rules.specs.Columns.{device_streams, device_words, late_meta_units, late1_meta, late2_meta, sizes}
+use Rattle.zr_rules.specs.Columns.{role_count, device_streams, device_words, late_meta_units, late1_meta, late2_meta, sizes}
 use Rattle.zr_rules.specs.Owed.{head_units, metadata_units, set_words, stream_units, tree_blocks, words_to_come}
 use Rattle.zr_rules.specs.Places.{is_gone, is_on, no_part, part_of, state_of_dev}
 use Rattle.zr_rules.specs.Space.{Space, opened_of, IsLawful}
-use Rattle.zr_reckon.proofs.Counting.{by_index, sum_less, sum_both, sum_grows, sum_at, only_at}
+use Rattle.zr_reckon.specs.Base.{device_base, base_words}
+use Rattle.zr_reckon.specs.Uses.{is_dropped_role, dropped_units}
+use Rattle.zr_reckon.proofs.Counting.{by_index, sum_less, sum_both, sum_at, sum_zero, only_at}
+use Rattle.zr_reckon.proofs.MetaTurns.{none_dropped}
 use Rattle.zr_reckon.proofs.Frames.{streams_same, sum_same}
-use Rattle.zr_reserve.specs.Covered.{HasFewMetadata}
-use Rattle.zr_reserve.specs.Streams.{Words, stream_tree, device_trees, AreWordsOf, AreTrees, first_late_words, second_late_words, coming_late_words}
+use Rattle.zr_reserve.specs.Covered.{AddsNothing, HasFewMetadata}
+use Rattle.zr_reserve.specs.Ends.{IsBegun}
+use Rattle.zr_reserve.specs.Streams.{Words, stream_tree, device_trees, AreWordsOf, AreTrees, first_late_words, second_late_words, coming_late_words, no_late_words}
 use Rattle.zr_reserve.specs.Wrote.{Wrote, units_of}
 use Rattle.zr_reserve.proofs.Counted.{same_gone, same_streams}
-use Rattle.zr_reserve.proofs.Kept.{grown}
+use Rattle.zr_reserve.proofs.Kept.{grown, head_less}
 
 -- ---- one stream
 
@@ -212,21 +216,41 @@ owed_metadata s metadata words uncopied late1 late2 grew is a b =
     let x = past_fits (stream_units s) s.past in
     omega (arith, w, x, grew, is, a, b)
 
-pub put_few : (old mid : Space) (changed objects most blocks frees metadata given : ℕ) (given_on : ℕ → ℕ) → Wrote old mid most blocks frees metadata given → IsLawful old
-    → most ≤ (sizes old 0 0).gone + 7 → blocks ≤ tree_blocks (sizes old changed objects) → frees ≤ tree_blocks (sizes old changed objects)
-    → sum_by given_on (range_with_len 0 (length mid.parts.devs)) ≤ (sizes old 0 0).past
-    → AreTrees mid (coming_late_words mid given_on) (first_late_words mid) metadata → metadata ≤ metadata_units (sizes old changed objects)
-put_few old mid changed objects most blocks frees metadata given given_on w l le b f g t =
+pub put_few : (old mid : Space) (changed objects most blocks frees metadata given : ℕ) → IsBegun old → Wrote old mid most blocks frees metadata given
+    → most ≤ (sizes old 0 0).gone + 7 → blocks ≤ tree_blocks (sizes old changed objects) → frees ≤ tree_blocks (sizes old changed objects) → given ≤ (sizes old 0 0).past
+    → AreTrees mid (coming_late_words mid) (first_late_words mid) metadata → metadata ≤ metadata_units (sizes old changed objects)
+put_few old mid changed objects most blocks frees metadata given begun w le b f g t =
     let range = range_with_len 0 (length mid.parts.devs) in
-    let few = trees_few mid (coming_late_words mid given_on) (first_late_words mid) metadata t in
+    let few = trees_few mid (coming_late_words mid) (first_late_words mid) metadata t in
     let first = λ (d : ℕ). late_meta_units (part_of mid.parts.devs d).late1 in
     let a = by_index (λ (p : DevPart). late_meta_units p.late1) mid.parts.devs in
     let stays = sum_same old mid w.devices (λ d. (w.each d).row) (λ (p : DevPart). late_meta_units p.late1) (λ d. ap late_meta_units (w.each d).late1) in
-    let sums = three_sums (λ (d : ℕ). device_anew mid d + 4 * entries_on mid d) (coming_late_words mid given_on) (first_late_words mid) (device_words mid) given_on first range (λ d. omega arith) in
+    let sums = three_sums (λ (d : ℕ). device_anew mid d + 4 * entries_on mid d) (coming_late_words mid) (first_late_words mid) (device_words mid) (role_count mid is_dropped_role) first range (λ d. omega arith) in
     let streams = same_streams old mid most blocks frees metadata given w in
     let head = ap (λ (n : ℕ). tree_units (div_ceil (535 + 17 * n) 512)) streams in
     let words = w.words in
     let uncopied = w.uncopied in
+    let waits = w.waits in
+    let none = none_dropped old begun.lawful begun.none in
     let tree = grown (sizes old 0 0).gone (tree_blocks (sizes old changed objects)) most blocks frees le b f in
-    owed_metadata (sizes old changed objects) metadata (sizes mid 0 0).words (sizes mid 0 0).uncopied (sum_by given_on range) (late1_meta mid.parts.devs)
-    (omega (arith, words, uncopied, tree)) (omega (arith, few, sums, a, streams, head)) g (omega (arith, stays))
+    owed_metadata (sizes old changed objects) metadata (sizes mid 0 0).words (sizes mid 0 0).uncopied (dropped_units mid) (late1_meta mid.parts.devs)
+    (omega (arith, words, uncopied, tree)) (omega (arith, few, sums, a, streams, head)) (omega (arith, waits, none, g)) (omega (arith, stays))
+
+pub put_few_reset : (start old mid : Space) (changed objects most blocks frees metadata given : ℕ) → AddsNothing true start old → Wrote old mid most blocks frees metadata given
+    → most ≤ (sizes start 0 0).gone + 7 → blocks ≤ tree_blocks (sizes start changed objects) → frees ≤ tree_blocks (sizes start changed objects)
+    → AreTrees mid no_late_words no_late_words metadata → metadata ≤ metadata_units (sizes start changed objects)
+put_few_reset start old mid changed objects most blocks frees metadata given n w le b f t =
+    let range = range_with_len 0 (length mid.parts.devs) in
+    let few = trees_few mid no_late_words no_late_words metadata t in
+    let none = sum_zero range in
+    let sums = sum_less (λ (d : ℕ). device_anew mid d + 4 * entries_on mid d) (device_base mid) range (λ d. omega arith) in
+    let streams = same_streams old mid most blocks frees metadata given w in
+    let fewer = n.streams in
+    let head = head_less (sizes start changed objects) (sizes mid 0 0) (omega (arith, streams, fewer)) in
+    let base = w.base in
+    let words = n.words in
+    let u1 = w.uncopied in
+    let u2 = n.uncopied in
+    let tree = grown (sizes start 0 0).gone (tree_blocks (sizes start changed objects)) most blocks frees le b f in
+    owed_metadata (sizes start changed objects) metadata (base_words mid) (sizes mid 0 0).uncopied 0 0
+    (omega (arith, base, words, u1, u2, tree)) (omega (arith, few, none, sums, streams, fewer, head)) (omega arith) (omega arith)

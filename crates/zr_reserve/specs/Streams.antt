@@ -4,11 +4,11 @@ use Rattle.std.specs.Int.{div_ceil}
 use Rattle.std.specs.List.{range_with_len}
 use Rattle.zr_base.specs.declared.space.DevState.{DevState}
 use Rattle.zr_base.specs.Trees.{tree_units}
-use Rattle.zr_rules.specs.Columns.{late_blocks, late_meta_units, sizes}
+use Rattle.zr_rules.specs.Columns.{late_blocks, late_meta_units, role_count, sizes}
 use Rattle.zr_rules.specs.Owed.{head_units, set_words}
 use Rattle.zr_rules.specs.Places.{is_gone, is_on, part_of, state_of_dev}
 use Rattle.zr_rules.specs.Space.{Space, opened_of}
-use Rattle.zr_reckon.specs.Uses.{dropped_units}
+use Rattle.zr_reckon.specs.Uses.{is_dropped_role}
 
 -- how many words stand in each stream of a device
 pub record Words : Type 0 where
@@ -56,6 +56,9 @@ first_late_words s d = set_words s.parts.version (late_blocks (part_of s.parts.d
 abbrev pub second_late_words : Space → ℕ → ℕ
 second_late_words s d = set_words s.parts.version (late_blocks (part_of s.parts.devs d).late2) + late_meta_units (part_of s.parts.devs d).late2
 
--- The same of what the open group has freed and given back so far, which will be the first late set.
-abbrev pub coming_late_words : Space → (ℕ → ℕ) → ℕ → ℕ
-coming_late_words s given d = set_words s.parts.version (opened_of s d).deferred + given d
+-- the same of what the open group has freed and given back so far, which will be the first late set
+abbrev pub coming_late_words : Space → ℕ → ℕ
+coming_late_words s d = set_words s.parts.version (opened_of s d).deferred + role_count s is_dropped_role d
+
+abbrev pub no_late_words : ℕ → ℕ
+no_late_words d = 0

@@ -31,8 +31,9 @@ pub fn a_device_more_keeps_the_room()
 {}
 
 /// The end of a removal adds nothing that the next root has to hold, and giving one up nothing that a reset keeps. So the
-/// commit that follows finds room, where what is owed was covered before.
+/// commit that follows finds room, where what is owed was covered before. Where nothing happens nothing is added.
 pub fn a_removal_s_end_adds_nothing()
+    ensures none { (reset : Bool) (s : Space) → AddsNothing reset s s }
     ensures done { (reset : Bool) (old new : Space) (d txg : ℕ) → Finishes old new d txg → IsLawful old → HasLateSets old → HasLateSets new
         → is_leaving (state_of_dev old.parts.devs d) ≡ true → AddsNothing reset old new }
     ensures given_up { (old new : Space) (d : ℕ) → Cancels old new d → IsLawful old → LeavesAlone old d → AddsNothing true old new }
