@@ -144,7 +144,7 @@ copy_run : (s : Space) (m : Dva) → IsWholeCopy s m → (e v : ℕ) → in_addr
 copy_run s m (inl all) = run_of s is_copy_role m FreshCopy refl all
 copy_run s m (inr all) = run_of s is_copy_role m Copy refl all
 
-live_there : (s : Space) (d u : ℕ) → is_live_role (role_at s d u) ≡ true → has_place s d u ≡ true
+pub live_there : (s : Space) (d u : ℕ) → is_live_role (role_at s d u) ≡ true → has_place s d u ≡ true
 live_there s d u is = by_test (has_place s d u) refl
   where
     by_test : (b : Bool) → has_place s d u ≡ b → b ≡ true

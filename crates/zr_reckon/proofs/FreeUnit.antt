@@ -35,13 +35,13 @@ none_after s n low (e ∷ es) one above rising = by_test (meets s n e) refl (non
     by_test false is r = rw is r
 
 -- the runs are one unit, on a device to which that mapping may lead
-record IsUnit (ds : Devices) (d : ℕ) (runs : List Dva) : Type 0 where
+pub record IsUnit (ds : Devices) (d : ℕ) (runs : List Dva) : Type 0 where
   pub run : Dva
   pub is : runs ≡ run ∷ []
   pub len : run.len ≡ 1
   pub leads : MayLeadTo ds d run.dev
 
-one_part : (ds : Devices) (d s n low : ℕ) (es : List Entry) → n ≡ 1 → IsRisingFrom low es → All (IsDestination ds d) es → (parts_of s n es ≡ []) ⊎ IsUnit ds d (parts_of s n es)
+pub one_part : (ds : Devices) (d s n low : ℕ) (es : List Entry) → n ≡ 1 → IsRisingFrom low es → All (IsDestination ds d) es → (parts_of s n es ≡ []) ⊎ IsUnit ds d (parts_of s n es)
 one_part ds d s n low [] one rising all = inl refl
 one_part ds d s n low (e ∷ es) one rising all =
     by_test (meets s n e) refl (one_part ds d s n (e.src + e.len) es one rising.2 (All-tail (IsDestination ds d) e es all))
@@ -60,13 +60,13 @@ one_part ds d s n low (e ∷ es) one rising all =
 -- ---- what is there, and its copy
 
 -- where a unit leads is one unit, or nothing
-record IsEnd (runs : List Dva) : Type 0 where
+pub record IsEnd (runs : List Dva) : Type 0 where
   pub run : Dva
   pub is : runs ≡ run ∷ []
   pub len : run.len ≡ 1
 
 module _ (ds : Devices) (rising : (d : ℕ) → IsRisingFrom 0 (ds.entries d)) (ranked : IsRanked ds) where
-  one_end : (hops d s n : ℕ) → n ≡ 1 → (ends hops ds d s n ≡ []) ⊎ IsEnd (ends hops ds d s n)
+  pub one_end : (hops d s n : ℕ) → n ≡ 1 → (ends hops ds d s n ≡ []) ⊎ IsEnd (ends hops ds d s n)
   one_end zero d s n one = inl refl
   one_end (suc hops) d s n one = by_state (is_gone (state_at ds d)) refl (λ (m : Dva). one_end hops m.dev m.start m.len)
     where

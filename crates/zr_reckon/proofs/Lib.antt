@@ -32,3 +32,4 @@ pub mod Runs
 pub mod SetWords
 pub mod Turned
 pub mod Uncopied
+pub mod UnitInUse
