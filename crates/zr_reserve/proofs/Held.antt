@@ -9,12 +9,12 @@ use Rattle.zr_rules.specs.Steps.{HoldsCheckpoint}
 use Rattle.zr_reckon.proofs.Checkpointed.{hold_words, hold_room, hold_past, hold_others}
 use Rattle.zr_reckon.proofs.RoomUnits.{room_is}
 use Rattle.zr_reserve.specs.Covered.{IsCovered}
-use Rattle.zr_reserve.specs.Ends.{EndsGroup}
+use Rattle.zr_reserve.specs.Commits.{CommitsWithin}
 use Rattle.zr_reserve.proofs.Kept.{is_covered, kept_with, metadata_few, nothing_added}
 
 pub checkpoint_covered : (reset : Bool) (old mid new held : Space) (changed objects most blocks frees metadata given txg : ℕ)
     → owed (sizes old changed objects) + metadata_units (sizes old changed objects) ≤ free_units old
-    → EndsGroup reset (sizes old changed objects) old mid new most blocks frees metadata given → HoldsCheckpoint new held txg → IsCovered held 0 0
+    → CommitsWithin reset (sizes old changed objects) old mid new most blocks frees metadata given → HoldsCheckpoint new held txg → IsCovered held 0 0
 checkpoint_covered reset old mid new held changed objects most blocks frees metadata given txg enough e c =
     let l = e.begun.lawful in
     let n = e.ends.lawful e.wrote.lawful in

@@ -20,7 +20,7 @@ use Rattle.zr_reckon.proofs.GroupRoom.{begin_room, ended_room}
 use Rattle.zr_reckon.proofs.MetaTurns.{none_dropped}
 use Rattle.zr_reckon.proofs.RoomUnits.{room_is, turning_most}
 use Rattle.zr_reserve.specs.Covered.{AddsNothing, IsCovered, words_ahead}
-use Rattle.zr_reserve.specs.Ends.{EndsGroup}
+use Rattle.zr_reserve.specs.Commits.{CommitsWithin}
 use Rattle.zr_reserve.specs.Wrote.{Wrote, units_of}
 use Rattle.zr_reserve.proofs.Counted.{same_streams}
 
@@ -45,17 +45,24 @@ finds_room old mid changed objects most blocks frees metadata given covered w b 
     let f = w.free in
     omega (arith, t, f, b, m)
 
-pub finds_room_later : (reset : Bool) (start old mid : Space) (changed objects most blocks frees metadata given : ℕ) → IsLawful start → IsCovered start changed objects
+pub room_left_later : (reset : Bool) (start old mid : Space) (changed objects most blocks frees metadata given : ℕ) → IsLawful start → IsCovered start changed objects
     → AddsNothing reset start old → IsLawful old → Wrote old mid most blocks frees metadata given
-    → blocks ≤ tree_blocks (sizes start changed objects) → metadata ≤ metadata_units (sizes start changed objects) → 0 < free_units mid
-finds_room_later reset start old mid changed objects most blocks frees metadata given l covered n k w b m =
+    → tree_blocks (sizes start changed objects) + (sizes start changed objects).uncopied + 3 * metadata_units (sizes start changed objects) ≤ free_units mid + blocks + metadata
+room_left_later reset start old mid changed objects most blocks frees metadata given l covered n k w =
     let e = (has_room start changed objects l covered).enough in
     let r = n.room in
     let i = room_is old k 0 0 in
     let t = turning_most old 0 0 in
     let p = n.past in
     let f = w.free in
-    omega (arith, e, r, i, t, p, f, b, m)
+    omega (arith, e, r, i, t, p, f)
+
+pub finds_room_later : (reset : Bool) (start old mid : Space) (changed objects most blocks frees metadata given : ℕ) → IsLawful start → IsCovered start changed objects
+    → AddsNothing reset start old → IsLawful old → Wrote old mid most blocks frees metadata given
+    → blocks ≤ tree_blocks (sizes start changed objects) → metadata ≤ metadata_units (sizes start changed objects) → 0 < free_units mid
+finds_room_later reset start old mid changed objects most blocks frees metadata given l covered n k w b m =
+    let left = room_left_later reset start old mid changed objects most blocks frees metadata given l covered n k w in
+    omega (arith, left, b, m)
 
 -- ---- behind it
 
@@ -79,7 +86,7 @@ nothing_added reset s = record { words = by_kind reset; streams = omega arith; u
     by_kind true = let w = words_split s 0 0 in omega (arith, w)
     by_kind false = omega arith
 
-module _ (reset : Bool) (start old mid new : Space) (changed objects most blocks frees metadata given : ℕ) (l : IsLawful start) (n : AddsNothing reset start old) (e : EndsGroup reset (sizes start changed objects) old mid new most blocks frees metadata given) where
+module _ (reset : Bool) (start old mid new : Space) (changed objects most blocks frees metadata given : ℕ) (l : IsLawful start) (n : AddsNothing reset start old) (e : CommitsWithin reset (sizes start changed objects) old mid new most blocks frees metadata given) where
   abbrev before : Sizes
   before = sizes start changed objects
 
@@ -158,7 +165,7 @@ IsMade reset start mid new changed objects blocks spare =
     (dropped : ℕ) × IsCommit (sizes start changed objects) (sizes new 0 0) (room start - spare) (room new - spare) blocks (words_ahead reset mid) (sizes mid 0 0).uncopied (units_of new.meta) dropped (late1_meta new.parts.devs) (late2_meta new.parts.devs)
 
 made : (reset : Bool) (start old mid new : Space) (changed objects most blocks frees metadata given spare : ℕ) → IsLawful start → AddsNothing reset start old
-    → EndsGroup reset (sizes start changed objects) old mid new most blocks frees metadata given → IsMade reset start mid new changed objects blocks spare
+    → CommitsWithin reset (sizes start changed objects) old mid new most blocks frees metadata given → IsMade reset start mid new changed objects blocks spare
 made true start old mid new changed objects most blocks frees metadata given spare l n e =
     let none = end_none mid new e.ends e.wrote.lawful in
     let base = reset_base mid new 0 0 e.ends e.wrote.lawful e.late_sets in
@@ -179,24 +186,24 @@ made false start old mid new changed objects most blocks frees metadata given sp
 
 -- room that was set aside is there behind the commit too
 pub kept_with : (reset : Bool) (start old mid new : Space) (changed objects most blocks frees metadata given spare : ℕ) → IsLawful start → AddsNothing reset start old
-    → EndsGroup reset (sizes start changed objects) old mid new most blocks frees metadata given → HasRoom (sizes start changed objects) (room start - spare) → HasRoom (sizes new 0 0) (room new - spare)
+    → CommitsWithin reset (sizes start changed objects) old mid new most blocks frees metadata given → HasRoom (sizes start changed objects) (room start - spare) → HasRoom (sizes new 0 0) (room new - spare)
 kept_with reset start old mid new changed objects most blocks frees metadata given spare l n e h =
     commit_keeps _ _ _ _ _ _ _ _ _ _ _ (made reset start old mid new changed objects most blocks frees metadata given spare l n e).1 h
 
 -- the new root's metadata is what was owed for it
 pub metadata_few : (reset : Bool) (start old mid new : Space) (changed objects most blocks frees metadata given : ℕ) → IsLawful start → AddsNothing reset start old
-    → EndsGroup reset (sizes start changed objects) old mid new most blocks frees metadata given → units_of new.meta ≤ metadata_units (sizes start changed objects)
+    → CommitsWithin reset (sizes start changed objects) old mid new most blocks frees metadata given → units_of new.meta ≤ metadata_units (sizes start changed objects)
 metadata_few reset start old mid new changed objects most blocks frees metadata given l n e =
     commit_fits _ _ _ _ _ _ _ _ _ _ _ (made reset start old mid new changed objects most blocks frees metadata given 0 l n e).1
 
 pub keeps_room_later : (reset : Bool) (start old mid new : Space) (changed objects most blocks frees metadata given : ℕ) → IsLawful start → IsCovered start changed objects
-    → AddsNothing reset start old → EndsGroup reset (sizes start changed objects) old mid new most blocks frees metadata given → IsCovered new 0 0
+    → AddsNothing reset start old → CommitsWithin reset (sizes start changed objects) old mid new most blocks frees metadata given → IsCovered new 0 0
 keeps_room_later reset start old mid new changed objects most blocks frees metadata given l covered n e =
     let h = (has_room start changed objects l covered).enough in
     let k = (kept_with reset start old mid new changed objects most blocks frees metadata given 0 l n e (record { enough = omega (arith, h) })).enough in
     is_covered new 0 0 (e.ends.lawful e.wrote.lawful) (record { enough = omega (arith, k) })
 
 pub keeps_room : (reset : Bool) (old mid new : Space) (changed objects most blocks frees metadata given : ℕ) → IsCovered old changed objects
-    → EndsGroup reset (sizes old changed objects) old mid new most blocks frees metadata given → IsCovered new 0 0
+    → CommitsWithin reset (sizes old changed objects) old mid new most blocks frees metadata given → IsCovered new 0 0
 keeps_room reset old mid new changed objects most blocks frees metadata given covered e =
     keeps_room_later reset old old mid new changed objects most blocks frees metadata given e.begun.lawful covered (nothing_added reset old) e

@@ -1,33 +1,30 @@
 -- The units of the trees of streams, by their words.
-use Rattle.std.proofs.Common.{◌≡◌, ℕ, zero, suc, ◌+◌, ◌*◌, ◌<◌, ◌≤◌, ◌==◌, Bool, true, false, List, [], ◌∷◌, length, refl, ◌∙◌, sym, ap, arith, if◌then◌else◌, ⊎_elim}
+use Rattle.std.proofs.Common.{◌≡◌, ℕ, zero, suc, ◌+◌, ◌*◌, ◌<◌, ◌≤◌, ◌==◌, Bool, true, false, List, [], ◌∷◌, length, refl, ap, arith, ⊎_elim}
 use Rattle.std.specs.Int.{div_ceil}
 use Rattle.std.specs.List.{sum_by, range_with_len}
 use Rattle.std.proofs.lemmas.Bool.{cases_eq, cases_lt}
 use Rattle.std.proofs.lemmas.Bool.Decides.{nat_tests}
 use Rattle.std.proofs.lemmas.List.Sums.{sum_by-cons}
-use Rattle.std.proofs.lemmas.Nat.{mul-le}
 use Rattle.zr_base.specs.declared.space.DevPart.{DevPart}
-use Rattle.zr_base.specs.declared.space.DevRow.{DevRow}
 use Rattle.zr_base.specs.declared.space.DevState.{DevState}
 use Rattle.zr_base.specs.declared.space.DevState.TheVariants.{On, Leaving, Gone}
-use Rattle.zr_base.specs.declared.space.Entry.{Entry}
 use Rattle.zr_base.specs.declared.space.Sizes.{Sizes}
 use Rattle.zr_base.specs.Trees.{tree_units}
 use Rattle.zr_owed.proofs.RoomLaws.{log_units, other_units, parts, past_fits, tree_units_mono}
-use Rattle.zr_rules.specs.Columns.{role_count, device_streams, device_words, late_meta_units, late1_meta, late2_meta, sizes}
+use Rattle.zr_rules.specs.Columns.{role_count, device_streams, device_words, late_meta_units, late1_meta, sizes}
 use Rattle.zr_rules.specs.Owed.{head_units, metadata_units, set_words, stream_units, tree_blocks, words_to_come}
 use Rattle.zr_rules.specs.Places.{is_gone, is_on, no_part, part_of, state_of_dev}
-use Rattle.zr_rules.specs.Space.{Space, opened_of, IsLawful}
+use Rattle.zr_rules.specs.Space.{Space}
 use Rattle.zr_reckon.specs.Base.{device_base, base_words}
 use Rattle.zr_reckon.specs.Uses.{is_dropped_role, dropped_units}
 use Rattle.zr_reckon.proofs.Counting.{by_index, sum_less, sum_both, sum_at, sum_zero, only_at}
 use Rattle.zr_reckon.proofs.MetaTurns.{none_dropped}
-use Rattle.zr_reckon.proofs.Frames.{streams_same, sum_same}
+use Rattle.zr_reckon.proofs.Frames.{sum_same}
 use Rattle.zr_reserve.specs.Covered.{AddsNothing, HasFewMetadata}
-use Rattle.zr_reserve.specs.Ends.{IsBegun}
+use Rattle.zr_reserve.specs.Commits.{IsBegun}
 use Rattle.zr_reserve.specs.Streams.{Words, stream_tree, device_trees, AreWordsOf, AreTrees, first_late_words, second_late_words, coming_late_words, no_late_words}
 use Rattle.zr_reserve.specs.Wrote.{Wrote, units_of}
-use Rattle.zr_reserve.proofs.Counted.{same_gone, same_streams}
+use Rattle.zr_reserve.proofs.Counted.{same_streams}
 use Rattle.zr_reserve.proofs.Kept.{grown, head_less}
 
 -- ---- one stream

@@ -1,5 +1,5 @@
 pub mod Commands
+pub mod Commits
 pub mod Covered
-pub mod Ends
 pub mod Streams
 pub mod Wrote

@@ -1,8 +1,7 @@
 -- The streams of a root, and the units that their trees take.
-use Rattle.std.specs.Prelude.{◌≡◌, ℕ, ◌+◌, ◌*◌, ◌≤◌, ◌==◌, Bool, true, if◌then◌else◌, length, sum_by}
+use Rattle.std.specs.Prelude.{◌≡◌, ℕ, ◌+◌, ◌*◌, ◌≤◌, ◌==◌, true, if◌then◌else◌, length, sum_by}
 use Rattle.std.specs.Int.{div_ceil}
 use Rattle.std.specs.List.{range_with_len}
-use Rattle.zr_base.specs.declared.space.DevState.{DevState}
 use Rattle.zr_base.specs.Trees.{tree_units}
 use Rattle.zr_rules.specs.Columns.{late_blocks, late_meta_units, role_count, sizes}
 use Rattle.zr_rules.specs.Owed.{head_units, set_words}

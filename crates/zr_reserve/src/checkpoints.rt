@@ -1,7 +1,7 @@
 //! That a checkpoint leaves room for what is owed.
 ghost use Rattle.std.specs.Prelude.{ℕ, ◌+◌, ◌≤◌, Bool};
 ghost use Rattle.zr_reserve.specs.Covered.{IsCovered};
-ghost use Rattle.zr_reserve.specs.Ends.{EndsGroup};
+ghost use Rattle.zr_reserve.specs.Commits.{CommitsWithin};
 ghost use Rattle.zr_rules.specs.Columns.{free_units, sizes};
 ghost use Rattle.zr_rules.specs.Owed.{metadata_units, owed};
 ghost use Rattle.zr_rules.specs.Space.{Space};
@@ -12,5 +12,5 @@ ghost use Rattle.zr_rules.specs.Steps.{HoldsCheckpoint};
 pub fn a_checkpoint_leaves_the_room()
     ensures { (reset : Bool) (old mid new held : Space) (changed objects most blocks frees metadata given txg : ℕ)
         → owed (sizes old changed objects) + metadata_units (sizes old changed objects) ≤ free_units old
-        → EndsGroup reset (sizes old changed objects) old mid new most blocks frees metadata given → HoldsCheckpoint new held txg → IsCovered held 0 0 }
+        → CommitsWithin reset (sizes old changed objects) old mid new most blocks frees metadata given → HoldsCheckpoint new held txg → IsCovered held 0 0 }
 {}

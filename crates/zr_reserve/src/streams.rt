@@ -1,7 +1,7 @@
 //! That the metadata of a root is what its streams take.
 ghost use Rattle.std.specs.Prelude.{ℕ, ◌+◌, ◌≤◌, true};
 ghost use Rattle.zr_reserve.specs.Covered.{AddsNothing, HasFewMetadata};
-ghost use Rattle.zr_reserve.specs.Ends.{IsBegun};
+ghost use Rattle.zr_reserve.specs.Commits.{IsBegun};
 ghost use Rattle.zr_reserve.specs.Streams.{AreTrees, coming_late_words, first_late_words, no_late_words, second_late_words};
 ghost use Rattle.zr_reserve.specs.Wrote.{Wrote, units_of};
 ghost use Rattle.zr_rules.specs.Columns.{sizes};

@@ -16,7 +16,7 @@ pub record IsBegun (s : Space) : Type 0 where
 
 -- A group is committed for which this is owed. No more tree blocks are put than its changes take, and no more are freed; of metadata no more is given back than the
 -- last roots have, and the new root's is what its streams take.
-pub record EndsGroup (reset : Bool) (owed : Sizes) (old mid new : Space) (most blocks frees metadata given : ℕ) : Type 0 where
+pub record CommitsWithin (reset : Bool) (owed : Sizes) (old mid new : Space) (most blocks frees metadata given : ℕ) : Type 0 where
   pub begun : IsBegun old
   pub wrote : Wrote old mid most blocks frees metadata given
   pub words_of_a_free : most ≤ owed.gone + 7
