@@ -1,10 +1,11 @@
 -- A removal is given up, and the counts behind that.
-use Rattle.std.proofs.Common.{◌≡◌, ◌≢◌, ℕ, ◌+◌, ◌*◌, ◌<◌, ◌≤◌, Bool, true, false, not, ◌&&◌, ◌==◌, nat_lt, List, [], ◌∷◌, length, refl, ◌∙◌, sym, ap, arith, if◌then◌else◌, ⊎_elim}
+use Rattle.std.proofs.Common.{◌≡◌, ◌≢◌, ℕ, ◌+◌, ◌*◌, ◌<◌, ◌≤◌, Bool, true, false, not, ◌&&◌, ◌==◌, nat_lt, max, List, [], ◌∷◌, length, refl, ◌∙◌, sym, ap, ap₂, arith, if◌then◌else◌, ⊎_elim}
 use Rattle.std.specs.List.{sum_by, range_with_len, list_any}
 use Rattle.std.proofs.lemmas.Bool.{cases_eq}
 use Rattle.std.proofs.lemmas.Bool.Decides.{nat_tests}
 use Rattle.std.proofs.lemmas.List.Sums.{sum_by-cons}
 use Rattle.zr_base.specs.declared.space.Extent.{Extent}
+use Rattle.zr_base.specs.declared.space.Dva.{Dva}
 use Rattle.zr_base.specs.declared.space.Entry.{Entry}
 use Rattle.zr_base.specs.declared.space.DevPart.{DevPart}
 use Rattle.zr_base.specs.declared.space.DevRow.{DevRow}
@@ -16,12 +17,14 @@ use Rattle.zr_rules.specs.Places.{one_if, count_below, is_on, is_leaving, is_hel
 use Rattle.zr_rules.specs.Roles.{Role, given_up, is_copy_role, is_held_role, is_kept_role}
 use Rattle.zr_rules.specs.Roles.Role.{Absent, Free, FreshLive, Live, FreshCopy, Copy, Kept, DeferredBlock, DeferredMeta, Late1Block, Late1Meta, Late2Block, Late2Meta, Meta, SavedMeta}
 use Rattle.zr_rules.specs.Space.{Space, is_born, role_at, held_role, has_place, copy_hits, is_copy_by, IsLawful}
-use Rattle.zr_rules.specs.Columns.{role_count, device_streams, sizes}
+use Rattle.zr_rules.specs.Columns.{role_count, device_streams, late_meta_units, late1_meta, late2_meta, sizes}
 use Rattle.zr_rules.specs.Steps.{Cancels}
 use Rattle.zr_reckon.specs.Base.{device_base, base_words, LeavesAlone}
 use Rattle.zr_reckon.specs.Uses.{is_room_role, room}
+use Rattle.zr_reckon.proofs.Bits.{is_late1_meta, is_late2_meta}
+use Rattle.zr_reckon.proofs.Lates.{late1_count, late2_count}
 use Rattle.zr_reckon.proofs.RoleSets.{held_is, kept_is}
-use Rattle.zr_reckon.proofs.Counting.{count_more, sum_as, sum_grows, sum_less, sum_both, sum_passing, sum_at, sum_at_most, only_at, by_index, sum_zero}
+use Rattle.zr_reckon.proofs.Counting.{count_as, count_more, sum_as, sum_grows, sum_less, sum_both, sum_passing, sum_at, sum_at_most, only_at, by_index, sum_zero}
 use Rattle.zr_reckon.proofs.Frames.{words_same, kept_same, fresh_same}
 use Rattle.zr_reckon.proofs.Uncopied.{leaving_known}
 use Rattle.zr_reckon.proofs.Elsewhere.{is_leaving_state, left_of, state_away, state_sum, units_stay}
@@ -96,6 +99,40 @@ held_copy s e u none = rw none (both (nat_lt 0 (copy_hits s.parts.devs e u)) (is
     both true false = refl
     both false true = refl
     both false false = refl
+
+given_late1_meta : (r : Role) → is_late1_meta (given_up r) ≡ is_late1_meta r
+given_late1_meta Absent = refl
+given_late1_meta Free = refl
+given_late1_meta FreshLive = refl
+given_late1_meta Live = refl
+given_late1_meta FreshCopy = refl
+given_late1_meta Copy = refl
+given_late1_meta Kept = refl
+given_late1_meta DeferredBlock = refl
+given_late1_meta DeferredMeta = refl
+given_late1_meta Late1Block = refl
+given_late1_meta Late1Meta = refl
+given_late1_meta Late2Block = refl
+given_late1_meta Late2Meta = refl
+given_late1_meta Meta = refl
+given_late1_meta SavedMeta = refl
+
+given_late2_meta : (r : Role) → is_late2_meta (given_up r) ≡ is_late2_meta r
+given_late2_meta Absent = refl
+given_late2_meta Free = refl
+given_late2_meta FreshLive = refl
+given_late2_meta Live = refl
+given_late2_meta FreshCopy = refl
+given_late2_meta Copy = refl
+given_late2_meta Kept = refl
+given_late2_meta DeferredBlock = refl
+given_late2_meta DeferredMeta = refl
+given_late2_meta Late1Block = refl
+given_late2_meta Late1Meta = refl
+given_late2_meta Late2Block = refl
+given_late2_meta Late2Meta = refl
+given_late2_meta Meta = refl
+given_late2_meta SavedMeta = refl
 
 module _ (s : Space) (l : IsLawful s) (e u : ℕ) where
   held_there : is_held s.parts.devs e u ≡ true → has_place s e u ≡ true
@@ -297,3 +334,21 @@ module _ (old new : Space) (d : ℕ) (c : Cancels old new d) (l : IsLawful old) 
           by_state : (b : Bool) → is_leaving (state_of_dev old.parts.devs e) ≡ b → is_leaving (state_of_dev new.parts.devs e) ≡ is_leaving (state_of_dev old.parts.devs e) → e ≢ d → left_of new e ≡ 0
           by_state true is now away = absurd (away (a.alone e is))
           by_state false is now away = rw now rw is refl
+
+  kind_stays : (kind : Role → Bool) → ((r : Role) → kind (given_up r) ≡ kind r) → (e : ℕ) → role_count new kind e ≡ role_count old kind e
+  kind_stays kind is e =
+      ap (λ (k : ℕ). count_below k (λ u. kind (role_at new e u))) (units e)
+      ∙ count_as (units_of_dev old.parts.devs e) (λ u. kind (role_at new e u)) (λ u. kind (role_at old e u)) (λ u lt. ap kind (c.roles e u) ∙ is (role_at old e u))
+
+  pub cancel_past : (blocks objects : ℕ) → (sizes new blocks objects).past ≡ (sizes old blocks objects).past
+  cancel_past blocks objects =
+      let x : sum_by (λ (y : Dva). y.len) new.meta ≡ sum_by (λ (y : Dva). y.len) old.meta = ap (sum_by (λ (y : Dva). y.len)) c.elsewhere.meta in
+      let y : late1_meta new.parts.devs ≡ late1_meta old.parts.devs = metas (λ p. late_meta_units p.late1) (λ e. late1_count new e m ∙ (kind_stays is_late1_meta given_late1_meta e ∙ sym (late1_count old e l))) in
+      let z : late2_meta new.parts.devs ≡ late2_meta old.parts.devs = metas (λ p. late_meta_units p.late2) (λ e. late2_count new e m ∙ (kind_stays is_late2_meta given_late2_meta e ∙ sym (late2_count old e l))) in
+      ap₂ max x (ap₂ max y z)
+    where
+      metas : (g : DevPart → ℕ) → ((e : ℕ) → g (part_of new.parts.devs e) ≡ g (part_of old.parts.devs e)) → sum_by g new.parts.devs ≡ sum_by g old.parts.devs
+      metas g is =
+          by_index g new.parts.devs
+          ∙ (sum_as (λ (e : ℕ). g (part_of new.parts.devs e)) (λ (e : ℕ). g (part_of old.parts.devs e)) (range_with_len 0 (length new.parts.devs)) is
+          ∙ (ap (λ (n : ℕ). sum_by (λ (e : ℕ). g (part_of old.parts.devs e)) (range_with_len 0 n)) count ∙ sym (by_index g old.parts.devs)))

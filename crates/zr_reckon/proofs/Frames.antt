@@ -20,6 +20,7 @@ use Rattle.zr_rules.specs.Columns.{role_count, on_devices, units_from, uncopied_
 use Rattle.zr_rules.specs.Frees.{IsSamePart, IsSameFrame}
 use Rattle.zr_reckon.proofs.Bits.{is_deferred_block}
 use Rattle.zr_reckon.proofs.RoleSets.{held_is, kept_is, deferred_is}
+use Rattle.zr_reckon.specs.Base.{device_base}
 use Rattle.zr_reckon.specs.Uses.{is_room_role, room}
 use Rattle.zr_reckon.proofs.Counting.{count_as, count_more, sum_less, sum_passing, by_index}
 
@@ -58,6 +59,20 @@ words_move old new d version p =
     let late1 = words_same w v _ _ version (ap late_blocks p.late1) in
     let late2 = words_same w v _ _ version (ap late_blocks p.late2) in
     omega (arith, held, kept, fresh, deferred, entries, late1, late2)
+
+-- the same of what a reset keeps
+abbrev pub lasting_words : ℕ → Space → ℕ → ℕ
+lasting_words v s d = set_words v (part_of s.parts.devs d).held + 3 * set_words v (part_of s.parts.devs d).kept + set_words v (part_of s.parts.devs d).fresh
+
+pub base_moves : (old new : Space) (d : ℕ) → new.parts.version ≡ old.parts.version → IsSamePart (part_of old.parts.devs d) (part_of new.parts.devs d) → device_base new d + lasting_words old.parts.version old d ≡ device_base old d + lasting_words old.parts.version new d
+base_moves old new d version p =
+    let v = old.parts.version in
+    let w = new.parts.version in
+    let held = words_same w v (part_of new.parts.devs d).held _ version refl in
+    let kept = words_same w v (part_of new.parts.devs d).kept _ version refl in
+    let fresh = words_same w v (part_of new.parts.devs d).fresh _ version refl in
+    let entries = ap (λ (es : List Entry). length es) p.entries in
+    omega (arith, held, kept, fresh, entries)
 
 -- ---- the other counts
 

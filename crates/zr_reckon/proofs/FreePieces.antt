@@ -23,12 +23,13 @@ use Rattle.zr_rules.specs.Columns.{device_words, units_from, late_meta_units, la
 use Rattle.zr_rules.specs.Frees.{Frees, in_any, keeps, is_copy_of, freed_role}
 use Rattle.zr_rules.specs.Steps.{touch}
 use Rattle.zr_reckon.specs.Uses.{is_room_role, room, AllAre, IsWhole}
+use Rattle.zr_reckon.specs.Base.{device_base, base_words}
 use Rattle.zr_reckon.specs.Pieces.{ends_of, copies_of, IsWholeCopy, IsFreeable}
 use Rattle.zr_reckon.proofs.Bits.{is_deferred_block}
 use Rattle.zr_reckon.proofs.RoleSets.{held_is, kept_is, deferred_is}
 use Rattle.zr_reckon.proofs.MoreSets.{all_come, all_go, has_append}
-use Rattle.zr_reckon.proofs.Counting.{sum_grows, sum_less}
-use Rattle.zr_reckon.proofs.Frames.{words_move, kept_same, room_grows, sized, streams_same, gone_same, sum_same, on_sum_same, on_same}
+use Rattle.zr_reckon.proofs.Counting.{sum_as, sum_grows, sum_less, sum_zero}
+use Rattle.zr_reckon.proofs.Frames.{words_move, base_moves, kept_same, room_grows, sized, streams_same, gone_same, sum_same, on_sum_same, on_same}
 use Rattle.zr_reckon.proofs.Placed.{beyond}
 use Rattle.zr_reckon.proofs.FreedKinds.{is_old_live, is_new_live, is_old_copy, live_held, freed_live_held, freed_copy_held, kept_live_held, freed_kept, kept_live_kept, live_not_kept, freed_live_deferred, live_not_deferred, kept_live_deferred, freed_copy_deferred, copy_not_deferred, live_split, live_no_copy, freed_room, kept_room, freed_from_held, kept_from_held}
 use Rattle.zr_reckon.proofs.Leads.{ways, leads_into, into_leads, passes_into, into_passes}
@@ -143,7 +144,7 @@ copy_run : (s : Space) (m : Dva) → IsWholeCopy s m → (e v : ℕ) → in_addr
 copy_run s m (inl all) = run_of s is_copy_role m FreshCopy refl all
 copy_run s m (inr all) = run_of s is_copy_role m Copy refl all
 
-live_there : (s : Space) (d u : ℕ) → is_live_role (role_at s d u) ≡ true → has_place s d u ≡ true
+pub live_there : (s : Space) (d u : ℕ) → is_live_role (role_at s d u) ≡ true → has_place s d u ≡ true
 live_there s d u is = by_test (has_place s d u) refl
   where
     by_test : (b : Bool) → has_place s d u ≡ b → b ≡ true
@@ -220,15 +221,16 @@ old_not_new Live h = refl
 old_not_new FreshLive h = absurd (cc)
 old_not_new _ h = refl
 
-sum_of_three : (f g h : ℕ → ℕ) (xs : List ℕ) → sum_by (λ d. 4 * (f d + g d + h d)) xs ≡ 4 * (sum_by f xs + sum_by g xs + sum_by h xs)
-sum_of_three f g h [] = refl
-sum_of_three f g h (x ∷ xs) =
-    let r = sum_of_three f g h xs in
+sum_of_kinds : (f g h m : ℕ → ℕ) (xs : List ℕ) → sum_by (λ d. f d + 3 * g d + 3 * h d + m d) xs ≡ sum_by f xs + 3 * sum_by g xs + 3 * sum_by h xs + sum_by m xs
+sum_of_kinds f g h m [] = refl
+sum_of_kinds f g h m (x ∷ xs) =
+    let r = sum_of_kinds f g h m xs in
     let a = sum_by-cons f x xs in
     let b = sum_by-cons g x xs in
     let c = sum_by-cons h x xs in
-    let e = sum_by-cons (λ (d : ℕ). 4 * (f d + g d + h d)) x xs in
-    omega (arith, r, a, b, c, e)
+    let k = sum_by-cons m x xs in
+    let e = sum_by-cons (λ (d : ℕ). f d + 3 * g d + 3 * h d + m d) x xs in
+    omega (arith, r, a, b, c, k, e)
 
 -- ---- what needs no pieces
 
@@ -377,14 +379,18 @@ module _ (old new : Space) (a : Dva) (birth : ℕ) (f : Frees old new a birth) w
         let k = length-append (on_dev d xs) (on_dev d ys) in
         omega (arith, w, k)
 
+    -- of the blocks on a device, those that are marked where it is leaving
+    abbrev marked : ℕ → ℕ
+    marked d = if is_leaving (state_of_dev old.parts.devs d) then on_count blocks d else 0
+
     -- what is marked
     short_passed : AreShort passed
     short_passed = short_ways (length old.parts.devs) (devices_in old) a.dev a.start a.len short
 
-    fresh_words : (d : ℕ) → set_words old.parts.version (part_of new.parts.devs d).fresh ≤ set_words old.parts.version (part_of old.parts.devs d).fresh + (on_count passed d + on_count blocks d)
+    fresh_words : (d : ℕ) → set_words old.parts.version (part_of new.parts.devs d).fresh ≤ set_words old.parts.version (part_of old.parts.devs d).fresh + (on_count passed d + marked d)
     fresh_words d = by_test (is_leaving (state_of_dev old.parts.devs d)) refl
       where
-        by_test : (b : Bool) → is_leaving (state_of_dev old.parts.devs d) ≡ b → set_words old.parts.version (part_of new.parts.devs d).fresh ≤ set_words old.parts.version (part_of old.parts.devs d).fresh + (on_count passed d + on_count blocks d)
+        by_test : (b : Bool) → is_leaving (state_of_dev old.parts.devs d) ≡ b → set_words old.parts.version (part_of new.parts.devs d).fresh ≤ set_words old.parts.version (part_of old.parts.devs d).fresh + (on_count passed d + (if b then on_count blocks d else 0))
         by_test true is =
             let v = old.parts.version in
             let below = cut_at (frontier old d) (on_dev d blocks) in
@@ -418,10 +424,12 @@ module _ (old new : Space) (a : Dva) (birth : ℕ) (f : Frees old new a birth) w
       kind_freed : (kind : Role → Bool) (d u : ℕ) → kind (role_at new d u) ≡ (if in_any blocks d u then kind (freed (role_at old d u)) else (if in_any copies d u then kind (freed (role_at old d u)) else kind (role_at old d u)))
       kind_freed kind d u = ap kind (role_is d u) ∙ (rw is (push kind (in_any blocks d u) (in_any copies d u) (freed (role_at old d u)) (freed (role_at old d u)) (role_at old d u)))
 
-      freed_each : (d : ℕ) → device_words new d ≤ device_words old d + 4 * (on_count passed d + on_count blocks d + on_count copies d)
+      freed_each : (d : ℕ) → (device_words new d ≤ device_words old d + (on_count passed d + 3 * on_count blocks d + 3 * on_count copies d + marked d))
+          × (device_base new d ≤ device_base old d + (on_count passed d + 3 * on_count blocks d + 3 * on_count copies d + marked d))
       freed_each d =
           let v = old.parts.version in
           let w = words_move old new d f.frame.version (f.frame.each d) in
+          let b = base_moves old new d f.frame.version (f.frame.each d) in
           let fresh = fresh_words d in
           let held = all_go v (part_of old.parts.devs d).held (part_of new.parts.devs d).held (on_dev d blocks ++ on_dev d copies) (l.sets d).held.maximal (n.sets d).held.maximal
           (λ u. held_bits _ _ _ _ _ (in_any blocks d u) (in_any copies d u) (held_is new d u n ∙ kind_freed is_held_role d u) (held_is old d u l) (has_here d u blocks copies)
@@ -436,17 +444,19 @@ module _ (old new : Space) (a : Dva) (birth : ℕ) (f : Frees old new a birth) w
           let a1 = two_passes old is_old_live is_new_live d blocks old_not_new in
           let a2 = two_passes old is_old_copy (λ r. false) d copies (λ r h. refl) in
           let k = length-append (on_dev d blocks) (on_dev d copies) in
-          omega (arith, w, fresh, held, deferred, kept, few, a1, a2, k)
+          (omega (arith, w, fresh, held, deferred, kept, few, a1, a2, k), omega (arith, b, fresh, held, kept, a1, a2, k))
 
     -- where the checkpoint may have the block
     module _ (is : keeps old.parts.ckpt birth ≡ true) where
       kind_kept : (kind : Role → Bool) (d u : ℕ) → kind (role_at new d u) ≡ (if in_any blocks d u then kind (kept_of (role_at old d u)) else (if in_any copies d u then kind (freed (role_at old d u)) else kind (role_at old d u)))
       kind_kept kind d u = ap kind (role_is d u) ∙ (rw is (push kind (in_any blocks d u) (in_any copies d u) (kept_of (role_at old d u)) (freed (role_at old d u)) (role_at old d u)))
 
-      kept_each : (d : ℕ) → device_words new d ≤ device_words old d + 4 * (on_count passed d + on_count blocks d + on_count copies d)
+      kept_each : (d : ℕ) → (device_words new d ≤ device_words old d + (on_count passed d + 3 * on_count blocks d + 3 * on_count copies d + marked d))
+          × (device_base new d ≤ device_base old d + (on_count passed d + 3 * on_count blocks d + 3 * on_count copies d + marked d))
       kept_each d =
           let v = old.parts.version in
           let w = words_move old new d f.frame.version (f.frame.each d) in
+          let b = base_moves old new d f.frame.version (f.frame.each d) in
           let fresh = fresh_words d in
           let held = all_go v (part_of old.parts.devs d).held (part_of new.parts.devs d).held (on_dev d new_blocks ++ on_dev d copies) (l.sets d).held.maximal (n.sets d).held.maximal
           (λ u. kept_held_bits _ _ _ _ _ _ (in_any blocks d u) (in_any copies d u) (is_old_live (role_at old d u)) (is_new_live (role_at old d u))
@@ -467,23 +477,62 @@ module _ (old new : Space) (a : Dva) (birth : ℕ) (f : Frees old new a birth) w
           let a1 = two_passes old is_old_live is_new_live d blocks old_not_new in
           let a2 = two_passes old is_old_copy (λ r. false) d copies (λ r h. refl) in
           let k = length-append (on_dev d new_blocks) (on_dev d copies) in
-          omega (arith, w, fresh, held, deferred, kept, few1, few2, a1, a2, k)
+          (omega (arith, w, fresh, held, deferred, kept, few1, few2, a1, a2, k), omega (arith, b, fresh, held, kept, few1, a1, a2, k))
 
-    each : (d : ℕ) → device_words new d ≤ device_words old d + 4 * (on_count passed d + on_count blocks d + on_count copies d)
+    each : (d : ℕ) → (device_words new d ≤ device_words old d + (on_count passed d + 3 * on_count blocks d + 3 * on_count copies d + marked d))
+        × (device_base new d ≤ device_base old d + (on_count passed d + 3 * on_count blocks d + 3 * on_count copies d + marked d))
     each d = by_test (keeps old.parts.ckpt birth) refl
       where
-        by_test : (b : Bool) → keeps old.parts.ckpt birth ≡ b → device_words new d ≤ device_words old d + 4 * (on_count passed d + on_count blocks d + on_count copies d)
+        by_test : (b : Bool) → keeps old.parts.ckpt birth ≡ b → (device_words new d ≤ device_words old d + (on_count passed d + 3 * on_count blocks d + 3 * on_count copies d + marked d))
+            × (device_base new d ≤ device_base old d + (on_count passed d + 3 * on_count blocks d + 3 * on_count copies d + marked d))
         by_test true is = kept_each is d
         by_test false is = freed_each is d
 
-    pub free_words : (blocks objects : ℕ) → (sizes new blocks objects).words ≤ (sizes old blocks objects).words + 4 * touch (devices_in old) a
-    free_words groups objects =
+    by_kind : (was now : ℕ → ℕ) → ((d : ℕ) → now d ≤ was d + (on_count passed d + 3 * on_count blocks d + 3 * on_count copies d + marked d))
+        → sum_by now (range_with_len 0 (length old.parts.devs)) ≤ sum_by was (range_with_len 0 (length old.parts.devs)) + length passed + 3 * length blocks + 3 * length copies + sum_by marked (range_with_len 0 (length old.parts.devs))
+    by_kind was now grows =
         let i = length old.parts.devs in
-        let s = ap (λ (j : ℕ). sum_by (device_words new) (range_with_len 0 j)) f.frame.devices in
-        let g = sum_grows (device_words new) (device_words old) (λ d. 4 * (on_count passed d + on_count blocks d + on_count copies d)) (range_with_len 0 i) each in
-        let b = sum_of_three (on_count passed) (on_count blocks) (on_count copies) (range_with_len 0 i) in
+        let g = sum_grows now was (λ d. on_count passed d + 3 * on_count blocks d + 3 * on_count copies d + marked d) (range_with_len 0 i) grows in
+        let b = sum_of_kinds (on_count passed) (on_count blocks) (on_count copies) marked (range_with_len 0 i) in
         let x = sum_on passed i in
         let y = sum_on blocks i in
         let z = sum_on copies i in
+        omega (arith, g, b, x, y, z)
+
+    -- a word for each run of a removed device, three for each that is there and each copy, and one for each that is marked
+    pub words_by_kind : (groups objects : ℕ) → (sizes new groups objects).words ≤ (sizes old groups objects).words + length passed + 3 * length blocks + 3 * length copies + sum_by marked (range_with_len 0 (length old.parts.devs))
+    words_by_kind groups objects =
+        let s = ap (λ (j : ℕ). sum_by (device_words new) (range_with_len 0 j)) f.frame.devices in
+        let g = by_kind (device_words old) (device_words new) (λ d. (each d).0) in
+        omega (arith, s, g)
+
+    pub base_by_kind : base_words new ≤ base_words old + length passed + 3 * length blocks + 3 * length copies + sum_by marked (range_with_len 0 (length old.parts.devs))
+    base_by_kind =
+        let s = ap (λ (j : ℕ). sum_by (device_base new) (range_with_len 0 j)) f.frame.devices in
+        let g = by_kind (device_base old) (device_base new) (λ d. (each d).1) in
+        omega (arith, s, g)
+
+    pub marked_few : sum_by marked (range_with_len 0 (length old.parts.devs)) ≤ length blocks
+    marked_few =
+        let g = sum_less marked (on_count blocks) (range_with_len 0 (length old.parts.devs)) each_marked in
+        let y = sum_on blocks (length old.parts.devs) in
+        omega (arith, g, y)
+      where
+        choose : (b : Bool) (n : ℕ) → (if b then n else 0) ≤ n
+        choose true n = omega arith
+        choose false n = omega arith
+
+        each_marked : (d : ℕ) → marked d ≤ on_count blocks d
+        each_marked d = choose (is_leaving (state_of_dev old.parts.devs d)) (on_count blocks d)
+
+    pub none_marked : ((d : ℕ) → is_leaving (state_of_dev old.parts.devs d) ≡ false) → sum_by marked (range_with_len 0 (length old.parts.devs)) ≡ 0
+    none_marked none =
+        let s = sum_as marked (λ d. 0) (range_with_len 0 (length old.parts.devs)) (λ d. ap (λ (b : Bool). if b then on_count blocks d else 0) (none d)) in
+        let z = sum_zero (range_with_len 0 (length old.parts.devs)) in
+        omega (arith, s, z)
+
+    pub free_words : (groups objects : ℕ) → (sizes new groups objects).words ≤ (sizes old groups objects).words + 4 * touch (devices_in old) a
+    free_words groups objects =
+        let w = words_by_kind groups objects in
         let p = pieces_most (devices_in old) (length old.parts.devs) a.dev a.start a.len in
-        omega (arith, s, g, b, x, y, z, p)
+        omega (arith, w, marked_few, p)

@@ -14,11 +14,12 @@ use Rattle.zr_rules.specs.Space.{Space, opened_of, role_at, IsLawful}
 use Rattle.zr_rules.specs.Columns.{role_count, on_devices, free_units, device_words, sizes}
 use Rattle.zr_rules.specs.Frees.{Allocates, AllocatesMeta, DropsMeta, Frees, in_any}
 use Rattle.zr_rules.specs.Steps.{Commits}
+use Rattle.zr_reckon.specs.Base.{device_base, base_words}
 use Rattle.zr_reckon.specs.Coming.{is_coming_role, room_to_come, KeepsRecords}
 use Rattle.zr_reckon.specs.Uses.{is_room_role, is_dropped_role, room}
 use Rattle.zr_reckon.proofs.Bits.{IsOnce, Bits, bits, role_of, role_is, is_deferred_block}
 use Rattle.zr_reckon.proofs.Counting.{count_as, count_more, sum_as, sum_less}
-use Rattle.zr_reckon.proofs.Frames.{held_same, kept_same, deferred_same, fresh_same, words_move, sized, streams_same, gone_same, uncopied_same, on_same, count_same}
+use Rattle.zr_reckon.proofs.Frames.{held_same, kept_same, deferred_same, fresh_same, words_move, base_moves, sized, streams_same, gone_same, uncopied_same, on_same, count_same}
 use Rattle.zr_reckon.proofs.FreePieces.{by_use}
 use Rattle.zr_reckon.proofs.Placed.{was_free_at, kind_less}
 use Rattle.zr_reckon.proofs.RoleSets.{once}
@@ -221,6 +222,22 @@ module _ (old new : Space) (list : List Dva) (c : DropsMeta old new list) (k : K
       ap (λ (n : ℕ). sum_by (device_words new) (range_with_len 0 n)) k.devices
       ∙ sum_as (device_words new) (device_words old) (range_with_len 0 (length old.parts.devs)) each_words
 
+  each_base : (d : ℕ) → device_base new d ≡ device_base old d
+  each_base d =
+      let v = old.parts.version in
+      let l = k.old_lawful in
+      let m = k.new_lawful in
+      let w = base_moves old new d k.version (k.each d) in
+      let held = ap (set_words v) (held_same old new d d l m (same is_held_role dropped_held d)) in
+      let kept = ap (set_words v) (kept_same old new d d l m (same is_kept_role dropped_kept d)) in
+      let fresh = ap (set_words v) (fresh_same old new d l m (c.fresh d)) in
+      omega (arith, w, held, kept, fresh)
+
+  pub drop_base : base_words new ≡ base_words old
+  drop_base =
+      ap (λ (n : ℕ). sum_by (device_base new) (range_with_len 0 n)) k.devices
+      ∙ sum_as (device_base new) (device_base old) (range_with_len 0 (length old.parts.devs)) each_base
+
   pub drop_free : free_units new ≡ free_units old
   drop_free =
       ap (sum_by (role_count new is_free_role)) (on_same old new k.devices rows)
@@ -252,7 +269,7 @@ dropped_bit : (b : Bits) → IsOnce b → is_dropped_role (role_of b) ≡ b.drop
 unfolding role_of
 dropped_bit b o = let i = o.once in let k = o.kept in grind (arith, nat_tests, i, k)
 
-dropped_is : (s : Space) (d u : ℕ) → IsLawful s → is_dropped_role (role_at s d u) ≡ has_unit (opened_of s d).dropped u
+pub dropped_is : (s : Space) (d u : ℕ) → IsLawful s → is_dropped_role (role_at s d u) ≡ has_unit (opened_of s d).dropped u
 unfolding bits
 dropped_is s d u l = ap is_dropped_role (role_is s d u) ∙ dropped_bit (bits s d u) (once s d u l)
 
@@ -282,6 +299,19 @@ metadata_room policy want old new at a =
 pub freed_room : (old new : Space) (a : Dva) (birth : ℕ) → Frees old new a birth → room_to_come old ≤ room_to_come new
 freed_room old new a birth f = on_grow old new f.frame.devices (λ d. (f.frame.each d).row) is_coming_role is_coming_role
     (λ d u is. ap is_coming_role (f.roles d u) ∙ by_use old new a birth f d u (λ r. is_coming_role r ≡ true) is (freed_coming (role_at old d u) is) (kept_coming (role_at old d u) is))
+
+free_stays : (r : Role) → is_free_role r ≡ true → is_free_role (freed r) ≡ true
+free_stays Free is = refl
+free_stays _ is = absurd (cc)
+
+free_stays_kept : (r : Role) → is_free_role r ≡ true → is_free_role (kept_of r) ≡ true
+free_stays_kept Free is = refl
+free_stays_kept _ is = absurd (cc)
+
+-- what is free stays so
+pub freed_free : (old new : Space) (a : Dva) (birth : ℕ) → Frees old new a birth → free_units old ≤ free_units new
+freed_free old new a birth f = on_grow old new f.frame.devices (λ d. (f.frame.each d).row) is_free_role is_free_role
+    (λ d u is. ap is_free_role (f.roles d u) ∙ by_use old new a birth f d u (λ r. is_free_role r ≡ true) is (free_stays (role_at old d u) is) (free_stays_kept (role_at old d u) is))
 
 pub ended_room : (reset : Bool) (old new : Space) → Commits reset old new → room_to_come old ≤ room new
 ended_room reset old new c = on_grow old new c.devices c.rows is_coming_role is_room_role (λ d u is. ap is_room_role (c.roles d u) ∙ by_reset reset d u is)

@@ -14,6 +14,7 @@ pub mod Ended
 pub mod Finished
 pub mod Frames
 pub mod FreePieces
+pub mod FreeUnit
 pub mod FreedKinds
 pub mod FreeOn
 pub mod Gaps
@@ -21,6 +22,7 @@ pub mod GroupRoom
 pub mod Lates
 pub mod Leads
 pub mod MetaPlaced
+pub mod MetaTurns
 pub mod MoreSets
 pub mod Placed
 pub mod RoleKinds
@@ -30,3 +32,4 @@ pub mod Runs
 pub mod SetWords
 pub mod Turned
 pub mod Uncopied
+pub mod UnitInUse

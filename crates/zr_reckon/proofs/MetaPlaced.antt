@@ -10,13 +10,14 @@ use Rattle.zr_rules.specs.Places.{count_below, address_hits, units_of_dev}
 use Rattle.zr_rules.specs.Roles.{Role, is_held_role, is_kept_role}
 use Rattle.zr_rules.specs.Roles.Role.{Free, Meta}
 use Rattle.zr_rules.specs.Space.{Space, role_at, IsLawful}
-use Rattle.zr_rules.specs.Columns.{free_units, device_words, units_on, sizes}
+use Rattle.zr_rules.specs.Columns.{role_count, free_units, device_words, units_on, sizes}
 use Rattle.zr_rules.specs.Frees.{AllocatesMeta}
-use Rattle.zr_reckon.specs.Uses.{is_room_role, room}
+use Rattle.zr_reckon.specs.Base.{device_base, base_words}
+use Rattle.zr_reckon.specs.Uses.{is_room_role, room, is_dropped_role, dropped_units}
 use Rattle.zr_reckon.proofs.Bits.{is_deferred_block, is_current_meta}
 use Rattle.zr_reckon.proofs.RoleSets.{meta_is}
 use Rattle.zr_reckon.proofs.Counting.{count_as, count_with, sum_as, sum_both, sum_at, only_at}
-use Rattle.zr_reckon.proofs.Frames.{held_same, kept_same, deferred_same, fresh_same, words_move, sized, streams_same, gone_same, uncopied_same, room_same}
+use Rattle.zr_reckon.proofs.Frames.{held_same, kept_same, deferred_same, fresh_same, words_move, base_moves, count_same, sized, streams_same, gone_same, uncopied_same, room_same}
 use Rattle.zr_reckon.proofs.Placed.{extent_of, was_free_at, fits_device, frees_less}
 use Rattle.zr_reckon.proofs.RoomUnits.{units_counted, meta_hits, lens_counted}
 use Rattle.zr_reckon.proofs.Turned.{Turns, kind_same}
@@ -45,6 +46,26 @@ module _ (policy : Policy) (want : ℕ) (old new : Space) (at : Dva) (a : Alloca
   meta_words blocks objects =
       ap (λ (k : ℕ). sum_by (device_words new) (range_with_len 0 k)) a.frame.devices
       ∙ sum_as (device_words new) (device_words old) (range_with_len 0 (length old.parts.devs)) each_words
+
+  each_base : (d : ℕ) → device_base new d ≡ device_base old d
+  each_base d =
+      let v = old.parts.version in
+      let m = base_moves old new d a.frame.version (a.frame.each d) in
+      let held = ap (set_words v) (held_same old new d d l lawful (same is_held_role refl d)) in
+      let kept = ap (set_words v) (kept_same old new d d l lawful (same is_kept_role refl d)) in
+      let fresh = ap (set_words v) (fresh_same old new d l lawful (a.fresh d)) in
+      omega (arith, m, held, kept, fresh)
+
+  pub meta_base : base_words new ≡ base_words old
+  meta_base =
+      ap (λ (k : ℕ). sum_by (device_base new) (range_with_len 0 k)) a.frame.devices
+      ∙ sum_as (device_base new) (device_base old) (range_with_len 0 (length old.parts.devs)) each_base
+
+  -- no metadata is given back
+  pub meta_dropped : dropped_units new ≡ dropped_units old
+  meta_dropped =
+      ap (λ (k : ℕ). sum_by (role_count new is_dropped_role) (range_with_len 0 k)) a.frame.devices
+      ∙ sum_as (role_count new is_dropped_role) (role_count old is_dropped_role) (range_with_len 0 (length old.parts.devs)) (λ d. count_same old new a.frame.devices (λ e. (a.frame.each e).row) is_dropped_role d (same is_dropped_role refl d))
 
   pub meta_frees : free_units new + want ≡ free_units old
   meta_frees = frees_less old policy want at a.place new Meta refl a.frame a.roles

@@ -18,12 +18,14 @@ use Rattle.zr_rules.specs.Roles.Role.{Absent, Free, FreshLive, Live, FreshCopy, 
 use Rattle.zr_rules.specs.Space.{Space, has_place, role_at, IsLawful}
 use Rattle.zr_rules.specs.Columns.{role_count, free_of, on_devices, free_units, device_words, sizes}
 use Rattle.zr_rules.specs.Frees.{Allocates, IsSameFrame}
+use Rattle.zr_reckon.specs.Base.{device_base, base_words}
 use Rattle.zr_reckon.specs.Sets.{IsWith}
+use Rattle.zr_reckon.specs.Uses.{is_dropped_role, dropped_units}
 use Rattle.zr_reckon.proofs.Bits.{is_deferred_block}
 use Rattle.zr_reckon.proofs.RoleSets.{held_is}
 use Rattle.zr_reckon.proofs.SetWords.{more_words, short_words}
-use Rattle.zr_reckon.proofs.Counting.{count_as, count_with, sum_grows, sum_both, sum_passing, sum_at, sum_at_most, only_at}
-use Rattle.zr_reckon.proofs.Frames.{held_same, kept_same, deferred_same, fresh_same, words_move, on_same, others_same}
+use Rattle.zr_reckon.proofs.Counting.{count_as, count_with, sum_as, sum_grows, sum_both, sum_passing, sum_at, sum_at_most, only_at}
+use Rattle.zr_reckon.proofs.Frames.{held_same, kept_same, deferred_same, fresh_same, words_move, base_moves, count_same, on_same, others_same}
 
 pub free_is : (r : Role) → is_free_role r ≡ true → r ≡ Free
 free_is Free is = refl
@@ -221,6 +223,29 @@ module _ (policy : Policy) (want : ℕ) (old new : Space) (at : Dva) (a : Alloca
       let g = sum_grows (device_words new) (device_words old) (only_at at.dev 1) (range_with_len 0 n) each_words in
       let o = sum_at_most at.dev 1 n in
       omega (arith, s, g, o)
+
+  each_base : (d : ℕ) → device_base new d ≤ device_base old d + only_at at.dev 1 d
+  each_base d =
+      let v = old.parts.version in
+      let m = base_moves old new d a.frame.version (a.frame.each d) in
+      let held = held_words d in
+      let kept = ap (set_words v) (kept_same old new d d l lawful (same_kind is_kept_role refl refl d)) in
+      let fresh = ap (set_words v) (fresh_same old new d l lawful (a.fresh d)) in
+      omega (arith, m, held, kept, fresh)
+
+  pub allocation_base : base_words new ≤ base_words old + 1
+  allocation_base =
+      let n = length old.parts.devs in
+      let s = ap (λ (k : ℕ). sum_by (device_base new) (range_with_len 0 k)) a.frame.devices in
+      let g = sum_grows (device_base new) (device_base old) (only_at at.dev 1) (range_with_len 0 n) each_base in
+      let o = sum_at_most at.dev 1 n in
+      omega (arith, s, g, o)
+
+  -- no metadata is given back
+  pub allocation_dropped : dropped_units new ≡ dropped_units old
+  allocation_dropped =
+      ap (λ (k : ℕ). sum_by (role_count new is_dropped_role) (range_with_len 0 k)) a.frame.devices
+      ∙ sum_as (role_count new is_dropped_role) (role_count old is_dropped_role) (range_with_len 0 (length old.parts.devs)) (λ d. count_same old new a.frame.devices (λ e. (a.frame.each e).row) is_dropped_role d (same_kind is_dropped_role refl refl d))
 
   pub allocation_frees : free_units new + want ≡ free_units old
   allocation_frees = frees_less old policy want at a.place new FreshLive refl a.frame a.roles

@@ -1,5 +1,6 @@
 -- The free units and the metadata that comes back, by roles.
-use Rattle.std.proofs.Common.{◌≡◌, ℕ, ◌+◌, ◌-◌, ◌<◌, ◌≤◌, Bool, true, false, ◌==◌, nat_lt, List, [], ◌∷◌, length, refl, ◌∙◌, sym, arith, if◌then◌else◌, ⊎_elim}
+use Rattle.std.proofs.Common.{◌≡◌, ℕ, ◌+◌, ◌-◌, ◌*◌, ◌<◌, ◌≤◌, Bool, true, false, ◌==◌, nat_lt, List, [], ◌∷◌, length, refl, ◌∙◌, sym, arith, if◌then◌else◌, ⊎_elim}
+use Rattle.std.specs.Prelude.{filter}
 use Rattle.std.specs.List.{sum_by, range_with_len}
 use Rattle.std.proofs.lemmas.Bool.{cases_lt, cases_eq}
 use Rattle.std.proofs.lemmas.Bool.Decides.{nat_tests}
@@ -17,7 +18,7 @@ use Rattle.zr_rules.specs.Columns.{role_count, on_devices, on_parts, units_on, l
 use Rattle.zr_reckon.specs.Uses.{is_room_role, room}
 use Rattle.zr_reckon.proofs.Bits.{is_current_meta, is_late1_meta, is_late2_meta}
 use Rattle.zr_reckon.proofs.RoleSets.{late_hits_most, meta_is, late1_meta_is, late2_meta_is}
-use Rattle.zr_reckon.proofs.Counting.{count_as, count_with, count_none, count_four, sum_both, sum_passing, sum_zero, sum_at, sum_at_most, only_at, by_index}
+use Rattle.zr_reckon.proofs.Counting.{count_as, count_with, count_none, count_four, sum_both, sum_less, sum_passing, sum_zero, sum_at, sum_at_most, only_at, by_index}
 
 abbrev address_extent : Dva → Extent
 address_extent a = record { start = a.start; len = a.len }
@@ -130,3 +131,34 @@ lens_counted (a ∷ list) n known =
   where
     more : (d u : ℕ) → address_hits (a ∷ list) d u ≡ one_if (in_address a d u) + address_hits list d u
     more d u = sum_by-cons (λ (x : Dva). one_if (in_address x d u)) a list
+
+-- ---- what comes back
+
+-- the units of addresses on so many devices are no more than all
+units_most : (list : List Dva) (n : ℕ) → sum_by (units_on list) (range_with_len 0 n) ≤ sum_by (λ (a : Dva). a.len) list
+units_most [] n = let z = sum_zero (range_with_len 0 n) in omega (arith, z)
+units_most (a ∷ list) n =
+    let rest = units_most list n in
+    let sum = sum_by-cons (λ (x : Dva). x.len) a list in
+    let both = sum_both (units_on (a ∷ list)) (units_on list) (only_at a.dev a.len) (range_with_len 0 n) (λ d. let m = sum_by-cons (λ (x : Dva). if x.dev == d then x.len else 0) a list in grind (arith, nat_tests, m)) in
+    let one = sum_at_most a.dev a.len n in
+    omega (arith, rest, sum, both, one)
+
+-- a sum over those that pass is no more than one over all
+passing_less : {X : Type 0} (h : X → ℕ) (p : X → Bool) (xs : List X) → sum_by h (filter p xs) ≤ sum_by h xs
+passing_less {X} h p xs =
+    let s = sum_passing h p xs in
+    let g = sum_less (λ (x : X). if p x then h x else 0) h xs (λ x. choose (p x) (h x)) in
+    omega (arith, s, g)
+  where
+    choose : (b : Bool) (n : ℕ) → (if b then n else 0) ≤ n
+    choose true n = omega arith
+    choose false n = omega arith
+
+pub turning_most : (s : Space) (blocks objects : ℕ) → (sizes s blocks objects).turning ≤ 3 * (sizes s blocks objects).past
+turning_most s blocks objects =
+    let now = passing_less (units_on s.meta) (λ d. is_on (state_of_dev s.parts.devs d)) (range_with_len 0 (length s.parts.devs)) in
+    let all = units_most s.meta (length s.parts.devs) in
+    let first = passing_less (λ (p : DevPart). late_meta_units p.late1) (λ (p : DevPart). is_on p.row.state) s.parts.devs in
+    let second = passing_less (λ (p : DevPart). late_meta_units p.late2) (λ (p : DevPart). is_on p.row.state) s.parts.devs in
+    omega (arith, now, all, first, second)

@@ -61,4 +61,5 @@ pub fn giving_up_a_removal_adds_no_word()
         → (sizes new blocks objects).streams + 3 ≡ (sizes old blocks objects).streams }
     ensures uncopied { (old new : Space) (d blocks objects : ℕ) → Cancels old new d → IsLawful old → LeavesAlone old d → (sizes new blocks objects).uncopied ≡ 0 }
     ensures room { (old new : Space) (d : ℕ) → Cancels old new d → IsLawful old → LeavesAlone old d → room old ≤ room new }
+    ensures past { (old new : Space) (d blocks objects : ℕ) → Cancels old new d → IsLawful old → LeavesAlone old d → (sizes new blocks objects).past ≡ (sizes old blocks objects).past }
 {}

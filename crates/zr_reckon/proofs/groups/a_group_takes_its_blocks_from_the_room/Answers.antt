@@ -1,8 +1,12 @@
 use Rattle.zr_reckon.proofs.GroupRoom.{begin_room, block_room, metadata_room, freed_room, drop_room, ended_room}
+use Rattle.zr_reckon.proofs.MetaTurns.{none_dropped}
 use Rattle.zr_reckon.proofs.groups.a_group_takes_its_blocks_from_the_room.Goals as goal
 
 pub returns-clause-begin : goal.returns-clause-begin
 returns-clause-begin c = begin_room
+
+pub returns-clause-none : goal.returns-clause-none
+returns-clause-none c = none_dropped
 
 pub returns-clause-block : goal.returns-clause-block
 returns-clause-block c = block_room

@@ -1,0 +1,5 @@
+pub mod Commands
+pub mod Commits
+pub mod Covered
+pub mod Streams
+pub mod Wrote
