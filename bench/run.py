@@ -24,7 +24,7 @@ import time
 TOP = os.path.dirname(os.path.dirname(os.path.abspath(__file__)))
 UNIT = 4096
 MIB = 1 << 20
-TABLES = ('list', 'status', 'audit')
+TABLES = ('list', 'status', 'audit', 'map')
 
 
 class Wrong(Exception):
@@ -143,7 +143,7 @@ def replies(text):
     """How many replies there are in a text that has tables: each table is one, up to its `end`."""
     count = 0
     for line in text.split(b'\n')[:-1]:
-        if line.split(b' ', 1)[0] not in (b'dev', b'open', b'removal', b'checkpoint', b'condense', b'room'):
+        if line.split(b' ', 1)[0] not in (b'dev', b'open', b'removal', b'checkpoint', b'condense', b'room', b'entry', b'fresh'):
             count += 1
     return count
 
@@ -493,6 +493,9 @@ ROUNDS = 1000
 # The pool of few extents has that many times nine blocks: enough for an import to fill the cache.
 FEW = 1200
 
+# How many times nine blocks the pool has whose only device is removed, for the mapping's memory.
+MAPPED = 16384
+
 
 def scattered(folder, size, blocks, punched):
     """Makes a pool of so many blocks of one unit, of which the first of each nine is punched, so many times."""
@@ -630,6 +633,31 @@ def chain(runs, memory, disk):
     return [made]
 
 
+def mapped(folder, size, blocks, punched):
+    """Of a pool whose only device was removed: the entries of its mapping, and what the program has of memory with it open."""
+    scattered(folder, size, blocks, punched)
+    with Zr(folder, 'a', 'b:%d' % size) as zr:
+        zr.do('import', 'add b', 'remove a')
+        moved(zr, 0)
+        entries = sum(line.startswith('entry ') for line in zr.send(['map 0'])[0].splitlines())
+        zr.do('export')
+    with Zr(folder, 'a', 'b', env=dict(os.environ, MALLOC_MMAP_THRESHOLD_='65536', MALLOC_TRIM_THRESHOLD_='65536')) as zr:
+        zr.do('import')
+        return entries, zr.memory('VmRSS')
+
+
+def mapping(runs, memory, disk):
+    """What an open pool has of memory for the mapping of a device that is gone: one of many short entries beside one of few long ones."""
+    made = row('memory of a mapping, an entry', '40', 'bytes', least=1)
+    blocks = MAPPED * (HELD + 1)
+    each = []
+    for punched in (MAPPED, 0):
+        with Folder(memory) as folder:
+            each.append(mapped(folder, device(blocks, 1), blocks, punched))
+    made.add((each[0][1] - each[1][1]) / (each[0][0] - each[1][0]), 40)
+    return [made]
+
+
 def generated(runs, memory, disk):
     """A generated run with two rounds of steps behind each line, beside the digests and the writes that it makes."""
     made = row('--gen 7:2000 --auto 2', 'digest and dd of its bytes', 'ms', least=0.5)
@@ -690,7 +718,8 @@ def built(crate):
 
 
 PARTS = {'fill': fill, 'sync': sync, 'flushes': flushes, 'read': read, 'whole': whole, 'idents': idents,
-         'spans': spans, 'allocate': allocate, 'commits': commits, 'evac': evac, 'chain': chain, 'generated': generated}
+         'spans': spans, 'allocate': allocate, 'commits': commits, 'evac': evac, 'chain': chain, 'mapping': mapping,
+         'generated': generated}
 
 
 def main():

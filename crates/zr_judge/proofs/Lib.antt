@@ -1,1 +1,3 @@
 pub mod Unused
+pub mod Condensed
+pub mod Leaving

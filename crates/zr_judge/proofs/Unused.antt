@@ -1,5 +1,5 @@
 -- Devices of which nothing is used can always be opened.
-use Rattle.std.proofs.Common.{◌≡◌, inl, inr, ℕ, zero, suc, ◌+◌, ◌<◌, ◌≤◌, ◌^◌, Bool, true, false, List, [], ◌∷◌, length, map, get_or, Some, None, refl, sym, ◌∙◌, ap, subst, arith}
+use Rattle.std.proofs.Common.{◌≡◌, inl, inr, ℕ, ◌<◌, ◌≤◌, ◌^◌, Bool, true, false, List, [], ◌∷◌, length, map, get_or, Some, None, refl, sym, ◌∙◌, ap, subst, arith}
 use Rattle.std.specs.Prelude.{All, if◌then◌else◌}
 use Rattle.std.specs.List.{sum_by}
 use Rattle.std.proofs.lemmas.Bool.{cases_lt}
@@ -13,14 +13,13 @@ use Rattle.zr_base.specs.declared.space.DevRow.{DevRow}
 use Rattle.zr_base.specs.declared.space.DevState.{DevState}
 use Rattle.zr_base.specs.declared.space.DevState.TheVariants.{On, Leaving, Gone}
 use Rattle.zr_base.specs.declared.space.Entry.{Entry}
-use Rattle.zr_base.specs.declared.space.SpaceParts.{SpaceParts}
 use Rattle.zr_base.specs.Extents.{has_unit}
 use Rattle.zr_judge.specs.Blank.{blank_part, blank_parts, there_or_gone}
 use Rattle.zr_rules.specs.Devices.{devices_of}
 use Rattle.zr_rules.specs.Equation.{root_space}
-use Rattle.zr_rules.specs.Places.{no_part, one_if, part_of, is_held, is_kept, is_leaving, state_of_dev}
+use Rattle.zr_rules.specs.Places.{one_if, part_of, is_kept, is_leaving, state_of_dev}
 use Rattle.zr_rules.specs.Resolve.{IsDestination}
-use Rattle.zr_rules.specs.Space.{Space, HasSets, IsLawful, OpenSets, copy_hits, has_place, is_born, is_copy_by, nothing_opened, opened_of, set_hits}
+use Rattle.zr_rules.specs.Space.{Space, HasSets, IsLawful, OpenSets, copy_hits, is_born, is_copy_by, nothing_opened, opened_of, set_hits}
 use Rattle.zr_space.proofs.Opening.{none_opened}
 use Rattle.zr_space.specs.Opens.{CanOpen, IsPart}
 use Rattle.zr_space.specs.Views.{EndsWithin}

@@ -6,7 +6,7 @@
 #![tactic(auto)]
 
 ghost use Rattle.std.specs.Prelude.{◌≤◌, ◌↔◌, IsTrue, IfOk, IfSome, IfNone, All};
-ghost use Rattle.zr_judge.specs.Parts.{HasMapping};
+ghost use Rattle.zr_judge.specs.Parts.{BreaksFirst, BreaksNone, HasMapping};
 ghost use Rattle.zr_rules.specs.Devices.{devices_of};
 ghost use Rattle.zr_rules.specs.Resolve.{IsRanked};
 
@@ -45,6 +45,8 @@ fn are_ranked(alloc: Global, parts: &[DevPart]) -> Result<bool, NoMemory>
 /// The first rule that the parts break by themselves, if they break one. It goes over the mappings, over what is condensed, and
 /// over what a device that is leaving holds.
 pub fn broken_rule(alloc: Global, parts: &SpaceParts) -> Result<Option<u8>, NoMemory>
+    ensures broken { IfOk result (λ o. IfSome o (BreaksFirst parts.now)) }
+    ensures none { IfOk result (λ o. IfNone o (BreaksNone parts.now)) }
     ensures rule { IfOk result (λ o. IfSome o (λ n. (3 ≤ n) × (n ≤ 6))) }
     ensures mapped { IfOk result (λ o. IfNone o (All HasMapping parts.now.devs)) }
     ensures ranked { IfOk result (λ o. IfNone o (IsRanked (devices_of parts.now.devs))) }

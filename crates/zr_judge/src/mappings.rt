@@ -1,10 +1,10 @@
 //! The mapping of each device: its entries rise within it, each has its count, and none has more obsolete units than units.
-ghost use Rattle.std.specs.Prelude.{◌≡◌, ◌↔◌, ◌<◌, ◌≤◌, ◌+◌, ◌^◌, IfOk, IfSome, IsTrue, All, length};
+ghost use Rattle.std.specs.Prelude.{◌≡◌, ◌↔◌, ◌<◌, ◌≤◌, ◌+◌, ◌^◌, [], IfOk, IfSome, IfNone, IsTrue, All, length};
 ghost use Rattle.zr_indirect.specs.Mapped.{HasEntries};
-ghost use Rattle.zr_judge.specs.Parts.{HasMapping};
+ghost use Rattle.zr_judge.specs.Parts.{GoesTogether};
 ghost use Rattle.zr_obsolete.specs.Obsolete.{Fits, LiesIn};
 ghost use Rattle.zr_rules.specs.Mappings.{IsEntry};
-ghost use Rattle.zr_space.specs.Reads.{AreEntries};
+ghost use Rattle.zr_space.specs.Reads.{AreEntries, CanRead};
 
 use crate::sets::read_set;
 use std::alloc::Global;
@@ -91,7 +91,9 @@ fn are_fitting(counts: &[u32], map: &Imap, fresh: &RangeSet) -> bool
 // The obsolete units of a device that are not counted, where they are a set within it.
 fn fresh_of(alloc: Global, part: &DevPart) -> Result<Option<RangeSet>, NoMemory>
     requires { part.now.row.units < 2 ^ 40 }
-    ensures { IfOk result (λ o. IfSome o (λ set. set.extents ≡ part.now.fresh)) }
+    ensures set { IfOk result (λ o. IfSome o (λ set. set.extents ≡ part.now.fresh)) }
+    ensures some { IfOk result (λ o. IfSome o (λ set. CanRead part.now.fresh [] part.now.row.units)) }
+    ensures none { IfOk result (λ o. IfNone o (CanRead part.now.fresh [] part.now.row.units → ⊥)) }
 {
     let mut seen = RangeSet::new(alloc);
     read_set(alloc, &mut seen, part.fresh.as_slice(), part.row.units)
@@ -99,7 +101,7 @@ fn fresh_of(alloc: Global, part: &DevPart) -> Result<Option<RangeSet>, NoMemory>
 
 // Whether the mapping of a device goes together.
 fn is_mapped(alloc: Global, part: &DevPart) -> Result<bool, NoMemory>
-    ensures { IfOk result (λ yes. IsTrue yes → HasMapping part.now) }
+    ensures { IfOk result (λ yes. IsTrue yes ↔ GoesTogether part.now) }
 {
     if part.row.units >= UNITS {
         return Ok(false);
@@ -120,7 +122,7 @@ fn is_mapped(alloc: Global, part: &DevPart) -> Result<bool, NoMemory>
 
 /// Whether the mapping of each device goes together.
 pub(crate) fn are_mapped(alloc: Global, parts: &[DevPart]) -> Result<bool, NoMemory>
-    ensures { IfOk result (λ yes. IsTrue yes → All HasMapping parts.now) }
+    ensures { IfOk result (λ yes. IsTrue yes ↔ All GoesTogether parts.now) }
 {
     for part in parts {
         if !is_mapped(alloc, part)? {

@@ -1,4 +1,4 @@
-use Rattle.std.proofs.Common.{◌≡◌, List, [], None, sym, subst}
+use Rattle.std.proofs.Common.{List, [], None, sym, subst}
 use Rattle.zr_base.specs.declared.space.CkptPart.TheVariants.{Clear}
 use Rattle.zr_base.specs.declared.space.DevPart.{DevPart}
 use Rattle.zr_space.specs.Opens.{CanOpen}
