@@ -59,6 +59,16 @@ next_alone sizes tells told disks pool slot checks other m differ lt first guid 
   ]
 ]
 
+-- there is room in the table for it
+pub next_few : (sizes : List ℕ) (tells : Type 0) (disks : List (List ℕ)) (pool : OpenPool) (slot : ℕ) → ChecksNext sizes tells disks pool slot (Ok tt) → pool.table.count < 32
+next_few sizes tells disks pool slot checks = elim checks.checks [
+  | inr failed ↦ not_refused failed.0 failed.2
+  | inl sized ↦ elim sized.2 [
+    | inr failed ↦ not_refused failed.0 failed.2
+    | inl free ↦ elim free.2 [ inr failed ↦ not_refused failed.0 failed.2 | inl alone ↦ alone.2 ]
+  ]
+]
+
 -- A commit of what was open, a slot that is prepared for the next device, and a commit with it.
 module _ (w1 w2 w3 w4 : World) (s1 s2 s3 s4 : List ℕ) (a b c d : OpenPool) (slot units : ℕ) (ready_a : IsOpen s1 a) (ready_b : IsOpen s2 b) (sized_a : map length w1.now.seen ≡ s1) (txg_b : b.group.txg ≡ a.group.txg + 1) (next_b : IfSome b.last (IsNextRoot a false))
     (wrote_b : IfSome b.last (λ u. (mid : World) × WritesIntoFree a w1 mid × IsShownFrom s1 a u mid w2)) (guid_b : b.guid ≡ a.guid) (table_b : b.table ≡ a.table)

@@ -1,4 +1,4 @@
-use Rattle.std.proofs.Common.{◌≡◌, ◌≢◌, ◌+◌, ℕ, ◌<◌, List, length, subst, sym, ap, ◌∙◌}
+use Rattle.std.proofs.Common.{◌≡◌, ◌≢◌, ◌+◌, ℕ, ◌<◌, List, length, subst, sym, ap, ◌∙◌, arith}
 use Rattle.zr_label.specs.declared.root.Label.{Label}
 use Rattle.zr_last.specs.Last.{ShowsLast}
 use Rattle.zr_scan.specs.Scan.{IsFirstLabel}
@@ -9,7 +9,7 @@ use Rattle.zr_sync.proofs.Disks.{works_more, works_still}
 use Rattle.zr_create.proofs.Taken.{IsFree}
 use Rattle.zr_create.proofs.Checking.{next_free}
 use Rattle.zr_create.proofs.Keeping.{objects_still}
-use Rattle.zr_create.proofs.Lasting.{grown_last, next_alone}
+use Rattle.zr_create.proofs.Lasting.{grown_last, next_alone, next_few}
 use Rattle.zr_create.proofs.adding.add.Goals as goal
 
 pub returns-in_err-check_next-clause-disks : goal.returns-in_err-check_next-clause-disks
@@ -93,10 +93,14 @@ returns-clause-shown g c = λ t h.
     let free =
     subst (λ (table : Table). IsFree table.slots slot) (sym here.same.table)
     (next_free (g.S.Shelf.sizes old) (g.S.Shelf.tells old) (g.S.Shelf.world old).now.seen a slot c.in_ok-check_next.ensures.allowed) in
+    let few : b.table.count < 32 =
+    let n = ap (λ (table : Table). table.count) here.same.table in
+    let low = next_few (g.S.Shelf.sizes old) (g.S.Shelf.tells old) (g.S.Shelf.world old).now.seen a slot c.in_ok-check_next.ensures.allowed in
+    omega (arith, n, low) in
     let alone =
     subst
     (λ (ds : List (List ℕ)). (other : ℕ) (m : Label) → other ≢ slot → other < length ds → IsFirstLabel (length (disk ds other)) (disk ds other) m → m.guid ≡ a.guid → m.index ≡ a.table.count → m.added ≡ a.group.txg + 1 → ⊥)
     (sym same) (next_alone (g.S.Shelf.sizes old) (g.S.Shelf.tells old) t (g.S.Shelf.world old).now.seen a slot c.in_ok-check_next.ensures.allowed) in
     grown_last (g.S.Shelf.world first) (g.S.Shelf.world second) (g.S.Shelf.world third) (g.S.Shelf.world fourth) (g.S.Shelf.sizes first) (g.S.Shelf.sizes second) (g.S.Shelf.sizes third) (g.S.Shelf.sizes fourth) a b third_pool d slot units
-    (subst (λ (ns : List ℕ). IsOpen ns a) (sym c.check_next.ensures.sizes) c.requires.pool) here.pool (g.S.Shelf.sound first told).sized here.txg here.last (here.written told) here.same.guid here.same.table ? free taken.taken (taken.labelled told2) taken.pool there.pool
+    (subst (λ (ns : List ℕ). IsOpen ns a) (sym c.check_next.ensures.sizes) c.requires.pool) here.pool (g.S.Shelf.sound first told).sized here.txg here.last (here.written told) here.same.guid here.same.table few free taken.taken (taken.labelled told2) taken.pool there.pool
     (g.S.Shelf.sound third told3).sized there.txg there.last (there.written told3) there.same.guid there.same.table alone (subst (λ (ds : List (List ℕ)). ShowsLast ds a) (sym same) h)
