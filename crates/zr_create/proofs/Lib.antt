@@ -9,3 +9,5 @@ pub mod Beside
 pub mod Grown
 pub mod Keeping
 pub mod Staying
+pub mod Labelled
+pub mod Lasting

@@ -2,3 +2,4 @@ pub mod Names
 pub mod Blank
 pub mod Devices
 pub mod Refusals
+pub mod Labelled

@@ -6,6 +6,7 @@ ghost use Rattle.zr_base.specs.Counts.{HasRisen};
 ghost use Rattle.zr_label.specs.Blocks.{IsLabel, IsName};
 ghost use Rattle.zr_label.specs.Geometry.{units_of_size};
 ghost use Rattle.zr_model.specs.Objects.{Objects};
+ghost use Rattle.zr_newest.specs.Newest.{PreparesSlot};
 ghost use Rattle.zr_shelf.specs.Counts.{NoneFell};
 ghost use Rattle.zr_slots.specs.Checks.{AreNamed};
 ghost use Rattle.zr_slots.specs.Phases.{IsPrepared};
@@ -16,6 +17,7 @@ ghost use Rattle.zr_sync.specs.declared.stop.Stop.TheVariants.{DiskFault};
 ghost use Rattle.zr_view.specs.Views.{slot_of};
 ghost use Rattle.zr_create.specs.Blank.{IsBlank};
 ghost use Rattle.zr_create.specs.Devices.{TakesOn, HasDevicesIn, HaveDisks, KeepsRest, next_label, with_device};
+ghost use Rattle.zr_create.specs.Labelled.{LabelsSlots};
 ghost use Rattle.zr_create.specs.Names.{AreApart};
 
 use std::alloc::Global;
@@ -91,6 +93,7 @@ pub fn take_on<S: Shelf>(
     ensures disks { S.tells shelf.old → WorksOnDisks (S.world shelf.old) (S.world shelf.new) }
     ensures fault { IsErrOf result DiskFault → HasRisen (S.counts shelf.old).disk (S.counts shelf.new).disk }
     ensures prepared { S.tells shelf.old → OnOk result (IsPrepared (slice_index (S.sizes shelf.old) slot) slot (next_label pool.old units) (S.world shelf.old) (S.world shelf.new)) }
+    ensures labelled { S.tells shelf.old → OnOk result (PreparesSlot (S.world shelf.old).now.seen (S.world shelf.new).now.seen slot (next_label pool.old units)) }
     ensures pool { OnOk result (IsOpen (S.sizes shelf.new) pool.new) }
     ensures taken { OnOk result (TakesOn slot units pool.old pool.new) }
     ensures stays { (objects : Objects) → HoldsObjects (S.tells shelf.old) (S.world shelf.old).now.seen pool.old objects → OnOk result (HoldsObjects (S.tells shelf.new) (S.world shelf.new).now.seen pool.new objects) }
@@ -130,6 +133,8 @@ pub fn take_all<S: Shelf>(
     ensures fault { IsErrOf result DiskFault → HasRisen (S.counts shelf.old).disk (S.counts shelf.new).disk }
     ensures pool { OnOk result (IsPool 0 (S.sizes shelf.new) pool.new) }
     ensures devices { OnOk result (HasDevicesIn (S.sizes shelf.old) pool.old.group.txg named.now pool.new) }
+    ensures only { OnOk result ((d slot : ℕ) → slot_of pool.new.table.slots d ≡ Some slot → (k : ℕ) × (k < length named.now) × (slice_index named.now k ≡ slot)) }
+    ensures labelled { S.tells shelf.old → OnOk result (LabelsSlots (S.world shelf.old).now.seen (S.world shelf.new).now.seen named.now (length named.now) pool.new) }
     ensures same { OnOk result (KeepsRest pool.old pool.new) }
 {
     for i in 0..named.len() {

@@ -45,10 +45,10 @@ pub cut_there : (u : Uber) (slots cut : List (Option ℕ)) → IsCut u slots cut
 cut_there u slots cut own d lt there = let yes : is_there u d ≡ true = grind (arith, nat_tests, lt, there) in own d ∙ ap (λ (b : Bool). if b then slot_of slots d else None) yes
 
 module _ (u saved : Uber) (is : IsUber u) (saved_is : IsUber saved) (still : (d : ℕ) → d < saved.count → IsRowStill (row_at saved d) (row_at u d)) where
-  same_row : (d : ℕ) → d < saved.count → is_gone (row_at saved d).state ≡ false → row_at u d ≡ row_at saved d
+  pub same_row : (d : ℕ) → d < saved.count → is_gone (row_at saved d).state ≡ false → row_at u d ≡ row_at saved d
   same_row d lt there = (still d lt there).1
 
-  within : (d : ℕ) → d < saved.count → is_gone (row_at saved d).state ≡ false → d < u.count
+  pub within : (d : ℕ) → d < saved.count → is_gone (row_at saved d).state ≡ false → d < u.count
   within d lt there = elim (cases_lt d u.count) [
     | inl less ↦ less
     | inr more ↦

@@ -16,3 +16,4 @@ pub mod Refound
 pub mod Looking
 pub mod Grouping
 pub mod Backing
+pub mod Lasting

@@ -11,12 +11,15 @@ use Rattle.zr_image.specs.Roots.{late_counted, rows_of}
 use Rattle.zr_image.specs.StateOf.{IsSaved}
 use Rattle.zr_import.specs.Words.{HaveWords}
 use Rattle.zr_label.specs.declared.root.Uber.{Uber}
+use Rattle.zr_last.specs.Last.{ShowsLast}
 use Rattle.zr_meta.specs.Parts.{SpellsParts}
 use Rattle.zr_meta.specs.Streams.{SpellsPart}
+use Rattle.zr_model.specs.Objects.{Objects}
 use Rattle.zr_model.specs.State.{Saved}
 use Rattle.zr_root.specs.Streams.{HasWords}
 use Rattle.zr_store.specs.Store.{Stored}
 use Rattle.zr_sync.specs.Heads.{HasHead, head_of}
+use Rattle.zr_sync.specs.Objects.{HoldsObjects}
 use Rattle.zr_sync.specs.declared.open.DeviceStreams.{DeviceStreams}
 use Rattle.zr_sync.specs.declared.open.OpenPool.{OpenPool}
 use Rattle.zr_current.specs.Current.{GoesOnFrom, IsShownFor}
@@ -68,3 +71,10 @@ pub record LeavesRoot (paths disks : List (List ℕ)) (u : Uber) (pool : OpenPoo
   pub beside : IsShownBeside disks (slots_of u slots.seen) (root_left u pool records.parts) (head_of pool).saved saved
   pub state : Option Saved
   pub means : IsSaved paths disks (slots_of u slots.seen) saved state
+
+-- Nothing has changed since the pool's last root. The disks show it, its head stands there, and they hold these objects.
+pub record LeavesObjects (disks : List (List ℕ)) (pool : OpenPool) (objects : Objects) : Type 0 where
+  pub empty : pool.group.objects ≡ []
+  pub last : ShowsLast disks pool
+  pub head : HasHead disks pool last.root.root last.root.len
+  pub holds : HoldsObjects (Unit {0}) disks pool objects

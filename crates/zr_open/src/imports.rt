@@ -4,6 +4,7 @@ ghost use Rattle.zr_base.specs.Counts.{HasRisen};
 ghost use Rattle.zr_base.specs.declared.refusal.Refusal.{Refusal};
 ghost use Rattle.zr_image.specs.Current.{slots_of};
 ghost use Rattle.zr_label.specs.declared.root.Uber.{Uber};
+ghost use Rattle.zr_last.specs.Last.{ShowsLast};
 ghost use Rattle.zr_shelf.specs.Counts.{NoneFell};
 ghost use Rattle.zr_shelf.specs.Moments.{IsStill};
 ghost use Rattle.zr_sync.specs.Pools.{IsOpen};
@@ -36,6 +37,7 @@ pub fn import<S: Shelf>(alloc: Global, shelf: &mut S) -> Result<OpenPool, Fault>
     ensures fresh { IfOk result (λ pool. (u : Uber) × FindsOn (S.sizes shelf.old) (S.tells shelf.old) (S.world shelf.old).now.seen (Ok u) × IsFresh u pool) }
     ensures opened { IfOk result (λ pool. (u : Uber) × (at : FindsOn (S.sizes shelf.old) (S.tells shelf.old) (S.world shelf.old).now.seen (Ok u)) × IsOfRoot (S.tells shelf.old) (S.world shelf.old).now.seen (slots_of u at.seen) u pool) }
     ensures objects { S.tells shelf.old → IfOk result (λ pool. (p : PoolState) × Shows (S.world shelf.old).now.paths (S.world shelf.old).now.seen p × HoldsState (S.tells shelf.new) (S.world shelf.new).now.seen pool p) }
+    ensures last { S.tells shelf.old → IfOk result (ShowsLast (S.world shelf.new).now.seen) }
     ensures room { IfOk result (λ pool. CoversOwed pool.space) }
     ensures groups { IfOk result (λ pool. pool.group.txg ≤ 2 ^ 63 + 1) }
     ensures refused { (r : Refusal) → IsErrOf result (No r) → FindsOn (S.sizes shelf.old) (S.tells shelf.old) (S.world shelf.old).now.seen (Err r) ⊎ (IsRefusedRoot r ⊎ ((u : Uber) × (at : FindsOn (S.sizes shelf.old) (S.tells shelf.old) (S.world shelf.old).now.seen (Ok u)) × IsRefusedSaved (S.tells shelf.old) (S.world shelf.old).now.seen (slots_of u at.seen) u r)) }

@@ -2,7 +2,7 @@
 //!
 //! Which objects there are depends on the directory alone, and on where its pointers lead. So two heads in one tree mean the
 //! same objects, whatever else they tell, and it is enough that the slots lead to that tree.
-ghost use Rattle.std.specs.Prelude.{◌≡◌, ℕ, Bool, List, [], length, map, None, Some, Ok};
+ghost use Rattle.std.specs.Prelude.{◌≡◌, ℕ, Bool, List, [], All, length, map, None, Some, Ok};
 ghost use Rattle.zr_base.specs.declared.space.SpaceParts.{SpaceParts};
 ghost use Rattle.zr_image.specs.Current.{FindsCurrent, ShowsAll, slots_of};
 ghost use Rattle.zr_image.specs.Reading.{store_of};
@@ -26,9 +26,9 @@ ghost use Rattle.zr_sync.specs.Writes.{WritesIntoFree};
 ghost use Rattle.zr_sync.specs.declared.open.OpenPool.{OpenPool};
 ghost use Rattle.zr_vdev.specs.Runs.{view_of};
 ghost use Rattle.zr_current.specs.Current.{GoesOnFrom, HasSlots, IsCurrentOn};
-ghost use Rattle.zr_open.specs.Left.{LeavesRoot, RecordsDevices, RecordsParts};
+ghost use Rattle.zr_open.specs.Left.{LeavesObjects, LeavesRoot, RecordsDevices, RecordsParts};
 ghost use Rattle.zr_roots.specs.Standing.{image_of};
-ghost use Rattle.zr_open.specs.Shown.{Shows};
+ghost use Rattle.zr_open.specs.Shown.{IsInService, Shows};
 
 /// A pool that an image of the disks means, by all checks of an import in their order, is one that they show.
 pub fn meant_is_shown()
@@ -61,6 +61,11 @@ pub fn commit_is_found()
         → map length before.now.seen ≡ sizes → ShowsAll before.now.seen seen → FindsCurrent seen (Ok last) → HasSlots (slots_of last seen) old.table.slots
         → WritesIntoFree old before mid → IsShownFrom sizes old u mid now → IsNextRoot old reset u → IsOpen sizes new → AreInService (devices_in new.space) → IsSamePool old new → new.last ≡ Some u → new.group.objects ≡ []
         → HasHead now.now.seen new u.root u.len → HoldsObjects (Unit {0}) now.now.seen new objects → Shows paths now.now.seen p → p.objects ≡ objects }
+{}
+
+/// Whatever pool the disks show where an open pool has left its objects has these objects, if all devices of what is shown are in service.
+pub fn left_is_found()
+    ensures { (paths disks : List (List ℕ)) (sizes : List ℕ) (pool : OpenPool) (objects : Objects) (p : PoolState) → IsOpen sizes pool → LeavesObjects disks pool objects → Shows paths disks p → All IsInService p.devs → p.objects ≡ objects }
 {}
 
 /// Where all devices are in service, nothing is condensed, and the words of each device's streams record a part, those of all

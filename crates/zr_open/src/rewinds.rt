@@ -7,7 +7,9 @@ ghost use Rattle.std.specs.Prelude.{◌≡◌, ◌⊎◌, ◌+◌, ◌≤◌, �
 ghost use Rattle.zr_base.specs.Counts.{HasRisen};
 ghost use Rattle.zr_base.specs.declared.refusal.Refusal.{Refusal};
 ghost use Rattle.zr_label.specs.Blocks.{IsUber};
+ghost use Rattle.zr_last.specs.Last.{ShowsLast};
 ghost use Rattle.zr_shelf.specs.Counts.{NoneFell};
+ghost use Rattle.zr_shelf.specs.Moments.{IsStill};
 ghost use Rattle.zr_store.specs.Store.{Stored};
 ghost use Rattle.zr_sync.specs.Commits.{IsShownFrom};
 ghost use Rattle.zr_sync.specs.Holds.{HasBlocks};
@@ -87,10 +89,12 @@ pub fn rewind<S: Shelf>(alloc: Global, shelf: &mut S) -> Result<OpenPool, Fault>
     ensures rewound { IfOk result (λ pool. (u : Uber) × (at : FindsOn (S.sizes shelf.old) (S.tells shelf.old) (S.world shelf.old).now.seen (Ok u)) × IsRewound (S.tells shelf.old) (S.world shelf.old).now.seen (slots_of u at.seen) u pool) }
     ensures shown { S.tells shelf.old → IfOk result (λ pool. (u : Uber) × FindsOn (S.sizes shelf.old) (S.tells shelf.old) (S.world shelf.old).now.seen (Ok u) × IsShownBehind (S.sizes shelf.old) u pool (S.world shelf.old) (S.world shelf.new)) }
     ensures objects { S.tells shelf.old → IfOk result (HoldsSaved (S.world shelf.old).now.paths (S.world shelf.old).now.seen (S.tells shelf.new) (S.world shelf.new).now.seen) }
+    ensures last { S.tells shelf.old → IfOk result (ShowsLast (S.world shelf.new).now.seen) }
     ensures room { IfOk result (λ pool. CoversOwed pool.space) }
     ensures groups { IfOk result (λ pool. pool.group.txg ≤ 2 ^ 63 + 1) }
     ensures refused { (r : Refusal) → IsErrOf result (No r) → FindsOn (S.sizes shelf.old) (S.tells shelf.old) (S.world shelf.old).now.seen (Err r) ⊎ (IsRefusedRoot r ⊎ ((u : Uber) × (at : FindsOn (S.sizes shelf.old) (S.tells shelf.old) (S.world shelf.old).now.seen (Ok u)) × (IsRefusedSaved (S.tells shelf.old) (S.world shelf.old).now.seen (slots_of u at.seen) u r ⊎ ((r ≡ NoCheckpoint) × HasNoSaved (S.tells shelf.old) (S.world shelf.old).now.seen (slots_of u at.seen) u)))) }
     ensures unsaved { S.tells shelf.old → IsErrOf result (No NoCheckpoint) → ShowsNoSaved (S.world shelf.old).now.paths (S.world shelf.old).now.seen }
+    ensures untouched { S.tells shelf.old → (r : Refusal) → IsErrOf result (No r) → IsStill (S.world shelf.old) (S.world shelf.new) }
 {
     let looked = look(alloc, shelf)?;
     let found = looked.found;

@@ -18,7 +18,8 @@ use Rattle.zr_pool.specs.Accounts.{Begins, BeginsNone, Refuses, Turns}
 use Rattle.zr_pool.specs.Ends.{answer_of, is_closing}
 use Rattle.zr_pool.specs.Plain.{shelf_of}
 use Rattle.zr_pool.specs.Pools.{DeviceState, StandsFor, Stands}
-use Rattle.zr_pool.specs.Turns.{on_devices, on_objects_told, IsAccountTurn, IsOpenAnswer, IsTurn, sizes_of, stays_open}
+use Rattle.zr_pool.specs.Turns.{on_devices, on_objects_told, IsAccountTurn, IsOpenAnswer, IsTurn, is_shown, sizes_of, stays_open}
+use Rattle.zr_pool.proofs.Shown.{Lasts}
 use Rattle.zr_pool.proofs.Turning.{left_of}
 
 -- ---- what is told, with the account beside it
@@ -37,17 +38,17 @@ module _ (old new : Stand) (before : DeviceState) (command : Command) (pool : Op
     pub turn : IsAccountTurn (shelf_of old) before.account command answer (shelf_of new) pool
     pub lawful : IfSome pool (IsOpen (sizes_of new.seen))
 
-  pub with_account : (answer : Reply) → Tells answer → Accounts answer → Leads answer
-  with_account answer t a = record {
-    after = record { told = t.after; account = pool };
-    stands_for = record { told = t.stands_for; account = refl };
-    takes = record { objects = t.takes; account = a.turn; lawful = a.lawful };
+  pub with_account : (answer : Reply) → Tells answer → Accounts answer → Lasts old new before command pool answer → Leads answer
+  with_account answer t a l = record {
+    after = record { told = t.after; account = pool; shown = is_shown before.told.is_open before.shown command answer };
+    stands_for = record { told = t.stands_for; account = refl; shown = l.last t.after t.takes };
+    takes = record { objects = t.takes; account = a.turn; lawful = a.lawful; shown = refl; rejoined = l.rejoined t.after t.takes };
   }
 
-  pub each_with_account : (q : Result (Option Reply) model.Stop) → IfOk q (λ found. IfSome found Tells) → IfOk q (λ found. IfSome found Accounts) → IfOk q (λ found. IfSome found Leads)
-  each_with_account (Ok None) t a = tt
-  each_with_account (Ok (Some answer)) t a = with_account answer t a
-  each_with_account (Err e) t a = tt
+  pub each_with_account : (q : Result (Option Reply) model.Stop) → IfOk q (λ found. IfSome found Tells) → IfOk q (λ found. IfSome found Accounts) → IfOk q (λ found. IfSome found (λ answer. Lasts old new before command pool answer)) → IfOk q (λ found. IfSome found Leads)
+  each_with_account (Ok None) t a l = tt
+  each_with_account (Ok (Some answer)) t a l = with_account answer t a l
+  each_with_account (Err e) t a l = tt
 
 -- ---- where a pool is open
 

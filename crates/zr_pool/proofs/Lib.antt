@@ -5,6 +5,7 @@ pub mod Acting
 pub mod Staying
 pub mod Turning
 pub mod Working
+pub mod Shown
 pub mod Accounting
 pub mod Tellings
 pub mod Leavings

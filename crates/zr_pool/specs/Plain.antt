@@ -1,5 +1,5 @@
 -- What a line to the pool on devices makes of the plain objects that its disks hold.
-use Rattle.std.specs.Prelude.{◌≡◌, ℕ, Bool, true, false, length, Some, None, is_some, MatchBool}
+use Rattle.std.specs.Prelude.{◌≡◌, ℕ, Bool, true, false, All, length, Some, None, is_some, MatchBool}
 use Rattle.std.specs.FinMap as map
 use Rattle.zr_base.specs.declared.refusal.Refusal.{Refusal}
 use Rattle.zr_base.specs.declared.refusal.Refusal.TheVariants as refusal
@@ -11,7 +11,7 @@ use Rattle.zr_model.specs.Objects.{Objects}
 use Rattle.zr_model.specs.State.{State, PoolState, Saved, ShelfPart, Empty, Refused, Is, IsOpened, no_pool, no_work, created}
 use Rattle.zr_model.specs.Runs.{Shelf}
 use Rattle.zr_shelf.specs.Disks.{Stand}
-use Rattle.zr_open.specs.Shown.{Shows, ShowsGroup}
+use Rattle.zr_open.specs.Shown.{IsInService, Shows, ShowsGroup}
 use Rattle.zr_open.specs.Rewound.{ShowsNoSaved}
 use Rattle.zr_open.specs.Groups.{ShowsNotKept}
 use Rattle.zr_moves.specs.Answers.{Acts, needs_lost, rewound}
@@ -125,6 +125,11 @@ IsOpeningTurn shelf old cmd.Import reply.Done new = (p : PoolState) × Shows she
 IsOpeningTurn shelf old cmd.ImportRewind reply.Done new = (p : PoolState) × (saved : Saved) × Shows shelf.paths shelf.disks p × (p.saved ≡ Some saved) × IsOpened (rewound p saved) new
 IsOpeningTurn shelf old (cmd.ImportTxg txg) reply.Done new = (p : PoolState) × ShowsGroup shelf.paths shelf.disks txg p × IsOpened p new
 IsOpeningTurn shelf old command answer new = new ≡ old
+
+-- What is found has the objects that were left, where all of its devices are in service.
+abbrev pub IsRejoined : ShelfPart → ShelfPart → Type 0
+IsRejoined (Is left) (Is p) = All IsInService p.devs → p.objects ≡ left.objects
+IsRejoined left found = Unit {0}
 
 -- what a line makes of the objects; a state that is open has a pool, or nothing is told of it
 abbrev pub IsObjectsTurn : Bool → ShelfPart → Shelf → State → Command → Reply → State → Type 0

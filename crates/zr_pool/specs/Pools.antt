@@ -1,12 +1,17 @@
 -- The pool on the devices of the words.
-use Rattle.std.specs.Prelude.{◌≡◌, ℕ, Bool, true, false, ◌≤◌, List, length, Option, Some, None, IfSome}
+use Rattle.std.specs.Prelude.{◌≡◌, ℕ, Bool, true, false, ◌≤◌, List, [], length, map, Option, Some, None, IfSome}
 use Rattle.std.specs.List.{list_any}
 use Rattle.zr_base.specs.declared.space.DevPart.{DevPart}
 use Rattle.zr_image.specs.StateOf.{is_discarding}
-use Rattle.zr_model.specs.State.{State, ShelfPart, Empty, Refused, Is, Work, no_pool}
+use Rattle.zr_last.specs.Last.{ShowsLast}
+use Rattle.zr_model.specs.Objects.{Objects}
+use Rattle.zr_model.specs.State.{State, PoolState, ShelfPart, Empty, Refused, Is, Work, no_pool}
+use Rattle.zr_open.specs.Left.{LeavesObjects}
 use Rattle.zr_rules.specs.Places.{is_leaving}
 use Rattle.zr_rules.specs.Space.{Space}
 use Rattle.zr_rules.specs.Steps.{has_condensing}
+use Rattle.zr_sync.specs.Heads.{HasHead}
+use Rattle.zr_sync.specs.Objects.{HoldsObjects}
 use Rattle.zr_sync.specs.Pools.{IsOpen}
 use Rattle.zr_sync.specs.States.{HoldsState}
 use Rattle.zr_sync.specs.declared.open.OpenPool.{OpenPool}
@@ -42,16 +47,36 @@ pub record IsOnShelf (paths : List (List ℕ)) (pool : Option OpenPool) (sizes :
   pub few : length paths ≤ 32
   pub is_open : IfSome pool (IsOpen sizes)
 
--- What is told of a pool on devices between two commands: its objects, as far as these are told, and what it holds beside its disks while it is open.
+-- Nothing has changed since the last root of an open pool, whose head stands on the disks, and they hold the objects of this pool.
+pub record IsAtRest (disks : List (List ℕ)) (pool : OpenPool) (p : PoolState) : Type 0 where
+  pub empty : pool.group.objects ≡ []
+  pub head : IfSome pool.last (λ u. HasHead disks pool u.root u.len)
+  pub holds : HoldsObjects (Unit {0}) disks pool p.objects
+
+-- a pool has left these objects on the disks: they show its last root, behind which nothing has changed
+pub record AreLeft (disks : List (List ℕ)) (objects : Objects) : Type 0 where
+  pub pool : OpenPool
+  pub lawful : IsOpen (map length disks) pool
+  pub leaves : LeavesObjects disks pool objects
+
+-- The disks show the last root of the pool that is open, or have what was left of the one that is closed, where its objects are told.
+abbrev pub AreShown : Option OpenPool → List (List ℕ) → ShelfPart → Type 0
+AreShown (Some pool) disks part = ShowsLast disks pool
+AreShown None disks (Is p) = AreLeft disks p.objects
+AreShown None disks part = Unit {0}
+
+-- What is told of a pool on devices between two commands: its objects, as far as these are told, what it holds beside its disks while it is open, and whether the disks show it.
 pub record DeviceState : Type 0 where
   pub told : State
   pub account : Option OpenPool
+  pub shown : Bool
 
 -- no pool yet
 abbrev pub no_device_state : DeviceState
-no_device_state = record { told = no_pool; account = None }
+no_device_state = record { told = no_pool; account = None; shown = false }
 
 -- what is told of the pool and its disks is so, and the account is the pool's own
 pub record Stands (pool : Option OpenPool) (disks : List (List ℕ)) (state : DeviceState) : Type 0 where
   pub told : StandsFor pool disks state.told
   pub account : state.account ≡ pool
+  pub shown : state.shown ≡ true → AreShown pool disks state.told.shelf

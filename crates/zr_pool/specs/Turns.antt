@@ -1,5 +1,5 @@
 -- What the pool on devices says of its answers so far: each is one to its line, and the pool is open where it should be.
-use Rattle.std.specs.Prelude.{◌≡◌, ◌⊎◌, ℕ, ◌<◌, ◌≤◌, if◌then◌else◌, Bool, true, false, List, length, map, Option, Some, None, IfSome, IsSomeAnd}
+use Rattle.std.specs.Prelude.{◌≡◌, ◌⊎◌, ℕ, ◌<◌, ◌≤◌, if◌then◌else◌, Bool, true, false, not, ◌&&◌, List, length, map, Option, Some, None, IfSome, IsSomeAnd}
 use Rattle.zr_base.specs.declared.refusal.Refusal.{Refusal}
 use Rattle.zr_base.specs.declared.refusal.Refusal.TheVariants as refusal
 use Rattle.zr_script.specs.declared.command.Command.{Command}
@@ -17,7 +17,7 @@ use Rattle.zr_model.specs.Runs.{Point, Shelf, Turn}
 use Rattle.zr_sync.specs.Pools.{IsOpen}
 use Rattle.zr_sync.specs.declared.open.OpenPool.{OpenPool}
 use Rattle.zr_pool.specs.Accounts.{Turns, Begins, BeginsNone}
-use Rattle.zr_pool.specs.Plain.{IsObjectsTurn, is_of_removal}
+use Rattle.zr_pool.specs.Plain.{IsObjectsTurn, IsRejoined, is_of_removal}
 use Rattle.zr_pool.specs.Pools.{DeviceState, no_device_state}
 use Rattle.zr_pool.specs.Replies.{TellsFault}
 
@@ -106,6 +106,25 @@ IsRemoveRefusal refusal.NotInService = Unit {0}
 IsRemoveRefusal refusal.OnlyDevice = Unit {0}
 IsRemoveRefusal (refusal.NoRoom needed free) = free < needed
 IsRemoveRefusal r = ⊥
+
+-- the lines to an open pool of which it is told that the disks show its last root behind them, where they did before
+abbrev pub keeps_last : Command → Bool
+keeps_last (cmd.Add dev) = false
+keeps_last cmd.Checkpoint = false
+keeps_last cmd.Discard = false
+keeps_last command = not (is_of_removal command)
+
+-- and of those that make a pool or open one
+abbrev pub opens_last : Command → Bool
+opens_last (cmd.Create name guid devs) = false
+opens_last (cmd.CreateOld name guid devs) = false
+opens_last command = true
+
+-- Whether the disks are told to show the pool behind a line, by whether one was open before it and they were told so then. A refusal leaves that.
+abbrev pub is_shown : Bool → Bool → Command → Reply → Bool
+is_shown is_open shown command (reply.No r) = shown
+is_shown true shown command answer = shown && keeps_last command
+is_shown false shown command answer = opens_last command
 
 -- what a line to an open pool may be refused for
 abbrev pub IsOpenRefusal : Command → Refusal → Type 0
@@ -234,11 +253,14 @@ told_point p = record { shelf = p.shelf; state = p.state.told }
 abbrev pub told_turn : Turn DeviceState → Turn State
 told_turn t = record { command = t.command; answer = t.answer; point = told_point t.point }
 
--- One line to the pool on devices: what it makes of the objects and of the account, which is that of a lawful pool on these disks.
+-- One line to the pool on devices: what it makes of the objects and of the account, which is that of a lawful pool on these disks, and whether the disks are told to show it. An import
+-- finds the objects that were left there.
 pub record IsDeviceTurn (p : Point DeviceState) (t : Turn DeviceState) : Type 0 where
   pub objects : on_objects_told.takes (told_point p) (told_turn t)
   pub account : IsAccountTurn p.shelf p.state.account t.command t.answer t.point.shelf t.point.state.account
   pub lawful : IfSome t.point.state.account (IsOpen (sizes_of t.point.shelf.disks))
+  pub shown : t.point.state.shown ≡ is_shown p.state.told.is_open p.state.shown t.command t.answer
+  pub rejoined : p.state.shown ≡ true → t.command ≡ cmd.Import → t.answer ≡ reply.Done → IsRejoined p.state.told.shelf t.point.state.told.shelf
 
 -- What commands mean to the pool on devices.
 abbrev pub on_devices : Meaning

@@ -11,10 +11,13 @@ ghost use Rattle.zr_sync.specs.declared.fault.Fault.TheVariants.{No, Stops};
 ghost use Rattle.zr_sync.specs.declared.stop.Stop.TheVariants.{DiskFault};
 ghost use Rattle.zr_model.specs.State.{PoolState};
 ghost use Rattle.zr_sync.specs.States.{HoldsState};
-ghost use Rattle.zr_pool.specs.Plain.{IsPlainOf, IsPlainRefusal};
+ghost use Rattle.zr_last.specs.Last.{KeepsLast};
+ghost use Rattle.zr_script.specs.declared.command.Command.TheVariants.{Export};
+ghost use Rattle.zr_pool.specs.Plain.{IsDone, IsPlainOf, IsPlainRefusal};
+ghost use Rattle.zr_pool.specs.Pools.{IsAtRest};
 ghost use Rattle.zr_pool.specs.Accounts.{Refuses, Turns};
 ghost use Rattle.zr_pool.specs.Replies.{step_reply};
-ghost use Rattle.zr_pool.specs.Turns.{IsOpenAnswer, IsOpenRefusal, is_on_objects, is_on_pool};
+ghost use Rattle.zr_pool.specs.Turns.{IsOpenAnswer, IsOpenRefusal, is_on_objects, is_on_pool, keeps_last};
 
 use std::alloc::Global;
 use zr_base::{Blob, Refusal};
@@ -79,8 +82,11 @@ pub fn object_line<S: Shelf>(
     ensures acts { (p : PoolState) → HoldsState (S.tells shelf.old) (S.world shelf.old).now.seen pool.old p → IfOk result (IsPlainOf (HoldsState (S.tells shelf.new) (S.world shelf.new).now.seen pool.new) p command.now) }
     ensures stays { (p : PoolState) → HoldsState (S.tells shelf.old) (S.world shelf.old).now.seen pool.old p → (r : Refusal) → IsErrOf result (No r) → HoldsState (S.tells shelf.new) (S.world shelf.new).now.seen pool.new p }
     ensures cause { (p : PoolState) → HoldsState (S.tells shelf.old) (S.world shelf.old).now.seen pool.old p → (r : Refusal) → IsErrOf result (No r) → IsPlainRefusal p command.now r }
+    ensures shown { S.tells shelf.old → OnOk result (KeepsLast (S.world shelf.old) (S.world shelf.new) pool.old pool.new) }
+    ensures shown_no { S.tells shelf.old → (r : Refusal) → IsErrOf result (No r) → KeepsLast (S.world shelf.old) (S.world shelf.new) pool.old pool.new }
     ensures account { S.tells shelf.old → (paths : List (List ℕ)) → IfOk result (λ reply. Turns paths (S.sizes shelf.old) (S.world shelf.old).now.seen pool.old command.now reply (S.world shelf.new).now.seen pool.new) }
     ensures account_no { S.tells shelf.old → (paths : List (List ℕ)) → (r : Refusal) → IsErrOf result (No r) → Refuses paths (S.sizes shelf.old) (S.world shelf.old).now.seen pool.old command.now r pool.new }
+    ensures done { IfOk result IsDone }
     ensures answer { IfOk result (IsOpenAnswer command.now) }
     ensures refused { (r : Refusal) → IsErrOf result (No r) → IsOpenRefusal command.now r }
 {
@@ -178,8 +184,12 @@ pub fn pool_line<S: Shelf>(
     ensures acts { (p : PoolState) → HoldsState (S.tells shelf.old) (S.world shelf.old).now.seen pool.old p → IfOk result (IsPlainOf (HoldsState (S.tells shelf.new) (S.world shelf.new).now.seen pool.new) p command.now) }
     ensures stays { (p : PoolState) → HoldsState (S.tells shelf.old) (S.world shelf.old).now.seen pool.old p → (r : Refusal) → IsErrOf result (No r) → HoldsState (S.tells shelf.new) (S.world shelf.new).now.seen pool.new p }
     ensures cause { (p : PoolState) → HoldsState (S.tells shelf.old) (S.world shelf.old).now.seen pool.old p → (r : Refusal) → IsErrOf result (No r) → IsPlainRefusal p command.now r }
+    ensures shown { S.tells shelf.old → keeps_last command.now ≡ true → OnOk result (KeepsLast (S.world shelf.old) (S.world shelf.new) pool.old pool.new) }
+    ensures shown_no { S.tells shelf.old → (r : Refusal) → IsErrOf result (No r) → KeepsLast (S.world shelf.old) (S.world shelf.new) pool.old pool.new }
+    ensures left { command.now ≡ Export → (p : PoolState) → HoldsState (S.tells shelf.old) (S.world shelf.old).now.seen pool.old p → OnOk result (IsAtRest (S.world shelf.new).now.seen pool.new p) }
     ensures account { S.tells shelf.old → IfOk result (λ reply. Turns paths.now (S.sizes shelf.old) (S.world shelf.old).now.seen pool.old command.now reply (S.world shelf.new).now.seen pool.new) }
     ensures account_no { S.tells shelf.old → (r : Refusal) → IsErrOf result (No r) → Refuses paths.now (S.sizes shelf.old) (S.world shelf.old).now.seen pool.old command.now r pool.new }
+    ensures done { IfOk result IsDone }
     ensures answer { IfOk result (IsOpenAnswer command.now) }
     ensures refused { (r : Refusal) → IsErrOf result (No r) → IsOpenRefusal command.now r }
 {

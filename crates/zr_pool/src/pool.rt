@@ -11,12 +11,14 @@ ghost use Rattle.zr_sync.specs.declared.fault.Fault.TheVariants.{No, Stops};
 ghost use Rattle.zr_sync.specs.declared.stop.Stop.TheVariants.{DiskFault};
 ghost use Rattle.zr_model.specs.State.{PoolState};
 ghost use Rattle.zr_pool.specs.Accounts.{Begins, BeginsNone, Refuses, Turns};
-ghost use Rattle.zr_pool.specs.Plain.{IsMade, IsOpeningCause, IsPlainOf, IsPlainRefusal, shelf_of};
-ghost use Rattle.zr_pool.specs.Pools.{IsOnShelf};
+ghost use Rattle.zr_last.specs.Last.{KeepsLast, ShowsLast};
+ghost use Rattle.zr_script.specs.declared.command.Command.TheVariants.{Export};
+ghost use Rattle.zr_pool.specs.Plain.{IsDone, IsMade, IsOpeningCause, IsPlainOf, IsPlainRefusal, shelf_of};
+ghost use Rattle.zr_pool.specs.Pools.{IsAtRest, IsOnShelf};
 ghost use Rattle.zr_pool.specs.Replies.{TellsFault};
 ghost use Rattle.zr_sync.specs.States.{HoldsState};
 ghost use Rattle.zr_pool.specs.Ends.{is_closing};
-ghost use Rattle.zr_pool.specs.Turns.{IsServed, IsTurn, IsClosedRefusal, IsOpenRefusal, IsOpenAnswer, is_opener};
+ghost use Rattle.zr_pool.specs.Turns.{IsServed, IsTurn, IsClosedRefusal, IsOpenRefusal, IsOpenAnswer, is_opener, keeps_last, opens_last};
 
 use crate::begin::begin;
 use crate::lines::{is_on_objects, is_on_pool, object_line, pool_line};
@@ -88,9 +90,13 @@ fn open_line<S: Shelf>(
     ensures acts { (p : PoolState) → HoldsState (S.tells shelf.old) (S.world shelf.old).now.seen pool.old p → IfOk result (λ found. IfSome found (IsPlainOf (HoldsState (S.tells shelf.new) (S.world shelf.new).now.seen pool.new) p command.now)) }
     ensures stays { (p : PoolState) → HoldsState (S.tells shelf.old) (S.world shelf.old).now.seen pool.old p → (r : Refusal) → IsErrOf result (No r) → HoldsState (S.tells shelf.new) (S.world shelf.new).now.seen pool.new p }
     ensures cause { (p : PoolState) → HoldsState (S.tells shelf.old) (S.world shelf.old).now.seen pool.old p → (r : Refusal) → IsErrOf result (No r) → IsPlainRefusal p command.now r }
+    ensures shown { S.tells shelf.old → keeps_last command.now ≡ true → OnOk result (KeepsLast (S.world shelf.old) (S.world shelf.new) pool.old pool.new) }
+    ensures shown_no { S.tells shelf.old → (r : Refusal) → IsErrOf result (No r) → KeepsLast (S.world shelf.old) (S.world shelf.new) pool.old pool.new }
+    ensures left { command.now ≡ Export → (p : PoolState) → HoldsState (S.tells shelf.old) (S.world shelf.old).now.seen pool.old p → OnOk result (IsAtRest (S.world shelf.new).now.seen pool.new p) }
     ensures account { S.tells shelf.old → IfOk result (λ found. IfSome found (λ reply. Turns paths.now (S.sizes shelf.old) (S.world shelf.old).now.seen pool.old command.now reply (S.world shelf.new).now.seen pool.new)) }
     ensures account_no { S.tells shelf.old → (r : Refusal) → IsErrOf result (No r) → Refuses paths.now (S.sizes shelf.old) (S.world shelf.old).now.seen pool.old command.now r pool.new }
     ensures blamed { IfOk result (λ found. IfSome found (λ reply. TellsFault command.now reply → HasRisen (S.counts shelf.old).disk (S.counts shelf.new).disk)) }
+    ensures done { IfOk result (λ found. IfSome found IsDone) }
     ensures answer { IfOk result (λ found. IfSome found (IsOpenAnswer command.now)) }
     ensures refused { (r : Refusal) → IsErrOf result (No r) → IsOpenRefusal command.now r }
     ensures none { IfOk result (λ found. IfNone found (IsServed command.now → ⊥)) }
@@ -136,6 +142,8 @@ impl DevicePool {
         ensures made { S.tells shelf.old → IfSome self.new.pool (λ pool. IsMade (shelf_of (S.world shelf.old).now) (HoldsState (S.tells shelf.new) (S.world shelf.new).now.seen pool) command.now) }
         ensures begins { S.tells shelf.old → IfSome self.new.pool (Begins self.old.paths (S.sizes shelf.old) (S.world shelf.old).now.seen command.now) }
         ensures begins_no { S.tells shelf.old → (r : Refusal) → IsErrOf result (No r) → BeginsNone self.old.paths (S.sizes shelf.old) (S.world shelf.old).now.seen command.now r }
+        ensures last { S.tells shelf.old → opens_last command.now ≡ true → IfSome self.new.pool (ShowsLast (S.world shelf.new).now.seen) }
+        ensures untouched { S.tells shelf.old → (r : Refusal) → IsErrOf result (No r) → (S.world shelf.new).now.seen ≡ (S.world shelf.old).now.seen }
         ensures turn { IfOk result (λ found. IfSome found (λ reply. IsTurn false command.now reply (is_some self.new.pool))) }
         ensures refused { (r : Refusal) → IsErrOf result (No r) → IsClosedRefusal command.now r }
         ensures done { IfOk result (λ found. IfSome found (λ reply. reply ≡ Done)) }

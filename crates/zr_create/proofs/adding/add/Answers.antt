@@ -1,9 +1,15 @@
-use Rattle.std.proofs.Common.{subst, sym}
+use Rattle.std.proofs.Common.{◌≡◌, ◌≢◌, ◌+◌, ℕ, ◌<◌, List, length, subst, sym, ap, ◌∙◌, arith}
+use Rattle.zr_label.specs.declared.root.Label.{Label}
+use Rattle.zr_last.specs.Last.{ShowsLast}
+use Rattle.zr_scan.specs.Scan.{IsFirstLabel}
+use Rattle.zr_shelf.specs.Disks.{Stand, disk}
 use Rattle.zr_sync.specs.declared.open.Table.{Table}
+use Rattle.zr_sync.specs.Pools.{IsOpen}
 use Rattle.zr_sync.proofs.Disks.{works_more, works_still}
 use Rattle.zr_create.proofs.Taken.{IsFree}
 use Rattle.zr_create.proofs.Checking.{next_free}
 use Rattle.zr_create.proofs.Keeping.{objects_still}
+use Rattle.zr_create.proofs.Lasting.{grown_last, next_alone, next_few}
 use Rattle.zr_create.proofs.adding.add.Goals as goal
 
 pub returns-in_err-check_next-clause-disks : goal.returns-in_err-check_next-clause-disks
@@ -61,3 +67,40 @@ returns-clause-objects g c = λ objects h.
     let told = h.held.told in
     let before = objects_still (g.S.Shelf.tells c.args.shelf.now) (g.S.Shelf.tells c.check_next.new.shelf) (g.S.Shelf.world c.args.shelf.now) (g.S.Shelf.world c.check_next.new.shelf) c.args.pool.now objects (c.check_next.ensures.told told) (c.check_next.ensures.still told) h in
     c.in_ok-commit-2.ensures.stays objects (c.in_ok-take_on.ensures.stays objects (c.in_ok-commit.ensures.stays objects before))
+
+-- ---- the last root
+
+pub returns-clause-shown : goal.returns-clause-shown
+returns-clause-shown g c = λ t h.
+    let told = c.check_next.ensures.told t in
+    let told2 = c.commit.ensures.told told in
+    let told3 = c.take_on.ensures.told told2 in
+    let old = c.args.shelf.now in
+    let first = c.check_next.new.shelf in
+    let second = c.commit.new.shelf in
+    let third = c.take_on.new.shelf in
+    let fourth = c.commit-2.new.shelf in
+    let a = c.args.pool.now in
+    let b = c.commit.new.pool in
+    let third_pool = c.take_on.new.pool in
+    let d = c.commit-2.new.pool in
+    let slot = c.args.slot in
+    let units = c.in-Some.units in
+    let here = c.in_ok-commit.ensures in
+    let there = c.in_ok-commit-2.ensures in
+    let taken = c.in_ok-take_on.ensures in
+    let same = ap (λ (s : Stand). s.seen) (c.check_next.ensures.still t).now in
+    let free =
+    subst (λ (table : Table). IsFree table.slots slot) (sym here.same.table)
+    (next_free (g.S.Shelf.sizes old) (g.S.Shelf.tells old) (g.S.Shelf.world old).now.seen a slot c.in_ok-check_next.ensures.allowed) in
+    let few : b.table.count < 32 =
+    let n = ap (λ (table : Table). table.count) here.same.table in
+    let low = next_few (g.S.Shelf.sizes old) (g.S.Shelf.tells old) (g.S.Shelf.world old).now.seen a slot c.in_ok-check_next.ensures.allowed in
+    omega (arith, n, low) in
+    let alone =
+    subst
+    (λ (ds : List (List ℕ)). (other : ℕ) (m : Label) → other ≢ slot → other < length ds → IsFirstLabel (length (disk ds other)) (disk ds other) m → m.guid ≡ a.guid → m.index ≡ a.table.count → m.added ≡ a.group.txg + 1 → ⊥)
+    (sym same) (next_alone (g.S.Shelf.sizes old) (g.S.Shelf.tells old) t (g.S.Shelf.world old).now.seen a slot c.in_ok-check_next.ensures.allowed) in
+    grown_last (g.S.Shelf.world first) (g.S.Shelf.world second) (g.S.Shelf.world third) (g.S.Shelf.world fourth) (g.S.Shelf.sizes first) (g.S.Shelf.sizes second) (g.S.Shelf.sizes third) (g.S.Shelf.sizes fourth) a b third_pool d slot units
+    (subst (λ (ns : List ℕ). IsOpen ns a) (sym c.check_next.ensures.sizes) c.requires.pool) here.pool (g.S.Shelf.sound first told).sized here.txg here.last (here.written told) here.same.guid here.same.table few free taken.taken (taken.labelled told2) taken.pool there.pool
+    (g.S.Shelf.sound third told3).sized there.txg there.last (there.written told3) there.same.guid there.same.table alone (subst (λ (ds : List (List ℕ)). ShowsLast ds a) (sym same) h)

@@ -1,4 +1,6 @@
-use Rattle.std.proofs.Common.{ℕ, List, subst, sym, ◌∙◌, ap}
+use Rattle.std.proofs.Common.{◌≡◌, ◌≤◌, ℕ, List, Ok, length, subst, sym, ◌∙◌, ap, arith}
+use Rattle.std.proofs.lemmas.List.{length-map}
+use Rattle.zr_shelf.specs.Disks.{Stand}
 use Rattle.std.specs.FinMap as map
 use Rattle.zr_cache.specs.Entries.{entries}
 use Rattle.zr_rules.specs.Space.{Space}
@@ -7,6 +9,10 @@ use Rattle.zr_create.specs.Devices.{HaveDisks, HasDevicesIn}
 use Rattle.zr_create.proofs.Staying.{still_in}
 use Rattle.zr_sync.proofs.Disks.{works_more, works_still}
 use Rattle.zr_create.proofs.Checking.{new_disks}
+use Rattle.zr_create.specs.Refusals.{ChecksNew}
+use Rattle.zr_slots.specs.Checks.{AreNamed}
+use Rattle.zr_create.proofs.Going.{with_some}
+use Rattle.zr_create.proofs.Lasting.{new_last}
 use Rattle.zr_create.proofs.Nothing.{new_serve, none_held}
 use Rattle.zr_create.proofs.making.create.Goals as goal
 
@@ -73,3 +79,29 @@ returns-clause-devices g c =
 
 pub returns-clause-clear : goal.returns-clause-clear
 returns-clause-clear g c = c.in_ok-commit.ensures.same.ckpt ∙ (c.in_ok-take_all.ensures.same.ckpt ∙ ap (λ (x : Space). x.parts.ckpt) c.in_ok-pool.ensures.blank.space)
+
+-- ---- the last root
+
+pub returns-clause-last : goal.returns-clause-last
+returns-clause-last g c = λ t.
+    let told = c.check_new.ensures.told t in
+    let told2 = c.take_all.ensures.told told in
+    let old = c.args.shelf.now in
+    let first = c.check_new.new.shelf in
+    let second = c.take_all.new.shelf in
+    let third = c.commit.new.shelf in
+    let named = c.args.named.now in
+    let x = c.take_all.new.pool in
+    let y = c.commit.new.pool in
+    let taken = c.in_ok-take_all.ensures in
+    let done = c.in_ok-commit.ensures in
+    let same = ap (λ (s : Stand). s.seen) (c.check_new.ensures.still t).now in
+    let count : length (g.S.Shelf.world first).now.seen ≡ length (g.S.Shelf.sizes old) = sym (length-map (g.S.Shelf.world first).now.seen length) ∙ ap (λ (ns : List ℕ). length ns) ((g.S.Shelf.sound first told).sized ∙ c.check_new.ensures.sizes) in
+    let more : length (g.S.Shelf.world second).now.seen ≡ length (g.S.Shelf.sizes old) =
+    sym (length-map (g.S.Shelf.world second).now.seen length) ∙ ap (λ (ns : List ℕ). length ns) ((g.S.Shelf.sound second told2).sized ∙ (c.take_all.ensures.sizes ∙ c.check_new.ensures.sizes)) in
+    let checks = subst (λ (ds : List (List ℕ)). ChecksNew (g.S.Shelf.sizes old) (g.S.Shelf.tells old) ds c.args.version c.args.guid named (Ok tt)) (sym same) c.in_ok-check_new.ensures.allowed in
+    let inside = subst (λ (n : ℕ). AreNamed n named) (sym count) c.requires.named in
+    let some : 1 ≤ x.table.count = let n = taken.devices.count in let least = c.requires.some in omega (arith, n, least) in
+    let ready = with_some (g.S.Shelf.sizes second) x taken.pool some in
+    new_last (g.S.Shelf.world first) (g.S.Shelf.world second) (g.S.Shelf.world third) (g.S.Shelf.sizes old) (g.S.Shelf.sizes first) (g.S.Shelf.sizes second) (g.S.Shelf.sizes third) (g.S.Shelf.tells old) t c.args.version c.args.guid c.in_ok-pool.pool.group.txg named checks inside x y
+    (taken.same.guid ∙ c.in_ok-pool.ensures.named.guid_is) taken.devices taken.only (taken.labelled told) ready done.pool (g.S.Shelf.sound second told2).sized done.txg done.last (done.written told2) done.same.guid done.same.table (more ∙ sym count)

@@ -4,6 +4,7 @@ use Rattle.zr_label.specs.Geometry.{units_of_size}
 use Rattle.zr_sync.specs.Pools.{IsPool}
 use Rattle.zr_sync.proofs.Disks.{works_more}
 use Rattle.zr_create.proofs.Going.{with_any, same_more, count_more, only_more, each_more}
+use Rattle.zr_create.proofs.Labelled.{more_labelled}
 use Rattle.zr_create.proofs.taking.take_all.Goals as goal
 
 pub returns-in_err-take_on-clause-disks : goal.returns-in_err-take_on-clause-disks
@@ -32,5 +33,8 @@ loop-i-preserved g c =
       same = same_more sizes c.args.named.now c.loop-i.i slot c.in-Some.units c.args.pool.now c.loop-i.pool c.take_on.new.pool pool few count refl units c.loop-i.invariant.same c.in_ok-take_on.ensures.taken;
       count = count_more sizes c.args.named.now c.loop-i.i slot c.in-Some.units c.args.pool.now c.loop-i.pool c.take_on.new.pool pool few count refl units c.loop-i.invariant.same c.in_ok-take_on.ensures.taken;
       each = each_more sizes c.args.named.now c.loop-i.i slot c.in-Some.units c.args.pool.now c.loop-i.pool c.take_on.new.pool pool few count refl units c.loop-i.invariant.same c.in_ok-take_on.ensures.taken c.loop-i.invariant.each;
+      labelled = λ t.
+          more_labelled (g.S.Shelf.world c.args.shelf.now).now.seen (g.S.Shelf.world c.loop-i.shelf).now.seen (g.S.Shelf.world c.take_on.new.shelf).now.seen c.args.named.now c.loop-i.i slot c.in-Some.units c.loop-i.pool c.take_on.new.pool c.requires.apart inside refl count
+          (let size = pool.table.size in omega (arith, few, size)) c.in_ok-take_on.ensures.taken (c.in_ok-take_on.ensures.labelled (c.loop-i.invariant.told t)) (c.loop-i.invariant.labelled t);
       only = only_more sizes c.args.named.now c.loop-i.i slot c.in-Some.units c.args.pool.now c.loop-i.pool c.take_on.new.pool pool few count refl units c.loop-i.invariant.same c.in_ok-take_on.ensures.taken c.loop-i.invariant.only;
     }

@@ -1,4 +1,10 @@
+use Rattle.std.proofs.Common.{◌≡◌, ℕ, ◌<◌, List, length, map, [], Some, sym, ◌∙◌, ap, subst, get_or, refl}
 use Rattle.std.specs.Prelude.{slice_index}
+use Rattle.std.proofs.lemmas.List.{length-map}
+use Rattle.std.proofs.Math.ListN.{get_or-map}
+use Rattle.zr_label.specs.declared.root.Label.{Label}
+use Rattle.zr_newest.proofs.Prepared.{prepared_from}
+use Rattle.zr_newest.specs.Newest.{PreparesSlot}
 use Rattle.zr_sync.proofs.Disks.{works_prepared}
 use Rattle.zr_create.proofs.Rows.{sized}
 use Rattle.zr_create.proofs.Beside.{prepared_beside}
@@ -32,3 +38,28 @@ returns-clause-stays g c = λ objects h.
     objects_kept (g.S.Shelf.sizes c.args.shelf.now) x c.args.slot c.args.units c.requires.pool c.requires.free c.txg-txg.result c.enter.new.table c.add_dev.new.self c.push_streams.new.streams c.enter.ensures c.in_ok-add_dev.ensures.ok
     w0.now.seen w1.now.seen (prepared_beside (slice_index (g.S.Shelf.sizes c.args.shelf.now) c.args.slot) c.args.slot _ c.prepare_device.result w0 w1 (c.prepare_device.ensures.order told))
     (g.S.Shelf.tells c.args.shelf.now) (g.S.Shelf.tells c.prepare_device.new.shelf) objects (c.prepare_device.ensures.told told) h
+
+-- ---- the slot
+
+pub returns-clause-labelled : goal.returns-clause-labelled
+returns-clause-labelled g c = λ t.
+    let old = c.args.shelf.now in
+    let new = c.prepare_device.new.shelf in
+    let before = (g.S.Shelf.world old).now.seen in
+    let after = (g.S.Shelf.world new).now.seen in
+    let sizes = g.S.Shelf.sizes old in
+    let slot = c.args.slot in
+    let x = c.args.pool.now in
+    let size = slice_index sizes slot in
+    let told = c.prepare_device.ensures.told t in
+    let sized_old = (g.S.Shelf.sound old t).sized in
+    let sized_new = (g.S.Shelf.sound new told).sized in
+    let same : map length after ≡ map length before = sized_new ∙ (c.prepare_device.ensures.sizes ∙ sym sized_old) in
+    let long : length (get_or after slot []) ≡ size = sym (get_or-map (λ (bytes : List ℕ). length bytes) after slot []) ∙ ap (λ (ns : List ℕ). get_or ns slot 0) (sized_new ∙ c.prepare_device.ensures.sizes) in
+    let known : slot < length before = subst (λ (n : ℕ). slot < n) (sym (ap (λ (ns : List ℕ). length ns) sized_old) ∙ length-map before length) c.requires.exists in
+    let fits = sized size x.version c.args.units c.requires.pool.version c.requires.units in
+    let own = c.in_ok-prepare_device.ensures in
+    let label = c.label_of-label.result in
+    let is = c.label_of-label.ensures.value ∙ ap (λ (n : ℕ). record { guid = x.guid; index = x.table.count; added = n; units = c.args.units; name = x.name }) c.txg-txg.ensures in
+    subst (λ (l : Label). PreparesSlot before after slot l) is
+    (prepared_from before after slot size label known same long (fits.units_any ∙ sym (ap (λ (l : Label). Some l.units) is)) (prepared_beside size slot label c.prepare_device.result (g.S.Shelf.world old) (g.S.Shelf.world new) (c.prepare_device.ensures.order t)) (own.labels t) (own.rings t))

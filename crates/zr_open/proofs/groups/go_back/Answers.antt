@@ -1,4 +1,5 @@
-use Rattle.std.proofs.Common.{rules, ◌≡◌, inr, ℕ, ◌+◌, List, [], Ok, Err, sym, ◌∙◌, ap, subst}
+use Rattle.std.proofs.Common.{rules, ◌≡◌, inr, ℕ, ◌+◌, ◌<◌, List, [], Ok, Err, Some, sym, ◌∙◌, ap, subst, arith}
+use Rattle.std.specs.Prelude.{IfOk}
 use Rattle.zr_base.specs.declared.refusal.Refusal.{Refusal}
 use Rattle.zr_image.specs.Current.{FindsCurrent}
 use Rattle.zr_label.specs.declared.root.Seen.{Seen}
@@ -15,7 +16,12 @@ use Rattle.zr_open.specs.Opened.{IsFresh}
 use Rattle.zr_open.specs.Rewound.{rewound}
 use Rattle.zr_slots.specs.declared.pool.Found.{Found}
 use Rattle.zr_open.proofs.Looking.{looked_moved}
-use Rattle.zr_open.proofs.Backing.{back_now, back_then, group_refused, held_now, held_then, if_ok, now_refused, place_disks, reset_refused, then_refused}
+use Rattle.zr_open.proofs.Backing.{back_now, back_then, group_refused, held_now, held_then, if_ok, now_refused, place_disks, place_slots, reset_refused, then_refused}
+use Rattle.zr_image.specs.Current.{ShowsAll, slots_of}
+use Rattle.zr_last.specs.Last.{ShowsLast}
+use Rattle.zr_sync.specs.Commits.{IsShownFrom}
+use Rattle.zr_sync.specs.Pools.{IsOpen}
+use Rattle.zr_open.proofs.Lasting.{published_if, scanned_last}
 use Rattle.zr_open.proofs.Slots.{same_refusal}
 use Rattle.zr_open.proofs.groups.go_back.Goals as goal
 
@@ -196,3 +202,44 @@ returns-clause-fault g c = λ is.
     risen_later (counts c.args.shelf.now).disk (counts c.scan.new.shelf).disk last c.in_ok-seen.ensures.none_fell.disk
     (risen_later (counts c.scan.new.shelf).disk (counts c.look_at.new.shelf).disk last c.in_ok-now.ensures.none_fell.disk
     (risen_later (counts c.look_at.new.shelf).disk (counts c.look_at-2.new.shelf).disk last c.in_ok-then.ensures.none_fell.disk (c.reset.ensures.fault is)))
+
+-- ---- the last root
+
+pub returns-then-txg-found-clause-last : goal.returns-then-txg-found-clause-last
+returns-then-txg-found-clause-last g c = λ t.
+    let shelf = c.args.shelf.now in
+    let first = c.in_ok-seen.ensures in
+    let second = c.in_ok-now.ensures in
+    let l = c.in_ok-now.now in
+    let same = (second.still (first.told t)).now ∙ (first.still t).now in
+    subst (λ (stand : Stand). ShowsLast stand.seen l.pool) (sym same)
+    (scanned_last (g.S.Shelf.sizes shelf) (g.S.Shelf.tells shelf) t (g.S.Shelf.world shelf).now.seen c.in_ok-seen.field-0 l first.scanned second.found second.looked.fresh second.looked.same)
+
+pub returns-clause-last : goal.returns-clause-last
+returns-clause-last g c = λ t.
+    let sizes = g.S.Shelf.sizes c.args.shelf.now in
+    let tells = g.S.Shelf.tells c.args.shelf.now in
+    let disks = (g.S.Shelf.world c.args.shelf.now).now.seen in
+    let s = c.in_ok-seen.field-0 in
+    let current = s.found.root in
+    let root = c.in_ok-root.root in
+    let first = c.in_ok-seen.ensures in
+    let second = c.in_ok-now.ensures in
+    let third = c.in_ok-then.ensures in
+    let told = third.told (second.told (first.told t)) in
+    let same = (third.still (second.told (first.told t))).now ∙ ((second.still (first.told t)).now ∙ (first.still t).now) in
+    let shelf = c.look_at-2.new.shelf in
+    let here = g.S.Shelf.sizes shelf in
+    let before = g.S.Shelf.world shelf in
+    let now = g.S.Shelf.world c.reset.new.shelf in
+    let next = rewound root (current.txg + 1) in
+    let r = c.reset.result in
+    let kept = subst (λ (seen : List Seen). KeepsGroup seen current c.args.txg (Ok root)) c.as_slice.ensures c.in_ok-root.ensures.keeps in
+    let devices = place_slots tells disks sizes s first.scanned c.args.txg root c.in_ok-root.ensures.root c.in_ok-root.ensures.pool kept.1 in
+    let shown = subst (λ (stand : Stand). ShowsAll stand.seen s.seen) (sym same) (first.scanned.shown.shows t) in
+    let place = third.found in
+    published_if here s.seen current next s.found.slots before now (g.S.Shelf.sound shelf told).sized shown first.scanned.finds (omega arith) devices r
+    (subst (λ (ns : List ℕ). IfOk r (IsOpen ns)) c.reset.ensures.sizes c.reset.ensures.pool)
+    (subst (λ (f : Found). IfOk r (IsFresh (rewound f.root (current.txg + 1)))) place c.reset.ensures.fresh)
+    (subst (λ (f : Found). IfOk r (λ pool. pool.table.slots ≡ f.slots)) place c.reset.ensures.placed)
+    (subst (λ (f : Found). IfOk r (λ pool. IsShownFrom here (record pool { last = Some current }) (rewound f.root (current.txg + 1)) before now)) place (c.reset.ensures.shown told))

@@ -7,7 +7,9 @@ use Rattle.zr_current.specs.Current.{HasSlots}
 use Rattle.zr_roots.specs.Standing.{Stands}
 use Rattle.zr_open.specs.Roots.{meta_of}
 use Rattle.zr_open.specs.Shown.{Shows}
+use Rattle.zr_last.specs.Last.{ShowsLast}
 use Rattle.zr_open.proofs.Beside.{beside_moved}
+use Rattle.zr_open.proofs.Lasting.{looked_last}
 use Rattle.zr_open.proofs.Showing.{shows_state, shows_saved}
 use Rattle.zr_open.proofs.Views.{stands_same}
 use Rattle.zr_open.proofs.imports.import.Goals as goal
@@ -50,3 +52,10 @@ returns-clause-objects g c = λ t.
     subst (λ (s : Stand). (p : PoolState) × Shows w.now.paths disks p × HoldsState (g.S.Shelf.tells c.look.new.shelf) s.seen l.pool p) (sym still.now)
     (shows_state (g.S.Shelf.tells c.look.new.shelf) (c.in_ok-looked.ensures.told t) w.now.paths disks (g.S.Shelf.sizes c.args.shelf.now) sound.sized u l.pool l.root h.finds.seen (h.finds.shown.shows t) h.finds.finds slots h.at.uber h.at.head
     (meta_of l.saved) (shows_saved tells t w.now.paths disks these u l.root l.saved beside) h.at.ready h.at.fresh h.at.parts h.at.mapped stands)
+
+pub returns-clause-last : goal.returns-clause-last
+returns-clause-last g c = λ t.
+    let l = c.in_ok-looked.looked in
+    let shelf = c.args.shelf.now in
+    let still = c.in_ok-looked.ensures.still t in
+    subst (λ (s : Stand). ShowsLast s.seen l.pool) (sym still.now) (looked_last (g.S.Shelf.sizes shelf) (g.S.Shelf.tells shelf) t (g.S.Shelf.world shelf).now.seen l c.in_ok-looked.ensures.looked)

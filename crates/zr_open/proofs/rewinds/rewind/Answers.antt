@@ -30,7 +30,11 @@ use Rattle.zr_roots.specs.Standing.{Stands}
 use Rattle.zr_open.specs.Roots.{HasParts, IsBeside, IsSavedRoot, meta_of, told_root}
 use Rattle.zr_open.specs.declared.look.Looked.{Looked}
 use Rattle.zr_open.specs.declared.saved.SavedRoot.{SavedRoot}
+use Rattle.zr_image.specs.Current.{ShowsAll}
+use Rattle.zr_label.specs.declared.root.Seen.{Seen}
+use Rattle.zr_newest.specs.Newest.{HasOwnDevices}
 use Rattle.zr_open.proofs.Beside.{head_at, no_block, saved_disks, saved_moved}
+use Rattle.zr_open.proofs.Lasting.{published_last, saved_at, saved_own}
 use Rattle.zr_open.proofs.Rewinding.{rewound_disks, saved_are, saved_held, saved_objects}
 use Rattle.zr_open.proofs.Showing.{ShowsSaved, saved_with, shows_it, state}
 use Rattle.zr_open.proofs.Views.{store_same}
@@ -295,3 +299,30 @@ returns-in_err-show-clause-fault g c = λ is.
     let same : told ≡ DiskFault = cc in
     let counts = g.S.Shelf.counts in
     risen_later (counts c.args.shelf.now).disk (counts c.look.new.shelf).disk (counts c.show.new.shelf).disk c.in_ok-looked.ensures.none_fell.disk (c.in_err-show.ensures.fault (ap Err same))
+
+-- ---- the last root
+
+pub returns-clause-last : goal.returns-clause-last
+returns-clause-last g c = λ t.
+    let sizes = g.S.Shelf.sizes c.args.shelf.now in
+    let tells = g.S.Shelf.tells c.args.shelf.now in
+    let disks = (g.S.Shelf.world c.args.shelf.now).now.seen in
+    let l = c.in_ok-looked.looked in
+    let s = c.in-Some.saved in
+    let h = c.in_ok-looked.ensures.looked in
+    let b = back_is sizes tells disks l s h (sym c.into_saved.ensures ∙ c.in-Some.is) in
+    let u = l.found.root in
+    let next = c.rewound-root.result in
+    let pool = c.in_ok-pool.pool in
+    let read = g.S.Shelf.world c.look.new.shelf in
+    let now = g.S.Shelf.world c.show.new.shelf in
+    let told = c.in_ok-looked.ensures.told t in
+    let seen = h.finds.seen in
+    let place = place_disks sizes l.found.slots c.own_slots.result s.uber next (u.txg + 1) c.rewound-root.ensures.is c.own_slots.ensures.own b.disks_are in
+    let ready = subst (λ (ns : List ℕ). IsOpen ns pool) (sym c.in_ok-looked.ensures.sizes) (c.in_ok-pool.ensures.open sizes place) in
+    let shown = subst (λ (st : Stand). ShowsAll st.seen seen) (sym (c.in_ok-looked.ensures.still t).now) (h.finds.shown.shows t) in
+    let cut = own_cut l.found.slots c.own_slots.result s.uber next (u.txg + 1) c.rewound-root.ensures.is c.own_slots.ensures.own in
+    let own = saved_own u s.uber l.found.slots c.own_slots.result (u.txg + 1) h.at.uber b.saved.is_saved.spelled.lawful b.saved.is_saved.guid b.saved.is_saved.rows cut in
+    let devices = subst (λ (x : Uber). HasSlots (slots_of x seen) c.own_slots.result) (sym c.rewound-root.ensures.is) (saved_at u s.uber l.found.slots c.own_slots.result (u.txg + 1) seen h.slots own) in
+    let later = let group = ap (λ (x : Uber). x.txg) c.rewound-root.ensures.is in omega (arith, group) in
+    published_last (g.S.Shelf.sizes c.look.new.shelf) seen u next c.own_slots.result read now (g.S.Shelf.sound c.look.new.shelf told).sized shown h.finds.finds later devices pool ready c.in_ok-pool.ensures.fresh c.in_ok-pool.ensures.slots (c.in_ok-show.ensures.shown told)

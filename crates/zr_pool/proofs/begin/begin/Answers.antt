@@ -1,4 +1,4 @@
-use Rattle.std.proofs.Common.{false, None, Err, ◌∙◌, ap, refl, sym, subst}
+use Rattle.std.proofs.Common.{◌≡◌, true, false, None, Err, ◌∙◌, ap, refl, sym, subst}
 use Rattle.zr_base.specs.declared.space.CkptPart.{CkptPart}
 use Rattle.std.specs.Prelude.{IfOk, IfSome}
 use Rattle.std.proofs.lemmas.Result.{err_from_is_err_and}
@@ -15,6 +15,9 @@ use Rattle.zr_pool.specs.Plain.{IsMade, IsOpeningCause, shelf_of}
 use Rattle.zr_pool.specs.Turns.{IsClosedRefusal}
 use Rattle.zr_pool.proofs.Leavings.{in_the_way, is_new, not_begun}
 use Rattle.zr_pool.proofs.Refused.{fault_same, group_cause, rewind_cause}
+use Rattle.zr_shelf.specs.Disks.{Stand}
+use Rattle.zr_pool.specs.Turns.{opens_last}
+use Rattle.zr_pool.proofs.Shown.{false_true}
 use Rattle.zr_sync.proofs.Disks.{works_still}
 use Rattle.zr_pool.proofs.begin.begin.Goals as goal
 
@@ -195,3 +198,55 @@ pub returns-in_err-go_back-in-ImportTxg-clause-begins_no : goal.returns-in_err-g
 returns-in_err-go_back-in-ImportTxg-clause-begins_no g c = λ told r is.
     let shelf = c.args.shelf.now in
     subst (λ (command : Command). BeginsNone c.args.paths.now (g.S.Shelf.sizes shelf) (g.S.Shelf.world shelf).now.seen command r) (sym c.in-ImportTxg.is) tt
+
+-- ---- what the disks show
+
+pub returns-in_ok-made-in-Create-clause-last : goal.returns-in_ok-made-in-Create-clause-last
+returns-in_ok-made-in-Create-clause-last g c = λ told opens. false_true (subst (λ (command : Command). opens_last command ≡ true) c.in-Create.is opens)
+
+pub returns-in_ok-made-in-CreateOld-clause-last : goal.returns-in_ok-made-in-CreateOld-clause-last
+returns-in_ok-made-in-CreateOld-clause-last g c = λ told opens. false_true (subst (λ (command : Command). opens_last command ≡ true) c.in-CreateOld.is opens)
+
+pub returns-in_ok-import-in-Import-clause-last : goal.returns-in_ok-import-in-Import-clause-last
+returns-in_ok-import-in-Import-clause-last g c = λ told opens. c.in_ok-import-in-Import.ensures.last told
+
+pub returns-in_ok-rewind-in-ImportRewind-clause-last : goal.returns-in_ok-rewind-in-ImportRewind-clause-last
+returns-in_ok-rewind-in-ImportRewind-clause-last g c = λ told opens. c.in_ok-rewind-in-ImportRewind.ensures.last told
+
+pub returns-in_ok-go_back-in-ImportTxg-clause-last : goal.returns-in_ok-go_back-in-ImportTxg-clause-last
+returns-in_ok-go_back-in-ImportTxg-clause-last g c = λ told opens. c.in_ok-go_back-in-ImportTxg.ensures.last told
+
+pub returns-in_err-made-in-Create-clause-untouched : goal.returns-in_err-made-in-Create-clause-untouched
+returns-in_err-made-in-Create-clause-untouched g c = λ told r is.
+    let res = c.from_residual-in_err-made-in-Create in
+    let q = err_from_is_err_and res.result res.ensures.1 in
+    let e = fault_same c.in_err-made-in-Create.field-0.0 q.0 r res.result q.1 q.2 is in
+    let was = c.in_err-made-in-Create.was ∙ ap Err e in
+    ap (λ (stand : Stand). stand.seen) (c.create.ensures.untouched told r was).now
+
+pub returns-in_err-made-in-CreateOld-clause-untouched : goal.returns-in_err-made-in-CreateOld-clause-untouched
+returns-in_err-made-in-CreateOld-clause-untouched g c = λ told r is.
+    let res = c.from_residual-in_err-made-in-CreateOld in
+    let q = err_from_is_err_and res.result res.ensures.1 in
+    let e = fault_same c.in_err-made-in-CreateOld.field-0.0 q.0 r res.result q.1 q.2 is in
+    let was = c.in_err-made-in-CreateOld.was ∙ ap Err e in
+    ap (λ (stand : Stand). stand.seen) (c.create-in-CreateOld.ensures.untouched told r was).now
+
+pub returns-in_err-import-in-Import-clause-untouched : goal.returns-in_err-import-in-Import-clause-untouched
+returns-in_err-import-in-Import-clause-untouched g c = λ told r is. ap (λ (stand : Stand). stand.seen) (c.import.ensures.still told).now
+
+pub returns-in_err-rewind-in-ImportRewind-clause-untouched : goal.returns-in_err-rewind-in-ImportRewind-clause-untouched
+returns-in_err-rewind-in-ImportRewind-clause-untouched g c = λ told r is.
+    let res = c.from_residual-in_err-rewind-in-ImportRewind in
+    let q = err_from_is_err_and res.result res.ensures.1 in
+    let e = fault_same c.in_err-rewind-in-ImportRewind.field-0.0 q.0 r res.result q.1 q.2 is in
+    let was = c.in_err-rewind-in-ImportRewind.was ∙ ap Err e in
+    ap (λ (stand : Stand). stand.seen) (c.rewind.ensures.untouched told r was).now
+
+pub returns-in_err-go_back-in-ImportTxg-clause-untouched : goal.returns-in_err-go_back-in-ImportTxg-clause-untouched
+returns-in_err-go_back-in-ImportTxg-clause-untouched g c = λ told r is.
+    let res = c.from_residual-in_err-go_back-in-ImportTxg in
+    let q = err_from_is_err_and res.result res.ensures.1 in
+    let e = fault_same c.in_err-go_back-in-ImportTxg.field-0.0 q.0 r res.result q.1 q.2 is in
+    let was = c.in_err-go_back-in-ImportTxg.was ∙ ap Err e in
+    ap (λ (stand : Stand). stand.seen) (c.go_back.ensures.untouched told r was).now

@@ -18,6 +18,7 @@ use Rattle.zr_pool.specs.Plain.{IsPlainRefusal, IsPlainOf, IsPlainOn}
 use Rattle.zr_pool.proofs.Acting.{plain_refusal, made_on, dropped_on, read_on, sum_on, written_on, filled_on, punched_on, changed_by}
 use Rattle.zr_pool.specs.Turns.{IsOpenRefusal}
 use Rattle.zr_pool.proofs.Refused.{fault_same, change_refusal, answered_no, answered_ok}
+use Rattle.zr_last.proofs.Lasting.{blocks_last}
 use Rattle.zr_pool.proofs.Staying.{same_state, edited_state}
 use Rattle.zr_pool.proofs.Tellings.{found_told, blocks_told, puts_bytes, puts_none}
 use Rattle.zr_pool.proofs.lines.object_line.Goals as goal
@@ -304,3 +305,82 @@ returns-in_err-sum-in-Sum-clause-account_no g c = λ told paths r is.
       record { group = c.sum.ensures.group; rest = c.sum.ensures.wrote.rest; space = c.sum.ensures.wrote.goes.space },
       λ at expected found damaged s held. c.sum.ensures.damaged s (blocks_told (g.S.Shelf.tells c.args.shelf.now) told disks c.args.pool.now s held) at expected found (was ∙ ap (λ y. Err (No y)) damaged),
     )
+
+-- ---- what the disks show
+
+pub returns-in_err-make-in-Make-clause-shown_no : goal.returns-in_err-make-in-Make-clause-shown_no
+returns-in_err-make-in-Make-clause-shown_no g c = λ told r is.
+    let res = c.from_residual in
+    let q = err_from_is_err_and res.result res.ensures.1 in
+    let e = fault_same c.in_err-make-in-Make.field-0.0 q.0 r res.result q.1 q.2 is in
+    let was = c.in_err-make-in-Make.was ∙ ap Err e in
+    c.make.ensures.shown told (answered_no c.make.result r was)
+
+pub returns-in_ok-make-in-Make-clause-shown : goal.returns-in_ok-make-in-Make-clause-shown
+returns-in_ok-make-in-Make-clause-shown g c = λ told. c.make.ensures.shown told (answered_ok c.make.result c.in_ok-make-in-Make.was)
+
+pub returns-in_err-drop-in-Drop-clause-shown_no : goal.returns-in_err-drop-in-Drop-clause-shown_no
+returns-in_err-drop-in-Drop-clause-shown_no g c = λ told r is.
+    let res = c.from_residual-in_err-drop-in-Drop in
+    let q = err_from_is_err_and res.result res.ensures.1 in
+    let e = fault_same c.in_err-drop-in-Drop.field-0.0 q.0 r res.result q.1 q.2 is in
+    let was = c.in_err-drop-in-Drop.was ∙ ap Err e in
+    c.drop.ensures.shown told (answered_no c.drop.result r was)
+
+pub returns-in_ok-drop-in-Drop-clause-shown : goal.returns-in_ok-drop-in-Drop-clause-shown
+returns-in_ok-drop-in-Drop-clause-shown g c = λ told. c.drop.ensures.shown told (answered_ok c.drop.result c.in_ok-drop-in-Drop.was)
+
+pub returns-in_err-bytes-in-Read-clause-shown_no : goal.returns-in_err-bytes-in-Read-clause-shown_no
+returns-in_err-bytes-in-Read-clause-shown_no g c = λ told r is.
+    let res = c.from_residual-in_err-bytes-in-Read in
+    let q = err_from_is_err_and res.result res.ensures.1 in
+    let e = fault_same c.in_err-bytes-in-Read.field-0.0 q.0 r res.result q.1 q.2 is in
+    let was = c.in_err-bytes-in-Read.was ∙ ap Err e in
+    blocks_last c.requires.pool (g.S.Shelf.sound c.args.shelf.now told).sized told c.read.ensures.wrote
+
+pub returns-in_ok-bytes-in-Read-clause-shown : goal.returns-in_ok-bytes-in-Read-clause-shown
+returns-in_ok-bytes-in-Read-clause-shown g c = λ told. blocks_last c.requires.pool (g.S.Shelf.sound c.args.shelf.now told).sized told c.read.ensures.wrote
+
+pub returns-in_err-sum-in-Sum-clause-shown_no : goal.returns-in_err-sum-in-Sum-clause-shown_no
+returns-in_err-sum-in-Sum-clause-shown_no g c = λ told r is.
+    let res = c.from_residual-in_err-sum-in-Sum in
+    let q = err_from_is_err_and res.result res.ensures.1 in
+    let e = fault_same c.in_err-sum-in-Sum.field-0.0 q.0 r res.result q.1 q.2 is in
+    let was = c.in_err-sum-in-Sum.was ∙ ap Err e in
+    blocks_last c.requires.pool (g.S.Shelf.sound c.args.shelf.now told).sized told c.sum.ensures.wrote
+
+pub returns-in_ok-sum-in-Sum-clause-shown : goal.returns-in_ok-sum-in-Sum-clause-shown
+returns-in_ok-sum-in-Sum-clause-shown g c = λ told. blocks_last c.requires.pool (g.S.Shelf.sound c.args.shelf.now told).sized told c.sum.ensures.wrote
+
+pub returns-in_err-change-in-Write-clause-shown_no : goal.returns-in_err-change-in-Write-clause-shown_no
+returns-in_err-change-in-Write-clause-shown_no g c = λ told r is.
+    let res = c.from_residual-in_err-change-in-Write in
+    let q = err_from_is_err_and res.result res.ensures.1 in
+    let e = fault_same c.in_err-change-in-Write.field-0.0 q.0 r res.result q.1 q.2 is in
+    let was = c.in_err-change-in-Write.was ∙ ap Err e in
+    c.change.ensures.shown_no told r was
+
+pub returns-in_ok-change-in-Write-clause-shown : goal.returns-in_ok-change-in-Write-clause-shown
+returns-in_ok-change-in-Write-clause-shown g c = λ told. c.in_ok-change-in-Write.ensures.shown told
+
+pub returns-in_err-change-in-Fill-clause-shown_no : goal.returns-in_err-change-in-Fill-clause-shown_no
+returns-in_err-change-in-Fill-clause-shown_no g c = λ told r is.
+    let res = c.from_residual-in_err-change-in-Fill in
+    let q = err_from_is_err_and res.result res.ensures.1 in
+    let e = fault_same c.in_err-change-in-Fill.field-0.0 q.0 r res.result q.1 q.2 is in
+    let was = c.in_err-change-in-Fill.was ∙ ap Err e in
+    c.change-in-Fill.ensures.shown_no told r was
+
+pub returns-in_ok-change-in-Fill-clause-shown : goal.returns-in_ok-change-in-Fill-clause-shown
+returns-in_ok-change-in-Fill-clause-shown g c = λ told. c.in_ok-change-in-Fill.ensures.shown told
+
+pub returns-in_err-change-in-Punch-clause-shown_no : goal.returns-in_err-change-in-Punch-clause-shown_no
+returns-in_err-change-in-Punch-clause-shown_no g c = λ told r is.
+    let res = c.from_residual-in_err-change-in-Punch in
+    let q = err_from_is_err_and res.result res.ensures.1 in
+    let e = fault_same c.in_err-change-in-Punch.field-0.0 q.0 r res.result q.1 q.2 is in
+    let was = c.in_err-change-in-Punch.was ∙ ap Err e in
+    c.change-in-Punch.ensures.shown_no told r was
+
+pub returns-in_ok-change-in-Punch-clause-shown : goal.returns-in_ok-change-in-Punch-clause-shown
+returns-in_ok-change-in-Punch-clause-shown g c = λ told. c.in_ok-change-in-Punch.ensures.shown told

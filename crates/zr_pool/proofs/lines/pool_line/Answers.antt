@@ -14,6 +14,10 @@ use Rattle.zr_pool.specs.Accounts.{Refuses, Turns}
 use Rattle.zr_pool.proofs.Acting.{plain_refusal, synced_as, added_as, saved_as, given_up_as, stepped_as, upgraded_as}
 use Rattle.zr_pool.specs.Turns.{IsOpenAnswer, IsOpenRefusal}
 use Rattle.zr_pool.proofs.Refused.{fault_same, add_refusal, take_cause, take_refusal, give_cause, give_refusal, step_cause, step_refusal}
+use Rattle.zr_last.proofs.Lasting.{commit_last, same_last}
+use Rattle.zr_shelf.specs.Disks.{Stand}
+use Rattle.zr_pool.specs.Turns.{keeps_last}
+use Rattle.zr_pool.proofs.Shown.{false_true, same_root, still_last}
 use Rattle.zr_pool.proofs.Staying.{stays_still, same_state, held_state, discarding_state, stepped_state, objects_told, objects_anew_unit, step_answer, some_units}
 use Rattle.zr_pool.proofs.Tellings.{checks_told, gives_told, stepped_turn, takes_told, upgrades_told}
 use Rattle.zr_pool.proofs.lines.pool_line.Goals as goal
@@ -280,3 +284,84 @@ returns-in_err-upgrade-in-Upgrade-clause-account_no g c = λ told r is.
     let was = c.in_err-upgrade-in-Upgrade.was ∙ ap Err e in
     subst (λ (command : Command). Refuses c.args.paths.now (g.S.Shelf.sizes c.args.shelf.now) (g.S.Shelf.world c.args.shelf.now).now.seen c.args.pool.now command r c.upgrade.new.pool) (sym c.in-Upgrade.is)
     (c.upgrade.ensures.unchanged r was, c.upgrade.ensures.refused r was)
+
+-- ---- what the disks show
+
+pub returns-in_ok-commit-in-Sync-clause-shown : goal.returns-in_ok-commit-in-Sync-clause-shown
+returns-in_ok-commit-in-Sync-clause-shown g c = λ told keeps.
+    let shelf = c.args.shelf.now in
+    let new = c.commit.new.shelf in
+    let done = c.in_ok-commit-in-Sync.ensures in
+    commit_last (g.S.Shelf.sizes shelf) (g.S.Shelf.sizes new) c.args.pool.now c.commit.new.pool false (g.S.Shelf.world shelf) (g.S.Shelf.world new) c.requires.pool done.pool (g.S.Shelf.sound shelf told).sized done.txg done.last (done.written told) done.same.guid done.same.table
+
+pub returns-in_ok-commit-in-Export-clause-shown : goal.returns-in_ok-commit-in-Export-clause-shown
+returns-in_ok-commit-in-Export-clause-shown g c = λ told keeps.
+    let shelf = c.args.shelf.now in
+    let new = c.commit-in-Export.new.shelf in
+    let done = c.in_ok-commit-in-Export.ensures in
+    commit_last (g.S.Shelf.sizes shelf) (g.S.Shelf.sizes new) c.args.pool.now c.commit-in-Export.new.pool false (g.S.Shelf.world shelf) (g.S.Shelf.world new) c.requires.pool done.pool (g.S.Shelf.sound shelf told).sized done.txg done.last (done.written told) done.same.guid done.same.table
+
+pub returns-in_ok-commit-in-Export-clause-left : goal.returns-in_ok-commit-in-Export-clause-left
+returns-in_ok-commit-in-Export-clause-left g c = λ exports p h.
+    let new = c.commit-in-Export.new.shelf in
+    let done = c.in_ok-commit-in-Export.ensures in
+    record {
+      empty = done.empty;
+      head = done.stands (record { told = h.objects.held.told; read = h.objects.held.read });
+      holds = objects_anew_unit (g.S.Shelf.tells new) (g.S.Shelf.world new).now.seen c.commit-in-Export.new.pool p.objects (done.stays p.objects h.objects);
+    }
+
+pub returns-in_ok-upgrade-in-Upgrade-clause-shown : goal.returns-in_ok-upgrade-in-Upgrade-clause-shown
+returns-in_ok-upgrade-in-Upgrade-clause-shown g c = λ told keeps. c.in_ok-upgrade-in-Upgrade.ensures.shown told
+
+pub returns-in_ok-units-in-StepDiscard-clause-shown : goal.returns-in_ok-units-in-StepDiscard-clause-shown
+returns-in_ok-units-in-StepDiscard-clause-shown g c = λ told keeps h. same_last (g.S.Shelf.world c.args.shelf.now).now.seen c.args.pool.now c.step.new.pool c.in_ok-units-in-StepDiscard.ensures.root h
+
+pub returns-in_ok-add-in-Add-clause-shown : goal.returns-in_ok-add-in-Add-clause-shown
+returns-in_ok-add-in-Add-clause-shown g c = λ told keeps. false_true (subst (λ (command : Command). keeps_last command ≡ true) c.in-Add.is keeps)
+
+pub returns-in_ok-take-in-Checkpoint-clause-shown : goal.returns-in_ok-take-in-Checkpoint-clause-shown
+returns-in_ok-take-in-Checkpoint-clause-shown g c = λ told keeps. false_true (subst (λ (command : Command). keeps_last command ≡ true) c.in-Checkpoint.is keeps)
+
+pub returns-in_ok-give_up-in-Discard-clause-shown : goal.returns-in_ok-give_up-in-Discard-clause-shown
+returns-in_ok-give_up-in-Discard-clause-shown g c = λ told keeps. false_true (subst (λ (command : Command). keeps_last command ≡ true) c.in-Discard.is keeps)
+
+pub returns-in_err-add-in-Add-clause-shown_no : goal.returns-in_err-add-in-Add-clause-shown_no
+returns-in_err-add-in-Add-clause-shown_no g c = λ told r is.
+    let res = c.from_residual-in_err-add-in-Add in
+    let q = err_from_is_err_and res.result res.ensures.1 in
+    let e = fault_same c.in_err-add-in-Add.field-0.0 q.0 r res.result q.1 q.2 is in
+    let was = c.in_err-add-in-Add.was ∙ ap Err e in
+    still_last (g.S.Shelf.world c.args.shelf.now) (g.S.Shelf.world c.add.new.shelf) c.args.pool.now c.add.new.pool (same_root c.args.pool.now c.add.new.pool (c.add.ensures.unchanged r was)) (ap (λ (stand : Stand). stand.seen) (c.add.ensures.untouched told r was).now)
+
+pub returns-in_err-take-in-Checkpoint-clause-shown_no : goal.returns-in_err-take-in-Checkpoint-clause-shown_no
+returns-in_err-take-in-Checkpoint-clause-shown_no g c = λ told r is.
+    let res = c.from_residual-in_err-take-in-Checkpoint in
+    let q = err_from_is_err_and res.result res.ensures.1 in
+    let e = fault_same c.in_err-take-in-Checkpoint.field-0.0 q.0 r res.result q.1 q.2 is in
+    let was = c.in_err-take-in-Checkpoint.was ∙ ap Err e in
+    still_last (g.S.Shelf.world c.args.shelf.now) (g.S.Shelf.world c.take.new.shelf) c.args.pool.now c.take.new.pool (same_root c.args.pool.now c.take.new.pool (c.take.ensures.unchanged r was)) (ap (λ (w : World). w.now.seen) (c.take.ensures.untouched r was))
+
+pub returns-in_err-give_up-in-Discard-clause-shown_no : goal.returns-in_err-give_up-in-Discard-clause-shown_no
+returns-in_err-give_up-in-Discard-clause-shown_no g c = λ told r is.
+    let res = c.from_residual-in_err-give_up-in-Discard in
+    let q = err_from_is_err_and res.result res.ensures.1 in
+    let e = fault_same c.in_err-give_up-in-Discard.field-0.0 q.0 r res.result q.1 q.2 is in
+    let was = c.in_err-give_up-in-Discard.was ∙ ap Err e in
+    still_last (g.S.Shelf.world c.args.shelf.now) (g.S.Shelf.world c.give_up.new.shelf) c.args.pool.now c.give_up.new.pool (same_root c.args.pool.now c.give_up.new.pool (c.give_up.ensures.unchanged r was)) (ap (λ (w : World). w.now.seen) (c.give_up.ensures.untouched r was))
+
+pub returns-in_err-upgrade-in-Upgrade-clause-shown_no : goal.returns-in_err-upgrade-in-Upgrade-clause-shown_no
+returns-in_err-upgrade-in-Upgrade-clause-shown_no g c = λ told r is.
+    let res = c.from_residual-in_err-upgrade-in-Upgrade in
+    let q = err_from_is_err_and res.result res.ensures.1 in
+    let e = fault_same c.in_err-upgrade-in-Upgrade.field-0.0 q.0 r res.result q.1 q.2 is in
+    let was = c.in_err-upgrade-in-Upgrade.was ∙ ap Err e in
+    still_last (g.S.Shelf.world c.args.shelf.now) (g.S.Shelf.world c.upgrade.new.shelf) c.args.pool.now c.upgrade.new.pool (same_root c.args.pool.now c.upgrade.new.pool (c.upgrade.ensures.unchanged r was)) (ap (λ (w : World). w.now.seen) (c.upgrade.ensures.untouched r was))
+
+pub returns-in_err-units-in-StepDiscard-clause-shown_no : goal.returns-in_err-units-in-StepDiscard-clause-shown_no
+returns-in_err-units-in-StepDiscard-clause-shown_no g c = λ told r is.
+    let res = c.from_residual-in_err-units-in-StepDiscard in
+    let q = err_from_is_err_and res.result res.ensures.1 in
+    let e = fault_same c.in_err-units-in-StepDiscard.field-0.0 q.0 r res.result q.1 q.2 is in
+    let was = c.in_err-units-in-StepDiscard.was ∙ ap Err e in
+    same_last (g.S.Shelf.world c.args.shelf.now).now.seen c.args.pool.now c.step.new.pool (same_root c.args.pool.now c.step.new.pool (c.step.ensures.unchanged r was))

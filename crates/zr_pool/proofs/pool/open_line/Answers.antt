@@ -4,6 +4,7 @@ use Rattle.zr_shelf.specs.Moments.{World}
 use Rattle.zr_sync.specs.declared.open.OpenPool.{OpenPool}
 use Rattle.zr_pool.proofs.Leavings.{opener_refused}
 use Rattle.zr_pool.proofs.Refused.{fault_same}
+use Rattle.zr_pool.proofs.Shown.{removal_forgets, same_root, still_last}
 use Rattle.zr_pool.proofs.Staying.{same_state, stays_still}
 use Rattle.zr_pool.proofs.pool.open_line.Goals as goal
 
@@ -69,3 +70,37 @@ returns-in_err-removal_line-clause-account_no g c = λ told r is.
 pub returns-then-is_opener-clause-account_no : goal.returns-then-is_opener-clause-account_no
 returns-then-is_opener-clause-account_no g c = λ told r is.
     opener_refused c.args.paths.now (g.S.Shelf.sizes c.args.shelf.now) (g.S.Shelf.world c.args.shelf.now).now.seen c.args.pool.now c.args.command.now r (sym c.is_opener.ensures ∙ c.if-is_opener.true)
+
+-- ---- what the disks show
+
+pub returns-in_err-object_line-clause-shown_no : goal.returns-in_err-object_line-clause-shown_no
+returns-in_err-object_line-clause-shown_no g c = λ told r is.
+    let res = c.from_residual in
+    let q = err_from_is_err_and res.result res.ensures.1 in
+    let e = fault_same c.in_err-object_line.field-0.0 q.0 r res.result q.1 q.2 is in
+    c.object_line.ensures.shown_no told r (c.in_err-object_line.was ∙ ap Err e)
+
+pub returns-in_err-table_line-clause-shown_no : goal.returns-in_err-table_line-clause-shown_no
+returns-in_err-table_line-clause-shown_no g c = λ told r is.
+    let res = c.from_residual-in_err-table_line in
+    let q = err_from_is_err_and res.result res.ensures.1 in
+    let e = fault_same c.in_err-table_line.field-0.0 q.0 r res.result q.1 q.2 is in
+    c.table_line.ensures.shown_no told r (c.in_err-table_line.was ∙ ap Err e)
+
+pub returns-in_err-pool_line-clause-shown_no : goal.returns-in_err-pool_line-clause-shown_no
+returns-in_err-pool_line-clause-shown_no g c = λ told r is.
+    let res = c.from_residual-in_err-pool_line in
+    let q = err_from_is_err_and res.result res.ensures.1 in
+    let e = fault_same c.in_err-pool_line.field-0.0 q.0 r res.result q.1 q.2 is in
+    c.pool_line.ensures.shown_no told r (c.in_err-pool_line.was ∙ ap Err e)
+
+pub returns-in_err-removal_line-clause-shown_no : goal.returns-in_err-removal_line-clause-shown_no
+returns-in_err-removal_line-clause-shown_no g c = λ told r is.
+    let res = c.from_residual-in_err-removal_line in
+    let q = err_from_is_err_and res.result res.ensures.1 in
+    let e = fault_same c.in_err-removal_line.field-0.0 q.0 r res.result q.1 q.2 is in
+    let was = c.in_err-removal_line.was ∙ ap Err e in
+    still_last (g.S.Shelf.world c.args.shelf.now) (g.S.Shelf.world c.removal_line.new.shelf) c.args.pool.now c.removal_line.new.pool (same_root c.args.pool.now c.removal_line.new.pool (c.removal_line.ensures.unchanged r was)) (ap (λ (w : World). w.now.seen) (c.removal_line.ensures.untouched r was))
+
+pub returns-in_ok-removal_line-clause-shown : goal.returns-in_ok-removal_line-clause-shown
+returns-in_ok-removal_line-clause-shown g c = λ told keeps. removal_forgets c.args.command.now (sym c.is_of_removal.ensures ∙ c.if-is_of_removal.true) keeps

@@ -9,6 +9,8 @@ use Rattle.zr_sync.specs.declared.open.OpenPool.{OpenPool}
 use Rattle.zr_pool.specs.Accounts.{IsRemovalCause, Refuses, Turns}
 use Rattle.zr_pool.proofs.Acting.{listed_as, status_as, audited_as, estimated_as, mapped_as}
 use Rattle.zr_pool.proofs.Refused.{fault_same}
+use Rattle.zr_shelf.specs.Disks.{Stand}
+use Rattle.zr_pool.proofs.Shown.{still_last}
 use Rattle.zr_pool.proofs.Staying.{same_state}
 use Rattle.zr_pool.proofs.Tellings.{refused_same}
 use Rattle.zr_pool.proofs.tables.table_line.Goals as goal
@@ -94,3 +96,17 @@ returns-in_err-map_lines-in-Map-clause-account_no g c = λ told r is.
     let was = c.in_err-map_lines-in-Map.was ∙ ap Err e in
     subst (λ (command : Command). Refuses c.args.paths.now (g.S.Shelf.sizes c.args.shelf.now) (g.S.Shelf.world c.args.shelf.now).now.seen c.args.pool.now command r c.args.pool.now) (sym c.in-Map.is)
     (refl, (c.map_lines.ensures.refused r was).0, (c.map_lines.ensures.refused r was).1)
+
+-- ---- what the disks show
+
+pub returns-in_ok-audit-in-Audit-clause-shown : goal.returns-in_ok-audit-in-Audit-clause-shown
+returns-in_ok-audit-in-Audit-clause-shown g c = λ told.
+    still_last (g.S.Shelf.world c.args.shelf.now) (g.S.Shelf.world c.audit.new.shelf) c.args.pool.now c.audit.new.pool
+    (record { last = ap (λ (x : OpenPool). x.last) c.audit.ensures.same; guid = ap (λ (x : OpenPool). x.guid) c.audit.ensures.same; table = ap (λ (x : OpenPool). x.table) c.audit.ensures.same })
+    (ap (λ (stand : Stand). stand.seen) (c.audit.ensures.still told).now)
+
+pub returns-in_err-audit-in-Audit-clause-shown_no : goal.returns-in_err-audit-in-Audit-clause-shown_no
+returns-in_err-audit-in-Audit-clause-shown_no g c = λ told r is.
+    still_last (g.S.Shelf.world c.args.shelf.now) (g.S.Shelf.world c.audit.new.shelf) c.args.pool.now c.audit.new.pool
+    (record { last = ap (λ (x : OpenPool). x.last) c.audit.ensures.same; guid = ap (λ (x : OpenPool). x.guid) c.audit.ensures.same; table = ap (λ (x : OpenPool). x.table) c.audit.ensures.same })
+    (ap (λ (stand : Stand). stand.seen) (c.audit.ensures.still told).now)

@@ -3,10 +3,12 @@ use Rattle.std.specs.Prelude.{IfOk, IfSome}
 use Rattle.zr_base.specs.Counts.{HasRisen}
 use Rattle.zr_sync.specs.declared.open.OpenPool.{OpenPool}
 use Rattle.zr_pool.specs.Ends.{answer_of, is_closing}
-use Rattle.zr_pool.specs.Pools.{StandsFor, no_device_state}
+use Rattle.zr_pool.specs.Pools.{AreShown, StandsFor, no_device_state}
 use Rattle.zr_pool.specs.Replies.{TellsFault}
 use Rattle.zr_pool.proofs.Accounting.{Leads, closed_accounts, each_with_account, open_accounts}
 use Rattle.zr_pool.proofs.Blaming.{blamed_answer, blamed_closed}
+use Rattle.zr_pool.proofs.Shown.{closed_lasts, open_lasts}
+use Rattle.zr_pool.proofs.Staying.{told_anew}
 use Rattle.zr_pool.proofs.Turning.{closed_turns, open_turns, left_of}
 use Rattle.zr_base.specs.declared.refusal.Refusal.TheVariants as refusal
 use Rattle.zr_script.specs.declared.command.Command.TheVariants.{Sync}
@@ -39,8 +41,10 @@ returns-in_default-clause-step g c = λ told paths before stood.
     c.closed_line.ensures.done c.closed_line.ensures.turn c.closed_line.ensures.refused (c.closed_line.ensures.cause told) c.closed_line.ensures.closed (c.closed_line.ensures.made told) in
     let account_part = closed_accounts old new before c.args.command.now pool (stood.account ∙ c.in_default.is) _ paths (g.S.Shelf.sizes shelf) (g.S.Shelf.sizes c.closed_line.new.shelf) (g.S.Shelf.sound shelf told).sized (g.S.Shelf.sound c.closed_line.new.shelf behind).sized r
     c.closed_line.ensures.done c.closed_line.ensures.turn (c.closed_line.ensures.begins told) (c.closed_line.ensures.begins_no told) c.closed_line.ensures.closed c.closed_line.ensures.pool in
+    let last_part = closed_lasts old new before c.args.command.now pool closed (λ shown. subst (λ (o : Option OpenPool). AreShown o old.seen before.told.shelf) c.in_default.is (stood.shown shown)) r
+    c.closed_line.ensures.done c.closed_line.ensures.turn (c.closed_line.ensures.last told) (c.closed_line.ensures.untouched told) c.closed_line.ensures.closed in
     subst (λ q. IfOk q (λ found. IfSome found (λ answer. Leads old new before c.args.command.now pool answer))) (sym c.answer_of.ensures)
-    (each_with_account old new before c.args.command.now pool (answer_of r) told_part account_part)
+    (each_with_account old new before c.args.command.now pool (answer_of r) told_part account_part last_part)
 
 pub returns-clause-step : goal.returns-clause-step
 returns-clause-step g c = λ told paths before stood.
@@ -62,9 +66,11 @@ returns-clause-step g c = λ told paths before stood.
     c.open_line-done.ensures.acts c.open_line-done.ensures.stays c.open_line-done.ensures.cause c.open_line-done.ensures.answer c.open_line-done.ensures.refused in
     let account_part = open_accounts old new before command x y (stood.account ∙ c.in-Some.is) c.as_slice.result.now (paths ∙ sym c.as_slice.ensures) (g.S.Shelf.sizes shelf) (g.S.Shelf.sizes c.open_line-done.new.shelf) (g.S.Shelf.sound shelf told).sized (g.S.Shelf.sound c.open_line-done.new.shelf behind).sized r
     c.open_line-done.ensures.answer (c.open_line-done.ensures.account told) (c.open_line-done.ensures.account_no told) c.open_line-done.ensures.pool c.open_line-done.ensures.pool_no in
+    let last_part = open_lasts old new before command x y there (λ shown. subst (λ (o : Option OpenPool). AreShown o old.seen before.told.shelf) c.in-Some.is (stood.shown shown)) (g.S.Shelf.sizes c.open_line-done.new.shelf) (g.S.Shelf.sound c.open_line-done.new.shelf behind).sized r
+    c.open_line-done.ensures.done c.open_line-done.ensures.answer (c.open_line-done.ensures.shown told) (c.open_line-done.ensures.shown_no told) (λ exports p held. c.open_line-done.ensures.left exports p (told_anew (Unit {0}) (g.S.Shelf.tells shelf) old.seen x p told held)) c.open_line-done.ensures.pool in
     subst (λ (o : Option OpenPool). IfOk c.answer_of-2.result (λ found. IfSome found (λ answer. Leads old new before command o answer))) (sym left)
     (subst (λ q. IfOk q (λ found. IfSome found (λ answer. Leads old new before command (left_of (is_closing command r) y) answer))) (sym c.answer_of-2.ensures)
-    (each_with_account old new before command (left_of (is_closing command r) y) (answer_of r) told_part account_part))
+    (each_with_account old new before command (left_of (is_closing command r) y) (answer_of r) told_part account_part last_part))
 
 -- ---- what tells of a fault
 

@@ -1,0 +1,156 @@
+-- Whether the disks show the pool behind a line, and what an import finds of what was left.
+use Rattle.std.proofs.Common.{◌≡◌, ℕ, List, [], Bool, true, false, length, map, Option, Some, None, Result, Ok, Err, refl, sym, ◌∙◌, ap, subst}
+use Rattle.std.specs.Prelude.{IfOk, IfSome, OnErr, OnOk, is_some, ◌&&◌}
+use Rattle.zr_base.specs.declared.refusal.Refusal.{Refusal}
+use Rattle.zr_label.specs.declared.root.Uber.{Uber}
+use Rattle.zr_last.proofs.Lasting.{same_last}
+use Rattle.zr_last.specs.Last.{KeepsLast, KeepsRoot, ShowsLast}
+use Rattle.zr_model.specs.State.{State, PoolState, ShelfPart, Empty, Refused, Is}
+use Rattle.zr_open.proofs.Lasting.{left_found}
+use Rattle.zr_open.specs.Shown.{Shows}
+use Rattle.zr_script.specs.declared.command.Command.{Command}
+use Rattle.zr_script.specs.declared.command.Command.TheVariants as cmd
+use Rattle.zr_script.specs.declared.reply.Reply.{Reply}
+use Rattle.zr_script.specs.declared.reply.Reply.TheVariants as reply
+use Rattle.zr_shelf.specs.Disks.{Stand}
+use Rattle.zr_shelf.specs.Moments.{World}
+use Rattle.zr_sync.specs.Heads.{HasHead}
+use Rattle.zr_sync.specs.Pools.{IsOpen}
+use Rattle.zr_sync.specs.States.{HoldsState}
+use Rattle.zr_sync.specs.declared.fault.Fault.{Fault}
+use Rattle.zr_sync.specs.declared.fault.Fault.TheVariants.{No, Stops}
+use Rattle.zr_sync.specs.declared.open.OpenPool.{OpenPool}
+use Rattle.zr_pool.specs.Ends.{answer_of, is_closing}
+use Rattle.zr_pool.specs.Plain.{IsDone, IsObjectsTurn, IsRejoined, shelf_of}
+use Rattle.zr_pool.specs.Plain.{is_of_removal}
+use Rattle.zr_pool.specs.Pools.{AreLeft, AreShown, DeviceState, IsAtRest, IsPartOf, IsStateOf}
+use Rattle.zr_pool.specs.Turns.{IsOpenAnswer, IsTurn, is_shown, keeps_last, opens_last}
+use Rattle.zr_pool.proofs.Turning.{left_of}
+
+-- ---- lines to an open pool
+
+-- nothing was done to the disks, and the pool goes on from its root
+pub still_last : (before now : World) (x y : OpenPool) → KeepsRoot x y → now.now.seen ≡ before.now.seen → KeepsLast before now x y
+still_last before now x y same seen h = subst (λ (ds : List (List ℕ)). ShowsLast ds y) (sym seen) (same_last before.now.seen x y same h)
+
+pub same_root : (x y : OpenPool) → y ≡ x → KeepsRoot x y
+same_root x y same = record { last = ap (λ (p : OpenPool). p.last) same; guid = ap (λ (p : OpenPool). p.guid) same; table = ap (λ (p : OpenPool). p.table) same }
+
+pub false_true : {P : Type 0} → false ≡ true → P
+false_true e = absurd cc
+
+-- of steps of a removal nothing is told
+pub removal_forgets : {P : Type 0} (command : Command) → is_of_removal command ≡ true → keeps_last command ≡ true → P
+removal_forgets (cmd.Remove dev) is keeps = false_true keeps
+removal_forgets cmd.Cancel is keeps = false_true keeps
+removal_forgets cmd.StepEvac is keeps = false_true keeps
+removal_forgets cmd.StepCondense is keeps = false_true keeps
+removal_forgets command is keeps = false_true is
+
+-- ---- what is told behind a line
+
+module _ (old new : Stand) (before : DeviceState) (command : Command) (pool : Option OpenPool) where
+  -- what the line makes of the objects
+  abbrev pub Takes : Reply → State → Type 0
+  Takes answer after = IsTurn before.told.is_open command answer after.is_open × IsObjectsTurn before.told.is_open before.told.shelf (shelf_of old) before.told command answer after
+
+  -- the disks show the pool where they are told to, and an import finds what was left
+  pub record Lasts (answer : Reply) : Type 0 where
+    pub last : (after : State) → Takes answer after → is_shown before.told.is_open before.shown command answer ≡ true → AreShown pool new.seen after.shelf
+    pub rejoined : (after : State) → Takes answer after → before.shown ≡ true → command ≡ cmd.Import → answer ≡ reply.Done → IsRejoined before.told.shelf after.shelf
+
+not_done : {P : Type 0} (r : Refusal) → reply.No r ≡ reply.Done → P
+not_done r e = absurd cc
+
+-- ---- where a pool is open
+
+both_true : (a b : Bool) → (a && b) ≡ true → (a ≡ true) × (b ≡ true)
+both_true true true is = (refl, refl)
+both_true true false is = false_true is
+both_true false b is = false_true is
+
+shown_before : (shown : Bool) (command : Command) (answer : Reply) → IsDone answer → is_shown true shown command answer ≡ true → (shown ≡ true) × (keeps_last command ≡ true)
+shown_before shown command (reply.No r) done is = absurd done
+shown_before shown command answer done is = both_true shown (keeps_last command) is
+
+-- the pool is open still, but behind an export
+closed_or_not : (command : Command) (answer : Reply) (y : OpenPool) (disks : List (List ℕ)) (part : ShelfPart) → IsOpenAnswer command answer → ShowsLast disks y → (command ≡ cmd.Export → answer ≡ reply.Done → AreShown None disks part)
+    → AreShown (left_of (is_closing command (Ok (Some answer))) y) disks part
+closed_or_not cmd.Export reply.Done y disks part a last exported = exported refl refl
+closed_or_not cmd.Export answer y disks part a last exported = absurd a
+closed_or_not command answer y disks part a last exported = last
+
+module _ (old new : Stand) (before : DeviceState) (command : Command) (x y : OpenPool) (stood : IsStateOf old.seen x before.told) (was : before.shown ≡ true → ShowsLast old.seen x) (s2 : List ℕ) (sized_new : map length new.seen ≡ s2) where
+  -- what the pool has left
+  left_there : (p : PoolState) → IsOpen s2 y → ShowsLast new.seen y → IsAtRest new.seen y p → AreLeft new.seen p.objects
+  left_there p lawful last rest = record {
+    pool = y;
+    lawful = subst (λ (sizes : List ℕ). IsOpen sizes y) (sym sized_new) lawful;
+    leaves = record { empty = rest.empty; last = last; head = subst (λ (o : Option Uber). IfSome o (λ u. HasHead new.seen y u.root u.len)) last.from.last rest.head; holds = rest.holds };
+  }
+
+  left_behind : (part : ShelfPart) (after : State) → IsPartOf old.seen x part → IsObjectsTurn true part (shelf_of old) before.told cmd.Export reply.Done after → ((p : PoolState) → HoldsState (Unit {0}) old.seen x p → AreLeft new.seen p.objects) → AreShown None new.seen after.shelf
+  left_behind (Is p) after held turn left = subst (λ (s : State). AreShown None new.seen s.shelf) (sym turn) (left p held)
+  left_behind Empty after held turn left = subst (λ (s : State). AreShown None new.seen s.shelf) (sym turn) tt
+  left_behind (Refused r) after held turn left = absurd turn
+
+  in_open : (answer : Reply) (after : State) → Takes old new before command None answer after → IsTurn true command answer after.is_open × IsObjectsTurn true before.told.shelf (shelf_of old) before.told command answer after
+  in_open answer after t = subst (λ (b : Bool). IsTurn b command answer after.is_open × IsObjectsTurn b before.told.shelf (shelf_of old) before.told command answer after) stood.is_open t
+
+  pub open_lasts : (r : Result (Option Reply) Fault) → IfOk r (λ found. IfSome found IsDone) → IfOk r (λ found. IfSome found (IsOpenAnswer command)) → (keeps_last command ≡ true → OnOk r (ShowsLast old.seen x → ShowsLast new.seen y))
+      → ((n : Refusal) → r ≡ Err (No n) → ShowsLast old.seen x → ShowsLast new.seen y) → (command ≡ cmd.Export → (p : PoolState) → HoldsState (Unit {0}) old.seen x p → OnOk r (IsAtRest new.seen y p)) → OnOk r (IsOpen s2 y)
+      → IfOk (answer_of r) (λ found. IfSome found (λ answer. Lasts old new before command (left_of (is_closing command r) y) answer))
+  open_lasts (Ok None) done a kept kept_no rest lawful = tt
+  open_lasts (Ok (Some answer)) done a kept kept_no rest lawful = record {
+    last = λ after t is.
+        let both = shown_before before.shown command answer done (sym (ap (λ (b : Bool). is_shown b before.shown command answer) stood.is_open) ∙ is) in
+        let shows = kept both.1 (was both.0) in
+        let turn = (in_open answer after t).1 in
+        closed_or_not command answer y new.seen after.shelf a shows (λ exports answered.
+        left_behind before.told.shelf after stood.part
+        (subst (λ (q : Reply). IsObjectsTurn true before.told.shelf (shelf_of old) before.told cmd.Export q after) answered
+        (subst (λ (k : Command). IsObjectsTurn true before.told.shelf (shelf_of old) before.told k answer after) exports turn))
+        (λ p held. left_there p lawful shows (rest exports p held)));
+    rejoined = λ after t shown imports answered. absurd (subst (λ (q : Reply). IsOpenAnswer cmd.Import q) answered (subst (λ (k : Command). IsOpenAnswer k answer) imports a));
+  }
+  open_lasts (Err (No n)) done a kept kept_no rest lawful = record { last = λ after t is. kept_no n refl (was is); rejoined = λ after t shown imports answered. not_done n answered }
+  open_lasts (Err (Stops s)) done a kept kept_no rest lawful = tt
+
+-- ---- where none is open
+
+module _ (old new : Stand) (before : DeviceState) (command : Command) (pool : Option OpenPool) (closed : before.told.is_open ≡ false) (was : before.shown ≡ true → AreShown None old.seen before.told.shelf) where
+  in_closed : (answer : Reply) (after : State) → Takes old new before command pool answer after → IsTurn false command answer after.is_open × IsObjectsTurn false before.told.shelf (shelf_of old) before.told command answer after
+  in_closed answer after t = subst (λ (b : Bool). IsTurn b command answer after.is_open × IsObjectsTurn b before.told.shelf (shelf_of old) before.told command answer after) closed t
+
+  -- what was left is there still
+  left_still : (n : Refusal) → pool ≡ None → new.seen ≡ old.seen → (after : State) → Takes old new before command pool (reply.No n) after → before.shown ≡ true → AreShown pool new.seen after.shelf
+  left_still n none same after t shown =
+      let as_before = (in_closed (reply.No n) after t).1.0 in
+      subst (λ (o : Option OpenPool). AreShown o new.seen after.shelf) (sym none)
+      (subst (λ (ds : List (List ℕ)). AreShown None ds after.shelf) (sym same) (subst (λ (s : State). AreShown None old.seen s.shelf) (sym as_before) (was shown)))
+
+  shown_anew : (o : Option OpenPool) (part : ShelfPart) → is_some o ≡ true → IfSome o (ShowsLast new.seen) → AreShown o new.seen part
+  shown_anew None part some h = false_true some
+  shown_anew (Some y) part some h = h
+
+  -- what is found has the objects that were left
+  found_again : (left found : ShelfPart) (p : PoolState) → AreShown None old.seen left → Shows old.paths old.seen p → found ≡ Is p → IsRejoined left found
+  found_again (Is q) found p left shows is = subst (λ (part : ShelfPart). IsRejoined (Is q) part) (sym is) (λ serve. left_found old.paths old.seen (map length old.seen) left.pool q.objects p left.lawful left.leaves shows serve)
+  found_again Empty found p left shows is = tt
+  found_again (Refused r) found p left shows is = tt
+
+  pub closed_lasts : (r : Result (Option Reply) Fault) → IfOk r (λ found. IfSome found (λ answer. answer ≡ reply.Done)) → IfOk r (λ found. IfSome found (λ answer. IsTurn false command answer (is_some pool))) → (opens_last command ≡ true → IfSome pool (ShowsLast new.seen))
+      → ((n : Refusal) → r ≡ Err (No n) → new.seen ≡ old.seen) → OnErr r (pool ≡ None) → IfOk (answer_of r) (λ found. IfSome found (λ answer. Lasts old new before command pool answer))
+  closed_lasts (Ok None) done turn opens same none = tt
+  closed_lasts (Ok (Some answer)) done turn opens same none = record {
+    last = λ after t is.
+        let some : is_some pool ≡ true = (subst (λ (q : Reply). IsTurn false command q (is_some pool)) done turn).1 in
+        let opened : opens_last command ≡ true = sym (ap (λ (q : Reply). is_shown false before.shown command q) done) ∙ (sym (ap (λ (b : Bool). is_shown b before.shown command answer) closed) ∙ is) in
+        shown_anew pool after.shelf some (opens opened);
+    rejoined = λ after t shown imports answered.
+        let turn = (in_closed answer after t).1 in
+        let found = subst (λ (q : Reply). IsObjectsTurn false before.told.shelf (shelf_of old) before.told cmd.Import q after) answered (subst (λ (k : Command). IsObjectsTurn false before.told.shelf (shelf_of old) before.told k answer after) imports turn) in
+        found_again before.told.shelf after.shelf found.0 (was shown) found.1 found.2.shelf;
+  }
+  closed_lasts (Err (No n)) done turn opens same none = record { last = λ after t is. left_still n none (same n refl) after t is; rejoined = λ after t shown imports answered. not_done n answered }
+  closed_lasts (Err (Stops s)) done turn opens same none = tt
