@@ -27,11 +27,11 @@ use Rattle.zr_pool.proofs.Turning.{left_of}
 module _ (old new : Stand) (before : DeviceState) (command : Command) (pool : Option OpenPool) where
   -- the objects that are told lead to some state
   abbrev pub Tells : Reply → Type 0
-  Tells answer = TurnsTo on_objects_told (λ disks state. StandsFor pool disks state) before.told old command answer new
+  Tells answer = TurnsTo on_objects_told (λ disks state. StandsFor pool disks.seen state) before.told old command answer new
 
   -- and so does all that is told
   abbrev pub Leads : Reply → Type 0
-  Leads answer = TurnsTo on_devices (λ disks state. Stands pool disks state) before old command answer new
+  Leads answer = TurnsTo on_devices (λ disks state. Stands pool disks.seen state) before old command answer new
 
   -- the account leads to that of the pool, which is lawful
   pub record Accounts (answer : Reply) : Type 0 where

@@ -10,3 +10,4 @@ pub mod Accounting
 pub mod Tellings
 pub mod Leavings
 pub mod Blaming
+pub mod Moments

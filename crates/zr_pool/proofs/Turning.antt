@@ -43,7 +43,7 @@ is_untold_so w = record { is_open = refl; shelf = refl }
 
 module _ (old new : Stand) (before : State) (closed : before.is_open ≡ false) (told : Type 0) (is_told : told) (command : Command) where
   abbrev Turns : Option OpenPool → Reply → Type 0
-  Turns pool answer = TurnsTo on_objects_told (λ disks state. StandsFor pool disks state) before old command answer new
+  Turns pool answer = TurnsTo on_objects_told (λ disks state. StandsFor pool disks.seen state) before old command answer new
 
   takes_closed : (answer : Reply) (after : State) → IsTurn false command answer after.is_open → IsOpeningTurn (shelf_of old) before command answer after
       → IsTurn before.is_open command answer after.is_open × IsObjectsTurn before.is_open before.shelf (shelf_of old) before command answer after
@@ -88,7 +88,7 @@ module _ (old new : Stand) (before : State) (closed : before.is_open ≡ false) 
       as_made pool p holds answer (subst (λ (k : Command). IsOpeningTurn (shelf_of old) before k reply.Done (standing pool p)) (sym is) (p, shows, is_opened_so pool p))
 
 done_to : (old new : Stand) (before : State) (closed : before.is_open ≡ false) (told : Type 0) (is_told : told) (command : Command) (pool : OpenPool) → is_opener command ≡ true
-    → IsMade (shelf_of old) (HoldsState told new.seen pool) command → TurnsTo on_objects_told (λ disks state. StandsFor (Some pool) disks state) before old command reply.Done new
+    → IsMade (shelf_of old) (HoldsState told new.seen pool) command → TurnsTo on_objects_told (λ disks state. StandsFor (Some pool) disks.seen state) before old command reply.Done new
 done_to old new before closed told is_told (cmd.Create name guid devs) pool is made = made_to old new before closed told is_told (cmd.Create name guid devs) pool name guid devs refl is made
 done_to old new before closed told is_told (cmd.CreateOld name guid devs) pool is made = old_made_to old new before closed told is_told (cmd.CreateOld name guid devs) pool name guid devs refl is made
 done_to old new before closed told is_told cmd.Import pool is made = imported_to old new before closed told is_told cmd.Import pool refl is made
@@ -97,7 +97,7 @@ done_to old new before closed told is_told (cmd.ImportTxg txg) pool is made = ba
 done_to old new before closed told is_told command pool is made = absurd (cc)
 
 answered_closed : (old new : Stand) (before : State) (closed : before.is_open ≡ false) (told : Type 0) (is_told : told) (command : Command) (pool : Option OpenPool) (answer : Reply)
-    → answer ≡ reply.Done → IsTurn false command answer (is_some pool) → IfSome pool (λ p. IsMade (shelf_of old) (HoldsState told new.seen p) command) → TurnsTo on_objects_told (λ disks state. StandsFor pool disks state) before old command answer new
+    → answer ≡ reply.Done → IsTurn false command answer (is_some pool) → IfSome pool (λ p. IsMade (shelf_of old) (HoldsState told new.seen p) command) → TurnsTo on_objects_told (λ disks state. StandsFor pool disks.seen state) before old command answer new
 answered_closed old new before closed told is_told command None reply.Done done turn made = absurd (let e = turn.1 in cc)
 answered_closed old new before closed told is_told command (Some pool) reply.Done done turn made = done_to old new before closed told is_told command pool turn.0 made
 answered_closed old new before closed told is_told command pool answer done turn made = absurd cc
@@ -106,7 +106,7 @@ pub closed_turns : (old new : Stand) (before : State) → before.is_open ≡ fal
     → IfOk r (λ found. IfSome found (λ answer. answer ≡ reply.Done)) → IfOk r (λ found. IfSome found (λ answer. IsTurn false command answer (is_some pool))) → ((x : Refusal) → r ≡ Err (No x) → IsClosedRefusal command x)
     → ((x : Refusal) → r ≡ Err (No x) → IsOpeningCause (shelf_of old) command x) → OnErr r (pool ≡ None)
     → IfSome pool (λ p. IsMade (shelf_of old) (HoldsState told new.seen p) command)
-    → IfOk (answer_of r) (λ found. IfSome found (λ answer. TurnsTo on_objects_told (λ disks state. StandsFor pool disks state) before old command answer new))
+    → IfOk (answer_of r) (λ found. IfSome found (λ answer. TurnsTo on_objects_told (λ disks state. StandsFor pool disks.seen state) before old command answer new))
 closed_turns old new before closed told is_told command pool (Ok None) done turn refused cause none made = tt
 closed_turns old new before closed told is_told command pool (Ok (Some answer)) done turn refused cause none made = answered_closed old new before closed told is_told command pool answer done turn made
 closed_turns old new before closed told is_told command pool (Err (No x)) done turn refused cause none made = refused_closed old new before closed told is_told command pool x none (refused x refl) (cause x refl)
@@ -124,7 +124,7 @@ left_of closing pool = if closing then None else Some pool
 
 module _ (old new : Stand) (told : Type 0) (command : Command) (y : OpenPool) where
   abbrev Leads : State → Option OpenPool → Reply → Type 0
-  Leads before pool answer = TurnsTo on_objects_told (λ disks state. StandsFor pool disks state) before old command answer new
+  Leads before pool answer = TurnsTo on_objects_told (λ disks state. StandsFor pool disks.seen state) before old command answer new
 
   -- what a line makes of a state by its parts
   by_parts : (before after : State) (part : ShelfPart) (answer : Reply) (pool : Option OpenPool) → before.is_open ≡ true → before.shelf ≡ part → StandsFor pool new.seen after
@@ -151,7 +151,7 @@ module _ (old new : Stand) (told : Type 0) (command : Command) (y : OpenPool) wh
 
 module _ (old new : Stand) (told : Type 0) (y : OpenPool) (before : State) (is_open : before.is_open ≡ true) where
   abbrev Comes : Command → Reply → Type 0
-  Comes command answer = TurnsTo on_objects_told (λ disks state. StandsFor (left_of (is_closing command (Ok (Some answer))) y) disks state) before old command answer new
+  Comes command answer = TurnsTo on_objects_told (λ disks state. StandsFor (left_of (is_closing command (Ok (Some answer))) y) disks.seen state) before old command answer new
 
   -- a line to a pool whose objects are told
   told_turns : (command : Command) (p : PoolState) (answer : Reply) → before.shelf ≡ Is p → IsOpenAnswer command answer → IsPlainOf (HoldsState told new.seen y) p command answer → Comes command answer
@@ -176,7 +176,7 @@ module _ (old new : Stand) (told : Type 0) (y : OpenPool) (before : State) (is_o
   untold_turns command (reply.No r) shelf a = untold_open old new told command y before Empty (reply.No r) is_open shelf a refl (is_untold_so (work_of y.space))
   untold_turns command answer shelf a = untold_open old new told command y before Empty answer is_open shelf a refl (is_untold_so (work_of y.space))
 
-  untold_refused : (command : Command) (r : Refusal) → before.shelf ≡ Empty → IsOpenRefusal command r → TurnsTo on_objects_told (λ disks state. StandsFor (Some y) disks state) before old command (reply.No r) new
+  untold_refused : (command : Command) (r : Refusal) → before.shelf ≡ Empty → IsOpenRefusal command r → TurnsTo on_objects_told (λ disks state. StandsFor (Some y) disks.seen state) before old command (reply.No r) new
   untold_refused command r shelf why = untold_open old new told command y before Empty (reply.No r) is_open shelf why (refusal_stays command r) (is_untold_so (work_of y.space))
 
 -- what a line makes of the state by what is told
@@ -187,7 +187,7 @@ Meets told1 told command old x y r p new = HoldsState told1 old.seen x p →
 turns_by : (old new : Stand) (before : State) (told1 told : Type 0) → told1 → (command : Command) (x y : OpenPool) (r : Result (Option Reply) Fault) (part : ShelfPart) → before.is_open ≡ true → before.shelf ≡ part → IsPartOf old.seen x part
     → ((p : PoolState) → Meets told1 told command old x y r p new)
     → IfOk r (λ found. IfSome found (IsOpenAnswer command)) → ((n : Refusal) → r ≡ Err (No n) → IsOpenRefusal command n)
-    → IfOk (answer_of r) (λ found. IfSome found (λ answer. TurnsTo on_objects_told (λ disks state. StandsFor (left_of (is_closing command r) y) disks state) before old command answer new))
+    → IfOk (answer_of r) (λ found. IfSome found (λ answer. TurnsTo on_objects_told (λ disks state. StandsFor (left_of (is_closing command r) y) disks.seen state) before old command answer new))
 turns_by old new before told1 told was command x y (Ok None) part is_open shelf stood meets a refused = tt
 turns_by old new before told1 told was command x y (Err (Stops s)) part is_open shelf stood meets a refused = tt
 turns_by old new before told1 told was command x y (Ok (Some answer)) (Is p) is_open shelf held meets a refused =
@@ -205,6 +205,6 @@ pub open_turns : (old new : Stand) (before : State) (told1 told : Type 0) → to
     → ((p : PoolState) → HoldsState told1 old.seen x p → (n : Refusal) → r ≡ Err (No n) → HoldsState told new.seen y p)
     → ((p : PoolState) → HoldsState told1 old.seen x p → (n : Refusal) → r ≡ Err (No n) → IsPlainRefusal p command n)
     → IfOk r (λ found. IfSome found (IsOpenAnswer command)) → ((n : Refusal) → r ≡ Err (No n) → IsOpenRefusal command n)
-    → IfOk (answer_of r) (λ found. IfSome found (λ answer. TurnsTo on_objects_told (λ disks state. StandsFor (left_of (is_closing command r) y) disks state) before old command answer new))
+    → IfOk (answer_of r) (λ found. IfSome found (λ answer. TurnsTo on_objects_told (λ disks state. StandsFor (left_of (is_closing command r) y) disks.seen state) before old command answer new))
 open_turns old new before told1 told was is_told command x y r stood acts stays cause a refused =
     turns_by old new before told1 told was command x y r before.shelf stood.is_open refl stood.part (λ p h. (acts p h, λ n is. (stays p h n is, cause p h n is))) a refused

@@ -12,7 +12,7 @@ use Rattle.zr_lines.specs.Answers.{IsNoRoom, IsSumRefusal, IsReadRefusal, IsMake
 use Rattle.zr_model.specs.State.{State, Work, no_pool}
 use Rattle.zr_model.specs.declared.actor.Actor.{Actor}
 use Rattle.zr_model.specs.declared.actor.Actor.TheVariants.{Evac, Discard, Condense}
-use Rattle.zr_command.specs.Meanings.{Meaning}
+use Rattle.zr_command.specs.Meanings.{Disks, Meaning}
 use Rattle.zr_model.specs.Runs.{Point, Shelf, Turn}
 use Rattle.zr_sync.specs.Pools.{IsOpen}
 use Rattle.zr_sync.specs.declared.open.OpenPool.{OpenPool}
@@ -233,6 +233,8 @@ on_objects_told = record {
   damages = λ p command found. Unit {0};
   blames = TellsFault;
   works = λ state actor. works_on state.is_open state.work actor;
+  rests = λ p disks. Unit {0};
+  within = λ p command disks. Unit {0};
 }
 
 -- how many bytes each disk has
@@ -262,6 +264,10 @@ pub record IsDeviceTurn (p : Point DeviceState) (t : Turn DeviceState) : Type 0 
   pub shown : t.point.state.shown ≡ is_shown p.state.told.is_open p.state.shown t.command t.answer
   pub rejoined : p.state.shown ≡ true → t.command ≡ cmd.Import → t.answer ≡ reply.Done → IsRejoined p.state.told.shelf t.point.state.told.shelf
 
+-- How the disks may stand at a moment of a line: while one tells how an open pool stands, they read as before it.
+abbrev pub IsWithin : Point DeviceState → Command → Disks → Type 0
+IsWithin p command disks = IfSome p.state.account (λ pool. is_table command ≡ true → disks.seen ≡ p.shelf.disks)
+
 -- What commands mean to the pool on devices.
 abbrev pub on_devices : Meaning
 on_devices = record {
@@ -272,4 +278,6 @@ on_devices = record {
   damages = λ p command found. Unit {0};
   blames = TellsFault;
   works = λ state actor. works_on state.told.is_open state.told.work actor;
+  rests = λ p disks. disks.seen ≡ p.shelf.disks;
+  within = IsWithin;
 }

@@ -5,6 +5,7 @@ ghost use Rattle.zr_base.specs.declared.refusal.Refusal.{Refusal};
 ghost use Rattle.zr_script.specs.Grammar.{IsLine};
 ghost use Rattle.zr_script.specs.declared.reply.Reply.TheVariants.{Done};
 ghost use Rattle.zr_shelf.specs.Counts.{NoneFell};
+ghost use Rattle.zr_shelf.specs.Moments.{IsStill};
 ghost use Rattle.zr_sync.specs.Pools.{IsOpen};
 ghost use Rattle.zr_sync.specs.Writes.{WorksOnDisks};
 ghost use Rattle.zr_sync.specs.declared.fault.Fault.TheVariants.{No, Stops};
@@ -18,7 +19,7 @@ ghost use Rattle.zr_pool.specs.Pools.{IsAtRest, IsOnShelf};
 ghost use Rattle.zr_pool.specs.Replies.{TellsFault};
 ghost use Rattle.zr_sync.specs.States.{HoldsState};
 ghost use Rattle.zr_pool.specs.Ends.{is_closing};
-ghost use Rattle.zr_pool.specs.Turns.{IsServed, IsTurn, IsClosedRefusal, IsOpenRefusal, IsOpenAnswer, is_opener, keeps_last, opens_last};
+ghost use Rattle.zr_pool.specs.Turns.{IsServed, IsTurn, IsClosedRefusal, IsOpenRefusal, IsOpenAnswer, is_opener, is_table, keeps_last, opens_last};
 
 use crate::begin::begin;
 use crate::lines::{is_on_objects, is_on_pool, object_line, pool_line};
@@ -90,6 +91,7 @@ fn open_line<S: Shelf>(
     ensures acts { (p : PoolState) → HoldsState (S.tells shelf.old) (S.world shelf.old).now.seen pool.old p → IfOk result (λ found. IfSome found (IsPlainOf (HoldsState (S.tells shelf.new) (S.world shelf.new).now.seen pool.new) p command.now)) }
     ensures stays { (p : PoolState) → HoldsState (S.tells shelf.old) (S.world shelf.old).now.seen pool.old p → (r : Refusal) → IsErrOf result (No r) → HoldsState (S.tells shelf.new) (S.world shelf.new).now.seen pool.new p }
     ensures cause { (p : PoolState) → HoldsState (S.tells shelf.old) (S.world shelf.old).now.seen pool.old p → (r : Refusal) → IsErrOf result (No r) → IsPlainRefusal p command.now r }
+    ensures still { S.tells shelf.old → is_table command.now ≡ true → IsStill (S.world shelf.old) (S.world shelf.new) }
     ensures shown { S.tells shelf.old → keeps_last command.now ≡ true → OnOk result (KeepsLast (S.world shelf.old) (S.world shelf.new) pool.old pool.new) }
     ensures shown_no { S.tells shelf.old → (r : Refusal) → IsErrOf result (No r) → KeepsLast (S.world shelf.old) (S.world shelf.new) pool.old pool.new }
     ensures left { command.now ≡ Export → (p : PoolState) → HoldsState (S.tells shelf.old) (S.world shelf.old).now.seen pool.old p → OnOk result (IsAtRest (S.world shelf.new).now.seen pool.new p) }
@@ -162,6 +164,7 @@ impl DevicePool {
 }
 
 impl Pool for DevicePool {
+    ghost use Rattle.std.specs.Prelude.{refl};
     ghost use Rattle.zr_pool.specs.Pools.{Stands, IsOnShelf};
     ghost use Rattle.zr_pool.specs.Turns.{on_devices};
 
@@ -169,7 +172,9 @@ impl Pool for DevicePool {
 
     ghost meaning = { on_devices };
 
-    ghost stands = { λ p disks state. Stands p.pool disks state };
+    ghost stands = { λ p disks state. Stands p.pool disks.seen state };
+
+    ghost rests = { λ p stand state named is. refl };
 
     ghost fits = { λ p sizes. IsOnShelf p.paths p.pool sizes };
 

@@ -12,6 +12,7 @@ use Rattle.zr_pool.proofs.Staying.{told_anew}
 use Rattle.zr_pool.proofs.Turning.{closed_turns, open_turns, left_of}
 use Rattle.zr_base.specs.declared.refusal.Refusal.TheVariants as refusal
 use Rattle.zr_script.specs.declared.command.Command.TheVariants.{Sync}
+use Rattle.zr_pool.proofs.Moments.{closed_within, open_within}
 use Rattle.zr_pool.proofs.Outside.{keeps_outside}
 use Rattle.zr_pool.proofs.pool.DevicePoolPool.command.Goals.{then-is_closing+in-Some-1, then-is_closing+in-None-1, else-is_closing}
 use Rattle.zr_pool.proofs.pool.DevicePoolPool.command.Goals as goal
@@ -88,3 +89,11 @@ returns-clause-blamed g c =
     let Fails = HasRisen (g.S.Shelf.counts c.args.shelf.now).disk (g.S.Shelf.counts c.open_line-done.new.shelf).disk in
     subst (λ q. IfOk q (λ found. IfSome found (λ answer. TellsFault command answer → Fails))) (sym c.answer_of-2.ensures)
     (blamed_answer command Fails c.open_line-done.result c.open_line-done.ensures.blamed)
+
+-- ---- what holds at each moment
+
+pub returns-in_default-clause-moments : goal.returns-in_default-clause-moments
+returns-in_default-clause-moments g c = λ told paths before stood. closed_within _ _ before c.args.command.now (stood.account ∙ c.in_default.is) (c.closed_line.ensures.disks told)
+
+pub returns-clause-moments : goal.returns-clause-moments
+returns-clause-moments g c = λ told paths before stood. open_within _ _ before c.args.command.now (c.open_line-done.ensures.still told) (c.open_line-done.ensures.disks told)
