@@ -13,6 +13,8 @@ ghost use Rattle.zr_session.specs.Answers.{IsDone, TellsBadLine, TellsLimit, Tel
 ghost use Rattle.zr_session.specs.Generated.{TellsTally, TellsPartly, TellsFaultThere, TellsUnserved, TellsDamageThere, TellsNothing, Never};
 ghost use Rattle.zr_session.specs.Started.{RunsTo, StopsAtDevice};
 ghost use Rattle.zr_session.specs.Headline.{NoneRose, IsNoCommandLine};
+ghost use Rattle.zr_session.specs.Moments.{IsProgramMoment};
+ghost use Rattle.zr_shelf.specs.Moments.{Throughout};
 ghost use Rattle.zr_pool.specs.Turns.{on_devices};
 
 use std::alloc::Global;
@@ -62,6 +64,8 @@ pub fn run<D: Desk>(alloc: Global, words: &[String], desk: &mut D, choosers: &[C
     ensures limit { D.tells desk.old → result ≡ 8 → RunsTo (TellsLimit on_devices) Never (map (λ c. string_bytes c.name) choosers.now) (map string_bytes words.now) (D.world desk.old).now (D.world desk.new).now }
     // At status 9 memory ran out. All that was sent are the answers to first lines, and with `--gen` nothing.
     ensures memory { D.tells desk.old → result ≡ 9 → ((D.world desk.new).now ≡ (D.world desk.old).now) ⊎ StopsAtDevice (map (λ c. string_bytes c.name) choosers.now) (map string_bytes words.now) (D.world desk.old).now (D.world desk.new).now ⊎ RunsTo (AnswersFront on_devices) (TellsNothing on_devices) (map (λ c. string_bytes c.name) choosers.now) (map string_bytes words.now) (D.world desk.old).now (D.world desk.new).now }
+    // At each moment first devices are attached, or first commands are done and no reply to any other is sent; no more than the next one is begun, and the disks stand as they may then.
+    ensures moments { D.tells desk.old → Throughout (IsProgramMoment on_devices (map (λ c. string_bytes c.name) choosers.now) (map string_bytes words.now) (D.world desk.old).now) (D.world desk.old) (D.world desk.new) }
     // Where no call failed, no damage was met and no line is a bad one, the whole input is answered, unless it is too long or memory ran out.
     ensures complete { NoneRose (D.counts desk.old) (D.counts desk.new) → (result ≡ 0) ⊎ (result ≡ 1) ⊎ (result ≡ 5) ⊎ (result ≡ 6) ⊎ (result ≡ 8) ⊎ (result ≡ 9) }
 {
