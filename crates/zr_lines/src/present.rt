@@ -7,7 +7,6 @@ ghost use Rattle.zr_base.specs.Counts.{HasRisen};
 ghost use Rattle.zr_base.specs.declared.refusal.Refusal.{Refusal};
 ghost use Rattle.zr_base.specs.declared.refusal.Refusal.TheVariants.{Damaged, NoSuchObject, OutOfRange};
 ghost use Rattle.zr_base.specs.declared.space.Dva.{Dva};
-
 ghost use Rattle.zr_bptr.specs.Spelling.{IsObject, IsPointer, IsTree};
 ghost use Rattle.zr_lookup.specs.Groups.{IsLawfulGroup};
 ghost use Rattle.zr_lookup.specs.Objects.{record_now, IsTouched};
