@@ -12,3 +12,4 @@ pub mod Rooms
 pub mod Intents
 pub mod Causes
 pub mod Changes
+pub mod Damage

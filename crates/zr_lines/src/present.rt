@@ -2,17 +2,19 @@
 //!
 //! A line looks at its object through one store, from its record to its blocks, so that all that it finds was held at one
 //! moment.
-ghost use Rattle.std.specs.Prelude.{◌≡◌, ◌+◌, ◌<◌, ◌≤◌, ◌^◌, All, IfOk, IsErrOf, length, Some, None};
+ghost use Rattle.std.specs.Prelude.{◌≡◌, ◌+◌, ◌<◌, ◌≤◌, ◌^◌, ℕ, List, All, IfOk, IsErrOf, length, Some, None};
 ghost use Rattle.zr_base.specs.Counts.{HasRisen};
 ghost use Rattle.zr_base.specs.declared.refusal.Refusal.{Refusal};
-ghost use Rattle.zr_base.specs.declared.refusal.Refusal.TheVariants.{NoSuchObject, OutOfRange};
+ghost use Rattle.zr_base.specs.declared.refusal.Refusal.TheVariants.{Damaged, NoSuchObject, OutOfRange};
+ghost use Rattle.zr_base.specs.declared.space.Dva.{Dva};
 ghost use Rattle.zr_bptr.specs.Spelling.{IsObject, IsPointer, IsTree};
 ghost use Rattle.zr_lookup.specs.Groups.{IsLawfulGroup};
-ghost use Rattle.zr_lookup.specs.Objects.{record_now};
+ghost use Rattle.zr_lookup.specs.Objects.{record_now, IsTouched};
 ghost use Rattle.zr_store.specs.Store.{Stored};
 ghost use Rattle.zr_sync.specs.declared.fault.Fault.TheVariants.{No, Stops};
 ghost use Rattle.zr_sync.specs.declared.stop.Stop.TheVariants.{DiskFault};
 ghost use Rattle.zr_lines.specs.Answers.{IsReadRefusal, IsSumRefusal};
+ghost use Rattle.zr_lines.specs.Damage.{IsDamageOf, IsRecordDamage};
 ghost use Rattle.zr_lines.specs.Drops.{AreBlocksOf};
 ghost use Rattle.zr_lines.specs.Reads.{AreBytesOf, IsOutside, IsSumOf};
 
@@ -48,6 +50,7 @@ pub(crate) fn record_present<B: Blocks>(
     ensures few { IfOk result (λ r. id < 65536) }
     ensures found { (s : Stored) → B.holds store.old s → IfOk result (λ r. record_now s dir.now group.now id ≡ Some r) }
     ensures none { (s : Stored) → B.holds store.old s → IsErrOf result (No NoSuchObject) → record_now s dir.now group.now id ≡ None }
+    ensures damaged { (s : Stored) → B.holds store.old s → (at : Dva) (expected found : List ℕ) → IsErrOf result (No (Damaged at expected found)) → IsRecordDamage s dir.now id at expected found }
 {
     match record_of(alloc, store, dir, group, id)? {
         Some(rec) => Ok(rec),
@@ -74,6 +77,7 @@ pub(crate) fn bytes_present<B: Blocks>(
     ensures refused { (r : Refusal) → IsErrOf result (No r) → IsReadRefusal r }
     ensures none { (s : Stored) → B.holds store.old s → IsErrOf result (No NoSuchObject) → record_now s dir.now group.now id ≡ None }
     ensures outside { (s : Stored) → B.holds store.old s → IsErrOf result (No OutOfRange) → IsOutside s dir.now group.now id off len }
+    ensures damaged { (s : Stored) → B.holds store.old s → (at : Dva) (expected found : List ℕ) → IsErrOf result (No (Damaged at expected found)) → IsDamageOf s dir.now group.now id (λ r. IsTouched r.units off len) at expected found }
     ensures size { IfOk result (λ bytes. length bytes.items ≡ len) }
     ensures short { IfOk result (λ bytes. len ≤ 4096) }
     ensures bytes { (s : Stored) → B.holds store.old s → IfOk result (λ bytes. AreBytesOf s dir.now group.now id off len bytes.items) }
@@ -101,6 +105,7 @@ pub(crate) fn sum_present<B: Blocks>(
     ensures fault { IsErrOf result (Stops DiskFault) → HasRisen (B.account store.old).faults (B.account store.new).faults }
     ensures refused { (r : Refusal) → IsErrOf result (No r) → IsSumRefusal r }
     ensures none { (s : Stored) → B.holds store.old s → IsErrOf result (No NoSuchObject) → record_now s dir.now group.now id ≡ None }
+    ensures damaged { (s : Stored) → B.holds store.old s → (at : Dva) (expected found : List ℕ) → IsErrOf result (No (Damaged at expected found)) → IsDamageOf s dir.now group.now id (λ r index. Unit {0}) at expected found }
     ensures sum { (s : Stored) → B.holds store.old s → IfOk result (λ sum. IsSumOf s dir.now group.now id sum) }
 {
     let rec = record_present(alloc, store, dir, group, id)?;

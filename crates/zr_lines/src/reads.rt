@@ -1,12 +1,13 @@
 //! Reading an object, and its sum.
-ghost use Rattle.std.specs.Prelude.{◌≡◌, ◌≤◌, IfOk, IsErrOf, None, [], false, length};
+ghost use Rattle.std.specs.Prelude.{◌≡◌, ◌≤◌, ℕ, List, IfOk, IsErrOf, None, [], false, length};
 ghost use Rattle.zr_base.specs.Counts.{HasRisen};
 ghost use Rattle.zr_base.specs.declared.refusal.Refusal.{Refusal};
-ghost use Rattle.zr_base.specs.declared.refusal.Refusal.TheVariants.{NoSuchObject, OutOfRange};
+ghost use Rattle.zr_base.specs.declared.refusal.Refusal.TheVariants.{Damaged, NoSuchObject, OutOfRange};
+ghost use Rattle.zr_base.specs.declared.space.Dva.{Dva};
 ghost use Rattle.zr_bptr.specs.Spelling.{IsTree};
 ghost use Rattle.zr_sync.specs.Holds.{HasBlocks};
 ghost use Rattle.zr_lookup.specs.Groups.{IsLawfulGroup};
-ghost use Rattle.zr_lookup.specs.Objects.{record_now};
+ghost use Rattle.zr_lookup.specs.Objects.{record_now, IsTouched};
 ghost use Rattle.zr_rules.specs.Equation.{devices_in};
 ghost use Rattle.zr_store.specs.Store.{Stored, Now, Swaps};
 ghost use Rattle.zr_sync.specs.Pools.{IsOpen, IsSamePool};
@@ -20,6 +21,7 @@ ghost use Rattle.std.specs.FinMap as map;
 ghost use Rattle.zr_held.specs.Steps.{IsObjectOf};
 ghost use Rattle.zr_model.specs.Objects.{Objects, has_lost, object_sum};
 ghost use Rattle.zr_sync.specs.Objects.{HoldsObjects};
+ghost use Rattle.zr_lines.specs.Damage.{IsDamageOf};
 ghost use Rattle.zr_lines.specs.Reads.{AreBytesOf, IsOutside, IsSumOf, IsReadOf, can_read};
 
 use crate::present::{bytes_present, sum_present};
@@ -56,6 +58,7 @@ fn read_bytes<S: Shelf, P: Place>(
     ensures held { (s : Stored) → HoldsBlocks mount.entry.kind mount.entry.slots.now (S.tells shelf.old) (S.world shelf.old).now.seen space.old None cache.old s → Now (HoldsBlocks mount.entry.kind mount.entry.slots.now (S.tells shelf.new) (S.world shelf.new).now.seen space.new None cache.new) (λ n. Swaps s n [] []) }
     ensures none { (s : Stored) → HoldsBlocks mount.entry.kind mount.entry.slots.now (S.tells shelf.old) (S.world shelf.old).now.seen space.old None cache.old s → IsErrOf result (No NoSuchObject) → record_now s dir.now group.now id ≡ None }
     ensures outside { (s : Stored) → HoldsBlocks mount.entry.kind mount.entry.slots.now (S.tells shelf.old) (S.world shelf.old).now.seen space.old None cache.old s → IsErrOf result (No OutOfRange) → IsOutside s dir.now group.now id off len }
+    ensures damaged { (s : Stored) → HoldsBlocks mount.entry.kind mount.entry.slots.now (S.tells shelf.old) (S.world shelf.old).now.seen space.old None cache.old s → (at : Dva) (expected found : List ℕ) → IsErrOf result (No (Damaged at expected found)) → IsDamageOf s dir.now group.now id (λ r. IsTouched r.units off len) at expected found }
     ensures size { IfOk result (λ bytes. length bytes.items ≡ len) }
     ensures short { IfOk result (λ bytes. len ≤ 4096) }
     ensures bytes { (s : Stored) → HoldsBlocks mount.entry.kind mount.entry.slots.now (S.tells shelf.old) (S.world shelf.old).now.seen space.old None cache.old s → IfOk result (λ bytes. AreBytesOf s dir.now group.now id off len bytes.items) }
@@ -89,6 +92,7 @@ pub fn read<S: Shelf, P: Place>(
     ensures object { (objects : Objects) → HoldsObjects (S.tells shelf.old) (S.world shelf.old).now.seen pool.old objects → IfOk result (λ bytes. IsObjectOf objects id (IsReadOf off len bytes.items)) }
     ensures none { (s : Stored) → HasBlocks (S.tells shelf.old) (S.world shelf.old).now.seen pool.old s → IsErrOf result (No NoSuchObject) → record_now s pool.old.dir pool.old.group id ≡ None }
     ensures outside { (s : Stored) → HasBlocks (S.tells shelf.old) (S.world shelf.old).now.seen pool.old s → IsErrOf result (No OutOfRange) → IsOutside s pool.old.dir pool.old.group id off len }
+    ensures damaged { (s : Stored) → HasBlocks (S.tells shelf.old) (S.world shelf.old).now.seen pool.old s → (at : Dva) (expected found : List ℕ) → IsErrOf result (No (Damaged at expected found)) → IsDamageOf s pool.old.dir pool.old.group id (λ r. IsTouched r.units off len) at expected found }
     ensures size { IfOk result (λ bytes. length bytes.items ≡ len) }
     ensures short { IfOk result (λ bytes. len ≤ 4096) }
     ensures bytes { (s : Stored) → HasBlocks (S.tells shelf.old) (S.world shelf.old).now.seen pool.old s → IfOk result (λ bytes. AreBytesOf s pool.old.dir pool.old.group id off len bytes.items) }
@@ -134,6 +138,7 @@ fn read_sum<S: Shelf, P: Place>(
     ensures refused { (r : Refusal) → IsErrOf result (No r) → IsSumRefusal r }
     ensures held { (s : Stored) → HoldsBlocks mount.entry.kind mount.entry.slots.now (S.tells shelf.old) (S.world shelf.old).now.seen space.old None cache.old s → Now (HoldsBlocks mount.entry.kind mount.entry.slots.now (S.tells shelf.new) (S.world shelf.new).now.seen space.new None cache.new) (λ n. Swaps s n [] []) }
     ensures none { (s : Stored) → HoldsBlocks mount.entry.kind mount.entry.slots.now (S.tells shelf.old) (S.world shelf.old).now.seen space.old None cache.old s → IsErrOf result (No NoSuchObject) → record_now s dir.now group.now id ≡ None }
+    ensures damaged { (s : Stored) → HoldsBlocks mount.entry.kind mount.entry.slots.now (S.tells shelf.old) (S.world shelf.old).now.seen space.old None cache.old s → (at : Dva) (expected found : List ℕ) → IsErrOf result (No (Damaged at expected found)) → IsDamageOf s dir.now group.now id (λ r index. Unit {0}) at expected found }
     ensures sum { (s : Stored) → HoldsBlocks mount.entry.kind mount.entry.slots.now (S.tells shelf.old) (S.world shelf.old).now.seen space.old None cache.old s → IfOk result (λ sum. IsSumOf s dir.now group.now id sum) }
 {
     let mut store = Vdev::new(space, shelf, cache, mount);
@@ -161,6 +166,7 @@ pub fn sum<S: Shelf, P: Place>(
     ensures missing { (objects : Objects) → HoldsObjects (S.tells shelf.old) (S.world shelf.old).now.seen pool.old objects → IsErrOf result (No NoSuchObject) → map.get objects id ≡ None }
     ensures object { (objects : Objects) → HoldsObjects (S.tells shelf.old) (S.world shelf.old).now.seen pool.old objects → IfOk result (λ sum. IsObjectOf objects id (λ o. (has_lost o ≡ false) × (sum ≡ object_sum o))) }
     ensures none { (s : Stored) → HasBlocks (S.tells shelf.old) (S.world shelf.old).now.seen pool.old s → IsErrOf result (No NoSuchObject) → record_now s pool.old.dir pool.old.group id ≡ None }
+    ensures damaged { (s : Stored) → HasBlocks (S.tells shelf.old) (S.world shelf.old).now.seen pool.old s → (at : Dva) (expected found : List ℕ) → IsErrOf result (No (Damaged at expected found)) → IsDamageOf s pool.old.dir pool.old.group id (λ r index. Unit {0}) at expected found }
     ensures sum { (s : Stored) → HasBlocks (S.tells shelf.old) (S.world shelf.old).now.seen pool.old s → IfOk result (λ sum. IsSumOf s pool.old.dir pool.old.group id sum) }
 {
     let mount = Mount {

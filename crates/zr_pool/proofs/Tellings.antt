@@ -32,7 +32,7 @@ blocks_anew : (t1 t2 : Type 0) (disks : List (List ℕ)) (x : OpenPool) (s : Sto
 blocks_anew t1 t2 disks x s told h = retold Block x.table.slots t1 t2 disks x.space None x.cache s told h
 
 module _ (t : Type 0) (told : t) where
-  blocks_told : (disks : List (List ℕ)) (x : OpenPool) (s : Stored) → HasBlocks (Unit {0}) disks x s → HasBlocks t disks x s
+  pub blocks_told : (disks : List (List ℕ)) (x : OpenPool) (s : Stored) → HasBlocks (Unit {0}) disks x s → HasBlocks t disks x s
   blocks_told disks x s h = blocks_anew (Unit {0}) t disks x s told h
 
   undone_told : (reach : Reach) (id : ℕ) (e : Edit) (old : OpenPool) (disks : List (List ℕ)) (new : OpenPool) (r : Refusal) → IsUndone t reach id e old disks new r → IsUndone (Unit {0}) reach id e old disks new r

@@ -6,8 +6,10 @@ use Rattle.zr_base.specs.declared.refusal.Refusal.{Refusal}
 use Rattle.zr_base.specs.declared.refusal.Refusal.TheVariants as refusal
 use Rattle.zr_base.specs.declared.space.CkptPart.TheVariants.{Clear, Held, Discarding}
 use Rattle.zr_base.specs.declared.space.Condensed.{Condensed}
+use Rattle.zr_base.specs.declared.space.Dva.{Dva}
 use Rattle.zr_base.specs.declared.space.Policy.{Policy}
 use Rattle.zr_bptr.specs.declared.Bptr.{Bptr}
+use Rattle.zr_bptr.specs.declared.ObjRec.{ObjRec}
 use Rattle.zr_change.specs.declared.ranges.Edit.{Edit}
 use Rattle.zr_create.specs.Blank.{IsNamed, IsResetAt, NothingWaits}
 use Rattle.zr_create.specs.Devices.{Grows, HasDevicesIn}
@@ -18,6 +20,7 @@ use Rattle.zr_label.specs.declared.root.Name.{Name}
 use Rattle.zr_last.specs.Last.{KeepsRoot}
 use Rattle.zr_lines.specs.Causes.{IsLookRefusal, IsUndone}
 use Rattle.zr_lines.specs.Changes.{IsDone}
+use Rattle.zr_lines.specs.Damage.{IsDamageOf}
 use Rattle.zr_lines.specs.Drops.{AreFoundIn}
 use Rattle.zr_lines.specs.Groups.{IsReadyGroup, SetsInGroup, blank}
 use Rattle.zr_lines.specs.Intents.{IsBehindCommit}
@@ -27,6 +30,7 @@ use Rattle.zr_lines.specs.Sought.{IsDamaged}
 use Rattle.zr_lines.specs.Upgrades.{IsUpgradeRefusal, Upgrades}
 use Rattle.zr_lines.specs.declared.range.Reach.{Reach}
 use Rattle.zr_lines.specs.declared.range.Reach.TheVariants as reach
+use Rattle.zr_lookup.specs.Objects.{IsTouched}
 use Rattle.zr_open.specs.Opened.{CoversOwed}
 use Rattle.zr_removal.specs.Condensing.{CondensesPool}
 use Rattle.zr_removal.specs.Devices.{HasOther, IsDeviceOn, IsOnlyOne, copy_pieces}
@@ -45,8 +49,10 @@ use Rattle.zr_script.specs.declared.reply.Reply.{Reply}
 use Rattle.zr_script.specs.declared.reply.Reply.TheVariants as reply
 use Rattle.zr_shelf.specs.Moments.{World}
 use Rattle.zr_space.specs.Plans.{IsCopied}
+use Rattle.zr_store.specs.Store.{Stored}
 use Rattle.zr_sync.specs.Checkpoints.{GivesUpCheckpoint, TakesCheckpoint}
 use Rattle.zr_sync.specs.Commits.{EndsGroup, IsNextRoot}
+use Rattle.zr_sync.specs.Holds.{HasBlocks}
 use Rattle.zr_sync.specs.Pools.{IsOpen, IsSamePool}
 use Rattle.zr_sync.specs.declared.open.OpenPool.{OpenPool}
 use Rattle.zr_tables.specs.Audits.{concrete}
@@ -107,6 +113,11 @@ pub record OnlyReads (old new : OpenPool) : Type 0 where
   pub group : new.group ≡ old.group
   pub rest : new ≡ record old { space = new.space; cache = new.cache; group = new.group }
   pub space : KeepsOthers Block old.space new.space
+
+-- A refusal for damage tells of a block of the directory, of the object, or of those that the line needs of it, as the disks have them.
+abbrev pub HasDamage : List (List ℕ) → OpenPool → ℕ → (ObjRec → ℕ → Type 0) → Refusal → Type 0
+HasDamage disks old id Needs r =
+    (at : Dva) (expected found : List ℕ) → r ≡ refusal.Damaged at expected found → (s : Stored) → HasBlocks (Unit {0}) disks old s → IsDamageOf s old.dir old.group id Needs at expected found
 
 -- ---- lines on the pool
 
@@ -228,8 +239,8 @@ Refuses paths sizes disks old (cmd.Drop id) r new = DropsNone id disks old r new
 Refuses paths sizes disks old (cmd.Write id off bytes) r new = PutsNone reach.Write id off (length bytes) disks old r new
 Refuses paths sizes disks old (cmd.Fill id off len byte) r new = PutsNone reach.Fill id off len disks old r new
 Refuses paths sizes disks old (cmd.Punch id off len) r new = PutsNone reach.Punch id off len disks old r new
-Refuses paths sizes disks old (cmd.Read id off len) r new = OnlyReads old new
-Refuses paths sizes disks old (cmd.Sum id) r new = OnlyReads old new
+Refuses paths sizes disks old (cmd.Read id off len) r new = OnlyReads old new × HasDamage disks old id (λ o. IsTouched o.units off len) r
+Refuses paths sizes disks old (cmd.Sum id) r new = OnlyReads old new × HasDamage disks old id (λ o index. Unit {0}) r
 Refuses paths sizes disks old cmd.Audit r new = IsDamaged r × (new ≡ record old { cache = new.cache })
 Refuses paths sizes disks old (cmd.Add dev) r new = (new ≡ old) × IsAddCause paths sizes disks old dev r
 Refuses paths sizes disks old cmd.Checkpoint r new = (new ≡ old) × kept.IsTakeRefusal old old.space.parts.ckpt r

@@ -19,7 +19,7 @@ use Rattle.zr_pool.proofs.Acting.{plain_refusal, made_on, dropped_on, read_on, s
 use Rattle.zr_pool.specs.Turns.{IsOpenRefusal}
 use Rattle.zr_pool.proofs.Refused.{fault_same, change_refusal, answered_no, answered_ok}
 use Rattle.zr_pool.proofs.Staying.{same_state, edited_state}
-use Rattle.zr_pool.proofs.Tellings.{found_told, puts_bytes, puts_none}
+use Rattle.zr_pool.proofs.Tellings.{found_told, blocks_told, puts_bytes, puts_none}
 use Rattle.zr_pool.proofs.lines.object_line.Goals as goal
 
 pub returns-in_err-make-in-Make-clause-refused : goal.returns-in_err-make-in-Make-clause-refused
@@ -278,8 +278,14 @@ returns-in_ok-bytes-in-Read-clause-account g c = λ told paths.
 
 pub returns-in_err-bytes-in-Read-clause-account_no : goal.returns-in_err-bytes-in-Read-clause-account_no
 returns-in_err-bytes-in-Read-clause-account_no g c = λ told paths r is.
-    subst (λ (command : Command). Refuses paths (g.S.Shelf.sizes c.args.shelf.now) (g.S.Shelf.world c.args.shelf.now).now.seen c.args.pool.now command r c.read.new.pool) (sym c.in-Read.is)
-    (record { group = c.read.ensures.group; rest = c.read.ensures.wrote.rest; space = c.read.ensures.wrote.goes.space })
+    let q = err_from_is_err_and c.from_residual-in_err-bytes-in-Read.result c.from_residual-in_err-bytes-in-Read.ensures.1 in
+    let e = fault_same c.in_err-bytes-in-Read.field-0.0 q.0 r c.from_residual-in_err-bytes-in-Read.result q.1 q.2 is in
+    let was = c.in_err-bytes-in-Read.was ∙ ap Err e in
+    let disks = (g.S.Shelf.world c.args.shelf.now).now.seen in
+    subst (λ (command : Command). Refuses paths (g.S.Shelf.sizes c.args.shelf.now) disks c.args.pool.now command r c.read.new.pool) (sym c.in-Read.is) (
+      record { group = c.read.ensures.group; rest = c.read.ensures.wrote.rest; space = c.read.ensures.wrote.goes.space },
+      λ at expected found damaged s held. c.read.ensures.damaged s (blocks_told (g.S.Shelf.tells c.args.shelf.now) told disks c.args.pool.now s held) at expected found (was ∙ ap (λ y. Err (No y)) damaged),
+    )
 
 pub returns-in_ok-sum-in-Sum-clause-account : goal.returns-in_ok-sum-in-Sum-clause-account
 returns-in_ok-sum-in-Sum-clause-account g c = λ told paths.
@@ -288,5 +294,11 @@ returns-in_ok-sum-in-Sum-clause-account g c = λ told paths.
 
 pub returns-in_err-sum-in-Sum-clause-account_no : goal.returns-in_err-sum-in-Sum-clause-account_no
 returns-in_err-sum-in-Sum-clause-account_no g c = λ told paths r is.
-    subst (λ (command : Command). Refuses paths (g.S.Shelf.sizes c.args.shelf.now) (g.S.Shelf.world c.args.shelf.now).now.seen c.args.pool.now command r c.sum.new.pool) (sym c.in-Sum.is)
-    (record { group = c.sum.ensures.group; rest = c.sum.ensures.wrote.rest; space = c.sum.ensures.wrote.goes.space })
+    let q = err_from_is_err_and c.from_residual-in_err-sum-in-Sum.result c.from_residual-in_err-sum-in-Sum.ensures.1 in
+    let e = fault_same c.in_err-sum-in-Sum.field-0.0 q.0 r c.from_residual-in_err-sum-in-Sum.result q.1 q.2 is in
+    let was = c.in_err-sum-in-Sum.was ∙ ap Err e in
+    let disks = (g.S.Shelf.world c.args.shelf.now).now.seen in
+    subst (λ (command : Command). Refuses paths (g.S.Shelf.sizes c.args.shelf.now) disks c.args.pool.now command r c.sum.new.pool) (sym c.in-Sum.is) (
+      record { group = c.sum.ensures.group; rest = c.sum.ensures.wrote.rest; space = c.sum.ensures.wrote.goes.space },
+      λ at expected found damaged s held. c.sum.ensures.damaged s (blocks_told (g.S.Shelf.tells c.args.shelf.now) told disks c.args.pool.now s held) at expected found (was ∙ ap (λ y. Err (No y)) damaged),
+    )
