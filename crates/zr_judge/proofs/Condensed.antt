@@ -7,7 +7,6 @@ use Rattle.zr_base.specs.declared.space.Entry.{Entry}
 use Rattle.zr_condense.specs.Condensing.{HasWorked}
 use Rattle.zr_rules.specs.Condense.{IsWorked, condensed}
 
-
 abbrev entry_in : Entry × ℕ → Entry
 entry_in p = p.0
 

@@ -15,10 +15,13 @@ use Rattle.zr_txg.specs.Changes.{Changes}
 abbrev pub IsDamageIn : Stored → List Bptr → Dva → List ℕ → List ℕ → Type 0
 IsDamageIn s blocks at expected found = HasDamagedBlock s blocks at expected found ⊎ ((found ≡ expected) × (HasBadBlock s blocks at expected ⊎ ¬ AreStored blocks s))
 
+-- while the record of an object is sought: a block of the directory is damaged so, or the leaf that should have it has its own sum and is no leaf of records
+abbrev pub IsRecordDamage : Stored → Tree → ℕ → Dva → List ℕ → List ℕ → Type 0
+IsRecordDamage s dir id at expected found = IsDamageIn s (tree_reach s dir) at expected found ⊎ ((found ≡ expected) × HasBadLeaf (IsNoLeaf s) (own (tree_at s dir (id / 16))) at expected)
+
 -- The damaged block is one of the directory, of the object's tree, or of those of its blocks that the line needs.
 pub data IsDamageOf (s : Stored) (dir : Tree) (g : Changes) (id : ℕ) (Needs : ObjRec → ℕ → Type 0) (at : Dva) (expected found : List ℕ) : Type 0 where
-  in_directory : IsDamageIn s (tree_reach s dir) at expected found → IsDamageOf s dir g id Needs at expected found
-  no_records : found ≡ expected → HasBadLeaf (IsNoLeaf s) (own (tree_at s dir (id / 16))) at expected → IsDamageOf s dir g id Needs at expected found
+  in_directory : IsRecordDamage s dir id at expected found → IsDamageOf s dir g id Needs at expected found
   in_tree : (r : ObjRec) → record_now s dir g id ≡ Some r → IsDamageIn s (tree_blocks s r.tree) at expected found → IsDamageOf s dir g id Needs at expected found
   in_block : (r : ObjRec) (index : ℕ) → record_now s dir g id ≡ Some r → Needs r index → HasDamagedBlock s (own (pointer_now s g id r index)) at expected found → IsDamageOf s dir g id Needs at expected found
   no_block : (r : ObjRec) (index : ℕ) → record_now s dir g id ≡ Some r → Needs r index → found ≡ expected → HasBadLeaf (IsOtherBlock s r.units) (own (pointer_now s g id r index)) at expected → IsDamageOf s dir g id Needs at expected found

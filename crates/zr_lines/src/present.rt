@@ -7,7 +7,6 @@ ghost use Rattle.zr_base.specs.Counts.{HasRisen};
 ghost use Rattle.zr_base.specs.declared.refusal.Refusal.{Refusal};
 ghost use Rattle.zr_base.specs.declared.refusal.Refusal.TheVariants.{Damaged, NoSuchObject, OutOfRange};
 ghost use Rattle.zr_base.specs.declared.space.Dva.{Dva};
-ghost use Rattle.zr_bptr.specs.declared.ObjRec.{ObjRec};
 ghost use Rattle.zr_bptr.specs.Spelling.{IsObject, IsPointer, IsTree};
 ghost use Rattle.zr_lookup.specs.Groups.{IsLawfulGroup};
 ghost use Rattle.zr_lookup.specs.Objects.{record_now, IsTouched};
@@ -15,7 +14,7 @@ ghost use Rattle.zr_store.specs.Store.{Stored};
 ghost use Rattle.zr_sync.specs.declared.fault.Fault.TheVariants.{No, Stops};
 ghost use Rattle.zr_sync.specs.declared.stop.Stop.TheVariants.{DiskFault};
 ghost use Rattle.zr_lines.specs.Answers.{IsReadRefusal, IsSumRefusal};
-ghost use Rattle.zr_lines.specs.Damage.{IsDamageOf};
+ghost use Rattle.zr_lines.specs.Damage.{IsDamageOf, IsRecordDamage};
 ghost use Rattle.zr_lines.specs.Drops.{AreBlocksOf};
 ghost use Rattle.zr_lines.specs.Reads.{AreBytesOf, IsOutside, IsSumOf};
 
@@ -51,7 +50,7 @@ pub(crate) fn record_present<B: Blocks>(
     ensures few { IfOk result (λ r. id < 65536) }
     ensures found { (s : Stored) → B.holds store.old s → IfOk result (λ r. record_now s dir.now group.now id ≡ Some r) }
     ensures none { (s : Stored) → B.holds store.old s → IsErrOf result (No NoSuchObject) → record_now s dir.now group.now id ≡ None }
-    ensures damaged { (s : Stored) → B.holds store.old s → (Needs : ObjRec → ℕ → Type 0) → (at : Dva) (expected found : List ℕ) → IsErrOf result (No (Damaged at expected found)) → IsDamageOf s dir.now group.now id Needs at expected found }
+    ensures damaged { (s : Stored) → B.holds store.old s → (at : Dva) (expected found : List ℕ) → IsErrOf result (No (Damaged at expected found)) → IsRecordDamage s dir.now id at expected found }
 {
     match record_of(alloc, store, dir, group, id)? {
         Some(rec) => Ok(rec),

@@ -1,6 +1,6 @@
 -- A commit leaves the pool committed, and so does one commit after another.
-use Rattle.std.proofs.Common.{◌≡◌, inl, inr, ℕ, zero, suc, ◌+◌, ◌<◌, ◌≤◌, Bool, List, [], ◌∷◌, map, length, Option, Some, None, refl, sym, ◌∙◌, ap, subst, arith}
-use Rattle.std.specs.Prelude.{Contains, IfSome, slice_index, unwrap_or}
+use Rattle.std.proofs.Common.{◌≡◌, inl, inr, ℕ, zero, suc, ◌<◌, ◌≤◌, Bool, List, [], ◌∷◌, map, length, Option, Some, None, refl, sym, ◌∙◌, subst, arith}
+use Rattle.std.specs.Prelude.{IfSome, slice_index, unwrap_or}
 use Rattle.std.proofs.lemmas.Bool.Decides.{nat_tests}
 use Rattle.zr_current.proofs.Committed.{commit_current, goes_on, large, sizes_kept}
 use Rattle.zr_current.proofs.Kept.{shown_still}
@@ -29,7 +29,6 @@ use Rattle.zr_stops.proofs.Putting.{base_end}
 use Rattle.zr_stops.specs.Either.{ShowsEither}
 use Rattle.zr_stops.specs.Ends.{EndsCommitted}
 use Rattle.zr_stops.specs.Follows.{Commit, FollowOn, IsNextCommit, ShowsAmong, Stood, last_of}
-use Rattle.zr_stops.specs.Groups.{IsInGroup}
 use Rattle.zr_stops.specs.Last.{IsCommitted}
 
 -- ---- a commit

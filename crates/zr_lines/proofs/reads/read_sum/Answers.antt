@@ -14,3 +14,8 @@ returns-clause-held g c = λ s h.
     now_held (λ n held. search (rules, held, f, mount))
     (begins_held store.mount.kind store.mount.slots.now (g.S.Shelf.tells store.shelf.now) (g.S.Shelf.world store.shelf.now).now.seen store.space.now store.lost store.cache.now s
     (call.ensures.same s (rw (v.space, v.shelf, v.cache, v.lost, v.mount) h)))
+
+pub returns-clause-damaged : goal.returns-clause-damaged
+returns-clause-damaged g c = λ s h at expected found is.
+    let v = c.new-store.ensures in
+    c.sum_present.ensures.damaged s (rw (v.space, v.shelf, v.cache, v.lost, v.mount) h) at expected found is

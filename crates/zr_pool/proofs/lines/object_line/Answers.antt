@@ -283,8 +283,7 @@ returns-in_err-bytes-in-Read-clause-account_no g c = λ told paths r is.
     let e = fault_same c.in_err-bytes-in-Read.field-0.0 q.0 r c.from_residual-in_err-bytes-in-Read.result q.1 q.2 is in
     let was = c.in_err-bytes-in-Read.was ∙ ap Err e in
     let disks = (g.S.Shelf.world c.args.shelf.now).now.seen in
-    subst (λ (command : Command). Refuses paths (g.S.Shelf.sizes c.args.shelf.now) disks c.args.pool.now command r c.read.new.pool) (sym c.in-Read.is)
-    (
+    subst (λ (command : Command). Refuses paths (g.S.Shelf.sizes c.args.shelf.now) disks c.args.pool.now command r c.read.new.pool) (sym c.in-Read.is) (
       record { group = c.read.ensures.group; rest = c.read.ensures.wrote.rest; space = c.read.ensures.wrote.goes.space },
       λ at expected found damaged s held. c.read.ensures.damaged s (blocks_told (g.S.Shelf.tells c.args.shelf.now) told disks c.args.pool.now s held) at expected found (was ∙ ap (λ y. Err (No y)) damaged),
     )
@@ -300,8 +299,7 @@ returns-in_err-sum-in-Sum-clause-account_no g c = λ told paths r is.
     let e = fault_same c.in_err-sum-in-Sum.field-0.0 q.0 r c.from_residual-in_err-sum-in-Sum.result q.1 q.2 is in
     let was = c.in_err-sum-in-Sum.was ∙ ap Err e in
     let disks = (g.S.Shelf.world c.args.shelf.now).now.seen in
-    subst (λ (command : Command). Refuses paths (g.S.Shelf.sizes c.args.shelf.now) disks c.args.pool.now command r c.sum.new.pool) (sym c.in-Sum.is)
-    (
+    subst (λ (command : Command). Refuses paths (g.S.Shelf.sizes c.args.shelf.now) disks c.args.pool.now command r c.sum.new.pool) (sym c.in-Sum.is) (
       record { group = c.sum.ensures.group; rest = c.sum.ensures.wrote.rest; space = c.sum.ensures.wrote.goes.space },
       λ at expected found damaged s held. c.sum.ensures.damaged s (blocks_told (g.S.Shelf.tells c.args.shelf.now) told disks c.args.pool.now s held) at expected found (was ∙ ap (λ y. Err (No y)) damaged),
     )

@@ -1,0 +1,18 @@
+use Rattle.std.proofs.Common.{◌≡◌, ℕ, List, Err, subst, sym, ◌∙◌}
+use Rattle.std.proofs.lemmas.Result.{err_from_is_err_and}
+use Rattle.zr_base.specs.declared.refusal.Refusal.TheVariants.{Damaged}
+use Rattle.zr_bptr.specs.declared.ObjRec.{ObjRec}
+use Rattle.zr_lookup.specs.Errors.{TellsOfObject}
+use Rattle.zr_lookup.specs.Objects.{IsTouched, pointer_now}
+use Rattle.zr_sync.specs.declared.fault.Fault.TheVariants.{No}
+use Rattle.zr_lines.proofs.Damaged.{of_object}
+use Rattle.zr_lines.proofs.present.bytes_present.Goals as goal
+
+pub returns-in_err-read_range-clause-damaged : goal.returns-in_err-read_range-clause-damaged
+returns-in_err-read_range-clause-damaged g c = λ s held at expected found is.
+    let r = c.in_ok-rec.rec in
+    let res = c.from_residual-in_err-read_range in
+    let p = err_from_is_err_and res.result res.ensures.1 in
+    let told : p.0 ≡ No (Damaged at expected found) = let e = sym p.1 ∙ is in cc in
+    of_object s c.args.dir.now c.args.group.now c.args.id (λ o. IsTouched o.units c.args.off c.args.len) at expected found r c.in_err-read_range.field-0.0 p.0 (c.in_ok-rec.ensures.found s held)
+    (subst (λ result. TellsOfObject s (pointer_now s c.args.group.now c.args.id r) r (IsTouched r.units c.args.off c.args.len) result) c.in_err-read_range.was (c.read_range.ensures.errors s (c.record_present.ensures.same s held))) p.2 told
