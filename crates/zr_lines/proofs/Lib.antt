@@ -14,3 +14,4 @@ pub mod Needs
 pub mod Locating
 pub mod Holding
 pub mod Edited
+pub mod Lasting
