@@ -17,6 +17,7 @@ ghost use Rattle.zr_command.specs.declared.pool.Stop.TheVariants.{DiskFault, Dam
 use std::alloc::{AllocError, Global};
 use zr_base::{Blob, Dva, Items, NoMemory};
 use zr_choose::Chooser;
+use zr_model::Actor;
 use zr_script::{Command, Reply};
 use zr_shelf::Shelf;
 

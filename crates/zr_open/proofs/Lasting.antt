@@ -89,12 +89,12 @@ pub saved_own : (u saved : Uber) (slots cut : List (Option ℕ)) (txg : ℕ) →
 saved_own u saved slots cut txg is saved_is guid still own = record {
   guid = guid;
   there = λ d lt there. (within u saved is saved_is still d lt there, same_row u saved is saved_is still d lt there, cut_there saved slots cut own d lt there);
-  gone = λ d lt gone. not_there d (let no : is_there saved d ≡ false = grind (arith, nat_tests, lt, gone) in no);
-  past = λ d le. not_there d (let no : is_there saved d ≡ false = grind (arith, nat_tests, le) in no);
+  gone = λ d lt gone. not_there d (let absent : is_there saved d ≡ false = grind (arith, nat_tests, lt, gone) in absent);
+  past = λ d le. not_there d (let absent : is_there saved d ≡ false = grind (arith, nat_tests, le) in absent);
 }
   where
     not_there : (d : ℕ) → is_there saved d ≡ false → slot_of cut d ≡ None
-    not_there d no = own d ∙ ap (λ (b : Bool). if b then slot_of slots d else None) no
+    not_there d absent = own d ∙ ap (λ (b : Bool). if b then slot_of slots d else None) absent
 
 -- so they are where the labels say
 pub saved_at : (u saved : Uber) (slots cut : List (Option ℕ)) (txg : ℕ) (seen : List Seen) → HasSlots (slots_of u seen) slots → HasOwnDevices u (rewound saved txg) slots cut → HasSlots (slots_of (rewound saved txg) seen) cut

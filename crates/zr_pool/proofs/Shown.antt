@@ -24,7 +24,7 @@ use Rattle.zr_pool.specs.Ends.{answer_of, is_closing}
 use Rattle.zr_pool.specs.Plain.{IsDone, IsObjectsTurn, IsRejoined, shelf_of}
 use Rattle.zr_pool.specs.Plain.{is_of_removal}
 use Rattle.zr_pool.specs.Pools.{AreLeft, AreShown, DeviceState, IsAtRest, IsPartOf, IsStateOf}
-use Rattle.zr_pool.specs.Turns.{IsOpenAnswer, IsTurn, is_shown, keeps_last, opens_last}
+use Rattle.zr_pool.specs.Turns.{IsOpenAnswer, IsTurn, is_shown, keeps_last}
 use Rattle.zr_pool.proofs.Turning.{left_of}
 
 -- ---- lines to an open pool
@@ -139,14 +139,13 @@ module _ (old new : Stand) (before : DeviceState) (command : Command) (pool : Op
   found_again Empty found p left shows is = tt
   found_again (Refused r) found p left shows is = tt
 
-  pub closed_lasts : (r : Result (Option Reply) Fault) → IfOk r (λ found. IfSome found (λ answer. answer ≡ reply.Done)) → IfOk r (λ found. IfSome found (λ answer. IsTurn false command answer (is_some pool))) → (opens_last command ≡ true → IfSome pool (ShowsLast new.seen))
+  pub closed_lasts : (r : Result (Option Reply) Fault) → IfOk r (λ found. IfSome found (λ answer. answer ≡ reply.Done)) → IfOk r (λ found. IfSome found (λ answer. IsTurn false command answer (is_some pool))) → IfSome pool (ShowsLast new.seen)
       → ((n : Refusal) → r ≡ Err (No n) → new.seen ≡ old.seen) → OnErr r (pool ≡ None) → IfOk (answer_of r) (λ found. IfSome found (λ answer. Lasts old new before command pool answer))
   closed_lasts (Ok None) done turn opens same none = tt
   closed_lasts (Ok (Some answer)) done turn opens same none = record {
     last = λ after t is.
         let some : is_some pool ≡ true = (subst (λ (q : Reply). IsTurn false command q (is_some pool)) done turn).1 in
-        let opened : opens_last command ≡ true = sym (ap (λ (q : Reply). is_shown false before.shown command q) done) ∙ (sym (ap (λ (b : Bool). is_shown b before.shown command answer) closed) ∙ is) in
-        shown_anew pool after.shelf some (opens opened);
+        shown_anew pool after.shelf some opens;
     rejoined = λ after t shown imports answered.
         let turn = (in_closed answer after t).1 in
         let found = subst (λ (q : Reply). IsObjectsTurn false before.told.shelf (shelf_of old) before.told cmd.Import q after) answered (subst (λ (k : Command). IsObjectsTurn false before.told.shelf (shelf_of old) before.told k answer after) imports turn) in

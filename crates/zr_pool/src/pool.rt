@@ -18,7 +18,7 @@ ghost use Rattle.zr_pool.specs.Pools.{IsAtRest, IsOnShelf};
 ghost use Rattle.zr_pool.specs.Replies.{TellsFault};
 ghost use Rattle.zr_sync.specs.States.{HoldsState};
 ghost use Rattle.zr_pool.specs.Ends.{is_closing};
-ghost use Rattle.zr_pool.specs.Turns.{IsServed, IsTurn, IsClosedRefusal, IsOpenRefusal, IsOpenAnswer, is_opener, keeps_last, opens_last};
+ghost use Rattle.zr_pool.specs.Turns.{IsServed, IsTurn, IsClosedRefusal, IsOpenRefusal, IsOpenAnswer, is_opener, keeps_last};
 
 use crate::begin::begin;
 use crate::lines::{is_on_objects, is_on_pool, object_line, pool_line};
@@ -142,7 +142,7 @@ impl DevicePool {
         ensures made { S.tells shelf.old → IfSome self.new.pool (λ pool. IsMade (shelf_of (S.world shelf.old).now) (HoldsState (S.tells shelf.new) (S.world shelf.new).now.seen pool) command.now) }
         ensures begins { S.tells shelf.old → IfSome self.new.pool (Begins self.old.paths (S.sizes shelf.old) (S.world shelf.old).now.seen command.now) }
         ensures begins_no { S.tells shelf.old → (r : Refusal) → IsErrOf result (No r) → BeginsNone self.old.paths (S.sizes shelf.old) (S.world shelf.old).now.seen command.now r }
-        ensures last { S.tells shelf.old → opens_last command.now ≡ true → IfSome self.new.pool (ShowsLast (S.world shelf.new).now.seen) }
+        ensures last { S.tells shelf.old → IfSome self.new.pool (ShowsLast (S.world shelf.new).now.seen) }
         ensures untouched { S.tells shelf.old → (r : Refusal) → IsErrOf result (No r) → (S.world shelf.new).now.seen ≡ (S.world shelf.old).now.seen }
         ensures turn { IfOk result (λ found. IfSome found (λ reply. IsTurn false command.now reply (is_some self.new.pool))) }
         ensures refused { (r : Refusal) → IsErrOf result (No r) → IsClosedRefusal command.now r }

@@ -3,7 +3,7 @@ ghost use Rattle.std.specs.Prelude.{◌≡◌};
 ghost use Rattle.zr_pool.specs.Ends.{answer_of, stop_of};
 
 use zr_base::Refusal;
-use zr_model as model;
+use zr_command as model;
 use zr_script::Reply;
 use zr_sync::{Fault, Stop};
 

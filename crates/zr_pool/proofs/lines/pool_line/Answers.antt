@@ -318,7 +318,7 @@ pub returns-in_ok-units-in-StepDiscard-clause-shown : goal.returns-in_ok-units-i
 returns-in_ok-units-in-StepDiscard-clause-shown g c = λ told keeps h. same_last (g.S.Shelf.world c.args.shelf.now).now.seen c.args.pool.now c.step.new.pool c.in_ok-units-in-StepDiscard.ensures.root h
 
 pub returns-in_ok-add-in-Add-clause-shown : goal.returns-in_ok-add-in-Add-clause-shown
-returns-in_ok-add-in-Add-clause-shown g c = λ told keeps. false_true (subst (λ (command : Command). keeps_last command ≡ true) c.in-Add.is keeps)
+returns-in_ok-add-in-Add-clause-shown g c = λ told keeps. c.in_ok-add-in-Add.ensures.shown told
 
 pub returns-in_ok-take-in-Checkpoint-clause-shown : goal.returns-in_ok-take-in-Checkpoint-clause-shown
 returns-in_ok-take-in-Checkpoint-clause-shown g c = λ told keeps. false_true (subst (λ (command : Command). keeps_last command ≡ true) c.in-Checkpoint.is keeps)
