@@ -15,3 +15,4 @@ pub mod Locating
 pub mod Holding
 pub mod Edited
 pub mod Damaged
+pub mod Lasting

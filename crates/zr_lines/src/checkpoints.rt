@@ -13,7 +13,7 @@ ghost use Rattle.zr_sync.specs.Pools.{IsOpen};
 ghost use Rattle.zr_sync.specs.Writes.{WorksOnDisks};
 ghost use Rattle.zr_sync.specs.declared.fault.Fault.TheVariants.{No, Stops};
 ghost use Rattle.zr_sync.specs.declared.stop.Stop.TheVariants.{DiskFault};
-ghost use Rattle.zr_last.specs.Last.{KeepsRoot};
+ghost use Rattle.zr_last.specs.Last.{KeepsLast, KeepsRoot};
 ghost use Rattle.zr_lines.specs.Refusals.{AllStay, IsGiveRefusal, IsRemovalRefusal, IsStepRefusal, IsTakeRefusal, checkpoint_needs};
 
 use std::alloc::Global;
@@ -103,6 +103,7 @@ pub fn take<S: Shelf>(
     ensures enough { OnOk result (checkpoint_needs pool.old ≤ free_units pool.old.space) }
     ensures held { OnOk result (pool.new.space.parts.ckpt ≡ Held pool.old.group.txg) }
     ensures takes { OnOk result (TakesCheckpoint (S.sizes shelf.old) (S.tells shelf.old) (S.world shelf.new) pool.old pool.new) }
+    ensures shown { S.tells shelf.old → OnOk result (KeepsLast (S.world shelf.old) (S.world shelf.new) pool.old pool.new) }
     ensures objects { (objects : Objects) → HoldsObjects (S.tells shelf.old) (S.world shelf.old).now.seen pool.old objects → OnOk result (HoldsObjects (S.tells shelf.new) (S.world shelf.new).now.seen pool.new objects) }
     ensures refused { (r : Refusal) → IsErrOf result (No r) → IsTakeRefusal pool.old pool.old.space.parts.ckpt r }
     ensures unchanged { (r : Refusal) → IsErrOf result (No r) → pool.new ≡ pool.old }
@@ -129,6 +130,7 @@ pub fn give_up<S: Shelf>(
     ensures pool { OnOk result (IsOpen (S.sizes shelf.new) pool.new) }
     ensures discarding { OnOk result (pool.new.space.parts.ckpt ≡ Discarding) }
     ensures gives { OnOk result (GivesUpCheckpoint (S.sizes shelf.old) (S.tells shelf.old) (S.world shelf.new) pool.old pool.new) }
+    ensures shown { S.tells shelf.old → OnOk result (KeepsLast (S.world shelf.old) (S.world shelf.new) pool.old pool.new) }
     ensures objects { (objects : Objects) → HoldsObjects (S.tells shelf.old) (S.world shelf.old).now.seen pool.old objects → OnOk result (HoldsObjects (S.tells shelf.new) (S.world shelf.new).now.seen pool.new objects) }
     ensures refused { (r : Refusal) → IsErrOf result (No r) → IsGiveRefusal pool.old pool.old.space.parts.ckpt r }
     ensures unchanged { (r : Refusal) → IsErrOf result (No r) → pool.new ≡ pool.old }

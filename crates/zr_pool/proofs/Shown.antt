@@ -1,6 +1,6 @@
 -- Whether the disks show the pool behind a line, and what an import finds of what was left.
 use Rattle.std.proofs.Common.{◌≡◌, ℕ, List, [], Bool, true, false, length, map, Option, Some, None, Result, Ok, Err, refl, sym, ◌∙◌, ap, subst}
-use Rattle.std.specs.Prelude.{IfOk, IfSome, OnErr, OnOk, is_some, ◌&&◌}
+use Rattle.std.specs.Prelude.{IfOk, IfSome, OnErr, OnOk, is_some, not, ◌&&◌}
 use Rattle.zr_base.specs.declared.refusal.Refusal.{Refusal}
 use Rattle.zr_label.specs.declared.root.Uber.{Uber}
 use Rattle.zr_last.proofs.Lasting.{same_last}
@@ -21,10 +21,9 @@ use Rattle.zr_sync.specs.declared.fault.Fault.{Fault}
 use Rattle.zr_sync.specs.declared.fault.Fault.TheVariants.{No, Stops}
 use Rattle.zr_sync.specs.declared.open.OpenPool.{OpenPool}
 use Rattle.zr_pool.specs.Ends.{answer_of, is_closing}
-use Rattle.zr_pool.specs.Plain.{IsDone, IsObjectsTurn, IsRejoined, shelf_of}
-use Rattle.zr_pool.specs.Plain.{is_of_removal}
+use Rattle.zr_pool.specs.Plain.{IsDone, IsObjectsTurn, IsRejoined, is_of_removal, shelf_of}
 use Rattle.zr_pool.specs.Pools.{AreLeft, AreShown, DeviceState, IsAtRest, IsPartOf, IsStateOf}
-use Rattle.zr_pool.specs.Turns.{IsOpenAnswer, IsTurn, is_shown, keeps_last, opens_last}
+use Rattle.zr_pool.specs.Turns.{IsOpenAnswer, IsTurn, is_shown}
 use Rattle.zr_pool.proofs.Turning.{left_of}
 
 -- ---- lines to an open pool
@@ -38,14 +37,6 @@ same_root x y same = record { last = ap (λ (p : OpenPool). p.last) same; guid =
 
 pub false_true : {P : Type 0} → false ≡ true → P
 false_true e = absurd cc
-
--- of steps of a removal nothing is told
-pub removal_forgets : {P : Type 0} (command : Command) → is_of_removal command ≡ true → keeps_last command ≡ true → P
-removal_forgets (cmd.Remove dev) is keeps = false_true keeps
-removal_forgets cmd.Cancel is keeps = false_true keeps
-removal_forgets cmd.StepEvac is keeps = false_true keeps
-removal_forgets cmd.StepCondense is keeps = false_true keeps
-removal_forgets command is keeps = false_true is
 
 -- ---- what is told behind a line
 
@@ -69,9 +60,13 @@ both_true true true is = (refl, refl)
 both_true true false is = false_true is
 both_true false b is = false_true is
 
-shown_before : (shown : Bool) (command : Command) (answer : Reply) → IsDone answer → is_shown true shown command answer ≡ true → (shown ≡ true) × (keeps_last command ≡ true)
+not_true : (b : Bool) → not b ≡ true → b ≡ false
+not_true true is = false_true is
+not_true false is = refl
+
+shown_before : (shown : Bool) (command : Command) (answer : Reply) → IsDone answer → is_shown true shown command answer ≡ true → (shown ≡ true) × (is_of_removal command ≡ false)
 shown_before shown command (reply.No r) done is = absurd done
-shown_before shown command answer done is = both_true shown (keeps_last command) is
+shown_before shown command answer done is = let both = both_true shown (not (is_of_removal command)) is in (both.0, not_true (is_of_removal command) both.1)
 
 -- the pool is open still, but behind an export
 closed_or_not : (command : Command) (answer : Reply) (y : OpenPool) (disks : List (List ℕ)) (part : ShelfPart) → IsOpenAnswer command answer → ShowsLast disks y → (command ≡ cmd.Export → answer ≡ reply.Done → AreShown None disks part)
@@ -97,7 +92,7 @@ module _ (old new : Stand) (before : DeviceState) (command : Command) (x y : Ope
   in_open : (answer : Reply) (after : State) → Takes old new before command None answer after → IsTurn true command answer after.is_open × IsObjectsTurn true before.told.shelf (shelf_of old) before.told command answer after
   in_open answer after t = subst (λ (b : Bool). IsTurn b command answer after.is_open × IsObjectsTurn b before.told.shelf (shelf_of old) before.told command answer after) stood.is_open t
 
-  pub open_lasts : (r : Result (Option Reply) Fault) → IfOk r (λ found. IfSome found IsDone) → IfOk r (λ found. IfSome found (IsOpenAnswer command)) → (keeps_last command ≡ true → OnOk r (ShowsLast old.seen x → ShowsLast new.seen y))
+  pub open_lasts : (r : Result (Option Reply) Fault) → IfOk r (λ found. IfSome found IsDone) → IfOk r (λ found. IfSome found (IsOpenAnswer command)) → (is_of_removal command ≡ false → OnOk r (ShowsLast old.seen x → ShowsLast new.seen y))
       → ((n : Refusal) → r ≡ Err (No n) → ShowsLast old.seen x → ShowsLast new.seen y) → (command ≡ cmd.Export → (p : PoolState) → HoldsState (Unit {0}) old.seen x p → OnOk r (IsAtRest new.seen y p)) → OnOk r (IsOpen s2 y)
       → IfOk (answer_of r) (λ found. IfSome found (λ answer. Lasts old new before command (left_of (is_closing command r) y) answer))
   open_lasts (Ok None) done a kept kept_no rest lawful = tt
@@ -139,14 +134,13 @@ module _ (old new : Stand) (before : DeviceState) (command : Command) (pool : Op
   found_again Empty found p left shows is = tt
   found_again (Refused r) found p left shows is = tt
 
-  pub closed_lasts : (r : Result (Option Reply) Fault) → IfOk r (λ found. IfSome found (λ answer. answer ≡ reply.Done)) → IfOk r (λ found. IfSome found (λ answer. IsTurn false command answer (is_some pool))) → (opens_last command ≡ true → IfSome pool (ShowsLast new.seen))
+  pub closed_lasts : (r : Result (Option Reply) Fault) → IfOk r (λ found. IfSome found (λ answer. answer ≡ reply.Done)) → IfOk r (λ found. IfSome found (λ answer. IsTurn false command answer (is_some pool))) → IfSome pool (ShowsLast new.seen)
       → ((n : Refusal) → r ≡ Err (No n) → new.seen ≡ old.seen) → OnErr r (pool ≡ None) → IfOk (answer_of r) (λ found. IfSome found (λ answer. Lasts old new before command pool answer))
   closed_lasts (Ok None) done turn opens same none = tt
   closed_lasts (Ok (Some answer)) done turn opens same none = record {
     last = λ after t is.
         let some : is_some pool ≡ true = (subst (λ (q : Reply). IsTurn false command q (is_some pool)) done turn).1 in
-        let opened : opens_last command ≡ true = sym (ap (λ (q : Reply). is_shown false before.shown command q) done) ∙ (sym (ap (λ (b : Bool). is_shown b before.shown command answer) closed) ∙ is) in
-        shown_anew pool after.shelf some (opens opened);
+        shown_anew pool after.shelf some opens;
     rejoined = λ after t shown imports answered.
         let turn = (in_closed answer after t).1 in
         let found = subst (λ (q : Reply). IsObjectsTurn false before.told.shelf (shelf_of old) before.told cmd.Import q after) answered (subst (λ (k : Command). IsObjectsTurn false before.told.shelf (shelf_of old) before.told k answer after) imports turn) in

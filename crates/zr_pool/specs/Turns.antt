@@ -107,24 +107,12 @@ IsRemoveRefusal refusal.OnlyDevice = Unit {0}
 IsRemoveRefusal (refusal.NoRoom needed free) = free < needed
 IsRemoveRefusal r = ⊥
 
--- the lines to an open pool of which it is told that the disks show its last root behind them, where they did before
-abbrev pub keeps_last : Command → Bool
-keeps_last (cmd.Add dev) = false
-keeps_last cmd.Checkpoint = false
-keeps_last cmd.Discard = false
-keeps_last command = not (is_of_removal command)
-
--- and of those that make a pool or open one
-abbrev pub opens_last : Command → Bool
-opens_last (cmd.Create name guid devs) = false
-opens_last (cmd.CreateOld name guid devs) = false
-opens_last command = true
-
--- Whether the disks are told to show the pool behind a line, by whether one was open before it and they were told so then. A refusal leaves that.
+-- Whether the disks are told to show the pool behind a line, by whether one was open before it, and they were told so then: they show one that is made or opened, and so they do behind each line but a step of a
+-- removal. A refusal leaves that.
 abbrev pub is_shown : Bool → Bool → Command → Reply → Bool
 is_shown is_open shown command (reply.No r) = shown
-is_shown true shown command answer = shown && keeps_last command
-is_shown false shown command answer = opens_last command
+is_shown true shown command answer = shown && not (is_of_removal command)
+is_shown false shown command answer = true
 
 -- what a line to an open pool may be refused for
 abbrev pub IsOpenRefusal : Command → Refusal → Type 0

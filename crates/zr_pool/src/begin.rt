@@ -12,7 +12,7 @@ ghost use Rattle.zr_sync.specs.declared.stop.Stop.TheVariants.{DiskFault};
 ghost use Rattle.zr_sync.specs.States.{HoldsState};
 ghost use Rattle.zr_pool.specs.Plain.{IsMade, IsOpeningCause, shelf_of};
 ghost use Rattle.zr_pool.specs.Accounts.{Begins, BeginsNone};
-ghost use Rattle.zr_pool.specs.Turns.{IsServed, IsClosedRefusal, is_opener, opens_last};
+ghost use Rattle.zr_pool.specs.Turns.{IsServed, IsClosedRefusal, is_opener};
 
 use crate::lines::{is_on_objects, is_on_pool};
 use crate::names::name_of;
@@ -53,7 +53,7 @@ pub fn begin<S: Shelf>(
     ensures made { S.tells shelf.old → IfOk result (λ found. IfSome found (λ pool. IsMade (shelf_of (S.world shelf.old).now) (HoldsState (S.tells shelf.new) (S.world shelf.new).now.seen pool) command.now)) }
     ensures begins { S.tells shelf.old → IfOk result (λ found. IfSome found (Begins paths.now (S.sizes shelf.old) (S.world shelf.old).now.seen command.now)) }
     ensures begins_no { S.tells shelf.old → (r : Refusal) → IsErrOf result (No r) → BeginsNone paths.now (S.sizes shelf.old) (S.world shelf.old).now.seen command.now r }
-    ensures last { S.tells shelf.old → opens_last command.now ≡ true → IfOk result (λ found. IfSome found (ShowsLast (S.world shelf.new).now.seen)) }
+    ensures last { S.tells shelf.old → IfOk result (λ found. IfSome found (ShowsLast (S.world shelf.new).now.seen)) }
     ensures untouched { S.tells shelf.old → (r : Refusal) → IsErrOf result (No r) → (S.world shelf.new).now.seen ≡ (S.world shelf.old).now.seen }
     ensures opens { IfOk result (λ found. IfSome found (λ pool. is_opener command.now ≡ true)) }
     ensures refused { (r : Refusal) → IsErrOf result (No r) → IsClosedRefusal command.now r }

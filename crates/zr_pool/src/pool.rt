@@ -14,12 +14,12 @@ ghost use Rattle.zr_model.specs.State.{PoolState};
 ghost use Rattle.zr_pool.specs.Accounts.{Begins, BeginsNone, Refuses, Turns};
 ghost use Rattle.zr_last.specs.Last.{KeepsLast, ShowsLast};
 ghost use Rattle.zr_script.specs.declared.command.Command.TheVariants.{Export};
-ghost use Rattle.zr_pool.specs.Plain.{IsDone, IsMade, IsOpeningCause, IsPlainOf, IsPlainRefusal, shelf_of};
+ghost use Rattle.zr_pool.specs.Plain.{IsDone, IsMade, IsOpeningCause, IsPlainOf, IsPlainRefusal, is_of_removal, shelf_of};
 ghost use Rattle.zr_pool.specs.Pools.{IsAtRest, IsOnShelf};
 ghost use Rattle.zr_pool.specs.Replies.{TellsFault};
 ghost use Rattle.zr_sync.specs.States.{HoldsState};
 ghost use Rattle.zr_pool.specs.Ends.{is_closing};
-ghost use Rattle.zr_pool.specs.Turns.{IsServed, IsTurn, IsClosedRefusal, IsOpenRefusal, IsOpenAnswer, is_opener, is_table, keeps_last, opens_last};
+ghost use Rattle.zr_pool.specs.Turns.{IsServed, IsTurn, IsClosedRefusal, IsOpenRefusal, IsOpenAnswer, is_opener, is_table};
 
 use crate::begin::begin;
 use crate::lines::{is_on_objects, is_on_pool, object_line, pool_line};
@@ -92,7 +92,7 @@ fn open_line<S: Shelf>(
     ensures stays { (p : PoolState) → HoldsState (S.tells shelf.old) (S.world shelf.old).now.seen pool.old p → (r : Refusal) → IsErrOf result (No r) → HoldsState (S.tells shelf.new) (S.world shelf.new).now.seen pool.new p }
     ensures cause { (p : PoolState) → HoldsState (S.tells shelf.old) (S.world shelf.old).now.seen pool.old p → (r : Refusal) → IsErrOf result (No r) → IsPlainRefusal p command.now r }
     ensures still { S.tells shelf.old → is_table command.now ≡ true → IsStill (S.world shelf.old) (S.world shelf.new) }
-    ensures shown { S.tells shelf.old → keeps_last command.now ≡ true → OnOk result (KeepsLast (S.world shelf.old) (S.world shelf.new) pool.old pool.new) }
+    ensures shown { S.tells shelf.old → is_of_removal command.now ≡ false → OnOk result (KeepsLast (S.world shelf.old) (S.world shelf.new) pool.old pool.new) }
     ensures shown_no { S.tells shelf.old → (r : Refusal) → IsErrOf result (No r) → KeepsLast (S.world shelf.old) (S.world shelf.new) pool.old pool.new }
     ensures left { command.now ≡ Export → (p : PoolState) → HoldsState (S.tells shelf.old) (S.world shelf.old).now.seen pool.old p → OnOk result (IsAtRest (S.world shelf.new).now.seen pool.new p) }
     ensures account { S.tells shelf.old → IfOk result (λ found. IfSome found (λ reply. Turns paths.now (S.sizes shelf.old) (S.world shelf.old).now.seen pool.old command.now reply (S.world shelf.new).now.seen pool.new)) }
@@ -144,7 +144,7 @@ impl DevicePool {
         ensures made { S.tells shelf.old → IfSome self.new.pool (λ pool. IsMade (shelf_of (S.world shelf.old).now) (HoldsState (S.tells shelf.new) (S.world shelf.new).now.seen pool) command.now) }
         ensures begins { S.tells shelf.old → IfSome self.new.pool (Begins self.old.paths (S.sizes shelf.old) (S.world shelf.old).now.seen command.now) }
         ensures begins_no { S.tells shelf.old → (r : Refusal) → IsErrOf result (No r) → BeginsNone self.old.paths (S.sizes shelf.old) (S.world shelf.old).now.seen command.now r }
-        ensures last { S.tells shelf.old → opens_last command.now ≡ true → IfSome self.new.pool (ShowsLast (S.world shelf.new).now.seen) }
+        ensures last { S.tells shelf.old → IfSome self.new.pool (ShowsLast (S.world shelf.new).now.seen) }
         ensures untouched { S.tells shelf.old → (r : Refusal) → IsErrOf result (No r) → (S.world shelf.new).now.seen ≡ (S.world shelf.old).now.seen }
         ensures turn { IfOk result (λ found. IfSome found (λ reply. IsTurn false command.now reply (is_some self.new.pool))) }
         ensures refused { (r : Refusal) → IsErrOf result (No r) → IsClosedRefusal command.now r }

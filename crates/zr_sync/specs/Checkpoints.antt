@@ -1,5 +1,5 @@
 -- A checkpoint that is taken, and one that is given up.
-use Rattle.std.specs.Prelude.{◌≡◌, ℕ, ◌⊎◌, true, false, List, [], Some, None, IfSome, All, length}
+use Rattle.std.specs.Prelude.{◌≡◌, ℕ, ◌+◌, ◌⊎◌, Bool, true, false, List, [], Some, None, IfSome, All, length, map}
 use Rattle.zr_base.specs.declared.space.CkptPart.TheVariants.{Discarding}
 use Rattle.zr_bptr.specs.declared.Ptr.TheVariants.{Hole}
 use Rattle.zr_label.specs.Blocks.{SpellsUber}
@@ -12,6 +12,8 @@ use Rattle.zr_shelf.specs.Moments.{World}
 use Rattle.zr_vdev.specs.Stores.{KeepsOthers}
 use Rattle.zr_vdev.specs.declared.kind.Kind.TheVariants.{Meta}
 use Rattle.zr_sync.specs.Commits.{EndsGroup, IsNextRoot, IsShownFrom}
+use Rattle.zr_sync.specs.Pools.{IsOpen}
+use Rattle.zr_sync.specs.Writes.{WritesIntoFree}
 use Rattle.zr_sync.specs.declared.open.CondStreams.{CondStreams}
 use Rattle.zr_sync.specs.declared.open.DeviceStreams.{DeviceStreams}
 use Rattle.zr_sync.specs.declared.open.OpenPool.{OpenPool}
@@ -78,3 +80,31 @@ pub record GivesUpCheckpoint (sizes : List ℕ) (told : Type 0) (now : World) (o
   pub resets : EndsGroup true dropped.space new.space
   pub shown : told → IfSome new.last (λ u. (before : World) × IsShownFrom sizes dropped u before now)
   pub saved : new.saved ≡ None
+
+-- ---- on the disks
+
+-- Between the two moments a pool was committed: units were written, and then its next root was published.
+pub record CommitsOn (sizes : List ℕ) (reset : Bool) (before now : World) (old new : OpenPool) : Type 0 where
+  pub ready : IsOpen sizes old
+  pub later : IsOpen sizes new
+  pub sized : map length before.now.seen ≡ sizes
+  pub txg : new.group.txg ≡ old.group.txg + 1
+  pub root : IfSome new.last (IsNextRoot old reset)
+  pub wrote : IfSome new.last (λ u. (mid : World) × WritesIntoFree old before mid × IsShownFrom sizes old u mid now)
+  pub guid : new.guid ≡ old.guid
+  pub table : new.table ≡ old.table
+
+-- so it was twice, and in between the root was saved
+pub record CommitsTwice (sizes : List ℕ) (before now : World) (old new : OpenPool) : Type 0 where
+  pub ended : OpenPool
+  pub mid : World
+  pub first : CommitsOn sizes false before mid old ended
+  pub held : OpenPool
+  pub saves : SavesRoot ended held
+  pub second : CommitsOn sizes true mid now held new
+
+-- so it was once, when no root was saved any more
+pub record CommitsWithout (sizes : List ℕ) (before now : World) (old new : OpenPool) : Type 0 where
+  pub dropped : OpenPool
+  pub drops : DropsRoot old dropped
+  pub commits : CommitsOn sizes true before now dropped new

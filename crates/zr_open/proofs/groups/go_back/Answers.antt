@@ -243,3 +243,30 @@ returns-clause-last g c = λ t.
     (subst (λ (f : Found). IfOk r (IsFresh (rewound f.root (current.txg + 1)))) place c.reset.ensures.fresh)
     (subst (λ (f : Found). IfOk r (λ pool. pool.table.slots ≡ f.slots)) place c.reset.ensures.placed)
     (subst (λ (f : Found). IfOk r (λ pool. IsShownFrom here (record pool { last = Some current }) (rewound f.root (current.txg + 1)) before now)) place (c.reset.ensures.shown told))
+
+-- ---- where it is refused
+
+pub returns-in_err-now-clause-untouched : goal.returns-in_err-now-clause-untouched
+returns-in_err-now-clause-untouched g c = λ t r is.
+    still_trans (g.S.Shelf.world c.args.shelf.now) (g.S.Shelf.world c.scan.new.shelf) (g.S.Shelf.world c.look_at.new.shelf) (c.in_ok-seen.ensures.still t) (c.in_err-now.ensures.still (c.in_ok-seen.ensures.told t))
+
+pub returns-in_err-root-clause-untouched : goal.returns-in_err-root-clause-untouched
+returns-in_err-root-clause-untouched g c = λ t r is.
+    still_trans (g.S.Shelf.world c.args.shelf.now) (g.S.Shelf.world c.scan.new.shelf) (g.S.Shelf.world c.look_at.new.shelf) (c.in_ok-seen.ensures.still t) (c.in_ok-now.ensures.still (c.in_ok-seen.ensures.told t))
+
+pub returns-in_err-then-clause-untouched : goal.returns-in_err-then-clause-untouched
+returns-in_err-then-clause-untouched g c = λ t r is.
+    let first = c.in_ok-seen.ensures in
+    let second = c.in_ok-now.ensures in
+    still_trans (g.S.Shelf.world c.args.shelf.now) (g.S.Shelf.world c.look_at.new.shelf) (g.S.Shelf.world c.look_at-2.new.shelf)
+    (still_trans (g.S.Shelf.world c.args.shelf.now) (g.S.Shelf.world c.scan.new.shelf) (g.S.Shelf.world c.look_at.new.shelf) (first.still t) (second.still (first.told t))) (c.in_err-then.ensures.still (second.told (first.told t)))
+
+pub returns-clause-untouched : goal.returns-clause-untouched
+returns-clause-untouched g c = λ t r is.
+    let first = c.in_ok-seen.ensures in
+    let second = c.in_ok-now.ensures in
+    let third = c.in_ok-then.ensures in
+    still_trans (g.S.Shelf.world c.args.shelf.now) (g.S.Shelf.world c.look_at-2.new.shelf) (g.S.Shelf.world c.reset.new.shelf)
+    (still_trans (g.S.Shelf.world c.args.shelf.now) (g.S.Shelf.world c.look_at.new.shelf) (g.S.Shelf.world c.look_at-2.new.shelf)
+    (still_trans (g.S.Shelf.world c.args.shelf.now) (g.S.Shelf.world c.scan.new.shelf) (g.S.Shelf.world c.look_at.new.shelf) (first.still t) (second.still (first.told t))) (third.still (second.told (first.told t))))
+    (c.reset.ensures.untouched (third.told (second.told (first.told t))) r is)

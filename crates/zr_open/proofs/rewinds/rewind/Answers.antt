@@ -1,4 +1,4 @@
-use Rattle.std.proofs.Common.{rules, ◌≡◌, ◌∙◌, ◌+◌, ◌≤◌, ℕ, List, [], Option, Some, None, inl, inr, Err, false, refl, sym, ap, subst, arith}
+use Rattle.std.proofs.Common.{rules, ◌≡◌, ◌∙◌, ◌+◌, ◌≤◌, ◌<◌, ℕ, List, [], Option, Some, None, inl, inr, Err, false, refl, sym, ap, subst, arith}
 use Rattle.std.specs.Prelude.{if◌then◌else◌}
 use Rattle.zr_shelf.specs.Disks.{Stand}
 use Rattle.zr_image.specs.Current.{slots_of}
@@ -324,5 +324,5 @@ returns-clause-last g c = λ t.
     let cut = own_cut l.found.slots c.own_slots.result s.uber next (u.txg + 1) c.rewound-root.ensures.is c.own_slots.ensures.own in
     let own = saved_own u s.uber l.found.slots c.own_slots.result (u.txg + 1) h.at.uber b.saved.is_saved.spelled.lawful b.saved.is_saved.guid b.saved.is_saved.rows cut in
     let devices = subst (λ (x : Uber). HasSlots (slots_of x seen) c.own_slots.result) (sym c.rewound-root.ensures.is) (saved_at u s.uber l.found.slots c.own_slots.result (u.txg + 1) seen h.slots own) in
-    let later = let group = ap (λ (x : Uber). x.txg) c.rewound-root.ensures.is in omega (arith, group) in
+    let later : u.txg < next.txg = let group = ap (λ (x : Uber). x.txg) c.rewound-root.ensures.is in omega (arith, group) in
     published_last (g.S.Shelf.sizes c.look.new.shelf) seen u next c.own_slots.result read now (g.S.Shelf.sound c.look.new.shelf told).sized shown h.finds.finds later devices pool ready c.in_ok-pool.ensures.fresh c.in_ok-pool.ensures.slots (c.in_ok-show.ensures.shown told)

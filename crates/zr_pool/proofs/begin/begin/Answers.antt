@@ -1,4 +1,4 @@
-use Rattle.std.proofs.Common.{◌≡◌, true, false, None, Err, ◌∙◌, ap, refl, sym, subst}
+use Rattle.std.proofs.Common.{false, None, Err, ◌∙◌, ap, refl, sym, subst}
 use Rattle.zr_base.specs.declared.space.CkptPart.{CkptPart}
 use Rattle.std.specs.Prelude.{IfOk, IfSome}
 use Rattle.std.proofs.lemmas.Result.{err_from_is_err_and}
@@ -16,8 +16,6 @@ use Rattle.zr_pool.specs.Turns.{IsClosedRefusal}
 use Rattle.zr_pool.proofs.Leavings.{in_the_way, is_new, not_begun}
 use Rattle.zr_pool.proofs.Refused.{fault_same, group_cause, rewind_cause}
 use Rattle.zr_shelf.specs.Disks.{Stand}
-use Rattle.zr_pool.specs.Turns.{opens_last}
-use Rattle.zr_pool.proofs.Shown.{false_true}
 use Rattle.zr_sync.proofs.Disks.{works_still}
 use Rattle.zr_pool.proofs.begin.begin.Goals as goal
 
@@ -202,19 +200,19 @@ returns-in_err-go_back-in-ImportTxg-clause-begins_no g c = λ told r is.
 -- ---- what the disks show
 
 pub returns-in_ok-made-in-Create-clause-last : goal.returns-in_ok-made-in-Create-clause-last
-returns-in_ok-made-in-Create-clause-last g c = λ told opens. false_true (subst (λ (command : Command). opens_last command ≡ true) c.in-Create.is opens)
+returns-in_ok-made-in-Create-clause-last g c = λ told. c.in_ok-made-in-Create.ensures.last told
 
 pub returns-in_ok-made-in-CreateOld-clause-last : goal.returns-in_ok-made-in-CreateOld-clause-last
-returns-in_ok-made-in-CreateOld-clause-last g c = λ told opens. false_true (subst (λ (command : Command). opens_last command ≡ true) c.in-CreateOld.is opens)
+returns-in_ok-made-in-CreateOld-clause-last g c = λ told. c.in_ok-made-in-CreateOld.ensures.last told
 
 pub returns-in_ok-import-in-Import-clause-last : goal.returns-in_ok-import-in-Import-clause-last
-returns-in_ok-import-in-Import-clause-last g c = λ told opens. c.in_ok-import-in-Import.ensures.last told
+returns-in_ok-import-in-Import-clause-last g c = λ told. c.in_ok-import-in-Import.ensures.last told
 
 pub returns-in_ok-rewind-in-ImportRewind-clause-last : goal.returns-in_ok-rewind-in-ImportRewind-clause-last
-returns-in_ok-rewind-in-ImportRewind-clause-last g c = λ told opens. c.in_ok-rewind-in-ImportRewind.ensures.last told
+returns-in_ok-rewind-in-ImportRewind-clause-last g c = λ told. c.in_ok-rewind-in-ImportRewind.ensures.last told
 
 pub returns-in_ok-go_back-in-ImportTxg-clause-last : goal.returns-in_ok-go_back-in-ImportTxg-clause-last
-returns-in_ok-go_back-in-ImportTxg-clause-last g c = λ told opens. c.in_ok-go_back-in-ImportTxg.ensures.last told
+returns-in_ok-go_back-in-ImportTxg-clause-last g c = λ told. c.in_ok-go_back-in-ImportTxg.ensures.last told
 
 pub returns-in_err-made-in-Create-clause-untouched : goal.returns-in_err-made-in-Create-clause-untouched
 returns-in_err-made-in-Create-clause-untouched g c = λ told r is.

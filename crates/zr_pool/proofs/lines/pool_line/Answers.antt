@@ -16,8 +16,7 @@ use Rattle.zr_pool.specs.Turns.{IsOpenAnswer, IsOpenRefusal}
 use Rattle.zr_pool.proofs.Refused.{fault_same, add_refusal, take_cause, take_refusal, give_cause, give_refusal, step_cause, step_refusal}
 use Rattle.zr_last.proofs.Lasting.{commit_last, same_last}
 use Rattle.zr_shelf.specs.Disks.{Stand}
-use Rattle.zr_pool.specs.Turns.{keeps_last}
-use Rattle.zr_pool.proofs.Shown.{false_true, same_root, still_last}
+use Rattle.zr_pool.proofs.Shown.{same_root, still_last}
 use Rattle.zr_pool.proofs.Staying.{stays_still, same_state, held_state, discarding_state, stepped_state, objects_told, objects_anew_unit, step_answer, some_units}
 use Rattle.zr_pool.proofs.Tellings.{checks_told, gives_told, stepped_turn, takes_told, upgrades_told}
 use Rattle.zr_pool.proofs.lines.pool_line.Goals as goal
@@ -288,14 +287,14 @@ returns-in_err-upgrade-in-Upgrade-clause-account_no g c = λ told r is.
 -- ---- what the disks show
 
 pub returns-in_ok-commit-in-Sync-clause-shown : goal.returns-in_ok-commit-in-Sync-clause-shown
-returns-in_ok-commit-in-Sync-clause-shown g c = λ told keeps.
+returns-in_ok-commit-in-Sync-clause-shown g c = λ told.
     let shelf = c.args.shelf.now in
     let new = c.commit.new.shelf in
     let done = c.in_ok-commit-in-Sync.ensures in
     commit_last (g.S.Shelf.sizes shelf) (g.S.Shelf.sizes new) c.args.pool.now c.commit.new.pool false (g.S.Shelf.world shelf) (g.S.Shelf.world new) c.requires.pool done.pool (g.S.Shelf.sound shelf told).sized done.txg done.last (done.written told) done.same.guid done.same.table
 
 pub returns-in_ok-commit-in-Export-clause-shown : goal.returns-in_ok-commit-in-Export-clause-shown
-returns-in_ok-commit-in-Export-clause-shown g c = λ told keeps.
+returns-in_ok-commit-in-Export-clause-shown g c = λ told.
     let shelf = c.args.shelf.now in
     let new = c.commit-in-Export.new.shelf in
     let done = c.in_ok-commit-in-Export.ensures in
@@ -312,19 +311,19 @@ returns-in_ok-commit-in-Export-clause-left g c = λ exports p h.
     }
 
 pub returns-in_ok-upgrade-in-Upgrade-clause-shown : goal.returns-in_ok-upgrade-in-Upgrade-clause-shown
-returns-in_ok-upgrade-in-Upgrade-clause-shown g c = λ told keeps. c.in_ok-upgrade-in-Upgrade.ensures.shown told
+returns-in_ok-upgrade-in-Upgrade-clause-shown g c = λ told. c.in_ok-upgrade-in-Upgrade.ensures.shown told
 
 pub returns-in_ok-units-in-StepDiscard-clause-shown : goal.returns-in_ok-units-in-StepDiscard-clause-shown
-returns-in_ok-units-in-StepDiscard-clause-shown g c = λ told keeps h. same_last (g.S.Shelf.world c.args.shelf.now).now.seen c.args.pool.now c.step.new.pool c.in_ok-units-in-StepDiscard.ensures.root h
+returns-in_ok-units-in-StepDiscard-clause-shown g c = λ told h. same_last (g.S.Shelf.world c.args.shelf.now).now.seen c.args.pool.now c.step.new.pool c.in_ok-units-in-StepDiscard.ensures.root h
 
 pub returns-in_ok-add-in-Add-clause-shown : goal.returns-in_ok-add-in-Add-clause-shown
-returns-in_ok-add-in-Add-clause-shown g c = λ told keeps. false_true (subst (λ (command : Command). keeps_last command ≡ true) c.in-Add.is keeps)
+returns-in_ok-add-in-Add-clause-shown g c = λ told. c.in_ok-add-in-Add.ensures.shown told
 
 pub returns-in_ok-take-in-Checkpoint-clause-shown : goal.returns-in_ok-take-in-Checkpoint-clause-shown
-returns-in_ok-take-in-Checkpoint-clause-shown g c = λ told keeps. false_true (subst (λ (command : Command). keeps_last command ≡ true) c.in-Checkpoint.is keeps)
+returns-in_ok-take-in-Checkpoint-clause-shown g c = λ told. c.in_ok-take-in-Checkpoint.ensures.shown told
 
 pub returns-in_ok-give_up-in-Discard-clause-shown : goal.returns-in_ok-give_up-in-Discard-clause-shown
-returns-in_ok-give_up-in-Discard-clause-shown g c = λ told keeps. false_true (subst (λ (command : Command). keeps_last command ≡ true) c.in-Discard.is keeps)
+returns-in_ok-give_up-in-Discard-clause-shown g c = λ told. c.in_ok-give_up-in-Discard.ensures.shown told
 
 pub returns-in_err-add-in-Add-clause-shown_no : goal.returns-in_err-add-in-Add-clause-shown_no
 returns-in_err-add-in-Add-clause-shown_no g c = λ told r is.

@@ -4,7 +4,7 @@ use Rattle.zr_shelf.specs.Moments.{World}
 use Rattle.zr_sync.specs.declared.open.OpenPool.{OpenPool}
 use Rattle.zr_pool.proofs.Leavings.{opener_refused}
 use Rattle.zr_pool.proofs.Refused.{fault_same}
-use Rattle.zr_pool.proofs.Shown.{removal_forgets, same_root, still_last}
+use Rattle.zr_pool.proofs.Shown.{same_root, still_last}
 use Rattle.zr_pool.proofs.Staying.{same_state, stays_still}
 use Rattle.zr_pool.proofs.pool.open_line.Goals as goal
 
@@ -103,4 +103,4 @@ returns-in_err-removal_line-clause-shown_no g c = λ told r is.
     still_last (g.S.Shelf.world c.args.shelf.now) (g.S.Shelf.world c.removal_line.new.shelf) c.args.pool.now c.removal_line.new.pool (same_root c.args.pool.now c.removal_line.new.pool (c.removal_line.ensures.unchanged r was)) (ap (λ (w : World). w.now.seen) (c.removal_line.ensures.untouched r was))
 
 pub returns-in_ok-removal_line-clause-shown : goal.returns-in_ok-removal_line-clause-shown
-returns-in_ok-removal_line-clause-shown g c = λ told keeps. removal_forgets c.args.command.now (sym c.is_of_removal.ensures ∙ c.if-is_of_removal.true) keeps
+returns-in_ok-removal_line-clause-shown g c = λ told aside. absurd (let is = sym c.is_of_removal.ensures ∙ c.if-is_of_removal.true in let both = sym is ∙ aside in cc)

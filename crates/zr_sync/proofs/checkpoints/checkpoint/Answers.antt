@@ -1,11 +1,13 @@
-use Rattle.std.proofs.Common.{ℕ, List, Option, false, ◌∙◌, ap, subst, arith}
+use Rattle.std.proofs.Common.{ℕ, List, Option, true, false, ◌∙◌, ap, subst, arith}
 use Rattle.std.specs.Prelude.{IfSome}
 use Rattle.zr_base.specs.declared.space.CkptPart.TheVariants.{Held}
 use Rattle.zr_base.specs.declared.space.DevRow.{DevRow}
 use Rattle.zr_label.specs.declared.root.Uber.{Uber}
 use Rattle.zr_rules.specs.Places.{is_leaving}
 use Rattle.zr_shelf.specs.Moments.{World}
+use Rattle.zr_sync.specs.Checkpoints.{CommitsOn}
 use Rattle.zr_sync.specs.Commits.{IsNextRoot, IsShownFrom}
+use Rattle.zr_sync.specs.Pools.{IsOpen}
 use Rattle.zr_sync.specs.declared.open.OpenPool.{OpenPool}
 use Rattle.zr_sync.proofs.Disks.{works_more}
 use Rattle.zr_sync.proofs.Groups.{ends_row}
@@ -85,3 +87,41 @@ returns-clause-held g c =
     let saves = c.in_ok-save_root.ensures.saves in
     let next : IsNextRoot c.args.pool.now false saves.root = subst (λ (o : Option Uber). IfSome o (IsNextRoot c.args.pool.now false)) saves.last c.in_ok-commit.ensures.last in
     c.in_ok-commit_anew.ensures.same.ckpt ∙ (saves.holds.ckpt_is ∙ ap (λ (n : ℕ). Held n) next.txg)
+
+pub returns-clause-commits : goal.returns-clause-commits
+returns-clause-commits g c = λ t.
+    let old = c.args.shelf.now in
+    let mid = c.commit.new.shelf in
+    let new = c.commit_anew.new.shelf in
+    let told = c.commit.ensures.told t in
+    let first = c.in_ok-commit.ensures in
+    let second = c.in_ok-commit_anew.ensures in
+    let held = c.save_root.new.pool in
+    let again : CommitsOn (g.S.Shelf.sizes mid) true (g.S.Shelf.world mid) (g.S.Shelf.world new) held c.commit_anew.new.pool =
+    record {
+      ready = c.in_ok-save_root.ensures.pool (g.S.Shelf.sizes mid) first.pool;
+      later = subst (λ (n : List ℕ). IsOpen n c.commit_anew.new.pool) c.commit_anew.ensures.sizes second.pool;
+      sized = (g.S.Shelf.sound mid told).sized;
+      txg = second.txg;
+      root = second.last;
+      wrote = second.written told;
+      guid = second.same.guid;
+      table = second.same.table;
+    } in
+    record {
+      ended = c.commit.new.pool;
+      mid = g.S.Shelf.world mid;
+      first = record {
+        ready = c.requires.pool;
+        later = subst (λ (n : List ℕ). IsOpen n c.commit.new.pool) c.commit.ensures.sizes first.pool;
+        sized = (g.S.Shelf.sound old t).sized;
+        txg = first.txg;
+        root = first.last;
+        wrote = first.written t;
+        guid = first.same.guid;
+        table = first.same.table;
+      };
+      held = held;
+      saves = c.in_ok-save_root.ensures.saves;
+      second = subst (λ (n : List ℕ). CommitsOn n true (g.S.Shelf.world mid) (g.S.Shelf.world new) held c.commit_anew.new.pool) c.commit.ensures.sizes again;
+    }

@@ -1,4 +1,5 @@
-use Rattle.std.proofs.Common.{◌∙◌, ap, arith}
+use Rattle.std.proofs.Common.{ℕ, List, ◌∙◌, ap, subst, arith}
+use Rattle.zr_sync.specs.Pools.{IsOpen}
 use Rattle.zr_sync.specs.declared.open.OpenPool.{OpenPool}
 use Rattle.zr_sync.proofs.SavedRoots.{drops_seen, drops_objects, drops_same}
 use Rattle.zr_sync.proofs.checkpoints.give_up_checkpoint.Goals as goal
@@ -48,3 +49,22 @@ returns-clause-stays g c = λ objects h.
 
 pub returns-clause-discarding : goal.returns-clause-discarding
 returns-clause-discarding g c = c.in_ok-commit.ensures.same.ckpt ∙ c.in_ok-drop_root.ensures.drops.gives.others.rows.ckpt
+
+pub returns-clause-commits : goal.returns-clause-commits
+returns-clause-commits g c = λ t.
+    let old = c.args.shelf.now in
+    let done = c.in_ok-commit.ensures in
+    record {
+      dropped = c.drop_root.new.pool;
+      drops = c.in_ok-drop_root.ensures.drops;
+      commits = record {
+        ready = c.in_ok-drop_root.ensures.pool (g.S.Shelf.sizes old) c.requires.pool;
+        later = subst (λ (n : List ℕ). IsOpen n c.commit.new.pool) c.commit.ensures.sizes done.pool;
+        sized = (g.S.Shelf.sound old t).sized;
+        txg = done.txg;
+        root = done.last;
+        wrote = done.written t;
+        guid = done.same.guid;
+        table = done.same.table;
+      };
+    }
