@@ -1,7 +1,9 @@
-use Rattle.std.proofs.Common.{◌∙◌, ap, refl, sym, Err}
+use Rattle.std.proofs.Common.{◌≡◌, ◌∙◌, true, false, ap, refl, sym, Err}
 use Rattle.std.proofs.lemmas.Result.{err_from_is_err_and}
 use Rattle.zr_shelf.specs.Moments.{World}
 use Rattle.zr_sync.specs.declared.open.OpenPool.{OpenPool}
+use Rattle.zr_pool.specs.Plain.{is_of_removal}
+use Rattle.zr_pool.specs.Turns.{is_on_objects, is_on_pool, is_table}
 use Rattle.zr_pool.proofs.Leavings.{opener_refused}
 use Rattle.zr_pool.proofs.Refused.{fault_same}
 use Rattle.zr_pool.proofs.Shown.{same_root, still_last}
@@ -104,3 +106,24 @@ returns-in_err-removal_line-clause-shown_no g c = λ told r is.
 
 pub returns-in_ok-removal_line-clause-shown : goal.returns-in_ok-removal_line-clause-shown
 returns-in_ok-removal_line-clause-shown g c = λ told aside. absurd (let is = sym c.is_of_removal.ensures ∙ c.if-is_of_removal.true in let both = sym is ∙ aside in cc)
+
+-- ---- what an export leaves
+
+pub returns-in_ok-object_line-clause-left : goal.returns-in_ok-object_line-clause-left
+returns-in_ok-object_line-clause-left g c = λ exports p h.
+    absurd (let on = sym c.is_on_objects.ensures ∙ c.if-is_on_objects.true in let off : is_on_objects c.args.command.now ≡ false = ap is_on_objects exports in let both = sym on ∙ off in cc)
+
+pub returns-in_ok-table_line-clause-left : goal.returns-in_ok-table_line-clause-left
+returns-in_ok-table_line-clause-left g c = λ exports p h.
+    absurd (let on = sym c.is_table.ensures ∙ c.if-is_table.true in let off : is_table c.args.command.now ≡ false = ap is_table exports in let both = sym on ∙ off in cc)
+
+pub returns-in_ok-removal_line-clause-left : goal.returns-in_ok-removal_line-clause-left
+returns-in_ok-removal_line-clause-left g c = λ exports p h.
+    absurd (let on = sym c.is_of_removal.ensures ∙ c.if-is_of_removal.true in let off : is_of_removal c.args.command.now ≡ false = ap is_of_removal exports in let both = sym on ∙ off in cc)
+
+pub returns-in_ok-pool_line-clause-left : goal.returns-in_ok-pool_line-clause-left
+returns-in_ok-pool_line-clause-left g c = λ exports p h. c.in_ok-pool_line.ensures.left exports p h
+
+pub returns-clause-left : goal.returns-clause-left
+returns-clause-left g c = λ exports p h.
+    absurd (let off = sym c.is_on_pool.ensures ∙ c.if-is_on_pool.false in let on : is_on_pool c.args.command.now ≡ true = ap is_on_pool exports in let both = sym off ∙ on in cc)
