@@ -127,3 +127,29 @@ returns-in_ok-pool_line-clause-left g c = λ exports p h. c.in_ok-pool_line.ensu
 pub returns-clause-left : goal.returns-clause-left
 returns-clause-left g c = λ exports p h.
     absurd (let off = sym c.is_on_pool.ensures ∙ c.if-is_on_pool.false in let on : is_on_pool c.args.command.now ≡ true = ap is_on_pool exports in let both = sym off ∙ on in cc)
+
+-- ---- the disks while a table is told
+
+pub returns-in_err-object_line-clause-still : goal.returns-in_err-object_line-clause-still
+returns-in_err-object_line-clause-still g c = λ told table off. absurd (let on = sym c.is_on_objects.ensures ∙ c.if-is_on_objects.true in let both = sym on ∙ off in cc)
+
+pub returns-in_ok-object_line-clause-still : goal.returns-in_ok-object_line-clause-still
+returns-in_ok-object_line-clause-still g c = λ told table off. absurd (let on = sym c.is_on_objects.ensures ∙ c.if-is_on_objects.true in let both = sym on ∙ off in cc)
+
+pub returns-in_err-table_line-clause-still : goal.returns-in_err-table_line-clause-still
+returns-in_err-table_line-clause-still g c = λ told table off. c.table_line.ensures.still told
+
+pub returns-in_ok-table_line-clause-still : goal.returns-in_ok-table_line-clause-still
+returns-in_ok-table_line-clause-still g c = λ told table off. c.table_line.ensures.still told
+
+pub returns-in_err-pool_line-clause-still : goal.returns-in_err-pool_line-clause-still
+returns-in_err-pool_line-clause-still g c = λ told table off. absurd (let none = sym c.is_table.ensures ∙ c.if-is_table.false in let both = sym none ∙ table in cc)
+
+pub returns-in_ok-pool_line-clause-still : goal.returns-in_ok-pool_line-clause-still
+returns-in_ok-pool_line-clause-still g c = λ told table off. absurd (let none = sym c.is_table.ensures ∙ c.if-is_table.false in let both = sym none ∙ table in cc)
+
+pub returns-in_err-removal_line-clause-still : goal.returns-in_err-removal_line-clause-still
+returns-in_err-removal_line-clause-still g c = λ told table off. absurd (let none = sym c.is_table.ensures ∙ c.if-is_table.false in let both = sym none ∙ table in cc)
+
+pub returns-in_ok-removal_line-clause-still : goal.returns-in_ok-removal_line-clause-still
+returns-in_ok-removal_line-clause-still g c = λ told table off. absurd (let none = sym c.is_table.ensures ∙ c.if-is_table.false in let both = sym none ∙ table in cc)
