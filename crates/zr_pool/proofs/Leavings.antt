@@ -1,5 +1,5 @@
 -- What a call that was done left, told of a shelf that is told, and why a removal does not begin.
-use Rattle.std.proofs.Common.{◌≡◌, ◌⊎◌, inl, inr, ℕ, Bool, true, false, List, [], Option, Some, None, Result, Ok, Err, refl, sym, subst}
+use Rattle.std.proofs.Common.{◌≡◌, inl, inr, ℕ, true, List, [], Result, Ok, Err, refl, sym, subst}
 use Rattle.zr_base.specs.declared.refusal.Refusal.{Refusal}
 use Rattle.zr_base.specs.declared.refusal.Refusal.TheVariants as refusal
 use Rattle.zr_base.specs.declared.space.Condensed.{Condensed}
@@ -8,13 +8,11 @@ use Rattle.zr_base.specs.declared.space.Policy.{Policy}
 use Rattle.zr_base.specs.declared.space.CkptPart.TheVariants.{Clear}
 use Rattle.zr_create.specs.Blank.{IsNamed, IsResetAt, NothingWaits}
 use Rattle.zr_create.specs.Devices.{HasDevicesIn}
-use Rattle.zr_create.specs.Names.{AreSlotsOf, IsSlotMissing, slot_named}
+use Rattle.zr_create.specs.Names.{AreSlotsOf, IsSlotMissing}
 use Rattle.zr_create.specs.Refusals.{ChecksNew}
 use Rattle.zr_label.specs.Blocks as blocks
 use Rattle.zr_label.specs.declared.root.Name.{Name}
-use Rattle.zr_removal.specs.Devices.{IsDeviceOn}
-use Rattle.zr_removal.specs.Refusals.{IsRemoveRefusal}
-use Rattle.zr_removal.specs.Steps.{GivesUp, GoesAway, StepsOn}
+use Rattle.zr_removal.specs.Steps.{StepsOn}
 use Rattle.zr_removal.specs.Turns.{BeginsRemoval, CancelsRemoval, EndsRemoval}
 use Rattle.zr_removal.specs.declared.evacuate.Evacuated.{Evacuated}
 use Rattle.zr_removal.specs.declared.evacuate.Evacuated.TheVariants.{Copied, Gone, Cancelled}
@@ -27,7 +25,7 @@ use Rattle.zr_sync.specs.declared.fault.Fault.{Fault}
 use Rattle.zr_sync.specs.declared.fault.Fault.TheVariants.{No}
 use Rattle.zr_sync.specs.declared.open.OpenPool.{OpenPool}
 use Rattle.zr_vdev.specs.Copies.{CopiesUnits}
-use Rattle.zr_pool.specs.Accounts.{BeginsNone, Condenses, CopiesSome, Evacuates, IsCreateCause, IsNamedCause, IsNew, IsRemovalCause, Leaves, LetsGo, PutsBack, Refuses, Turns}
+use Rattle.zr_pool.specs.Accounts.{BeginsNone, Condenses, CopiesSome, Evacuates, IsCreateCause, IsNamedCause, IsNew, IsRemovalCause, Leaves, PutsBack, Refuses, Turns}
 use Rattle.zr_pool.specs.Replies.{condense_reply, evac_reply}
 use Rattle.zr_pool.specs.Turns.{is_opener}
 

@@ -1,6 +1,5 @@
 -- How the disks stand at each moment of a line.
-use Rattle.std.proofs.Common.{◌≡◌, true, false, Bool, List, [], ◌∷◌, None, Option, Some, refl, sym, ap, subst, ◌∙◌}
-use Rattle.std.specs.List.{AllByRecursion}
+use Rattle.std.proofs.Common.{◌≡◌, true, false, Bool, None, Option, Some, refl, sym, ap, subst, ◌∙◌}
 use Rattle.std.specs.Prelude.{IfSome}
 use Rattle.zr_command.specs.Meanings.{disks_of}
 use Rattle.zr_model.specs.Runs.{point}

@@ -1,6 +1,5 @@
 -- Refusals that are passed on.
-use Rattle.std.proofs.Common.{◌≡◌, ◌⊎◌, inl, inr, ℕ, List, Option, Some, None, Result, Ok, Err, refl, sym, ◌∙◌, subst}
-use Rattle.std.specs.Prelude.{IfOk, IfSome}
+use Rattle.std.proofs.Common.{◌≡◌, ◌⊎◌, inl, inr, ℕ, List, Result, Ok, Err, refl, sym, ◌∙◌, subst}
 use Rattle.zr_base.specs.declared.refusal.Refusal.{Refusal}
 use Rattle.zr_change.specs.declared.ranges.Edit.{Edit}
 use Rattle.zr_lines.specs.Causes.{IsLookRefusal, IsUndone}
@@ -20,7 +19,6 @@ use Rattle.zr_sync.specs.States.{HasCheckpoint}
 use Rattle.zr_model.specs.Runs.{Shelf}
 use Rattle.zr_open.specs.Groups.{ShowsNotKept}
 use Rattle.zr_open.specs.Rewound.{ShowsNoSaved}
-use Rattle.zr_script.specs.declared.command.Command.{Command}
 use Rattle.zr_script.specs.declared.command.Command.TheVariants as cmd
 use Rattle.zr_pool.specs.Plain.{IsCheckpointCause, IsOpeningCause}
 use Rattle.zr_removal.specs.Refusals.{IsMayRefusal}

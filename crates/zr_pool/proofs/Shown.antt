@@ -1,5 +1,5 @@
 -- Whether the disks show the pool behind a line, and what an import finds of what was left.
-use Rattle.std.proofs.Common.{◌≡◌, ℕ, List, [], Bool, true, false, length, map, Option, Some, None, Result, Ok, Err, refl, sym, ◌∙◌, ap, subst}
+use Rattle.std.proofs.Common.{◌≡◌, ℕ, List, Bool, true, false, length, map, Option, Some, None, Result, Ok, Err, refl, sym, ◌∙◌, ap, subst}
 use Rattle.std.specs.Prelude.{IfOk, IfSome, OnErr, OnOk, is_some, not, ◌&&◌}
 use Rattle.zr_base.specs.declared.refusal.Refusal.{Refusal}
 use Rattle.zr_label.specs.declared.root.Uber.{Uber}

@@ -1,6 +1,6 @@
 -- What a line makes of the account: of what an open pool holds beside its disks. Each answer to a line is tied to the account before it and behind it,
 -- and each refusal has its cause in the account, or in what the slots show.
-use Rattle.std.specs.Prelude.{◌≡◌, ◌⊎◌, ℕ, ◌+◌, ◌*◌, ◌<◌, ◌≤◌, Bool, true, false, List, [], length, map, if◌then◌else◌, Result, Ok, Err, Option, Some, None, IfSome}
+use Rattle.std.specs.Prelude.{◌≡◌, ◌⊎◌, ℕ, ◌+◌, ◌*◌, ◌<◌, ◌≤◌, Bool, true, false, List, [], length, map, Ok, Err, Some, None, IfSome}
 use Rattle.zr_audit.specs.Found.{allocated_units}
 use Rattle.zr_base.specs.declared.refusal.Refusal.{Refusal}
 use Rattle.zr_base.specs.declared.refusal.Refusal.TheVariants as refusal
@@ -40,7 +40,6 @@ use Rattle.zr_removal.specs.declared.evacuate.Evacuated.{Evacuated}
 use Rattle.zr_removal.specs.declared.evacuate.Evacuated.TheVariants.{Copied, Gone, Cancelled}
 use Rattle.zr_rules.specs.Columns.{free_units}
 use Rattle.zr_rules.specs.Places.{is_leaving, part_of, state_of_dev}
-use Rattle.zr_rules.specs.Space.{Space}
 use Rattle.zr_rules.specs.Steps.{DiscardsSome, has_condensing}
 use Rattle.zr_script.specs.declared.command.Command.{Command}
 use Rattle.zr_script.specs.declared.command.Command.TheVariants as cmd
@@ -53,7 +52,7 @@ use Rattle.zr_store.specs.Store.{Stored}
 use Rattle.zr_sync.specs.Checkpoints.{GivesUpCheckpoint, TakesCheckpoint}
 use Rattle.zr_sync.specs.Commits.{EndsGroup, IsNextRoot}
 use Rattle.zr_sync.specs.Holds.{HasBlocks}
-use Rattle.zr_sync.specs.Pools.{IsOpen, IsSamePool}
+use Rattle.zr_sync.specs.Pools.{IsSamePool}
 use Rattle.zr_sync.specs.declared.open.OpenPool.{OpenPool}
 use Rattle.zr_tables.specs.Audits.{concrete}
 use Rattle.zr_tables.specs.Tables.{IsStatus, list_lines, map_lines}

@@ -1,14 +1,10 @@
 use Rattle.std.proofs.Common.{false, None, Err, ◌∙◌, ap, refl, sym, subst}
 use Rattle.zr_base.specs.declared.space.CkptPart.{CkptPart}
-use Rattle.std.specs.Prelude.{IfOk, IfSome}
 use Rattle.std.proofs.lemmas.Result.{err_from_is_err_and}
 use Rattle.zr_script.specs.declared.command.Command.{Command}
 use Rattle.zr_sync.specs.States.{HasCheckpoint, HoldsState}
 use Rattle.zr_base.specs.declared.refusal.Refusal.{Refusal}
-use Rattle.zr_script.specs.declared.command.Command.TheVariants as cmd
 use Rattle.zr_sync.specs.declared.fault.Fault.TheVariants.{No}
-use Rattle.zr_open.specs.Groups.{HoldsGroup}
-use Rattle.zr_open.specs.Rewound.{HoldsSaved}
 use Rattle.zr_open.proofs.Refusing.{back_refusal, looked_refusal, not_kept_shown, rewind_refusal}
 use Rattle.zr_pool.specs.Accounts.{Begins, BeginsNone}
 use Rattle.zr_pool.specs.Plain.{IsMade, IsOpeningCause, shelf_of}

@@ -1,4 +1,4 @@
-use Rattle.std.proofs.Common.{[], ◌∷◌, ◌++◌, ◌==◌, inr, sym, ◌∙◌, ap, subst, refl, Ok, Err}
+use Rattle.std.proofs.Common.{false, [], ◌∷◌, ◌++◌, ◌==◌, inr, sym, ◌∙◌, ap, subst, refl, Ok, Err}
 use Rattle.std.proofs.lemmas.Result.{err_from_is_err_and}
 use Rattle.zr_script.specs.declared.command.Command.{Command}
 use Rattle.zr_script.specs.declared.command.Command.TheVariants as cmd

@@ -1,9 +1,7 @@
-use Rattle.std.proofs.Common.{◌≡◌, ◌∙◌, true, false, ap, refl, sym, Err}
+use Rattle.std.proofs.Common.{◌∙◌, ap, refl, sym, Err}
 use Rattle.std.proofs.lemmas.Result.{err_from_is_err_and}
 use Rattle.zr_shelf.specs.Moments.{World}
 use Rattle.zr_sync.specs.declared.open.OpenPool.{OpenPool}
-use Rattle.zr_pool.specs.Plain.{is_of_removal}
-use Rattle.zr_pool.specs.Turns.{is_on_objects, is_on_pool, is_table}
 use Rattle.zr_pool.proofs.Leavings.{opener_refused}
 use Rattle.zr_pool.proofs.Refused.{fault_same}
 use Rattle.zr_pool.proofs.Shown.{same_root, still_last}
@@ -104,52 +102,14 @@ returns-in_err-removal_line-clause-shown_no g c = λ told r is.
     let was = c.in_err-removal_line.was ∙ ap Err e in
     still_last (g.S.Shelf.world c.args.shelf.now) (g.S.Shelf.world c.removal_line.new.shelf) c.args.pool.now c.removal_line.new.pool (same_root c.args.pool.now c.removal_line.new.pool (c.removal_line.ensures.unchanged r was)) (ap (λ (w : World). w.now.seen) (c.removal_line.ensures.untouched r was))
 
-pub returns-in_ok-removal_line-clause-shown : goal.returns-in_ok-removal_line-clause-shown
-returns-in_ok-removal_line-clause-shown g c = λ told aside. absurd (let is = sym c.is_of_removal.ensures ∙ c.if-is_of_removal.true in let both = sym is ∙ aside in cc)
-
--- ---- what an export leaves
-
-pub returns-in_ok-object_line-clause-left : goal.returns-in_ok-object_line-clause-left
-returns-in_ok-object_line-clause-left g c = λ exports p h.
-    absurd (let on = sym c.is_on_objects.ensures ∙ c.if-is_on_objects.true in let off : is_on_objects c.args.command.now ≡ false = ap is_on_objects exports in let both = sym on ∙ off in cc)
-
-pub returns-in_ok-table_line-clause-left : goal.returns-in_ok-table_line-clause-left
-returns-in_ok-table_line-clause-left g c = λ exports p h.
-    absurd (let on = sym c.is_table.ensures ∙ c.if-is_table.true in let off : is_table c.args.command.now ≡ false = ap is_table exports in let both = sym on ∙ off in cc)
-
-pub returns-in_ok-removal_line-clause-left : goal.returns-in_ok-removal_line-clause-left
-returns-in_ok-removal_line-clause-left g c = λ exports p h.
-    absurd (let on = sym c.is_of_removal.ensures ∙ c.if-is_of_removal.true in let off : is_of_removal c.args.command.now ≡ false = ap is_of_removal exports in let both = sym on ∙ off in cc)
-
-pub returns-in_ok-pool_line-clause-left : goal.returns-in_ok-pool_line-clause-left
-returns-in_ok-pool_line-clause-left g c = λ exports p h. c.in_ok-pool_line.ensures.left exports p h
-
-pub returns-clause-left : goal.returns-clause-left
-returns-clause-left g c = λ exports p h.
-    absurd (let off = sym c.is_on_pool.ensures ∙ c.if-is_on_pool.false in let on : is_on_pool c.args.command.now ≡ true = ap is_on_pool exports in let both = sym off ∙ on in cc)
-
--- ---- the disks while a table is told
-
 pub returns-in_err-object_line-clause-still : goal.returns-in_err-object_line-clause-still
 returns-in_err-object_line-clause-still g c = λ told table off. absurd (let on = sym c.is_on_objects.ensures ∙ c.if-is_on_objects.true in let both = sym on ∙ off in cc)
-
-pub returns-in_ok-object_line-clause-still : goal.returns-in_ok-object_line-clause-still
-returns-in_ok-object_line-clause-still g c = λ told table off. absurd (let on = sym c.is_on_objects.ensures ∙ c.if-is_on_objects.true in let both = sym on ∙ off in cc)
 
 pub returns-in_err-table_line-clause-still : goal.returns-in_err-table_line-clause-still
 returns-in_err-table_line-clause-still g c = λ told table off. c.table_line.ensures.still told
 
-pub returns-in_ok-table_line-clause-still : goal.returns-in_ok-table_line-clause-still
-returns-in_ok-table_line-clause-still g c = λ told table off. c.table_line.ensures.still told
-
 pub returns-in_err-pool_line-clause-still : goal.returns-in_err-pool_line-clause-still
 returns-in_err-pool_line-clause-still g c = λ told table off. absurd (let none = sym c.is_table.ensures ∙ c.if-is_table.false in let both = sym none ∙ table in cc)
 
-pub returns-in_ok-pool_line-clause-still : goal.returns-in_ok-pool_line-clause-still
-returns-in_ok-pool_line-clause-still g c = λ told table off. absurd (let none = sym c.is_table.ensures ∙ c.if-is_table.false in let both = sym none ∙ table in cc)
-
 pub returns-in_err-removal_line-clause-still : goal.returns-in_err-removal_line-clause-still
 returns-in_err-removal_line-clause-still g c = λ told table off. absurd (let none = sym c.is_table.ensures ∙ c.if-is_table.false in let both = sym none ∙ table in cc)
-
-pub returns-in_ok-removal_line-clause-still : goal.returns-in_ok-removal_line-clause-still
-returns-in_ok-removal_line-clause-still g c = λ told table off. absurd (let none = sym c.is_table.ensures ∙ c.if-is_table.false in let both = sym none ∙ table in cc)
