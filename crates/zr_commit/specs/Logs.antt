@@ -42,6 +42,10 @@ is_long words added anew = nat_lt (2 * anew + 512) (words + added)
 abbrev pub log_puts : ℕ → ℕ → ℕ → ℕ
 log_puts words added anew = if is_long words added anew then tree_units (div_ceil anew 512) else 6 * leaves_anew words added + 4
 
+-- how many words the log has once it is written
+abbrev pub log_words : ℕ → ℕ → ℕ → ℕ
+log_words words added anew = if is_long words added anew then anew else words + added
+
 -- how many are given back at most, where the log had so many
 abbrev pub log_frees : ℕ → ℕ → ℕ → ℕ → ℕ
 log_frees words added anew had = if is_long words added anew then had else 5 * leaves_anew words added + 1

@@ -14,7 +14,7 @@ ghost use Rattle.zr_tree.specs.Trees.{tree_reach, tree_blocks, TellsOf};
 ghost use Rattle.zr_meta.specs.Heads.{IsStream};
 ghost use Rattle.zr_root.specs.Streams.{HasWords};
 ghost use Rattle.zr_root.specs.Appends.{Appends, TellsOfStream};
-ghost use Rattle.zr_commit.specs.Logs.{Rewrites, RewritesSet, StoresLate, streams_reach, log_puts, log_frees};
+ghost use Rattle.zr_commit.specs.Logs.{Rewrites, RewritesSet, StoresLate, streams_reach, log_puts, log_frees, log_words};
 
 use crate::trees::free_tree;
 use std::alloc::Global;
@@ -69,7 +69,8 @@ pub fn write_anew<B: Blocks>(
 
 /// Stores the log of a set to which words were added. Where none were, its stream stays. Where the log would have more
 /// than twice the words of the set and 512 more, the set is written anew in its place, and the words are appended
-/// otherwise. After an error the old stream is not to be read on.
+/// otherwise. No more blocks are put than the new stream has, also where the answer is an error. After an error the old
+/// stream is not to be read on.
 pub fn write_log<B: Blocks>(
     alloc: Global,
     store: &mut B,
@@ -89,6 +90,9 @@ pub fn write_log<B: Blocks>(
     ensures puts { (frees : ℕ) × Costs (log_puts old.now.words (length added.now) (set_words version set.now.extents)) frees (B.account store.old) (B.account store.new) }
     ensures costs { (s : Stored) → B.holds store.old s → Costs (log_puts old.now.words (length added.now) (set_words version set.now.extents)) (log_frees old.now.words (length added.now) (set_words version set.now.extents) (length (tree_reach s old.now.tree))) (B.account store.old) (B.account store.new) }
     ensures cause { HasCause (log_puts old.now.words (length added.now) (set_words version set.now.extents)) (B.account store.old) (B.account store.new) result }
+    ensures whole { (frees : ℕ) × Costs (tree_units (div_ceil (log_words old.now.words (length added.now) (set_words version set.now.extents)) 512)) frees (B.account store.old) (B.account store.new) }
+    ensures whole_cause { HasCause (tree_units (div_ceil (log_words old.now.words (length added.now) (set_words version set.now.extents)) 512)) (B.account store.old) (B.account store.new) result }
+    ensures whole_stream { IfOk result (λ stream. (frees : ℕ) × Costs (tree_units (div_ceil stream.words 512)) frees (B.account store.old) (B.account store.new)) }
     ensures errors { (s : Stored) → B.holds store.old s → AreStored (tree_reach s old.now.tree) s → TellsOfStream s old.now result }
     ensures stream { IfOk result IsStream }
     ensures stays { length added.now ≡ 0 → IfOk result (λ stream. stream ≡ old.now) }

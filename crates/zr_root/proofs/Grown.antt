@@ -50,14 +50,14 @@ below_first first n some none = let h = (div-lt_iff_lt-mul {k = n} {x = first} {
 
 -- ---- room
 
-room_for : (level first : ℕ) (bs : List Bptr) → first + length bs ≤ 32 ^ level → HasRoom level (changes_from first bs)
+pub room_for : (level first : ℕ) (bs : List Bptr) → first + length bs ≤ 32 ^ level → HasRoom level (changes_from first bs)
 room_for level first [] le = λ i d lt. absurd (omega (arith, lt))
 room_for level first (b ∷ bs) le =
     All-cons (λ (change : ℕ × Ptr). (change.1 ≡ Hole) ⊎ (change.0 / 32 ^ level ≡ 0)) (first, At b) (changes_from (first + 1) bs)
     (inr (div-eq_of_lt (omega (arith, le))))
     (room_for level (first + 1) bs (omega (arith, le)))
 
-room_has : (level first : ℕ) (bs : List Bptr) → 0 < length bs → HasRoom level (changes_from first bs) → first + length bs ≤ 32 ^ level
+pub room_has : (level first : ℕ) (bs : List Bptr) → 0 < length bs → HasRoom level (changes_from first bs) → first + length bs ≤ 32 ^ level
 room_has level first [] some room = absurd (omega (arith, some))
 room_has level first (b ∷ []) some room = elim (All-head (λ (change : ℕ × Ptr). (change.1 ≡ Hole) ⊎ (change.0 / 32 ^ level ≡ 0)) (first, At b) [] room) [
   | inl hole ↦ absurd (let e : At b ≡ Hole = hole in cc)
@@ -70,7 +70,7 @@ room_has level first (b ∷ x ∷ bs) some room =
 -- ---- heights
 
 -- a stream's tree is no taller than it must be
-least_tall : (words height : ℕ) (root : Ptr) (k : ℕ) → IsTreeOf words height root → div_ceil words 512 ≤ 32 ^ k → height ≤ k
+pub least_tall : (words height : ℕ) (root : Ptr) (k : ℕ) → IsTreeOf words height root → div_ceil words 512 ≤ 32 ^ k → height ≤ k
 least_tall words height Hole k is most = let low = is.1 in omega (arith, low)
 least_tall words height (At b) k is most = is.1.least k most
 

@@ -12,3 +12,4 @@ pub mod Beside
 pub mod Tails
 pub mod Appending
 pub mod Grown
+pub mod Whole

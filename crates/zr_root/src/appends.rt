@@ -4,6 +4,7 @@
 //! come, and so are the tree blocks on the way to the new leaves; the old ones are given back.
 ghost use Rattle.std.specs.Prelude.{◌≡◌, ◌+◌, ◌*◌, ◌-◌, ◌/◌, ◌%◌, ◌^◌, ◌<◌, ◌≤◌, ◌++◌, List, [], ◌∷◌, ℕ, length, All, IfOk, OnOk};
 ghost use Rattle.std.specs.Int.{div_ceil};
+ghost use Rattle.zr_base.specs.Trees.{tree_units};
 ghost use Rattle.zr_bptr.specs.declared.Ptr.TheVariants.{Hole};
 ghost use Rattle.zr_store.specs.Causes.{Account, Costs, HasCause};
 ghost use Rattle.zr_store.specs.Store.{Stored, Now, AreStored, Swaps};
@@ -117,7 +118,8 @@ fn free_leaf<B: Blocks>(alloc: Global, store: &mut B, p: &Ptr) -> Result<(), Sto
 
 /// Stores words behind those of a stream, also where there are none yet. Each full leaf stays where it is. A last leaf
 /// that is not full and the tree blocks on the way are put anew and given back: for w words at most w / 512 + 2 leaves,
-/// five tree blocks for each of them and four more, whatever the length of the stream.
+/// five tree blocks for each of them and four more, whatever the length of the stream. No more blocks are put than the
+/// longer stream has, also where the answer is an error.
 ///
 /// Malformed tells of a stream in which no words stand: padding that is not zeros among it. After an error the old tree
 /// is not to be read on, since some of its blocks may have been given back.
@@ -132,6 +134,8 @@ pub fn append<B: Blocks>(
     ensures follows { (start : B) → B.follows start store.old → B.follows start store.new }
     ensures costs { Costs (6 * leaves_anew stream.now.words (length ns.now) + 4) (5 * leaves_anew stream.now.words (length ns.now) + 1) (B.account store.old) (B.account store.new) }
     ensures cause { HasCause (6 * leaves_anew stream.now.words (length ns.now) + 4) (B.account store.old) (B.account store.new) result }
+    ensures whole { Costs (tree_units (div_ceil (stream.now.words + length ns.now) 512)) (5 * leaves_anew stream.now.words (length ns.now) + 1) (B.account store.old) (B.account store.new) }
+    ensures whole_cause { HasCause (tree_units (div_ceil (stream.now.words + length ns.now) 512)) (B.account store.old) (B.account store.new) result }
     ensures errors { (s : Stored) → B.holds store.old s → AreStored (tree_reach s stream.now.tree) s → TellsOfStream s stream.now result }
     ensures stream { IfOk result IsStream }
     ensures last { (s : Stored) → B.holds store.old s → 0 < length ns.now → IfOk result (λ now. IsLastLeaf s (8 * (stream.now.words % 512)) (tree_at s stream.now.tree (stream.now.words / 512))) }

@@ -14,5 +14,6 @@ pub mod Past
 pub mod Walking
 pub mod Others
 pub mod Costing
+pub mod Whole
 pub mod Wholes
 pub mod Units

@@ -1,5 +1,6 @@
 -- What a tree in a store means.
 use Rattle.std.specs.Prelude.{◌≡◌, ◌≢◌, ◌⊎◌, ◌/◌, ◌%◌, ◌^◌, ◌*◌, ◌-◌, ◌≤◌, nat_eq, nat_lt, if◌then◌else◌, ℕ, zero, suc, List, [], ◌∷◌, ◌++◌, ◌↔◌, slice_index_or, All, Result, IsErrOf, ◌+◌, sum_by, ◌<◌, length, min}
+use Rattle.std.specs.Int.{div_ceil}
 use Rattle.std.specs.List.{flat_map, AllByRecursion}
 use Rattle.zr_base.specs.declared.space.Dva.{Dva}
 use Rattle.zr_bptr.specs.declared.Bptr.{Bptr}
@@ -265,6 +266,16 @@ most_puts old new changes = if nat_eq old new then new * changes else (new - 1) 
 -- and at most so many are given back
 abbrev pub most_frees : ℕ → ℕ → ℕ → ℕ
 most_frees old new changes = if nat_eq old new then new * changes else (new - 1) * changes
+
+-- the changes lie below this index
+abbrev pub AreBelow : ℕ → List (ℕ × Ptr) → Type 0
+AreBelow n = All (λ change. change.0 < n)
+
+-- The tree blocks of so many levels over n leaves. A tree of n leaves and of the height that they need has these, and a
+-- change below the index n puts some of them.
+abbrev pub blocks_over : ℕ → ℕ → ℕ
+blocks_over zero n = 0
+blocks_over (suc levels) n = div_ceil n 32 + blocks_over levels (div_ceil n 32)
 
 -- the changes lie below a block of this level, but for holes
 abbrev pub HasRoom : ℕ → List (ℕ × Ptr) → Type 0

@@ -11,7 +11,7 @@ ghost use Rattle.zr_bptr.specs.declared.Ptr.TheVariants.{Hole};
 ghost use Rattle.zr_tree.specs.Blocks.{FitsAt};
 ghost use Rattle.zr_store.specs.Store.{Stored, Now, AreStored, Swaps};
 ghost use Rattle.zr_store.specs.Causes.{Costs, HasCause};
-ghost use Rattle.zr_tree.specs.Trees.{tree_blocks, AllAt, AreOfLevel, EndsInUnit, IsOneUnit, Rises, HasRoot, PutsTree, TellsOf, row_puts};
+ghost use Rattle.zr_tree.specs.Trees.{blocks_over, tree_blocks, AllAt, AreBelow, AreOfLevel, EndsInUnit, IsOneUnit, Rises, HasRoot, PutsTree, TellsOf, row_puts};
 
 use crate::sets::put_row;
 use std::alloc::{AllocError, Global};
@@ -53,6 +53,8 @@ pub(crate) fn put_rows<B: Blocks>(
     ensures follows { (start : B) → B.follows start store.old → B.follows start store.new }
     ensures costs { Costs (row_puts t.now.height height (length changes.now)) 0 (B.account store.old) (B.account store.new) }
     ensures cause { HasCause (row_puts t.now.height height (length changes.now)) (B.account store.old) (B.account store.new) result }
+    ensures whole { (n : ℕ) → 0 < n → AreBelow n changes.now → Costs (blocks_over height n) 0 (B.account store.old) (B.account store.new) }
+    ensures whole_cause { (n : ℕ) → 0 < n → AreBelow n changes.now → HasCause (blocks_over height n) (B.account store.old) (B.account store.new) result }
     ensures errors { (s : Stored) → B.holds store.old s → AreStored (tree_blocks s t.now) s → TellsOf s (tree_blocks s t.now) result }
     ensures fits { IfOk result (FitsAt (base + height)) }
     ensures unit { EndsInUnit changes.now → 0 < length changes.now → IfOk result IsOneUnit }

@@ -4,6 +4,7 @@
 //! by its root, and its level is no concern of the change: to the blocks of a row those of the row below are the leaves. A
 //! block of which nothing is left becomes a hole. The blocks that were there are noted, and given back later.
 ghost use Rattle.std.specs.Prelude.{◌≡◌, ◌≢◌, ◌+◌, ◌*◌, ◌-◌, ◌/◌, ◌%◌, ◌^◌, ◌<◌, ◌≤◌, ◌↔◌, List, [], ℕ, suc, length, All, IfOk, OnOk, IsTrue, IfSome, take, drop, slice_index_or};
+ghost use Rattle.std.specs.Int.{div_ceil};
 ghost use Rattle.std.specs.List.{flat_map};
 ghost use Rattle.zr_bptr.specs.declared.Bptr.{Bptr};
 ghost use Rattle.zr_bptr.specs.declared.Ptr.{Ptr};
@@ -11,7 +12,7 @@ ghost use Rattle.zr_bptr.specs.declared.Ptr.TheVariants.{Hole};
 ghost use Rattle.zr_tree.specs.Blocks.{FitsAt};
 ghost use Rattle.zr_store.specs.Store.{Stored, Now, AreStored, Swaps};
 ghost use Rattle.zr_store.specs.Causes.{Costs, HasCause};
-ghost use Rattle.zr_tree.specs.Trees.{blocks, own, IsOpen, PutsBlock, SetsPointers, PutsChanged, PutsRow, AllAt, AreOfLevel, AreRows, EndsInUnit, IsOneUnit, IsWholeAt, Rises, TellsOf};
+ghost use Rattle.zr_tree.specs.Trees.{blocks, own, IsOpen, PutsBlock, SetsPointers, PutsChanged, PutsRow, AllAt, AreBelow, AreOfLevel, AreRows, EndsInUnit, IsOneUnit, IsWholeAt, Rises, TellsOf};
 ghost use Rattle.zr_bptr.specs.Spelling.{IsOfLevel};
 
 use crate::blocks::encode_pointers;
@@ -172,9 +173,12 @@ pub(crate) fn put_row<B: Blocks>(
     ensures follows { (start : B) → B.follows start store.old → B.follows start store.new }
     ensures costs { (most : ℕ) → AreRows most changes.now → Costs most 0 (B.account store.old) (B.account store.new) }
     ensures cause { (most : ℕ) → AreRows most changes.now → HasCause most (B.account store.old) (B.account store.new) result }
+    ensures whole { (n : ℕ) → AreBelow n changes.now → Costs (div_ceil n 32) 0 (B.account store.old) (B.account store.new) }
+    ensures whole_cause { (n : ℕ) → AreBelow n changes.now → HasCause (div_ceil n 32) (B.account store.old) (B.account store.new) result }
     ensures errors { (s : Stored) → B.holds store.old s → AreStored (blocks s (suc t.now.height) t.now.root) s → TellsOf s (blocks s (suc t.now.height) t.now.root) result }
     ensures few { (most : ℕ) → AreRows most changes.now → IfOk result (λ row. length row.items ≤ most) }
     ensures rises { IfOk result (λ row. Rises row.items) }
+    ensures below { (n : ℕ) → AreBelow n changes.now → IfOk result (λ row. AreBelow (div_ceil n 32) row.items) }
     ensures room { (level : ℕ) → AllAt (suc level) 0 changes.now → IfOk result (λ row. AllAt level 0 row.items) }
     ensures leaves { IfOk result (λ row. AreOfLevel (below + 1) row.items) }
     ensures unit { EndsInUnit changes.now → IfOk result (λ row. EndsInUnit row.items) }

@@ -10,7 +10,7 @@ ghost use Rattle.zr_bptr.specs.declared.Tree.{Tree};
 ghost use Rattle.zr_store.specs.Store.{Stored, Now, AreStored, hits};
 ghost use Rattle.zr_store.specs.Causes.{Costs, HasCause};
 ghost use Rattle.zr_bptr.specs.Spelling.{IsTree};
-ghost use Rattle.zr_tree.specs.Trees.{tree_blocks, AllAt, AreLeaves, AreUnits, IsOneUnit, Rises, HasRoom, Raises, SetsTree, IsHeightFor, KeepsTree, IsTreeWay, most_puts, most_frees, TellsOf};
+ghost use Rattle.zr_tree.specs.Trees.{blocks_over, tree_blocks, AllAt, AreBelow, AreLeaves, AreUnits, IsOneUnit, Rises, HasRoom, Raises, SetsTree, IsHeightFor, KeepsTree, IsTreeWay, most_puts, most_frees, TellsOf};
 
 use crate::reads::place_of;
 use crate::rows::{free_all, put_rows};
@@ -56,6 +56,8 @@ fn raise<B: Blocks>(
     ensures follows { (start : B) → B.follows start store.old → B.follows start store.new }
     ensures costs { Costs (most_puts t.now.height level (length changes.now)) (most_frees t.now.height level (length changes.now)) (B.account store.old) (B.account store.new) }
     ensures cause { HasCause (most_puts t.now.height level (length changes.now)) (B.account store.old) (B.account store.new) result }
+    ensures whole { (n : ℕ) → 0 < n → AreBelow n changes.now → Costs (blocks_over level n) (most_frees t.now.height level (length changes.now)) (B.account store.old) (B.account store.new) }
+    ensures whole_cause { (n : ℕ) → 0 < n → AreBelow n changes.now → HasCause (blocks_over level n) (B.account store.old) (B.account store.new) result }
     ensures errors { (s : Stored) → B.holds store.old s → AreStored (tree_blocks s t.now) s → TellsOf s (tree_blocks s t.now) result }
     ensures fits { IfOk result (FitsAt level) }
     ensures unit { AreUnits changes.now → 0 < length changes.now → IfOk result IsOneUnit }
@@ -69,8 +71,8 @@ fn raise<B: Blocks>(
 
 /// Changes leaf pointers. New tree blocks are put level by level, the lowest first and each by rising index, and then the
 /// old ones are given back in that order. At most five tree blocks a change are put and given back, and four more are put
-/// where the tree grows, also where the answer is an error. Only a leaf makes a tree taller: a hole past its end changes
-/// nothing.
+/// where the tree grows, also where the answer is an error. No more are put than a tree has of that height and with all
+/// leaves up to the last change. Only a leaf makes a tree taller: a hole past its end changes nothing.
 pub fn set_all<B: Blocks>(
     alloc: Global,
     store: &mut B,
@@ -84,6 +86,8 @@ pub fn set_all<B: Blocks>(
     ensures follows { (start : B) → B.follows start store.old → B.follows start store.new }
     ensures costs { (height : ℕ) → IsHeightFor t.now.height changes.now height → Costs (most_puts t.now.height height (length changes.now)) (most_frees t.now.height height (length changes.now)) (B.account store.old) (B.account store.new) }
     ensures cause { (height : ℕ) → IsHeightFor t.now.height changes.now height → HasCause (most_puts t.now.height height (length changes.now)) (B.account store.old) (B.account store.new) result }
+    ensures whole { (n height : ℕ) → IsHeightFor t.now.height changes.now height → 0 < n → AreBelow n changes.now → Costs (blocks_over height n) (most_frees t.now.height height (length changes.now)) (B.account store.old) (B.account store.new) }
+    ensures whole_cause { (n height : ℕ) → IsHeightFor t.now.height changes.now height → 0 < n → AreBelow n changes.now → HasCause (blocks_over height n) (B.account store.old) (B.account store.new) result }
     ensures within { (top : ℕ) → t.now.height ≤ top → HasRoom top changes.now → Costs (top * length changes.now + (top - 1)) (top * length changes.now) (B.account store.old) (B.account store.new) }
     ensures within_cause { (top : ℕ) → t.now.height ≤ top → HasRoom top changes.now → HasCause (top * length changes.now + (top - 1)) (B.account store.old) (B.account store.new) result }
     ensures most { Costs (5 * length changes.now + 4) (5 * length changes.now) (B.account store.old) (B.account store.new) }

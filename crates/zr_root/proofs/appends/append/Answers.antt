@@ -15,6 +15,7 @@ use Rattle.zr_root.proofs.Appending.{appended_now, changes_below, changes_leaves
 use Rattle.zr_root.proofs.Costing.{puts_cause, tree_costs, tree_cause, end_costs, end_cause}
 use Rattle.zr_root.proofs.Grown.{leaves_are_units, grown_stream, leaves_put, leaves_few, changes_put, some_new}
 use Rattle.zr_root.proofs.Tails.{told_from, told_none, told_later, blocks_stay}
+use Rattle.zr_root.proofs.Whole.{grown_costs, grown_cause, puts_whole, puts_whole_cause, tree_whole, tree_whole_cause, end_whole, end_whole_cause}
 use Rattle.zr_root.proofs.appends.append.Goals as goal
 
 pub returns-in_err-leaf-clause-errors : goal.returns-in_err-leaf-clause-errors
@@ -176,3 +177,87 @@ returns-clause-appends g c = λ s held old stored has.
     (subst (λ (xs : List ℕ). Now (g.B.Blocks.holds c.put_bytes.new.store) (λ n. PutsBytes xs s n leaves)) spelled first)
     (λ m h there. subst (λ (cs : List (ℕ × Ptr)). Now (g.B.Blocks.holds c.set_all.new.store) (λ n. SetsTree cs m n stream.tree u)) changed (c.in_ok-tree.ensures.sets m h there))
     (λ m h there. c.in_ok-free_leaf.ensures.swaps m h there)
+
+-- ---- no more than the longer stream has
+
+pub returns-in_err-leaves-clause-whole : goal.returns-in_err-leaves-clause-whole
+returns-in_err-leaves-clause-whole g c =
+    let words_now = c.args.stream.now.words in
+    let added = length c.args.ns.now in
+    let len = ap (λ (xs : List ℕ). length xs) c.as_slice.ensures.value ∙ c.in_ok-more.ensures.len in
+    let put = leaves_put words_now c.args.ns.now c.in_ok-leaf.field-0.bytes.items c.as_slice.result.now c.extend_from_slice.new.self.items c.as_slice-2.result.now c.in_ok-leaf.ensures.len len c.in_ok-extend_from_slice.ensures.items c.as_slice-2.ensures.value in
+    puts_whole words_now added c.tail_of.ensures.costs (div_ceil (length c.as_slice-2.result.now) 4096) put c.put_bytes.ensures.costs
+
+pub returns-in_err-changes-clause-whole : goal.returns-in_err-changes-clause-whole
+returns-in_err-changes-clause-whole g c =
+    let words_now = c.args.stream.now.words in
+    let added = length c.args.ns.now in
+    let len = ap (λ (xs : List ℕ). length xs) c.as_slice.ensures.value ∙ c.in_ok-more.ensures.len in
+    let put = leaves_put words_now c.args.ns.now c.in_ok-leaf.field-0.bytes.items c.as_slice.result.now c.extend_from_slice.new.self.items c.as_slice-2.result.now c.in_ok-leaf.ensures.len len c.in_ok-extend_from_slice.ensures.items c.as_slice-2.ensures.value in
+    puts_whole words_now added c.tail_of.ensures.costs (div_ceil (length c.as_slice-2.result.now) 4096) put c.put_bytes.ensures.costs
+
+pub returns-in_err-leaves-clause-whole_cause : goal.returns-in_err-leaves-clause-whole_cause
+returns-in_err-leaves-clause-whole_cause g c =
+    let x = c.from_residual-in_err-leaves in
+    let words_now = c.args.stream.now.words in
+    let added = length c.args.ns.now in
+    let len = ap (λ (xs : List ℕ). length xs) c.as_slice.ensures.value ∙ c.in_ok-more.ensures.len in
+    let put = leaves_put words_now c.args.ns.now c.in_ok-leaf.field-0.bytes.items c.as_slice.result.now c.extend_from_slice.new.self.items c.as_slice-2.result.now c.in_ok-leaf.ensures.len len c.in_ok-extend_from_slice.ensures.items c.as_slice-2.ensures.value in
+    cause_from {T = Vec Bptr Global} x.result c.in_err-leaves.field-0.0 (err_from_is_err_and x.result x.ensures.1) (puts_whole_cause words_now added c.tail_of.ensures.costs (div_ceil (length c.as_slice-2.result.now) 4096) put c.in_err-leaves.ensures.cause)
+
+pub returns-in_err-tree-clause-whole : goal.returns-in_err-tree-clause-whole
+returns-in_err-tree-clause-whole g c =
+    let words_now = c.args.stream.now.words in
+    let added = length c.args.ns.now in
+    let len = ap (λ (xs : List ℕ). length xs) c.as_slice.ensures.value ∙ c.in_ok-more.ensures.len in
+    let put = leaves_put words_now c.args.ns.now c.in_ok-leaf.field-0.bytes.items c.as_slice.result.now c.extend_from_slice.new.self.items c.as_slice-2.result.now c.in_ok-leaf.ensures.len len c.in_ok-extend_from_slice.ensures.items c.as_slice-2.ensures.value in
+    let leaves = c.in_ok-leaves.leaves.items in
+    let changed = changes_put (words_now / 512) leaves c.as_slice-3.result.now c.in_ok-changes.changes.items c.as_slice-4.result.now c.as_slice-3.ensures.value c.in_ok-changes.ensures c.as_slice-4.ensures.value in
+    let some : 0 < length c.args.ns.now = search rules in
+    tree_whole words_now added c.tail_of.ensures.costs (div_ceil (length c.as_slice-2.result.now) 4096) put c.put_bytes.ensures.costs (grown_costs words_now added c.args.stream.now.tree.height c.args.stream.now.tree.root leaves c.as_slice-4.result.now c.requires.stream some c.requires.most (c.in_ok-leaves.ensures.count ∙ put) changed (λ n h. c.set_all.ensures.whole n h))
+
+pub returns-in_err-tree-clause-whole_cause : goal.returns-in_err-tree-clause-whole_cause
+returns-in_err-tree-clause-whole_cause g c =
+    let words_now = c.args.stream.now.words in
+    let added = length c.args.ns.now in
+    let len = ap (λ (xs : List ℕ). length xs) c.as_slice.ensures.value ∙ c.in_ok-more.ensures.len in
+    let put = leaves_put words_now c.args.ns.now c.in_ok-leaf.field-0.bytes.items c.as_slice.result.now c.extend_from_slice.new.self.items c.as_slice-2.result.now c.in_ok-leaf.ensures.len len c.in_ok-extend_from_slice.ensures.items c.as_slice-2.ensures.value in
+    let leaves = c.in_ok-leaves.leaves.items in
+    let changed = changes_put (words_now / 512) leaves c.as_slice-3.result.now c.in_ok-changes.changes.items c.as_slice-4.result.now c.as_slice-3.ensures.value c.in_ok-changes.ensures c.as_slice-4.ensures.value in
+    let some : 0 < length c.args.ns.now = search rules in
+    let x = c.from_residual-in_err-tree in
+    cause_from {T = Tree} x.result c.in_err-tree.field-0.0 (err_from_is_err_and x.result x.ensures.1) (tree_whole_cause words_now added c.tail_of.ensures.costs (div_ceil (length c.as_slice-2.result.now) 4096) put c.put_bytes.ensures.costs (grown_cause words_now added c.args.stream.now.tree.height c.args.stream.now.tree.root leaves c.as_slice-4.result.now c.requires.stream some c.requires.most (c.in_ok-leaves.ensures.count ∙ put) changed (λ n h. c.in_err-tree.ensures.whole_cause n h)))
+
+pub returns-in_err-free_leaf-clause-whole : goal.returns-in_err-free_leaf-clause-whole
+returns-in_err-free_leaf-clause-whole g c =
+    let words_now = c.args.stream.now.words in
+    let added = length c.args.ns.now in
+    let len = ap (λ (xs : List ℕ). length xs) c.as_slice.ensures.value ∙ c.in_ok-more.ensures.len in
+    let put = leaves_put words_now c.args.ns.now c.in_ok-leaf.field-0.bytes.items c.as_slice.result.now c.extend_from_slice.new.self.items c.as_slice-2.result.now c.in_ok-leaf.ensures.len len c.in_ok-extend_from_slice.ensures.items c.as_slice-2.ensures.value in
+    let leaves = c.in_ok-leaves.leaves.items in
+    let changed = changes_put (words_now / 512) leaves c.as_slice-3.result.now c.in_ok-changes.changes.items c.as_slice-4.result.now c.as_slice-3.ensures.value c.in_ok-changes.ensures c.as_slice-4.ensures.value in
+    let some : 0 < length c.args.ns.now = search rules in
+    end_whole words_now added c.tail_of.ensures.costs (div_ceil (length c.as_slice-2.result.now) 4096) put c.put_bytes.ensures.costs (grown_costs words_now added c.args.stream.now.tree.height c.args.stream.now.tree.root leaves c.as_slice-4.result.now c.requires.stream some c.requires.most (c.in_ok-leaves.ensures.count ∙ put) changed (λ n h. c.set_all.ensures.whole n h)) c.free_leaf.ensures.costs
+
+pub returns-in_err-free_leaf-clause-whole_cause : goal.returns-in_err-free_leaf-clause-whole_cause
+returns-in_err-free_leaf-clause-whole_cause g c =
+    let words_now = c.args.stream.now.words in
+    let added = length c.args.ns.now in
+    let len = ap (λ (xs : List ℕ). length xs) c.as_slice.ensures.value ∙ c.in_ok-more.ensures.len in
+    let put = leaves_put words_now c.args.ns.now c.in_ok-leaf.field-0.bytes.items c.as_slice.result.now c.extend_from_slice.new.self.items c.as_slice-2.result.now c.in_ok-leaf.ensures.len len c.in_ok-extend_from_slice.ensures.items c.as_slice-2.ensures.value in
+    let leaves = c.in_ok-leaves.leaves.items in
+    let changed = changes_put (words_now / 512) leaves c.as_slice-3.result.now c.in_ok-changes.changes.items c.as_slice-4.result.now c.as_slice-3.ensures.value c.in_ok-changes.ensures c.as_slice-4.ensures.value in
+    let some : 0 < length c.args.ns.now = search rules in
+    let x = c.from_residual-in_err-free_leaf in
+    cause_from {T = Unit {0}} x.result c.in_err-free_leaf.field-0.0 (err_from_is_err_and x.result x.ensures.1) (end_whole_cause words_now added c.tail_of.ensures.costs (div_ceil (length c.as_slice-2.result.now) 4096) put c.put_bytes.ensures.costs (grown_costs words_now added c.args.stream.now.tree.height c.args.stream.now.tree.root leaves c.as_slice-4.result.now c.requires.stream some c.requires.most (c.in_ok-leaves.ensures.count ∙ put) changed (λ n h. c.set_all.ensures.whole n h)) c.in_err-free_leaf.ensures.cause)
+
+pub returns-clause-whole : goal.returns-clause-whole
+returns-clause-whole g c =
+    let words_now = c.args.stream.now.words in
+    let added = length c.args.ns.now in
+    let len = ap (λ (xs : List ℕ). length xs) c.as_slice.ensures.value ∙ c.in_ok-more.ensures.len in
+    let put = leaves_put words_now c.args.ns.now c.in_ok-leaf.field-0.bytes.items c.as_slice.result.now c.extend_from_slice.new.self.items c.as_slice-2.result.now c.in_ok-leaf.ensures.len len c.in_ok-extend_from_slice.ensures.items c.as_slice-2.ensures.value in
+    let leaves = c.in_ok-leaves.leaves.items in
+    let changed = changes_put (words_now / 512) leaves c.as_slice-3.result.now c.in_ok-changes.changes.items c.as_slice-4.result.now c.as_slice-3.ensures.value c.in_ok-changes.ensures c.as_slice-4.ensures.value in
+    let some : 0 < length c.args.ns.now = search rules in
+    end_whole words_now added c.tail_of.ensures.costs (div_ceil (length c.as_slice-2.result.now) 4096) put c.put_bytes.ensures.costs (grown_costs words_now added c.args.stream.now.tree.height c.args.stream.now.tree.root leaves c.as_slice-4.result.now c.requires.stream some c.requires.most (c.in_ok-leaves.ensures.count ∙ put) changed (λ n h. c.set_all.ensures.whole n h)) c.free_leaf.ensures.costs

@@ -1,4 +1,5 @@
 use Rattle.std.proofs.Common.{◌≡◌, ◌≢◌, ◌+◌, ◌-◌, ◌*◌, ◌≤◌, ◌/◌, ◌^◌, ◌<◌, inl, ℕ, List, suc, length, Err, Vec, Global, sym, ap, subst, arith, rules}
+use Rattle.std.specs.Int.{div_ceil}
 use Rattle.std.specs.List.{sum_by}
 use Rattle.std.proofs.Math.Nat.{div-eq_of_lt, mul-le-mul_left, suc-mul}
 use Rattle.std.proofs.lemmas.Result.{IfOk-weaker, on_ok_weaker, err_from_is_err_and}
@@ -8,11 +9,12 @@ use Rattle.zr_bptr.specs.declared.Ptr.TheVariants.{Hole}
 use Rattle.zr_store.specs.Store.{AreStored}
 use Rattle.zr_store.proofs.Causes.{cause_from, cause_most, cause_then, costs_most, costs_then}
 use Rattle.zr_tree.specs.Blocks.{FitsAt}
-use Rattle.zr_tree.specs.Trees.{AllAt, AreOfLevel, AreRows, IsOneUnit, Rises, HasRoot, PutsTree, TellsOf, blocks, tree_blocks, row_puts}
+use Rattle.zr_tree.specs.Trees.{AllAt, AreBelow, AreOfLevel, AreRows, IsOneUnit, Rises, HasRoot, PutsTree, TellsOf, blocks, tree_blocks, row_puts}
 use Rattle.zr_tree.proofs.Costing.{row_most, rows_most, puts_stepped, puts_rooted}
 use Rattle.zr_tree.proofs.Holes.{hole_blocks, pow-pos}
 use Rattle.zr_tree.proofs.Levels.{tree_of, blocks_up}
 use Rattle.zr_tree.proofs.Steps.{stepped, grown, all_hold, all_rise, all_long, all_some, all_end, last_holds, last_put, tells_kept, stored_kept, above_within}
+use Rattle.zr_tree.proofs.Whole.{row_cause, row_costs, rows_cause, rows_costs, some_over}
 use Rattle.zr_tree.proofs.Wholes.{tells_from, tells_within}
 use Rattle.zr_tree.proofs.rows.+put_rows.Goals as goal
 
@@ -243,3 +245,39 @@ returns-clause-puts g t c = λ s holds held.
           (stepped height level root p changes row s s1 now.stored old mid new held_suc lower.is
           (subst (λ (xs : List (ℕ × Ptr)). PutsTree height xs s1 now.stored (tree_of root level) p mid new) c.as_slice-2.ensures.value now.is)));
     }) (c.put_rows-2.ensures.puts s1 lower.held (stored_kept s s1 level root lower.is.kept grows held_above))
+
+-- ---- no more than the tree has
+
+-- the root lies at the first place
+pub returns-then-t-eq0-clause-whole : goal.returns-then-t-eq0-clause-whole
+returns-then-t-eq0-clause-whole g t c = λ n some below.
+    let root = c.args.t.now.root in
+    let changes = c.args.changes.now in
+    let has = c.in_ok-all.ensures in
+    c.put_rows.ensures.whole n some (subst (AreBelow n) (sym c.as_slice.ensures.value) (all_hold (λ (change : ℕ × Ptr). change.0 < n) root changes c.in_ok-all.all.items has some below))
+
+pub returns-then-t-eq0-clause-whole_cause : goal.returns-then-t-eq0-clause-whole_cause
+returns-then-t-eq0-clause-whole_cause g t c = λ n some below.
+    let root = c.args.t.now.root in
+    let changes = c.args.changes.now in
+    let has = c.in_ok-all.ensures in
+    c.put_rows.ensures.whole_cause n some (subst (AreBelow n) (sym c.as_slice.ensures.value) (all_hold (λ (change : ℕ × Ptr). change.0 < n) root changes c.in_ok-all.all.items has some below))
+
+pub returns-in_err-row-clause-whole : goal.returns-in_err-row-clause-whole
+returns-in_err-row-clause-whole g t c = λ n some below. row_costs c.args.height n c.if-height-eq0.false (c.put_row.ensures.whole n below)
+
+pub returns-in_err-row-clause-whole_cause : goal.returns-in_err-row-clause-whole_cause
+returns-in_err-row-clause-whole_cause g t c = λ n some below.
+    let e = c.in_err-row in
+    let x = c.from_residual-in_err-row in
+    cause_from {T = Vec (ℕ × Ptr) Global} x.result e.field-0.0 (err_from_is_err_and x.result x.ensures.1) (row_cause c.args.height n c.if-height-eq0.false (e.ensures.whole_cause n below))
+
+pub returns-clause-whole : goal.returns-clause-whole
+returns-clause-whole g t c = λ n some below.
+    let row = subst (AreBelow (div_ceil n 32)) (sym c.as_slice-2.ensures.value) (c.in_ok-row.ensures.below n below) in
+    rows_costs c.args.height n c.if-height-eq0.false (c.put_row.ensures.whole n below) (c.put_rows-2.ensures.whole (div_ceil n 32) (some_over n some) row)
+
+pub returns-clause-whole_cause : goal.returns-clause-whole_cause
+returns-clause-whole_cause g t c = λ n some below.
+    let row = subst (AreBelow (div_ceil n 32)) (sym c.as_slice-2.ensures.value) (c.in_ok-row.ensures.below n below) in
+    rows_cause c.args.height n c.if-height-eq0.false (c.put_row.ensures.whole n below) (c.put_rows-2.ensures.whole_cause (div_ceil n 32) (some_over n some) row)

@@ -1,4 +1,5 @@
 use Rattle.std.proofs.Common.{◌≡◌, ◌≢◌, ◌∙◌, ◌+◌, ◌-◌, ◌≤◌, ◌/◌, ◌<◌, inl, inr, [], ◌∷◌, ◌++◌, ℕ, List, suc, refl, length, get_or, take, drop, sym, ap, subst, arith, length-append}
+use Rattle.std.specs.Int.{div_ceil}
 use Rattle.std.specs.Prelude.{All}
 use Rattle.std.proofs.Math.Seq.{take-add}
 use Rattle.std.proofs.lemmas.Bool.{cases_lt}
@@ -9,11 +10,12 @@ use Rattle.zr_bptr.specs.declared.Ptr.{Ptr}
 use Rattle.zr_bptr.specs.declared.Ptr.TheVariants.{Hole}
 use Rattle.zr_store.proofs.Causes.{cause_from, cause_most, cause_then, costs_most, costs_then}
 use Rattle.zr_tree.specs.Blocks.{FitsAt}
-use Rattle.zr_tree.specs.Trees.{AllAt, AreOfLevel, EndsInUnit, Rises, PutsChanged, PutsRow, blocks}
+use Rattle.zr_tree.specs.Trees.{AllAt, AreBelow, AreOfLevel, EndsInUnit, Rises, PutsChanged, PutsRow, blocks}
 use Rattle.zr_tree.proofs.Each.{rises_front}
 use Rattle.zr_tree.proofs.Row.{one_block}
 use Rattle.zr_tree.proofs.Runs.{rest_is, rest_at, first_at, rest_long, rises_more, next_place, row_more, done_more, ends_here, ends_more, room_more, IsOneRun, one_more_fits, all_fit, run_ends}
 use Rattle.zr_tree.proofs.Steps.{tells_kept}
+use Rattle.zr_tree.proofs.Whole.{place_below, rising_few, row_below_more, next_few}
 use Rattle.zr_tree.proofs.Wholes.{tells_from}
 use Rattle.zr_tree.proofs.sets.put_row.Goals as goal
 
@@ -65,6 +67,7 @@ loop-from-preserved g c =
           subst EndsInUnit (sym row_is) (ends_more row (place, p) (c.in_ok-p.ensures.unit last (omega (arith, length-take n rest, some, n_fits))));
       room = λ level all. subst (AllAt level 0) (sym row_is) (room_more row level place (get_or changes from (0, Hole)).0 p place_is (all from (0, Hole) lt) (inv.room level all));
       rises = subst Rises (sym row_is) (rises_more row (place, p) inv.rises row_below);
+      below = λ n' all. subst (AreBelow (div_ceil n' 32)) (sym row_is) (row_below_more row place (div_ceil n' 32) p (let h = place_below (get_or changes from (0, Hole)).0 n' (all from (0, Hole) lt) in omega (arith, h, place_is)) (inv.below n' all));
       row_below = λ more. subst (λ (xs : List (ℕ × Ptr)). All (λ (change : ℕ × Ptr). change.0 < (get_or changes (from + n) (0, Hole)).0 / 32) xs) (sym row_is) (row_more row place ((get_or changes (from + n) (0, Hole)).0 / 32) p (further more) row_below);
       done_below = λ more. done_more changes from n place ((get_or changes (from + n) (0, Hole)).0 / 32) (further more) at done_below;
       puts = λ s holds held.
@@ -118,3 +121,28 @@ returns-in_err-p-clause-errors g c = λ s holds held.
     let before = c.loop-from.invariant.puts s holds held in
     tells_from s (blocks s (suc t.height) t.root) x.result e.field-0.0 (err_from_is_err_and x.result x.ensures.1)
     (tells_kept s before.stored (suc t.height) t.root _ before.is.kept (λ weight. let w = before.is.stored weight in omega (arith, w)) held (e.ensures.errors before.stored before.held))
+
+pub returns-clause-whole : goal.returns-clause-whole
+returns-clause-whole g c = λ n all.
+    let inv = c.loop-from.invariant in
+    costs_most (div_ceil n 32) 0 (rising_few c.loop-from.row.items (div_ceil n 32) inv.rises (inv.below n all)) (omega arith) inv.costs
+
+pub returns-in_err-p-clause-whole : goal.returns-in_err-p-clause-whole
+returns-in_err-p-clause-whole g c = λ n all.
+    let inv = c.loop-from.invariant in
+    let few = next_few c.loop-from.row.items c.args.changes.now c.loop-from.from ((get_or c.args.changes.now c.loop-from.from (0, Hole)).0 / 32) n inv.rises (inv.row_below c.loop-from-test.true) c.loop-from-test.true refl all in
+    costs_most (div_ceil n 32) 0 few (omega arith) (costs_then inv.costs c.put_changed.ensures.costs)
+
+pub returns-in_err-push-clause-whole : goal.returns-in_err-push-clause-whole
+returns-in_err-push-clause-whole g c = λ n all.
+    let inv = c.loop-from.invariant in
+    let few = next_few c.loop-from.row.items c.args.changes.now c.loop-from.from ((get_or c.args.changes.now c.loop-from.from (0, Hole)).0 / 32) n inv.rises (inv.row_below c.loop-from-test.true) c.loop-from-test.true refl all in
+    costs_most (div_ceil n 32) 0 few (omega arith) (costs_then inv.costs c.put_changed.ensures.costs)
+
+pub returns-in_err-p-clause-whole_cause : goal.returns-in_err-p-clause-whole_cause
+returns-in_err-p-clause-whole_cause g c = λ n all.
+    let inv = c.loop-from.invariant in
+    let e = c.in_err-p in
+    let x = c.from_residual in
+    let few = next_few c.loop-from.row.items c.args.changes.now c.loop-from.from ((get_or c.args.changes.now c.loop-from.from (0, Hole)).0 / 32) n inv.rises (inv.row_below c.loop-from-test.true) c.loop-from-test.true refl all in
+    cause_from {T = Ptr} x.result e.field-0.0 (err_from_is_err_and x.result x.ensures.1) (cause_most (div_ceil n 32) few (cause_then inv.costs e.ensures.cause))

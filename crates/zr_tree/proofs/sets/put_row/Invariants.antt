@@ -1,10 +1,11 @@
 use Rattle.std.proofs.Common.{◌≡◌, ◌/◌, ◌+◌, ◌-◌, ◌<◌, ◌≤◌, ◌⊎◌, ℕ, suc, length, take, get_or}
 use Rattle.std.specs.Prelude.{All}
+use Rattle.std.specs.Int.{div_ceil}
 use Rattle.zr_bptr.specs.declared.Ptr.{Ptr}
 use Rattle.zr_bptr.specs.declared.Ptr.TheVariants.{Hole}
 use Rattle.zr_store.specs.Causes.{Costs}
 use Rattle.zr_store.specs.Store.{Stored, Now, AreStored}
-use Rattle.zr_tree.specs.Trees.{AllAt, AreOfLevel, EndsInUnit, Rises, PutsRow, blocks}
+use Rattle.zr_tree.specs.Trees.{AllAt, AreBelow, AreOfLevel, EndsInUnit, Rises, PutsRow, blocks}
 use Rattle.zr_tree.proofs.sets.put_row.Given as goal
 
 abbrev pub invariant-loop-from : goal.invariant-loop-from
@@ -21,6 +22,7 @@ invariant-loop-from g l = record {
   unit : EndsInUnit l.changes → l.from ≡ length l.changes → EndsInUnit l.row.items;
   room : (level : ℕ) → AllAt (suc level) 0 l.changes → AllAt level 0 l.row.items;
   rises : Rises l.row.items;
+  below : (n : ℕ) → AreBelow n l.changes → AreBelow (div_ceil n 32) l.row.items;
   row_below : l.from < length l.changes → All (λ (change : ℕ × Ptr). change.0 < (get_or l.changes l.from (0, Hole)).0 / 32) l.row.items;
   done_below : l.from < length l.changes → All (λ (change : ℕ × Ptr). change.0 / 32 < (get_or l.changes l.from (0, Hole)).0 / 32) (take l.from l.changes);
   puts : (s : Stored) → g.B.Blocks.holds l.fn.store s → AreStored (blocks s (suc l.t.height) l.t.root) s → Now (g.B.Blocks.holds l.store) (λ n. PutsRow (take l.from l.changes) l.row.items s n l.t l.fn.old.items l.old.items);

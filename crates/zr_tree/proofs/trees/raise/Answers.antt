@@ -4,7 +4,7 @@ use Rattle.zr_bptr.specs.declared.Bptr.{Bptr}
 use Rattle.zr_bptr.specs.declared.Ptr.{Ptr}
 use Rattle.zr_store.specs.Store.{AreStored, Swaps}
 use Rattle.zr_store.proofs.Causes.{costs_then, costs_most, cause_then, cause_most, cause_from}
-use Rattle.zr_tree.specs.Trees.{PutsTree, most_puts, most_frees, tree_blocks}
+use Rattle.zr_tree.specs.Trees.{PutsTree, blocks_over, most_puts, most_frees, tree_blocks}
 use Rattle.zr_tree.proofs.Costing.{puts_rows, frees_rows}
 use Rattle.zr_tree.proofs.Raise.{gone_stored, given_back}
 use Rattle.zr_tree.proofs.Wholes.{tells_from, tells_empty}
@@ -80,3 +80,34 @@ returns-in_err-free_all-clause-errors g c = λ s0 holds held.
     let e = c.in_err-free_all in
     let x = c.from_residual-in_err-free_all in
     tells_from s0 (tree_blocks s0 c.args.t.now) x.result e.field-0.0 (err_from_is_err_and x.result x.ensures.1) (tells_empty s0 s0 (tree_blocks s0 c.args.t.now) _ (e.ensures.errors s0))
+
+pub returns-in_err-root-clause-whole : goal.returns-in_err-root-clause-whole
+returns-in_err-root-clause-whole g c = λ n some below.
+    let l = c.args.level in
+    costs_most (blocks_over l n) (most_frees c.args.t.now.height l (length c.args.changes.now)) (omega arith) (omega arith) (c.put_rows.ensures.whole n some below)
+
+pub returns-in_err-root-clause-whole_cause : goal.returns-in_err-root-clause-whole_cause
+returns-in_err-root-clause-whole_cause g c = λ n some below.
+    let x = c.from_residual in
+    cause_from {T = Ptr} x.result c.in_err-root.field-0.0 (err_from_is_err_and x.result x.ensures.1) (c.in_err-root.ensures.whole_cause n some below)
+
+pub returns-in_err-free_all-clause-whole : goal.returns-in_err-free_all-clause-whole
+returns-in_err-free_all-clause-whole g c = λ n some below.
+    let h = c.args.t.now.height in
+    let l = c.args.level in
+    let few = few_frees h l (length c.args.changes.now) (length c.as_slice.result.now) c.new-old.result.items c.put_rows.new.old.items c.requires.high c.new-old.ensures.items c.in_ok-root.ensures.count (ap (λ (bs : List Bptr). length bs) c.as_slice.ensures.value) in
+    costs_most (blocks_over l n) (most_frees h l (length c.args.changes.now)) (omega arith) (omega (arith, few)) (costs_then (c.put_rows.ensures.whole n some below) c.free_all.ensures.costs)
+
+pub returns-in_err-free_all-clause-whole_cause : goal.returns-in_err-free_all-clause-whole_cause
+returns-in_err-free_all-clause-whole_cause g c = λ n some below.
+    let l = c.args.level in
+    let e = c.in_err-free_all in
+    let x = c.from_residual-in_err-free_all in
+    cause_from {T = Unit {0}} x.result e.field-0.0 (err_from_is_err_and x.result x.ensures.1) (cause_most (blocks_over l n) (omega arith) (cause_then (c.put_rows.ensures.whole n some below) e.ensures.cause))
+
+pub returns-clause-whole : goal.returns-clause-whole
+returns-clause-whole g c = λ n some below.
+    let h = c.args.t.now.height in
+    let l = c.args.level in
+    let few = few_frees h l (length c.args.changes.now) (length c.as_slice.result.now) c.new-old.result.items c.put_rows.new.old.items c.requires.high c.new-old.ensures.items c.in_ok-root.ensures.count (ap (λ (bs : List Bptr). length bs) c.as_slice.ensures.value) in
+    costs_most (blocks_over l n) (most_frees h l (length c.args.changes.now)) (omega arith) (omega (arith, few)) (costs_then (c.put_rows.ensures.whole n some below) c.free_all.ensures.costs)

@@ -1,14 +1,14 @@
 use Rattle.zr_bptr.specs.declared.Ptr.TheVariants.{Hole}
-use Rattle.std.proofs.Common.{inl, inr, get_or, ◌/◌, ◌^◌, ◌≡◌, ◌+◌, ◌*◌, ◌-◌, ◌≤◌, ◌++◌, ℕ, List, length, take, drop, subst, sym, arith}
+use Rattle.std.proofs.Common.{inl, inr, get_or, ◌/◌, ◌^◌, ◌≡◌, ◌+◌, ◌*◌, ◌-◌, ◌<◌, ◌≤◌, ◌++◌, ℕ, List, length, take, drop, subst, sym, arith}
 use Rattle.std.proofs.lemmas.Result.{err_from_is_err_and}
 use Rattle.std.proofs.lemmas.List.{length-take, take-append-drop}
-use Rattle.std.proofs.lemmas.List.Elements.{All-drop, All-append}
+use Rattle.std.proofs.lemmas.List.Elements.{All-drop, All-append, All-take}
 use Rattle.zr_bptr.specs.declared.Ptr.{Ptr}
 use Rattle.zr_bptr.specs.declared.Tree.{Tree}
 use Rattle.zr_store.specs.Causes.{Costs, HasCause}
 use Rattle.zr_store.proofs.Causes.{costs_most, cause_most, cause_from}
 use Rattle.std.specs.Prelude.{All}
-use Rattle.zr_tree.specs.Trees.{most_puts, most_frees, Rises, IsTreeWay}
+use Rattle.zr_tree.specs.Trees.{AreBelow, blocks_over, most_puts, most_frees, Rises, IsTreeWay}
 use Rattle.zr_tree.proofs.Costing.{one_height, puts_within, frees_within, puts_fewer, frees_fewer}
 use Rattle.zr_tree.proofs.Raise.{whole}
 use Rattle.zr_tree.proofs.Each.{rises_front, rises_back}
@@ -164,3 +164,35 @@ returns-clause-unit g c = λ units some.
       | inr low ↦ low
     ] in
     c.in_ok-root.ensures.unit (units_front n changes units) (some_front n changes (c.run_len-n.ensures.some (0, Hole) some place) c.run_len-n.ensures.within)
+
+-- ---- no more than the tree has
+
+front_below : (n k : ℕ) (changes : List (ℕ × Ptr)) → AreBelow n changes → AreBelow n (take k changes)
+front_below n k changes below = All-take (λ (change : ℕ × Ptr). change.0 < n) k changes below
+
+pub returns-clause-whole : goal.returns-clause-whole
+returns-clause-whole g c = λ n height is some below.
+    let changes = c.args.changes.now in
+    let h = c.args.t.now.height in
+    let top = c.height_for-height.result in
+    let few = fewer changes c.run_len-n.result in
+    subst (λ (l : ℕ). Costs (blocks_over l n) (most_frees h l (length changes)) (g.B.Blocks.account c.args.store.now) (g.B.Blocks.account c.raise.new.store)) (one_height h top height changes c.height_for-height.ensures.height is)
+    (costs_most (blocks_over top n) (most_frees h top (length changes)) (omega arith) (frees_fewer h top _ (length changes) few) (c.raise.ensures.whole n some (front_below n c.run_len-n.result changes below)))
+
+pub returns-in_err-root-clause-whole : goal.returns-in_err-root-clause-whole
+returns-in_err-root-clause-whole g c = λ n height is some below.
+    let changes = c.args.changes.now in
+    let h = c.args.t.now.height in
+    let top = c.height_for-height.result in
+    let few = fewer changes c.run_len-n.result in
+    subst (λ (l : ℕ). Costs (blocks_over l n) (most_frees h l (length changes)) (g.B.Blocks.account c.args.store.now) (g.B.Blocks.account c.raise.new.store)) (one_height h top height changes c.height_for-height.ensures.height is)
+    (costs_most (blocks_over top n) (most_frees h top (length changes)) (omega arith) (frees_fewer h top _ (length changes) few) (c.raise.ensures.whole n some (front_below n c.run_len-n.result changes below)))
+
+pub returns-in_err-root-clause-whole_cause : goal.returns-in_err-root-clause-whole_cause
+returns-in_err-root-clause-whole_cause g c = λ n height is some below.
+    let changes = c.args.changes.now in
+    let h = c.args.t.now.height in
+    let top = c.height_for-height.result in
+    let x = c.from_residual in
+    subst (λ (l : ℕ). HasCause (blocks_over l n) (g.B.Blocks.account c.args.store.now) (g.B.Blocks.account c.raise.new.store) x.result) (one_height h top height changes c.height_for-height.ensures.height is)
+    (cause_from {T = Ptr} x.result c.in_err-root.field-0.0 (err_from_is_err_and x.result x.ensures.1) (c.in_err-root.ensures.whole_cause n some (front_below n c.run_len-n.result changes below)))
