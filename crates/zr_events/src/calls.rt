@@ -74,7 +74,7 @@ pub fn leave(space: &mut Space, dev: u32) -> Result<bool, NoMemory> {
     if dev >= space.devices() || space.state(dev) != DevState::On {
         return Ok(false);
     }
-    if space.ckpt() != CkptPart::Clear || !space.kept(dev).extents().is_empty() {
+    if space.ckpt() != CkptPart::Clear || !space.kept(dev).is_empty() {
         return Ok(false);
     }
     if space.leaving().is_some() {

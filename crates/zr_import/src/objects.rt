@@ -206,7 +206,7 @@ pub fn walk_objects<B: Blocks>(
 {
     let mut found = Found::new(alloc);
     walk_all(alloc, store, spent, txg, dir, &mut found)?;
-    if !have_kept(&spent.left, parts.devs.as_slice()) {
+    if !have_kept(alloc, &spent.left, parts.devs.as_slice())? {
         return Err(ImportErr::Rule(7));
     }
     Ok(())

@@ -147,7 +147,7 @@ pub fn read_saved<B: Blocks>(
     if saved.parts.ckpt != CkptPart::Clear {
         return Err(ImportErr::Rule(RULE));
     }
-    if !have_held(&current.older, saved.parts.devs.as_slice()) {
+    if !have_held(alloc, &current.older, saved.parts.devs.as_slice())? {
         return Err(ImportErr::Rule(RULE));
     }
     Ok(saved)

@@ -18,6 +18,7 @@ use crate::mark::Mark;
 use std::alloc::Global;
 use zr_base::{CkptPart, DevPart, Dva, Extent, NoMemory, SpaceParts};
 use zr_bptr::Bptr;
+use zr_ranges::RangeSet;
 use zr_space::Space;
 
 /// What is left of the space of a root behind the blocks that were met, and what is left of it behind those of them that are
@@ -53,13 +54,13 @@ fn first_older(alloc: Global, parts: &SpaceParts, meta: &[Dva]) -> Result<Option
 }
 
 /// The held units of the device with this index.
-fn held_in(space: &Space, dev: usize) -> &[Extent]
-    ensures { result.now ≡ (part_of space.now.parts.devs dev).held }
+fn held_in(alloc: Global, space: &Space, dev: usize) -> Result<RangeSet, NoMemory>
+    ensures { IfOk result (λ set. set.extents ≡ (part_of space.now.parts.devs dev).held) }
 {
     if dev >= space.devices() as usize {
-        return &[];
+        return Ok(RangeSet::new(alloc));
     }
-    space.held(dev as u32).extents()
+    space.held(dev as u32).to_set()
 }
 
 /// The held units of the device with this index in a root.
@@ -89,29 +90,31 @@ fn are_same(one: &[Extent], other: &[Extent]) -> bool
 }
 
 /// Whether just the kept units of the devices are held. It goes over the extents.
-pub(crate) fn have_kept(space: &Space, parts: &[DevPart]) -> bool
-    ensures { IsTrue result ↔ HaveKept space.now parts.now }
+pub(crate) fn have_kept(alloc: Global, space: &Space, parts: &[DevPart]) -> Result<bool, NoMemory>
+    ensures { IfOk result (λ yes. IsTrue yes ↔ HaveKept space.now parts.now) }
 {
     let devices = (space.devices() as usize).max(parts.len());
     for dev in 0..devices {
-        if !are_same(held_in(space, dev), kept_at(parts, dev)) {
-            return false;
+        let held = held_in(alloc, space, dev)?;
+        if !are_same(held.extents(), kept_at(parts, dev)) {
+            return Ok(false);
         }
     }
-    true
+    Ok(true)
 }
 
 /// Whether just the held units of the devices are held. It goes over the extents.
-pub(crate) fn have_held(space: &Space, parts: &[DevPart]) -> bool
-    ensures { IsTrue result ↔ HaveHeld space.now parts.now }
+pub(crate) fn have_held(alloc: Global, space: &Space, parts: &[DevPart]) -> Result<bool, NoMemory>
+    ensures { IfOk result (λ yes. IsTrue yes ↔ HaveHeld space.now parts.now) }
 {
     let devices = (space.devices() as usize).max(parts.len());
     for dev in 0..devices {
-        if !are_same(held_in(space, dev), held_at(parts, dev)) {
-            return false;
+        let held = held_in(alloc, space, dev)?;
+        if !are_same(held.extents(), held_at(parts, dev)) {
+            return Ok(false);
         }
     }
-    true
+    Ok(true)
 }
 
 impl Spent {

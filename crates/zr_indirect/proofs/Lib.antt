@@ -2,4 +2,3 @@ pub mod Condensing
 pub mod Entries
 pub mod Folding
 pub mod Rooted
-pub mod Walking

@@ -12,7 +12,6 @@ ghost use Rattle.zr_indirect.specs.Changes.{GoesOn, CopiesFront, FreesCopied, Ga
 
 use crate::indirect::Indirect;
 use crate::sets::{add_below, is_apart, is_due};
-use crate::words::paged_words;
 use std::alloc::Global;
 use std::marker::Model;
 use zr_base::{Change, DevState, Extent, NoMemory};
@@ -125,7 +124,7 @@ impl Leaving {
         ensures words { result ≡ mapped_words version self.now }
         ensures bound { result ≤ 9 * _units }
     {
-        8 * self.evac.map().len() as u64 + paged_words(self.evac.marks(), version)
+        8 * self.evac.map().len() as u64 + self.evac.marks().words(version)
     }
 
     /// How many units are left to copy.

@@ -10,6 +10,5 @@ mod indirect;
 mod leaving;
 mod mapping;
 mod sets;
-mod words;
 
 pub use mapping::Mapping;

@@ -7,7 +7,8 @@
 //! lowest page stands apart from the tree, so what is emptied from its lowest unit up goes down the tree once for a page.
 #![tactic(auto)]
 
-ghost use Rattle.std.specs.Prelude.{◌≡◌, ℕ, ◌+◌, ◌-◌, ◌^◌, ◌<◌, ◌≤◌, ◌∷◌, [], length, min, IfOk, IfSome, IfNone, OnOk, OnErr};
+ghost use Rattle.std.specs.Prelude.{◌≡◌, ℕ, ◌+◌, ◌-◌, ◌^◌, ◌<◌, ◌≤◌, ◌∷◌, [], length, min, IsTrue, ◌↔◌, IfOk, IfSome, IfNone, OnOk, OnErr};
+ghost use Rattle.zr_rules.specs.Owed.{set_words};
 ghost use Rattle.zr_base.specs.Extents.{IsMaximal, HasAll, HasNone, HasNoneFrom, IsFirstPart, AddsUnits, RemovesUnits, unit_count, extent_at};
 
 mod change;
@@ -15,12 +16,17 @@ mod find;
 mod front;
 mod page;
 mod tree;
+mod unit_set;
+mod words;
 
 use find::{append_tree, part_from};
 use front::{add_in, lowest, make_ready, push_in, remove_in, take_in};
 use std::alloc::Global;
 use std::marker::Model;
 use tree::{Node, Tree};
+pub use unit_set::UnitSet;
+use words::words_in;
+pub use words::{extent_words, words_of};
 use zr_base::{Extent, NoMemory};
 use zr_ranges::RangeSet;
 
@@ -163,6 +169,45 @@ impl PagedSet {
         ensures none { IfNone result (HasNoneFrom self.now.extents u) }
     {
         part_from(&self.front, u)
+    }
+
+    /// Whether the set has each unit of the extent. Logarithmic in the extents.
+    pub fn covers(&self, e: Extent) -> bool
+        ensures { IsTrue result ↔ HasAll self.now.extents e }
+    {
+        if e.len == 0 {
+            return true;
+        }
+        match self.first_from(e.start) {
+            Some(part) => part.start == e.start && e.len <= part.len,
+            None => false,
+        }
+    }
+
+    /// Whether the set has no unit of the extent. Logarithmic in the extents.
+    pub fn is_apart(&self, e: Extent) -> bool
+        ensures { IsTrue result ↔ HasNone self.now.extents e }
+    {
+        match self.first_from(e.start) {
+            Some(part) => e.len <= part.start - e.start,
+            None => true,
+        }
+    }
+
+    /// The words of the set, were it written anew. It goes over all extents.
+    pub fn words(&self, version: u64) -> u64
+        requires { unit_count self.now.extents < 2 ^ 40 }
+        ensures words { result ≡ set_words version self.now.extents }
+        ensures few { result ≤ unit_count self.now.extents }
+    {
+        words_in(&self.front, version)
+    }
+
+    /// How many changes take no memory.
+    pub fn spare(&self) -> usize
+        ensures { result ≡ self.now.spare }
+    {
+        self.ready.len()
     }
 
     /// How many units the set has. It is kept, not counted.

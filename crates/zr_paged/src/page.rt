@@ -81,6 +81,13 @@ impl Page {
         runs[0]
     }
 
+    /// The extents in order.
+    pub fn extents(&self) -> &[Extent]
+        ensures { result.now ≡ self.now }
+    {
+        self.runs.extents()
+    }
+
     /// The part at or above `u` of the lowest extent that ends above `u`.
     pub fn first_from(&self, u: u64) -> Option<Extent>
         ensures some { IfSome result (IsFirstPart self.now u) }

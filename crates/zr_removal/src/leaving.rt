@@ -71,7 +71,7 @@ fn leave(pool: &mut OpenPool, dev: u32) -> Result<(), NoMemory>
     ensures leaves { OnOk result (LeavesPool pool.old pool.new dev) }
     ensures pool { (sizes : List ℕ) → IsOpen sizes pool.old → OnOk result (IsOpen sizes pool.new) }
 {
-    if !pool.space.kept(dev).extents().is_empty() {
+    if !pool.space.kept(dev).is_empty() {
         return Err(NoMemory);
     }
     pool.space.begin_removal(dev)?;

@@ -8,7 +8,7 @@ ghost use Rattle.zr_removal.specs.Devices.{IsDeviceOn, copy_pieces};
 ghost use Rattle.zr_removal.specs.Refusals.{IsMayRefusal};
 
 use zr_base::{CkptPart, DevState, Refusal};
-use zr_ranges::RangeSet;
+use zr_paged::UnitSet;
 use zr_sync::OpenPool;
 
 /// How many units a step of a removal copies at most.
@@ -49,15 +49,17 @@ pub fn device_on(pool: &OpenPool, slot: u32) -> Option<u32>
 }
 
 // Into how many pieces the size of a step cuts a set.
-fn copy_pieces(set: &RangeSet) -> u64
+fn copy_pieces(set: &UnitSet) -> u64
     ensures pieces { result ≡ copy_pieces set.now.extents }
     ensures few { result ≤ unit_count set.now.extents }
 {
     let _units = set.units();
-    let extents = set.extents();
+    let _lowest = set.first();
     let mut pieces = 0;
-    for e in extents {
-        pieces += e.len.div_ceil(MOST);
+    let mut at = 0;
+    while let Some(part) = set.first_from(at) {
+        pieces += part.len.div_ceil(MOST);
+        at = part.start + part.len;
     }
     pieces
 }

@@ -1,7 +1,7 @@
 //! Sets of units in pages.
 use std::test::Fail;
 use zr_base::{Extent, NoMemory};
-use zr_paged::PagedSet;
+use zr_paged::{PagedSet, UnitSet};
 use zr_ranges::RangeSet;
 
 #[test]
@@ -44,5 +44,36 @@ fn runs_join_across_two_pages(rt: HostRuntime) -> Result<(), Fail> {
     let all = set.to_set()?;
     assert_eq!(rt; all.extents().len(), 69);
     assert!(rt; all.covers(Extent { start: 10, len: 3 }));
+    Ok(())
+}
+
+#[test]
+fn a_set_goes_over_into_one_array_and_back(rt: HostRuntime) -> Result<(), Fail> {
+    let even = each_second(&rt)?;
+    let between = Extent { start: 11, len: 1 };
+    let lowest = Extent { start: 0, len: 1 };
+    let mut set = UnitSet::of(rt.alloc(), &even)?;
+    assert!(rt; set.is_apart(between));
+    set.reserve(10_000)?;
+    set.add_reserved(between);
+    assert_eq!(rt; set.first_from(9), Some(Extent { start: 10, len: 3 }));
+    assert!(rt; set.covers(lowest));
+    set.renew()?;
+    set.remove_reserved(lowest);
+    assert!(rt; !set.is_empty());
+    assert_eq!(rt; set.first(), Some(Extent { start: 2, len: 1 }));
+    assert_eq!(rt; set.units(), 70);
+    let all = set.to_set()?;
+    assert_eq!(rt; all.extents().len(), 68);
+    Ok(())
+}
+
+#[test]
+fn words_are_those_of_all_pages(rt: HostRuntime) -> Result<(), Fail> {
+    let even = each_second(&rt)?;
+    let set = UnitSet::of(rt.alloc(), &even)?;
+    assert!(rt; set.units() < 1 << 40);
+    assert_eq!(rt; set.words(1), 70);
+    assert_eq!(rt; set.words(2), 70);
     Ok(())
 }

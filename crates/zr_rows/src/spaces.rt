@@ -155,7 +155,7 @@ fn leave(space: &mut Space) -> Result<bool, NoMemory> {
     if space.devices() == 0 || space.state(0) != DevState::On || space.ckpt() != CkptPart::Clear {
         return Ok(false);
     }
-    if space.leaving().is_some() || !space.kept(0).extents().is_empty() {
+    if space.leaving().is_some() || !space.kept(0).is_empty() {
         return Ok(false);
     }
     space.begin_removal(0)?;

@@ -1,4 +1,5 @@
 pub mod Condensing
+pub mod FirstParts
 pub mod Sizing
 pub mod Sums
 pub mod Views

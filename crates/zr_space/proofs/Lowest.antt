@@ -29,6 +29,18 @@ pub kept_are : (d : ℕ) (devs : List Kept) → flat_map (λ (p : ℕ × DevPart
 kept_are d [] = refl
 kept_are d (k ∷ ks) = ap (λ (l : List (ℕ × Extent)). on_device d k.uses.kept ++ l) (kept_are (d + 1) ks)
 
+-- where there is none, none is taken
+pub none_taken : (d n : ℕ) (es : List Extent) (items : List (ℕ × Extent)) → es ≡ [] → items ≡ items ++ take n (on_device d es)
+none_taken d n [] items none = grind (arith, common_steps)
+none_taken d n (e ∷ es) items none = absurd cc
+
+-- the first is taken, and then the others
+pub next_taken : (d n : ℕ) (x : Extent) (all rest : List Extent) (items pushed : List (ℕ × Extent)) → 0 < n → all ≡ x ∷ rest → pushed ≡ items ++ (d, x) ∷ [] → pushed ++ take (n - 1) (on_device d rest) ≡ items ++ take n (on_device d all)
+next_taken d zero x all rest items pushed some is push = absurd (omega (arith, some))
+next_taken d (suc n) x all rest items pushed some is push =
+    let less : suc n - 1 ≡ n = omega arith in
+    rw (less, is, push) (append_assoc items ((d, x) ∷ []) (take n (on_device d rest)))
+
 -- one extent more
 take_suc : (d i : ℕ) (es : List Extent) → i < length es → take (suc i) (on_device d es) ≡ take i (on_device d es) ++ (d, extent_at es i) ∷ []
 take_suc d i [] h = absurd (omega (arith, h))

@@ -4,7 +4,7 @@ use Rattle.std.specs.Prelude.{Option, Some, None, IfSome, IfNone}
 use Rattle.std.proofs.lemmas.Bool.Decides.{nat_tests}
 use Rattle.zr_base.specs.declared.space.DevPart.{DevPart}
 use Rattle.zr_base.specs.declared.space.Extent.{Extent}
-use Rattle.zr_base.specs.Extents.{has_unit, first_part_from, IsFirstPart, HasNoneFrom}
+use Rattle.zr_base.specs.Extents.{has_unit, IsMaximal, first_part_from, IsFirstPart, HasNoneFrom}
 use Rattle.zr_rules.specs.Mappings.{end_of_last}
 use Rattle.zr_rules.specs.Places.{is_leaving, part_of, state_of_dev}
 use Rattle.zr_rules.specs.Roles.{is_held_role}
@@ -14,6 +14,7 @@ use Rattle.zr_indirect.specs.Mapped.{IsLeaving}
 use Rattle.zr_space.specs.Plans.{IsCopied, IsLowestOf}
 use Rattle.zr_space.specs.Views.{Kept, kept_of, part_in, space_of, IsSpace}
 use Rattle.zr_space.specs.declared.whole.Whole.{Whole}
+use Rattle.zr_space.proofs.FirstParts.{value_is}
 use Rattle.zr_space.proofs.Planning.{held_as}
 use Rattle.zr_space.proofs.Roles.{roles_are}
 use Rattle.zr_space.proofs.Synced.{leaving_state}
@@ -46,13 +47,16 @@ module _ (whole : Whole) (s : Devices) (devs : List Kept) (d : ℕ) (k : Kept) (
       ∙ (held_as (free_at s d) (count_at s d) (kept_of devs d).uses (h.space.account d) v
       ∙ ap (λ (xs : List Extent). has_unit xs v) (ap (λ (z : Kept). z.uses.held) (sym h.kept) ∙ sym h.held))
 
-  pub lowest_some : (o : Option Extent) → o ≡ first_part_from u es → IfSome o (IsFirstPart es u) → IfSome o (λ front. (x : ℕ) × IsLowestOf (space_of whole devs) x front)
-  lowest_some None is first = tt
-  lowest_some (Some f) is first = (
+  maximal : IsMaximal es
+  maximal = subst (λ (xs : List Extent). IsMaximal xs) (sym (h.held ∙ ap (λ (z : Kept). z.uses.held) h.kept)) (h.space.account d).lists.held
+
+  pub lowest_some : (o : Option Extent) → IfSome o (IsFirstPart es u) → IfSome o (λ front. (x : ℕ) × IsLowestOf (space_of whole devs) x front)
+  lowest_some None first = tt
+  lowest_some (Some f) first = (
     d,
     record {
       leaving = said;
-      lowest = sym (is ∙ ap₂ first_part_from from_is held_is);
+      lowest = sym (value_is 0 u es f maximal first ∙ ap₂ first_part_from from_is held_is);
       some = first.not_empty;
       above = let a = first.from in let e = from_is in omega (arith, a, e);
       gap = λ v le lt. held_role v ∙ first.gap v (let e = from_is in omega (arith, le, e)) lt;

@@ -1,5 +1,5 @@
 -- The counts from which the room is computed, as sums over the devices.
-use Rattle.std.proofs.Common.{◌≡◌, ℕ, zero, suc, ◌+◌, ◌*◌, ◌<◌, ◌≤◌, ◌^◌, Bool, true, false, ◌==◌, List, [], ◌∷◌, ◌++◌, map, length, refl, ◌∙◌, sym, ap, ap₂, arith, add-one, cond, if◌then◌else◌}
+use Rattle.std.proofs.Common.{◌≡◌, ℕ, zero, suc, ◌+◌, ◌*◌, ◌<◌, ◌≤◌, ◌^◌, Bool, true, false, ◌==◌, List, [], ◌∷◌, ◌++◌, map, length, refl, ◌∙◌, sym, ap, ap₂, arith, subst, add-one, cond, if◌then◌else◌}
 use Rattle.std.specs.Prelude.{filter}
 use Rattle.std.specs.List.{sum_by, range_with_len}
 use Rattle.std.proofs.lemmas.List.{length-map}
@@ -11,10 +11,10 @@ use Rattle.zr_base.specs.declared.space.LateRun.{LateRun}
 use Rattle.zr_base.specs.declared.space.DevPart.{DevPart}
 use Rattle.zr_base.specs.declared.space.DevState.TheVariants.{On, Leaving, Gone}
 use Rattle.zr_base.specs.declared.space.DevState.{DevState}
-use Rattle.zr_base.specs.Extents.{unit_count, has_unit}
+use Rattle.zr_base.specs.Extents.{IsMaximal, unit_count, has_unit}
 use Rattle.zr_rules.specs.Owed.{set_words}
 use Rattle.zr_rules.specs.Roles.{is_free_role}
-use Rattle.zr_rules.specs.Places.{count_below, is_on, is_gone, units_of_dev, state_of_dev}
+use Rattle.zr_rules.specs.Places.{count_below, is_on, is_gone, part_of, units_of_dev, state_of_dev}
 use Rattle.zr_rules.specs.Space.{Space, OpenSets, role_at}
 use Rattle.zr_rules.specs.Columns as columns
 use Rattle.zr_rules.specs.Equation.{devices_in}
@@ -125,6 +125,17 @@ late_blocks_of : (es ms : List Extent) → columns.late_blocks (as_runs false es
 late_blocks_of [] [] = refl
 late_blocks_of [] (m ∷ ms) = late_blocks_of [] ms
 late_blocks_of (e ∷ es) ms = ap (λ (l : List Extent). e ∷ l) (late_blocks_of es ms)
+
+-- the blocks of a late set are kept as their maximal extents
+pub first_late_maximal : (whole : Whole) (slabs : Devices) (devs : List Kept) → IsSpace whole slabs devs → (d : ℕ) → IsMaximal (columns.late_blocks (part_of (map part_in devs) d).late1)
+first_late_maximal whole slabs devs h d =
+    let is = ap (λ (p : DevPart). columns.late_blocks p.late1) (part_is devs d) ∙ late_blocks_of (kept_of devs d).uses.late1.blocks (kept_of devs d).uses.late1.meta in
+    subst IsMaximal (sym is) (h.account d).lists.late1.blocks
+
+pub second_late_maximal : (whole : Whole) (slabs : Devices) (devs : List Kept) → IsSpace whole slabs devs → (d : ℕ) → IsMaximal (columns.late_blocks (part_of (map part_in devs) d).late2)
+second_late_maximal whole slabs devs h d =
+    let is = ap (λ (p : DevPart). columns.late_blocks p.late2) (part_is devs d) ∙ late_blocks_of (kept_of devs d).uses.late2.blocks (kept_of devs d).uses.late2.meta in
+    subst IsMaximal (sym is) (h.account d).lists.late2.blocks
 
 addresses_units : (k d : ℕ) (es : List Extent) → columns.units_on (addresses k es) d ≡ (if k == d then unit_count es else 0)
 addresses_units k d [] = grind (arith, nat_tests)

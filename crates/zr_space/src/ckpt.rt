@@ -14,21 +14,30 @@ ghost use Rattle.zr_space.specs.Discards.{CanDiscard, DiscardsPart, on_device};
 
 use crate::space::Space;
 use zr_base::{CkptPart, Extent, NoMemory};
+use zr_paged::UnitSet;
 
 /// How many kept extents a step gives back at most.
 const STEP: usize = 64;
 
-// Adds the first of these kept extents of a device.
+// Adds the lowest kept extents of a device, so many or all where there are fewer.
 fn push_lowest(
     list: &mut Vec<(u32, Extent)>,
     dev: u32,
-    extents: &[Extent],
+    kept: &UnitSet,
     n: usize,
 ) -> Result<(), NoMemory>
-    ensures { OnOk result (list.new.items ≡ list.old.items ++ take n (on_device dev extents.now)) }
+    ensures { OnOk result (list.new.items ≡ list.old.items ++ take n (on_device dev kept.now.extents)) }
 {
-    for i in 0..n.min(extents.len()) {
-        list.push((dev, extents[i]))?;
+    let _lowest = kept.first();
+    let mut at = 0;
+    let mut missing = n;
+    while missing > 0 {
+        let Some(part) = kept.first_from(at) else {
+            return Ok(());
+        };
+        list.push((dev, part))?;
+        at = part.start + part.len;
+        missing -= 1;
     }
     Ok(())
 }
@@ -89,12 +98,7 @@ impl Space {
         for dev in 0..self.devs.len() {
             let missing = n - list.len();
             let device = &self.devs[dev];
-            push_lowest(
-                &mut list,
-                dev as u32,
-                device.units.kept().extents(),
-                missing,
-            )?;
+            push_lowest(&mut list, dev as u32, device.units.kept(), missing)?;
         }
         Ok(list)
     }

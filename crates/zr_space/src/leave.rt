@@ -47,7 +47,8 @@ impl Space {
         let map = Imap::new(self.alloc);
         let marks = RangeSet::new(self.alloc);
         let device = &mut self.devs[dev as usize];
-        let moves = Mapping::leaving(self.alloc, dev, map, marks, device.units.held())?;
+        let held = device.units.held().to_set()?;
+        let moves = Mapping::leaving(self.alloc, dev, map, marks, &held)?;
         moves.lawful();
         device.leave(moves);
         self.slabs.off(dev);

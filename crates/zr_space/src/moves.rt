@@ -19,6 +19,7 @@ use zr_evac::part_below;
 use zr_imap::{Imap, image_of};
 use zr_indirect::Mapping;
 use zr_obsolete::fresh_in;
+use zr_paged::UnitSet;
 use zr_ranges::RangeSet;
 
 // Whether an entry is lawful, and its source lies from `low` on and below `units`.
@@ -150,7 +151,7 @@ pub fn read_mapping(
     alloc: Global,
     part: &DevPart,
     dev: u32,
-    held: &RangeSet,
+    held: &UnitSet,
 ) -> Result<Option<Mapping>, NoMemory>
     requires small { part.now.row.units < 2 ^ 40 }
     requires held { held.now.extents ≡ part.now.held }
@@ -171,7 +172,8 @@ pub fn read_mapping(
             if !are_zero(part.counts.as_slice()) {
                 return Ok(None);
             }
-            Mapping::leaving(alloc, dev, map, fresh, held)?
+            let held = held.to_set()?;
+            Mapping::leaving(alloc, dev, map, fresh, &held)?
         }
         DevState::Gone => {
             let counts = Vec::from_slice(alloc, part.counts.as_slice())?;

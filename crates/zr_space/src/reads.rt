@@ -6,12 +6,13 @@
 ghost use Rattle.std.specs.Prelude.{◌≡◌, ◌↔◌, ◌+◌, ◌<◌, ◌≤◌, ◌^◌, ◌++◌, [], true, false, ℕ, List, IsTrue, IfOk, IfSome, IfNone};
 ghost use Rattle.zr_base.specs.Extents.{HasNone};
 ghost use Rattle.zr_base.specs.declared.space.Dva.{Dva};
-ghost use Rattle.zr_units.specs.Uses.{Freed};
+ghost use Rattle.zr_units.specs.Uses.{Freed, unused};
 ghost use Rattle.zr_space.specs.Reads.{AreSetsOf, CanRead, Marks, CanReadLate, MarksLate, IsListed, CanReadMeta, ReadsMeta, IsRead, CanReadPart, IsAmong, CanKeep, HasMeta};
 ghost use Rattle.zr_space.specs.Views.{units_there};
 
 use std::alloc::Global;
 use zr_base::{DevPart, DevRow, DevState, Dva, Extent, LateRun, NoMemory};
+use zr_paged::UnitSet;
 use zr_ranges::RangeSet;
 use zr_units::{FreedSets, Units};
 
@@ -186,6 +187,22 @@ fn read_kept(
     Ok(Some(kept))
 }
 
+// So many units with these uses. The held and the kept ones go into pages.
+fn units_of(
+    alloc: Global,
+    units: u64,
+    held: &RangeSet,
+    kept: &RangeSet,
+    late1: FreedSets,
+    late2: FreedSets,
+) -> Result<Units, NoMemory>
+    ensures { IfOk result (λ x. x ≡ record (unused units) { held = held.now.extents; kept = kept.now.extents; late1 = late1.sets; late2 = late2.sets; spare = x.spare }) }
+{
+    let held = UnitSet::of(alloc, held)?;
+    let kept = UnitSet::of(alloc, kept)?;
+    Ok(Units::of_sets(alloc, units, held, kept, late1, late2))
+}
+
 // The units of a device as a root records them, without metadata. They are added to those that are used, of which there are
 // none. None where the device is too large, a set is not kept as its maximal extents or leaves the device, or a unit has two
 // uses.
@@ -217,7 +234,8 @@ fn read_device(
     let Some(late2) = read_late(alloc, used, part.late2.as_slice(), units)? else {
         return Ok(None);
     };
-    Ok(Some(Units::of_sets(alloc, units, held, kept, late1, late2)))
+    let read = units_of(alloc, units, &held, &kept, late1, late2)?;
+    Ok(Some(read))
 }
 
 /// The units of a device by use, and all of them that have a use.

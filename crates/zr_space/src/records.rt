@@ -14,7 +14,7 @@ use crate::space::Space;
 use crate::whole::Whole;
 use std::alloc::Global;
 use zr_base::{Change, CondPart, DevPart, Extent, Items, LateRun, NoMemory, SpaceParts};
-use zr_ranges::RangeSet;
+use zr_paged::UnitSet;
 use zr_units::FreedSets;
 
 /// The sets of a device that a root records as logs: the held units, those that only the checkpoint has, and the obsolete
@@ -47,10 +47,11 @@ fn late_of(alloc: Global, freed: &FreedSets) -> Result<Items<LateRun>, NoMemory>
 }
 
 // The extents of a set.
-fn copy_of(alloc: Global, set: &RangeSet) -> Result<Items<Extent>, NoMemory>
+fn copy_of(alloc: Global, set: &UnitSet) -> Result<Items<Extent>, NoMemory>
     ensures { IfOk result (λ es. es ≡ set.now.extents) }
 {
-    let copy = Vec::from_slice(alloc, set.extents())?;
+    let runs = set.to_set()?;
+    let copy = Vec::from_slice(alloc, runs.extents())?;
     Ok(Items::from_vec(copy))
 }
 
@@ -100,7 +101,7 @@ fn cond_of(whole: &Whole) -> Result<Option<CondPart>, NoMemory>
 
 impl Space {
     /// The held units of a device. It costs nothing.
-    pub fn held(&self, dev: u32) -> &RangeSet
+    pub fn held(&self, dev: u32) -> &UnitSet
         requires { dev < length self.now.parts.devs }
         ensures { result.now.extents ≡ (part_of self.now.parts.devs dev).held }
     {
@@ -108,7 +109,7 @@ impl Space {
     }
 
     /// The units of a device that only the checkpoint has. It costs nothing.
-    pub fn kept(&self, dev: u32) -> &RangeSet
+    pub fn kept(&self, dev: u32) -> &UnitSet
         requires { dev < length self.now.parts.devs }
         ensures { result.now.extents ≡ (part_of self.now.parts.devs dev).kept }
     {

@@ -116,10 +116,11 @@ pub fn resume_copies(
         return Ok(true);
     };
     let device = &devs[dev as usize];
-    if !is_clear(ckpt) || !device.units.kept().extents().is_empty() {
+    if !is_clear(ckpt) || !device.units.kept().is_empty() {
         return Ok(false);
     }
-    if !are_copied(alloc, &device.moves, device.units.held())? {
+    let held = device.units.held().to_set()?;
+    if !are_copied(alloc, &device.moves, &held)? {
         return Ok(false);
     }
     let places = device.moves.cancelled()?;

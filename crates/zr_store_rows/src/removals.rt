@@ -62,7 +62,7 @@ fn leave(space: &mut Space, slots: &[Option<u32>]) -> Result<bool, NoMemory>
     if space.devices() == 0 || space.state(0) != DevState::On || space.ckpt() != CkptPart::Clear {
         return Ok(false);
     }
-    if space.leaving().is_some() || !space.kept(0).extents().is_empty() {
+    if space.leaving().is_some() || !space.kept(0).is_empty() {
         return Ok(false);
     }
     mounted_over_removals();

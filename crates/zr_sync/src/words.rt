@@ -121,6 +121,22 @@ fn fresh_set(alloc: Global, space: &Space, dev: u32) -> Result<RangeSet, NoMemor
     set_from(alloc, extents.as_slice())
 }
 
+// The held units of a device, in one array.
+fn held_set(space: &Space, dev: u32) -> Result<RangeSet, NoMemory>
+    requires { dev < length space.now.parts.devs }
+    ensures { IfOk result (λ set. set.extents ≡ (part_of space.now.parts.devs dev).held) }
+{
+    space.held(dev).to_set()
+}
+
+// The kept units of a device, in one array.
+fn kept_set(space: &Space, dev: u32) -> Result<RangeSet, NoMemory>
+    requires { dev < length space.now.parts.devs }
+    ensures { IfOk result (λ set. set.extents ≡ (part_of space.now.parts.devs dev).kept) }
+{
+    space.kept(dev).to_set()
+}
+
 // The words of the set of a log, were it written anew. It goes over the set.
 fn anew_of(
     alloc: Global,
@@ -139,8 +155,14 @@ fn anew_of(
     ensures few { IfOk result (λ words. length words.items ≤ 2 ^ 26) }
 {
     match log {
-        Log::Held => condensed(alloc, space.held(dev), version, dev),
-        Log::Kept => condensed(alloc, space.kept(dev), version, dev),
+        Log::Held => {
+            let held = held_set(space, dev)?;
+            condensed(alloc, &held, version, dev)
+        }
+        Log::Kept => {
+            let kept = kept_set(space, dev)?;
+            condensed(alloc, &kept, version, dev)
+        }
         Log::Fresh => {
             let fresh = fresh_set(alloc, space, dev)?;
             condensed(alloc, &fresh, version, dev)

@@ -17,4 +17,4 @@ pub use changes::merged;
 pub use freed::FreedSets;
 pub use parts::{Front, uniform_front};
 pub use units::Units;
-pub use words::{extent_words, set_words};
+pub use words::set_words;

@@ -7,6 +7,7 @@ ghost use Rattle.zr_units.specs.Changes.{TakesBack, FreesBorn, GivesUpSet, Keeps
 
 use zr_base::Extent;
 use zr_metaslab::Slabs;
+use zr_paged::UnitSet;
 use zr_ranges::RangeSet;
 
 /// A front of an extent that is in a set, or apart from it.
@@ -90,7 +91,7 @@ pub fn free_parts(
 /// others to what is deferred. It takes no memory, and costs a change of each set for each extent.
 pub fn give_up_parts(
     copies: &mut RangeSet,
-    held: &mut RangeSet,
+    held: &mut UnitSet,
     born: &mut RangeSet,
     deferred: &mut RangeSet,
     slabs: &mut Slabs,
@@ -128,9 +129,9 @@ pub fn give_up_parts(
 /// Keeps units of a block that the checkpoint may have, which are then no longer in use by a block: those that the open
 /// group allocated go to the allocator, and the others are kept.
 pub fn keep_parts(
-    held: &mut RangeSet,
+    held: &mut UnitSet,
     born: &mut RangeSet,
-    kept: &mut RangeSet,
+    kept: &mut UnitSet,
     came: &mut RangeSet,
     slabs: &mut Slabs,
     dev: u32,

@@ -17,15 +17,16 @@ use std::marker::Model;
 use std::mem;
 use zr_base::{Change, Extent, NoMemory};
 use zr_metaslab::Slabs;
+use zr_paged::UnitSet;
 use zr_ranges::RangeSet;
 
 /// The units of a device by their use, but for the free ones. Counts of units are kept and not counted anew.
 #[derive(Drop)]
 pub struct Units {
     units: u64,
-    held: RangeSet,
+    held: UnitSet,
     born: RangeSet,
-    kept: RangeSet,
+    kept: UnitSet,
     came: RangeSet,
     went: RangeSet,
     copies: RangeSet,
@@ -52,9 +53,9 @@ impl Units {
     {
         Units {
             units,
-            held: RangeSet::new(alloc),
+            held: UnitSet::new(alloc),
             born: RangeSet::new(alloc),
-            kept: RangeSet::new(alloc),
+            kept: UnitSet::new(alloc),
             came: RangeSet::new(alloc),
             went: RangeSet::new(alloc),
             copies: RangeSet::new(alloc),
@@ -70,8 +71,8 @@ impl Units {
     pub fn of_sets(
         alloc: Global,
         units: u64,
-        held: RangeSet,
-        kept: RangeSet,
+        held: UnitSet,
+        kept: UnitSet,
         late1: FreedSets,
         late2: FreedSets,
     ) -> Units
@@ -101,7 +102,7 @@ impl Units {
     }
 
     /// The held units.
-    pub fn held(&self) -> &RangeSet
+    pub fn held(&self) -> &UnitSet
         ensures { result.now.extents ≡ self.now.held }
     {
         &self.held
@@ -115,7 +116,7 @@ impl Units {
     }
 
     /// The held units that only the checkpoint has.
-    pub fn kept(&self) -> &RangeSet
+    pub fn kept(&self) -> &UnitSet
         ensures { result.now.extents ≡ self.now.kept }
     {
         &self.kept
@@ -164,8 +165,8 @@ impl Units {
     }
 
     /// The words of the sets that a space map or a late set records, were each written anew: the held units, the kept
-    /// ones three times, and the block units that are freed and not free yet. On a device of at most 32,768 units it costs nothing, and on a larger
-    /// one it goes over their extents.
+    /// ones three times, and the block units that are freed and not free yet. It goes over the extents of the held and the
+    /// kept units, and on a device of more than 32,768 units over those of what is freed.
     pub fn words(&self, version: u64) -> u64
         requires within { HasWithin self.now }
         requires small { use_count self.now < 2 ^ 40 }
@@ -173,8 +174,8 @@ impl Units {
         ensures words { result ≡ use_words version self.now }
         ensures few { result ≤ use_count self.now + 3 * unit_count self.now.kept }
     {
-        set_words(&self.held, self.units, version)
-            + 3 * set_words(&self.kept, self.units, version)
+        self.held.words(version)
+            + 3 * self.kept.words(version)
             + set_words(&self.freed.blocks, self.units, version)
             + set_words(&self.late1.blocks, self.units, version)
             + set_words(&self.late2.blocks, self.units, version)
@@ -236,7 +237,8 @@ impl Units {
         ensures ok { OnOk result (Holds self.old self.new e) }
         ensures err { OnErr result (IsSameUses self.old self.new) }
     {
-        self.held.reserve(1)?;
+        self.held.renew()?;
+        self.kept.renew()?;
         self.born.reserve(1)?;
         self.held.add_reserved(e);
         self.born.add_reserved(e);

@@ -3,39 +3,15 @@
 //! A run of at most 32,768 units is one word. A device that has no more has no longer run, so there the words are as
 //! many as the extents; on a larger one the extents are gone over.
 ghost use Rattle.std.specs.Prelude.{◌≡◌, ◌⊎◌, ◌+◌, ◌^◌, ◌<◌, ◌≤◌, length};
-ghost use Rattle.zr_base.specs.Extents.{unit_count, IsMaximal};
-ghost use Rattle.zr_rules.specs.Owed.{extent_words, set_words};
+ghost use Rattle.zr_base.specs.Extents.{unit_count};
+ghost use Rattle.zr_rules.specs.Owed.{set_words};
 ghost use Rattle.zr_units.specs.Apart.{IsWithin};
 
-use zr_base::Extent;
+use zr_paged::words_of;
 use zr_ranges::RangeSet;
 
 /// The longest run, in units, that is one word.
 const SHORT: u64 = 32_768;
-
-/// The words of an extent.
-pub fn extent_words(e: Extent, version: u64) -> u64
-    ensures { result ≡ extent_words version e }
-{
-    if version == 1 {
-        return e.len.div_ceil(SHORT);
-    }
-    if e.len <= SHORT { 1 } else { 2 }
-}
-
-// The words of extents, each of which is gone over.
-fn words_of(extents: &[Extent], version: u64) -> u64
-    requires maximal { IsMaximal extents.now }
-    requires small { unit_count extents.now < 2 ^ 40 }
-    ensures words { result ≡ set_words version extents.now }
-    ensures few { result ≤ unit_count extents.now }
-{
-    let mut words = 0;
-    for e in extents {
-        words += extent_words(*e, version);
-    }
-    words
-}
 
 /// The words of a set of units below `units`.
 pub fn set_words(set: &RangeSet, units: u64, version: u64) -> u64

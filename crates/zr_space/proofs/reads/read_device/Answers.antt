@@ -22,8 +22,8 @@ returns-clause-some c =
     let marks1 = rw c.in-Some-3.is at c.in_ok-late1.ensures.used in
     let late2 = rw c.in-Some-4.is at c.in_ok-late2.ensures.some in
     let marks2 = rw c.in-Some-4.is at c.in_ok-late2.ensures.used in
-    subst (λ (x : Uses). IsRead row x c.read_late-2.new.used.extents) (sym c.of_sets.ensures)
-    (device_read row units c.in-Some.held.extents c.in-Some-2.kept.extents c.in-Some-3.late1.sets c.in-Some-4.late2.sets c.of_sets.result.spare c.args.used.now.extents c.read_set.new.used.extents c.read_late.new.used.extents c.read_late-2.new.used.extents
+    subst (λ (x : Uses). IsRead row x c.read_late-2.new.used.extents) (sym c.in_ok-read.ensures)
+    (device_read row units c.in-Some.held.extents c.in-Some-2.kept.extents c.in-Some-3.late1.sets c.in-Some-4.late2.sets c.in_ok-read.read.spare c.args.used.now.extents c.read_set.new.used.extents c.read_late.new.used.extents c.read_late-2.new.used.extents
     small c.units_there-units.ensures.units c.requires
     (subst (λ (es : List Extent). CanRead es c.args.used.now.extents units) (sym set) held)
     (subst (λ (es : List Extent). Marks es c.args.used.now.extents c.read_set.new.used.extents) (sym set) marks)

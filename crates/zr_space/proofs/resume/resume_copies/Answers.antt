@@ -1,6 +1,4 @@
-use Rattle.std.proofs.Common.{◌≡◌, ◌∙◌, ◌<◌, ℕ, List, Option, Some, None, length, refl, sym, ap, subst, arith}
-use Rattle.std.proofs.lemmas.Bool.Decides.{nat_tests}
-use Rattle.std.proofs.lemmas.List.{nil_from_length}
+use Rattle.std.proofs.Common.{◌≡◌, ◌∙◌, ◌<◌, ℕ, List, Option, Some, None, length, refl, sym, ap, subst}
 use Rattle.zr_base.specs.declared.space.Extent.{Extent}
 use Rattle.zr_evac.specs.Evacuations.{copies_at, hits_at}
 use Rattle.zr_space.specs.Reads.{AreCopied}
@@ -29,8 +27,8 @@ returns-clause-yes c = λ yes.
     λ d u. ap (λ (ps : List (ℕ × Extent)). hits_at ps d u) c.as_slice-2.ensures.value ∙ (c.in_ok-places.ensures.copies d u ∙ ap (λ (x : Kept). copies_at x.moves.fresh x.moves.entries d u) is) in
     let way : IsUnderWay c.args.ckpt k = record {
       quiet = c.if-not-is_clear.ensures.0 refl;
-      unkept = sym c.kept.ensures ∙ (sym c.extents.ensures.extents ∙ nil_from_length c.extents.result.now (let e = c.if-not-is_empty.ensures in grind (arith, nat_tests, e)));
-      copied = subst (λ (es : List Extent). AreCopied k.moves.entries k.moves.fresh es k.moves.opened) c.held.ensures ((rw c.if-not-branch.false at c.in_ok-are_copied.ensures).0 refl);
+      unkept = sym c.kept.ensures ∙ c.if-not-is_empty.ensures.0 refl;
+      copied = subst (λ (es : List Extent). AreCopied k.moves.entries k.moves.fresh es k.moves.opened) (c.in_ok-held.ensures ∙ c.held.ensures) ((rw c.if-not-branch.false at c.in_ok-are_copied.ensures).0 refl);
     } in
     resumes_one c.args.ckpt devs c.enter_all.new.devs.items i c.as_slice-2.result.now alone (subst (IsUnderWay c.args.ckpt) is way) places (c.in_ok-entered.ensures.yes yes)
 

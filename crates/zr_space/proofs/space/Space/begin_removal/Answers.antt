@@ -23,7 +23,7 @@ invariant_of-self-2 c =
     let k : Kept = record { row = c.device.inside.row; uses = c.device.inside.units; moves = c.device.inside.moves } in
     let there : d < length devs = let l : d < length (space_of c.self.inside.whole devs).parts.devs = subst (λ (s : Space). d < length s.parts.devs) (sym c.self.view_is) c.requires.known in let e = length-map devs part_in in omega (arith, l, e) in
     let is : k ≡ kept_of devs d = c.device.view_is ∙ kept_read devs d c.index_mut-device.result.now there c.index_mut-device.ensures.value in
-    let goes : GoesOn [] [] k.uses.held c.in_ok-moves.moves = subst (λ (es : List Entry). GoesOn es [] k.uses.held c.in_ok-moves.moves) c.new-map.ensures (subst (λ (es : List Extent). GoesOn c.new-map.result.entries es k.uses.held c.in_ok-moves.moves) c.new-marks.ensures (subst (λ (es : List Extent). GoesOn c.new-map.result.entries c.new-marks.result.extents es c.in_ok-moves.moves) c.held.ensures c.in_ok-moves.ensures)) in
+    let goes : GoesOn [] [] k.uses.held c.in_ok-moves.moves = subst (λ (es : List Entry). GoesOn es [] k.uses.held c.in_ok-moves.moves) c.new-map.ensures (subst (λ (es : List Extent). GoesOn c.new-map.result.entries es k.uses.held c.in_ok-moves.moves) c.new-marks.ensures (subst (λ (es : List Extent). GoesOn c.new-map.result.entries c.new-marks.result.extents es c.in_ok-moves.moves) (c.in_ok-held.ensures ∙ c.held.ensures) c.in_ok-moves.ensures)) in
     let begun : IsBegun c.self.inside.whole c.self.inside.slabs c.off.new.self devs d k c.in_ok-moves.moves = record {
       space = c.self.invariant;
       there = there;
@@ -46,7 +46,7 @@ returns-clause-ok c =
     let k : Kept = record { row = c.device.inside.row; uses = c.device.inside.units; moves = c.device.inside.moves } in
     let there : d < length devs = let l : d < length (space_of c.self.inside.whole devs).parts.devs = subst (λ (s : Space). d < length s.parts.devs) (sym c.self.view_is) c.requires.known in let e = length-map devs part_in in omega (arith, l, e) in
     let is : k ≡ kept_of devs d = c.device.view_is ∙ kept_read devs d c.index_mut-device.result.now there c.index_mut-device.ensures.value in
-    let goes : GoesOn [] [] k.uses.held c.in_ok-moves.moves = subst (λ (es : List Entry). GoesOn es [] k.uses.held c.in_ok-moves.moves) c.new-map.ensures (subst (λ (es : List Extent). GoesOn c.new-map.result.entries es k.uses.held c.in_ok-moves.moves) c.new-marks.ensures (subst (λ (es : List Extent). GoesOn c.new-map.result.entries c.new-marks.result.extents es c.in_ok-moves.moves) c.held.ensures c.in_ok-moves.ensures)) in
+    let goes : GoesOn [] [] k.uses.held c.in_ok-moves.moves = subst (λ (es : List Entry). GoesOn es [] k.uses.held c.in_ok-moves.moves) c.new-map.ensures (subst (λ (es : List Extent). GoesOn c.new-map.result.entries es k.uses.held c.in_ok-moves.moves) c.new-marks.ensures (subst (λ (es : List Extent). GoesOn c.new-map.result.entries c.new-marks.result.extents es c.in_ok-moves.moves) (c.in_ok-held.ensures ∙ c.held.ensures) c.in_ok-moves.ensures)) in
     let begun : IsBegun c.self.inside.whole c.self.inside.slabs c.off.new.self devs d k c.in_ok-moves.moves = record {
       space = c.self.invariant;
       there = there;

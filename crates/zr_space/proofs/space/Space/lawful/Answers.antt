@@ -1,7 +1,9 @@
 use Rattle.std.proofs.Common.{◌<◌, ◌≤◌, ◌^◌, ℕ, List, map, length, subst, sym, arith}
 use Rattle.std.proofs.lemmas.List.{length-map}
 use Rattle.zr_base.specs.declared.space.DevPart.{DevPart}
-use Rattle.zr_rules.specs.Places.{units_of_dev}
+use Rattle.zr_base.specs.Extents.{IsMaximal}
+use Rattle.zr_rules.specs.Columns.{late_blocks}
+use Rattle.zr_rules.specs.Places.{part_of, units_of_dev}
 use Rattle.zr_rules.specs.Space.{Space, IsLawful}
 use Rattle.zr_metaslab.specs.Devices.{Devices}
 use Rattle.zr_space.specs.Views.{Kept, part_in, IsSpace}
@@ -10,6 +12,7 @@ use Rattle.zr_rules.specs.Equation.{devices_in}
 use Rattle.zr_space.proofs.Freeables.{all_rising}
 use Rattle.zr_space.specs.declared.whole.Whole.{Whole}
 use Rattle.zr_space.proofs.Keeps.{lawful}
+use Rattle.zr_space.proofs.Totalling.{first_late_maximal, second_late_maximal}
 use Rattle.zr_space.proofs.Views.{part_is}
 use Rattle.zr_space.proofs.space.Space.lawful.Goals as goal
 
@@ -27,3 +30,9 @@ returns-clause-rising c = subst (λ (s : Space). (d : ℕ) → IsRising ((device
 
 pub returns-clause-few : goal.returns-clause-few
 returns-clause-few c = subst (λ (s : Space). length s.parts.devs ≤ 32) c.self.view_is (let f = c.self.invariant.few in let e = length-map c.self.inside.devs.items part_in in omega (arith, f, e))
+
+pub returns-clause-first_late : goal.returns-clause-first_late
+returns-clause-first_late c = subst (λ (s : Space). (d : ℕ) → IsMaximal (late_blocks (part_of s.parts.devs d).late1)) c.self.view_is (first_late_maximal c.self.inside.whole c.self.inside.slabs c.self.inside.devs.items c.self.invariant)
+
+pub returns-clause-second_late : goal.returns-clause-second_late
+returns-clause-second_late c = subst (λ (s : Space). (d : ℕ) → IsMaximal (late_blocks (part_of s.parts.devs d).late2)) c.self.view_is (second_late_maximal c.self.inside.whole c.self.inside.slabs c.self.inside.devs.items c.self.invariant)

@@ -16,7 +16,7 @@ loop-dev-preserved c =
     let k : Kept = record { row = c.device.inside.row; uses = c.device.inside.units; moves = c.device.inside.moves } in
     let there : dev < length devs = let e = c.loop-dev.invariant.end in let t = c.loop-dev-test.true in omega (arith, e, t) in
     let is : k ≡ kept_of devs dev = c.device.view_is ∙ kept_read devs dev c.index-device.result.now there c.index-device.ensures in
-    let kept : c.extents.result.now ≡ (kept_of devs dev).uses.kept = c.extents.ensures.extents ∙ (c.kept.ensures ∙ ap (λ (z : Kept). z.uses.kept) is) in
+    let kept : c.kept.result.now.extents ≡ (kept_of devs dev).uses.kept = c.kept.ensures ∙ ap (λ (z : Kept). z.uses.kept) is in
     let len : c.len.result ≡ length list = grind (arith, common_steps, c.len.ensures) in
     let items : c.push_lowest.new.list.items ≡ list ++ take (c.args.n - length list) (on_device dev (kept_of devs dev).uses.kept) =
     subst (λ (m : ℕ). c.push_lowest.new.list.items ≡ list ++ take (c.args.n - m) (on_device dev (kept_of devs dev).uses.kept)) len

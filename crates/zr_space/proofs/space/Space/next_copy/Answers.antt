@@ -16,7 +16,7 @@ returns-clause-some c =
     let k : Kept = record { row = c.device.inside.row; uses = c.device.inside.units; moves = c.device.inside.moves } in
     let is : k ≡ kept_of devs d = c.device.view_is ∙ kept_read devs d c.index-device.result.now (leaving_there devs d leaving) c.index-device.ensures in
     let read : IsRead c.self.inside.whole c.self.inside.slabs devs d k c.held.result.now.extents c.opened.result = record { space = c.self.invariant; leaving = leaving; kept = is; held = c.held.ensures; opened = c.opened.ensures } in
-    rw (← c.self.view_is) (lowest_some c.self.inside.whole c.self.inside.slabs devs d k c.held.result.now.extents c.opened.result read c.first_from.result c.first_from.ensures.value c.first_from.ensures.some)
+    rw (← c.self.view_is) (lowest_some c.self.inside.whole c.self.inside.slabs devs d k c.held.result.now.extents c.opened.result read c.first_from.result c.first_from.ensures.some)
 
 pub returns-clause-none : goal.returns-clause-none
 returns-clause-none c =

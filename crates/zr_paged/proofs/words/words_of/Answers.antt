@@ -1,6 +1,6 @@
 use Rattle.std.proofs.Common.{◌+◌, arith}
-use Rattle.zr_units.proofs.SetWords.{words_more, words_most, count_at_most}
-use Rattle.zr_units.proofs.words.words_of.Goals as goal
+use Rattle.zr_paged.proofs.SetWords.{words_more, words_most, count_at_most}
+use Rattle.zr_paged.proofs.words.words_of.Goals as goal
 
 pub overflow_add-words : goal.overflow_add-words
 overflow_add-words c =
