@@ -1,3 +1,4 @@
 pub mod Units
 pub mod Commits
 pub mod Lasting
+pub mod Ending

@@ -1,5 +1,5 @@
 -- Where nothing but units was written, labels and rings have their bytes.
-use Rattle.std.proofs.Common.{◌≡◌, ℕ, ◌<◌, List, length, map, sym, ◌∙◌, subst, arith}
+use Rattle.std.proofs.Common.{◌≡◌, ℕ, List, length, map, sym, ◌∙◌, subst, arith}
 use Rattle.std.specs.Prelude.{slice_index}
 use Rattle.zr_label.specs.Geometry.{label_block_at, ring_slot_at}
 use Rattle.zr_newest.specs.Newest.{KeepsRings}

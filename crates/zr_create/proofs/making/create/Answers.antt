@@ -1,4 +1,4 @@
-use Rattle.std.proofs.Common.{◌≡◌, ◌≤◌, ℕ, List, Ok, length, subst, sym, ◌∙◌, ap, arith}
+use Rattle.std.proofs.Common.{◌≡◌, ◌≤◌, ℕ, true, List, Ok, length, subst, sym, ◌∙◌, ap, arith}
 use Rattle.std.proofs.lemmas.List.{length-map}
 use Rattle.zr_shelf.specs.Disks.{Stand}
 use Rattle.std.specs.FinMap as map
@@ -11,6 +11,8 @@ use Rattle.zr_sync.proofs.Disks.{works_more, works_still}
 use Rattle.zr_create.proofs.Checking.{new_disks}
 use Rattle.zr_create.specs.Refusals.{ChecksNew}
 use Rattle.zr_slots.specs.Checks.{AreNamed}
+use Rattle.zr_last.proofs.Ending.{ends_by}
+use Rattle.zr_last.specs.Ends.{EndsCommitted}
 use Rattle.zr_create.proofs.Going.{with_some}
 use Rattle.zr_create.proofs.Lasting.{new_last}
 use Rattle.zr_create.proofs.Nothing.{new_serve, none_held}
@@ -69,6 +71,23 @@ returns-clause-objects g c = λ t.
     (none_held (g.S.Shelf.tells c.take_all.new.shelf) (g.S.Shelf.world c.take_all.new.shelf).now.seen before told
     (new_serve (g.S.Shelf.sizes c.take_all.new.shelf) (g.S.Shelf.sizes c.check_new.new.shelf) _ c.args.named.now before c.in_ok-take_all.ensures.pool c.in_ok-take_all.ensures.devices) (same.dir ∙ blank.dir) (ap (λ (x : Group). x.objects) same.group ∙ blank.objects)
     (ap entries same.cache ∙ blank.cache))
+
+pub returns-clause-ends : goal.returns-clause-ends
+returns-clause-ends g c = λ t.
+    let told = c.take_all.ensures.told (c.check_new.ensures.told t) in
+    let before = c.take_all.new.pool in
+    let blank = c.in_ok-pool.ensures.blank in
+    let same = c.in_ok-take_all.ensures.same in
+    let held = none_held (g.S.Shelf.tells c.take_all.new.shelf) (g.S.Shelf.world c.take_all.new.shelf).now.seen before told
+    (new_serve (g.S.Shelf.sizes c.take_all.new.shelf) (g.S.Shelf.sizes c.check_new.new.shelf) _ c.args.named.now before c.in_ok-take_all.ensures.pool c.in_ok-take_all.ensures.devices) (same.dir ∙ blank.dir) (ap (λ (x : Group). x.objects) same.group ∙ blank.objects)
+    (ap entries same.cache ∙ blank.cache) in
+    let done = c.in_ok-commit.ensures in
+    let commits = ends_by c.commit.ensures.sizes done.pool done.same done.last done.txg done.written done.ends done.empty done.stands done.safe held (done.stays map.empty held) in
+    record {
+      blank = before;
+      before = g.S.Shelf.world c.take_all.new.shelf;
+      commits = subst (λ (n : List ℕ). EndsCommitted n true before c.commit.new.pool map.empty (g.S.Shelf.world c.take_all.new.shelf) (g.S.Shelf.world c.commit.new.shelf)) (sym c.commit.ensures.sizes) commits;
+    }
 
 pub returns-clause-devices : goal.returns-clause-devices
 returns-clause-devices g c =
