@@ -16,3 +16,4 @@ pub mod Holding
 pub mod Edited
 pub mod Damaged
 pub mod Lasting
+pub mod Stopping

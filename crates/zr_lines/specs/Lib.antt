@@ -13,3 +13,4 @@ pub mod Intents
 pub mod Causes
 pub mod Changes
 pub mod Damage
+pub mod Stops

@@ -36,6 +36,7 @@ ghost use Rattle.zr_sync.specs.Objects.{HoldsObjects};
 ghost use Rattle.zr_lines.specs.Drops.{AreBlocksOf, AreFoundIn, GivesUp};
 ghost use Rattle.zr_lines.specs.Groups.{IsReadyGroup, SetsInGroup};
 ghost use Rattle.zr_lines.specs.Room.{LacksRoom, room_to_drop};
+ghost use Rattle.zr_lines.specs.Stops.{StaysInGroup, StaysInOneGroup, WritesInOneGroup};
 
 use crate::counts::{new_objects, pieces_of};
 use crate::present::blocks_present;
@@ -144,6 +145,8 @@ fn make_way_for<S: Shelf, P: Place>(
     ensures group { IsAnswered result → IsReadyGroup id pool.old.group pool.new.group }
     ensures takes { OnOk result (CanTake 0 (new_object pool.new.group id) pool.new.group) }
     ensures stays { CanTake 0 (new_object pool.old.group id) pool.old.group → (result ≡ Ok tt) × (pool.new ≡ pool.old) × (shelf.new ≡ shelf.old) }
+    ensures one_group { (objects : Objects) → HoldsObjects (S.tells shelf.old) (S.world shelf.old).now.seen pool.old objects → IsAnswered result → StaysInOneGroup (S.sizes shelf.old) objects pool.old pool.new (S.world shelf.old) (S.world shelf.new) }
+    ensures writes { (objects : Objects) → HoldsObjects (S.tells shelf.old) (S.world shelf.old).now.seen pool.old objects → WritesInOneGroup (S.sizes shelf.old) objects pool.old (S.world shelf.old) (S.world shelf.new) }
 {
     let objects = new_objects(pool, id);
     if pool.group.fits(0, objects) {
@@ -261,6 +264,7 @@ fn drop_ready<S: Shelf, P: Place>(
     ensures dropped { OnOk result (SetsObject id None pool.old.group pool.new.group) }
     ensures given { OnOk result ((blocks : List Bptr) × (reached : S) × (found : OpenPool) × AreFoundIn (S.tells shelf.old) (S.world shelf.old).now.seen pool.old id blocks × (CanTake 0 (new_object pool.old.group id) pool.old.group → WritesBlocks (S.sizes shelf.old) (S.sizes reached) (S.counts shelf.old) (S.counts reached) (S.tells shelf.old) (S.tells reached) (S.world shelf.old) (S.world reached) pool.old found) × (room_to_drop found.space found.group id blocks ≤ free_units found.space) × GivesUp blocks (S.tells reached) (S.world reached).now.seen found (S.tells shelf.new) (S.world shelf.new).now.seen pool.new) }
     ensures group { (r : Refusal) → IsErrOf result (No r) → pool.new.group ≡ pool.old.group }
+    ensures in_group { S.tells shelf.old → StaysInGroup pool.old pool.new (S.world shelf.old) (S.world shelf.new) }
 {
     let blocks = object_blocks(alloc, pool, shelf, pick, id)?;
     demand_to_drop(pool, id, blocks.as_slice())?;
@@ -294,6 +298,8 @@ pub fn drop<S: Shelf, P: Place>(
     ensures dropped { OnOk result (SetsInGroup id None pool.old.group pool.new.group) }
     ensures given { OnOk result ((blocks : List Bptr) × (reached : S) × (found : OpenPool) × AreFoundIn (S.tells shelf.old) (S.world shelf.old).now.seen pool.old id blocks × (CanTake 0 (new_object pool.old.group id) pool.old.group → WritesBlocks (S.sizes shelf.old) (S.sizes reached) (S.counts shelf.old) (S.counts reached) (S.tells shelf.old) (S.tells reached) (S.world shelf.old) (S.world reached) pool.old found) × (room_to_drop found.space found.group id blocks ≤ free_units found.space) × GivesUp blocks (S.tells reached) (S.world reached).now.seen found (S.tells shelf.new) (S.world shelf.new).now.seen pool.new) }
     ensures group { (r : Refusal) → IsErrOf result (No r) → IsReadyGroup id pool.old.group pool.new.group }
+    ensures one_group { (objects : Objects) → HoldsObjects (S.tells shelf.old) (S.world shelf.old).now.seen pool.old objects → IsAnswered result → StaysInOneGroup (S.sizes shelf.old) objects pool.old pool.new (S.world shelf.old) (S.world shelf.new) }
+    ensures writes { (objects : Objects) → HoldsObjects (S.tells shelf.old) (S.world shelf.old).now.seen pool.old objects → WritesInOneGroup (S.sizes shelf.old) objects pool.old (S.world shelf.old) (S.world shelf.new) }
 {
     if id > 65535 {
         return Err(Fault::No(Refusal::NoSuchObject));

@@ -19,6 +19,7 @@ ghost use Rattle.zr_lines.specs.Changes.{IsDone};
 ghost use Rattle.zr_lines.specs.Intents.{IsBehindCommit, IsReadyFor, Means};
 ghost use Rattle.zr_lines.specs.Reaches.{is_in_reach};
 ghost use Rattle.zr_lines.specs.declared.range.Reach.TheVariants.{Write};
+ghost use Rattle.zr_lines.specs.Stops.{StaysInOneGroup, WritesInOneGroup};
 
 use crate::intent::Intent;
 use crate::range::Reach;
@@ -62,6 +63,9 @@ fn mean<S: Shelf, P: Place>(
     ensures absent_object { (objects : Objects) → HoldsObjects (S.tells shelf.old) (S.world shelf.old).now.seen pool.old objects → IsErrOf result (No NoSuchObject) → map.get objects id ≡ None }
     ensures too_far_object { (objects : Objects) → HoldsObjects (S.tells shelf.old) (S.world shelf.old).now.seen pool.old objects → IsErrOf result (No OutOfRange) → IsObjectOf objects id (λ o. is_in_reach reach o.units edit.now ≡ false) }
     ensures ready { (objects : Objects) → HoldsObjects (S.tells shelf.old) (S.world shelf.old).now.seen pool.old objects → IfOk result (IsReadyFor (S.tells shelf.new) (S.world shelf.new).now.seen pool.new id edit.now objects) }
+    ensures one_group { (objects : Objects) → HoldsObjects (S.tells shelf.old) (S.world shelf.old).now.seen pool.old objects → OnOk result (StaysInOneGroup (S.sizes shelf.old) objects pool.old pool.new (S.world shelf.old) (S.world shelf.new)) }
+    ensures one_group_no { (objects : Objects) → HoldsObjects (S.tells shelf.old) (S.world shelf.old).now.seen pool.old objects → (r : Refusal) → IsErrOf result (No r) → StaysInOneGroup (S.sizes shelf.old) objects pool.old pool.new (S.world shelf.old) (S.world shelf.new) }
+    ensures writes { (objects : Objects) → HoldsObjects (S.tells shelf.old) (S.world shelf.old).now.seen pool.old objects → WritesInOneGroup (S.sizes shelf.old) objects pool.old (S.world shelf.old) (S.world shelf.new) }
 {
     if let Some(intent) = look_over(alloc, pool, shelf, pick, id, edit, reach)? {
         return Ok(intent);
@@ -110,6 +114,9 @@ pub fn change<S: Shelf, P: Place>(
     ensures too_far_object { (objects : Objects) → HoldsObjects (S.tells shelf.old) (S.world shelf.old).now.seen pool.old objects → IsErrOf result (No OutOfRange) → IsObjectOf objects id (λ o. is_in_reach reach o.units edit.now ≡ false) }
     ensures edited { (objects : Objects) (bytes : List ℕ) → HoldsObjects (S.tells shelf.old) (S.world shelf.old).now.seen pool.old objects → length bytes ≡ edit.now.len → ((k : ℕ) → k < edit.now.len → slice_index bytes k ≡ byte_put edit.now.bytes k)
         → OnOk result (IsObjectOf objects id (λ o. (is_in_reach reach o.units edit.now ≡ true) × (changes_lost o edit.now.off (length bytes) ≡ false) × HoldsObjects (S.tells shelf.new) (S.world shelf.new).now.seen pool.new (map.insert objects id (with_bytes o edit.now.off bytes)))) }
+    ensures one_group { (objects : Objects) → HoldsObjects (S.tells shelf.old) (S.world shelf.old).now.seen pool.old objects → OnOk result (StaysInOneGroup (S.sizes shelf.old) objects pool.old pool.new (S.world shelf.old) (S.world shelf.new)) }
+    ensures one_group_no { (objects : Objects) → HoldsObjects (S.tells shelf.old) (S.world shelf.old).now.seen pool.old objects → (r : Refusal) → IsErrOf result (No r) → StaysInOneGroup (S.sizes shelf.old) objects pool.old pool.new (S.world shelf.old) (S.world shelf.new) }
+    ensures writes { (objects : Objects) → HoldsObjects (S.tells shelf.old) (S.world shelf.old).now.seen pool.old objects → WritesInOneGroup (S.sizes shelf.old) objects pool.old (S.world shelf.old) (S.world shelf.new) }
 {
     let intent = mean(alloc, pool, shelf, pick, id, edit, reach)?;
     carry_out(alloc, pool, shelf, pick, id as u32, &intent, reach)

@@ -5,6 +5,10 @@
 //! changed. Only then is the room looked at, since a commit changes what is owed and what is free. The new blocks are put,
 //! the group records them, and only then the old ones are freed. So a line that is refused leaves the group as it found it.
 //!
+//! A line works in one group, the one that is open or the next one behind its commit: it writes nothing but units that were
+//! free there, or the group's own. So what a crash shows, wherever a line stops, is told by what it says of its group and of
+//! its commit.
+//!
 //! A checkpoint costs the metadata once more, beside that of the saved root, so there must be room for it beyond what is
 //! owed. To give one up takes no room of its own. What is kept is then given back by steps, so that no transaction group
 //! has to bear all of it.

@@ -25,6 +25,7 @@ ghost use Rattle.zr_last.specs.Last.{KeepsLast};
 ghost use Rattle.zr_lines.specs.Answers.{IsAnswered, IsMakeRefusal, IsNoRoom};
 ghost use Rattle.zr_lines.specs.Groups.{IsReadyGroup, SetsInGroup, blank, can_make};
 ghost use Rattle.zr_lines.specs.Room.{LacksRoom, room_for_group, room_to_make};
+ghost use Rattle.zr_lines.specs.Stops.{StaysInOneGroup, WritesInOneGroup};
 
 use crate::counts::new_objects;
 use crate::record::find;
@@ -99,6 +100,8 @@ fn make_absent<S: Shelf, P: Place>(
     ensures made { OnOk result (SetsInGroup id (Some (blank units)) pool.old.group pool.new.group) }
     ensures no_blocks { OnOk result (changes_in pool.new.group id ≡ []) }
     ensures group { (r : Refusal) → IsErrOf result (No r) → IsReadyGroup id pool.old.group pool.new.group }
+    ensures one_group { (objects : Objects) → HoldsObjects (S.tells shelf.old) (S.world shelf.old).now.seen pool.old objects → IsAnswered result → StaysInOneGroup (S.sizes shelf.old) objects pool.old pool.new (S.world shelf.old) (S.world shelf.new) }
+    ensures writes { (objects : Objects) → HoldsObjects (S.tells shelf.old) (S.world shelf.old).now.seen pool.old objects → WritesInOneGroup (S.sizes shelf.old) objects pool.old (S.world shelf.old) (S.world shelf.new) }
 {
     let objects = new_objects(pool, id);
     make_way(alloc, pool, shelf, pick, 0, objects)?;
@@ -138,6 +141,8 @@ pub fn make<S: Shelf, P: Place>(
     ensures made { OnOk result (SetsInGroup id (Some (blank units)) pool.old.group pool.new.group) }
     ensures no_blocks { OnOk result (changes_in pool.new.group id ≡ []) }
     ensures group { (r : Refusal) → IsErrOf result (No r) → IsReadyGroup id pool.old.group pool.new.group }
+    ensures one_group { (objects : Objects) → HoldsObjects (S.tells shelf.old) (S.world shelf.old).now.seen pool.old objects → IsAnswered result → StaysInOneGroup (S.sizes shelf.old) objects pool.old pool.new (S.world shelf.old) (S.world shelf.new) }
+    ensures writes { (objects : Objects) → HoldsObjects (S.tells shelf.old) (S.world shelf.old).now.seen pool.old objects → WritesInOneGroup (S.sizes shelf.old) objects pool.old (S.world shelf.old) (S.world shelf.new) }
 {
     if !can_make(id, units) {
         return Err(Fault::No(Refusal::OutOfRange));

@@ -23,6 +23,7 @@ ghost use Rattle.zr_model.specs.Objects.{Objects, has_lost, object_sum};
 ghost use Rattle.zr_sync.specs.Objects.{HoldsObjects};
 ghost use Rattle.zr_lines.specs.Damage.{IsDamageOf};
 ghost use Rattle.zr_lines.specs.Reads.{AreBytesOf, IsOutside, IsSumOf, IsReadOf, can_read};
+ghost use Rattle.zr_lines.specs.Stops.{StaysInGroup};
 
 use crate::present::{bytes_present, sum_present};
 use std::alloc::Global;
@@ -96,6 +97,7 @@ pub fn read<S: Shelf, P: Place>(
     ensures size { IfOk result (λ bytes. length bytes.items ≡ len) }
     ensures short { IfOk result (λ bytes. len ≤ 4096) }
     ensures bytes { (s : Stored) → HasBlocks (S.tells shelf.old) (S.world shelf.old).now.seen pool.old s → IfOk result (λ bytes. AreBytesOf s pool.old.dir pool.old.group id off len bytes.items) }
+    ensures in_group { S.tells shelf.old → StaysInGroup pool.old pool.new (S.world shelf.old) (S.world shelf.new) }
 {
     let mount = Mount {
         slots: &pool.table.slots,
@@ -168,6 +170,7 @@ pub fn sum<S: Shelf, P: Place>(
     ensures none { (s : Stored) → HasBlocks (S.tells shelf.old) (S.world shelf.old).now.seen pool.old s → IsErrOf result (No NoSuchObject) → record_now s pool.old.dir pool.old.group id ≡ None }
     ensures damaged { (s : Stored) → HasBlocks (S.tells shelf.old) (S.world shelf.old).now.seen pool.old s → (at : Dva) (expected found : List ℕ) → IsErrOf result (No (Damaged at expected found)) → IsDamageOf s pool.old.dir pool.old.group id (λ r index. Unit {0}) at expected found }
     ensures sum { (s : Stored) → HasBlocks (S.tells shelf.old) (S.world shelf.old).now.seen pool.old s → IfOk result (λ sum. IsSumOf s pool.old.dir pool.old.group id sum) }
+    ensures in_group { S.tells shelf.old → StaysInGroup pool.old pool.new (S.world shelf.old) (S.world shelf.new) }
 {
     let mount = Mount {
         slots: &pool.table.slots,

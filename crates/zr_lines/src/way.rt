@@ -12,6 +12,7 @@ ghost use Rattle.zr_model.specs.Objects.{Objects};
 ghost use Rattle.zr_sync.specs.Objects.{HoldsObjects};
 ghost use Rattle.zr_last.specs.Last.{KeepsLast};
 ghost use Rattle.zr_lines.specs.Sought.{CanTake};
+ghost use Rattle.zr_lines.specs.Stops.{StaysInOneGroup, WritesInOneGroup};
 
 use std::alloc::Global;
 use zr_shelf::Shelf;
@@ -46,6 +47,8 @@ pub fn make_way<S: Shelf, P: Place>(
     ensures due { IfOk result (λ done. done ≡ true → CanTake blocks objects pool.old.group → ⊥) }
     ensures empty { IfOk result (λ done. done ≡ true → pool.new.group.objects ≡ []) }
     ensures txg { IfOk result (λ done. done ≡ true → pool.new.group.txg ≡ pool.old.group.txg + 1) }
+    ensures one_group { (held : Objects) → HoldsObjects (S.tells shelf.old) (S.world shelf.old).now.seen pool.old held → OnOk result (StaysInOneGroup (S.sizes shelf.old) held pool.old pool.new (S.world shelf.old) (S.world shelf.new)) }
+    ensures writes { (held : Objects) → HoldsObjects (S.tells shelf.old) (S.world shelf.old).now.seen pool.old held → WritesInOneGroup (S.sizes shelf.old) held pool.old (S.world shelf.old) (S.world shelf.new) }
 {
     if pool.group.fits(blocks, objects) {
         return Ok(false);

@@ -8,6 +8,7 @@ use Rattle.zr_sync.proofs.Disks.{works_more}
 use Rattle.zr_lines.specs.Counts.{new_object}
 use Rattle.zr_lines.specs.Answers.{IsAnswered}
 use Rattle.zr_lines.proofs.Giving.{can_take, err_same, found_back, on_ok_map, wrote_back}
+use Rattle.zr_lines.proofs.Stopping.{in_group_itself, one_group_more, one_group_writes}
 use Rattle.zr_lines.proofs.drops.drop.Goals as goal
 
 pub returns-clause-disks : goal.returns-clause-disks
@@ -62,3 +63,29 @@ returns-in_err-make_way_for-clause-shown g c = λ told answered.
 
 pub returns-clause-shown : goal.returns-clause-shown
 returns-clause-shown g c = λ told answered h. c.drop_ready.ensures.shown (c.make_way_for.ensures.told told) (c.in_ok-make_way_for.ensures.shown told tt h)
+
+-- ---- one group
+
+pub returns-then-id-gt65535-clause-one_group : goal.returns-then-id-gt65535-clause-one_group
+returns-then-id-gt65535-clause-one_group g c = λ objects h answered. inl (in_group_itself c.args.pool.now (g.S.Shelf.world c.args.shelf.now))
+
+pub returns-then-id-gt65535-clause-writes : goal.returns-then-id-gt65535-clause-writes
+returns-then-id-gt65535-clause-writes g c = λ objects h. inl (in_group_itself c.args.pool.now (g.S.Shelf.world c.args.shelf.now)).written
+
+pub returns-in_err-make_way_for-clause-one_group : goal.returns-in_err-make_way_for-clause-one_group
+returns-in_err-make_way_for-clause-one_group g c = λ objects h answered.
+    let x = c.from_residual in
+    let gives = err_from_is_err_and x.result x.ensures.1 in
+    let asked = c.in_err-make_way_for in
+    asked.ensures.one_group objects h (subst (λ (r : Result (Unit {0}) Fault). IsAnswered r) (gives.1 ∙ err_same gives.0 _ gives.2) answered)
+
+pub returns-in_err-make_way_for-clause-writes : goal.returns-in_err-make_way_for-clause-writes
+returns-in_err-make_way_for-clause-writes g c = λ objects h. c.make_way_for.ensures.writes objects h
+
+pub returns-clause-one_group : goal.returns-clause-one_group
+returns-clause-one_group g c = λ objects h answered. one_group_more (c.in_ok-make_way_for.ensures.one_group objects h tt) (c.drop_ready.ensures.in_group (c.make_way_for.ensures.told h.held.told))
+
+pub returns-clause-writes : goal.returns-clause-writes
+returns-clause-writes g c = λ objects h.
+    let dropped = c.drop_ready.ensures.in_group (c.make_way_for.ensures.told h.held.told) in
+    one_group_writes (c.in_ok-make_way_for.ensures.one_group objects h tt) dropped.written

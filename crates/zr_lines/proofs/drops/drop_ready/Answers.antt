@@ -10,6 +10,7 @@ use Rattle.zr_lines.specs.Drops.{GivesUp}
 use Rattle.zr_lines.specs.Room.{LacksRoom, room_to_drop}
 use Rattle.zr_lines.proofs.Giving.{err_same, lacks_of, on_ok_map}
 use Rattle.zr_last.proofs.Lasting.{blocks_last}
+use Rattle.zr_lines.proofs.Stopping.{in_group_by, in_group_more}
 use Rattle.zr_lines.proofs.drops.drop_ready.Goals as goal
 
 pub returns-in_err-blocks-clause-disks : goal.returns-in_err-blocks-clause-disks
@@ -75,3 +76,14 @@ returns-clause-shown g c = λ told h.
     let found = c.object_blocks.new.shelf in
     let there = c.object_blocks.ensures.wrote.goes.told told in
     blocks_last c.object_blocks.ensures.pool (g.S.Shelf.sound found there).sized there c.free_object.ensures.wrote (blocks_last c.requires.pool (g.S.Shelf.sound c.args.shelf.now told).sized told c.object_blocks.ensures.wrote h)
+
+-- ---- one group
+
+pub returns-in_err-blocks-clause-in_group : goal.returns-in_err-blocks-clause-in_group
+returns-in_err-blocks-clause-in_group g c = λ told. in_group_by c.object_blocks.ensures.wrote told
+
+pub returns-in_err-demand_to_drop-clause-in_group : goal.returns-in_err-demand_to_drop-clause-in_group
+returns-in_err-demand_to_drop-clause-in_group g c = λ told. in_group_by c.object_blocks.ensures.wrote told
+
+pub returns-clause-in_group : goal.returns-clause-in_group
+returns-clause-in_group g c = λ told. in_group_more (in_group_by c.object_blocks.ensures.wrote told) (in_group_by c.free_object.ensures.wrote (c.object_blocks.ensures.wrote.goes.told told))

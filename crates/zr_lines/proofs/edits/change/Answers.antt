@@ -9,6 +9,7 @@ use Rattle.zr_lines.proofs.Edited.{held_when_ready, ready_stored, edited_ok}
 use Rattle.zr_lines.proofs.Locating.{kept_by, done_by, not_absent, not_far}
 use Rattle.zr_lines.proofs.Pools.{same_by, same_more}
 use Rattle.zr_last.proofs.Lasting.{blocks_last}
+use Rattle.zr_lines.proofs.Stopping.{in_group_by, one_group_more, one_group_writes}
 use Rattle.zr_lines.proofs.edits.change.Goals as goal
 
 pub returns-in_err-intent-clause-absent : goal.returns-in_err-intent-clause-absent
@@ -124,3 +125,29 @@ returns-clause-shown_no g c = λ told r is h.
     let meant = c.mean.new.shelf in
     let there = c.in_ok-intent.ensures.told told in
     blocks_last c.in_ok-intent.ensures.pool (g.S.Shelf.sound meant there).sized there (c.carry_out.ensures.wrote_no r is) (c.in_ok-intent.ensures.shown told h)
+
+-- ---- one group
+
+pub returns-in_err-intent-clause-one_group_no : goal.returns-in_err-intent-clause-one_group_no
+returns-in_err-intent-clause-one_group_no g c = λ objects h r is.
+    let e = c.in_err-intent in
+    let was = err_from_is_err_and c.from_residual.result c.from_residual.ensures.1 in
+    e.ensures.one_group_no objects h r cc
+
+pub returns-in_err-intent-clause-writes : goal.returns-in_err-intent-clause-writes
+returns-in_err-intent-clause-writes g c = λ objects h. c.mean.ensures.writes objects h
+
+pub returns-clause-one_group : goal.returns-clause-one_group
+returns-clause-one_group g c = λ objects h.
+    let meant = c.in_ok-intent.ensures in
+    on_ok_weaker c.carry_out.result (λ wrote. one_group_more (meant.one_group objects h) (in_group_by wrote (meant.told h.held.told))) c.carry_out.ensures.wrote
+
+pub returns-clause-one_group_no : goal.returns-clause-one_group_no
+returns-clause-one_group_no g c = λ objects h r is.
+    let meant = c.in_ok-intent.ensures in
+    one_group_more (meant.one_group objects h) (in_group_by (c.carry_out.ensures.wrote_no r is) (meant.told h.held.told))
+
+pub returns-clause-writes : goal.returns-clause-writes
+returns-clause-writes g c = λ objects h.
+    let meant = c.in_ok-intent.ensures in
+    one_group_writes (meant.one_group objects h) (c.carry_out.ensures.continues.written (meant.told h.held.told))

@@ -1,4 +1,4 @@
-use Rattle.std.proofs.Common.{Option, false, subst}
+use Rattle.std.proofs.Common.{Option, false, subst, inl, inr}
 use Rattle.std.specs.Prelude.{IfSome}
 use Rattle.std.proofs.lemmas.Result.{err_from_is_err_and}
 use Rattle.zr_sync.proofs.Disks.{works_more}
@@ -8,6 +8,8 @@ use Rattle.zr_lines.proofs.Locating.{behind_commit, absent_here, far_here, means
 use Rattle.zr_lines.proofs.Places.{takes_all}
 use Rattle.zr_lines.proofs.Pools.{same_by, works_by}
 use Rattle.zr_last.proofs.Lasting.{blocks_last, commit_last}
+use Rattle.zr_last.proofs.Ending.{ends_by}
+use Rattle.zr_lines.proofs.Stopping.{answered_writes, commits_before, in_group_by, next_group, one_group_before}
 use Rattle.zr_lines.proofs.edits.mean.Goals as goal
 
 -- ---- the first look
@@ -182,3 +184,52 @@ returns-clause-shown g c = λ told h.
     blocks_last done.pool (g.S.Shelf.sound committed behind).sized behind c.look_over-2.ensures.wrote
     (commit_last (g.S.Shelf.sizes looked) (g.S.Shelf.sizes committed) c.look_over.new.pool c.commit.new.pool false (g.S.Shelf.world looked) (g.S.Shelf.world committed) c.look_over.ensures.pool done.pool (g.S.Shelf.sound looked there).sized done.txg done.last (done.written there) done.same.guid done.same.table
     (blocks_last c.requires.pool (g.S.Shelf.sound c.args.shelf.now told).sized told c.look_over.ensures.wrote h))
+
+-- ---- one group
+
+pub returns-in_err-intent-clause-one_group_no : goal.returns-in_err-intent-clause-one_group_no
+returns-in_err-intent-clause-one_group_no g c = λ objects h r is. inl (in_group_by c.look_over.ensures.wrote h.held.told)
+
+pub returns-in_err-intent-clause-writes : goal.returns-in_err-intent-clause-writes
+returns-in_err-intent-clause-writes g c = λ objects h. inl (c.look_over.ensures.wrote.goes.written h.held.told)
+
+pub returns-in-Some-clause-one_group : goal.returns-in-Some-clause-one_group
+returns-in-Some-clause-one_group g c = λ objects h. inl (in_group_by c.look_over.ensures.wrote h.held.told)
+
+pub returns-in-Some-clause-writes : goal.returns-in-Some-clause-writes
+returns-in-Some-clause-writes g c = λ objects h. inl (c.look_over.ensures.wrote.goes.written h.held.told)
+
+pub returns-in_err-commit-clause-writes : goal.returns-in_err-commit-clause-writes
+returns-in_err-commit-clause-writes g c = λ objects h. inr (inl (commits_before c.look_over.ensures.wrote h.held.told (c.commit.ensures.leads objects (c.look_over.ensures.stays objects h))))
+
+pub returns-in_err-intent-2-clause-one_group_no : goal.returns-in_err-intent-2-clause-one_group_no
+returns-in_err-intent-2-clause-one_group_no g c = λ objects h r is.
+    let held = c.look_over.ensures.stays objects h in
+    let told = c.commit.ensures.told (c.look_over.ensures.wrote.goes.told h.held.told) in
+    let done = c.in_ok-commit.ensures in
+    let ends = ends_by c.commit.ensures.sizes done.pool done.same done.last done.txg done.written done.ends done.empty done.stands done.safe held (done.stays objects held) in
+    one_group_before c.look_over.ensures.wrote h.held.told (next_group ends (in_group_by c.look_over-2.ensures.wrote told))
+
+pub returns-in_err-intent-2-clause-writes : goal.returns-in_err-intent-2-clause-writes
+returns-in_err-intent-2-clause-writes g c = λ objects h.
+    let held = c.look_over.ensures.stays objects h in
+    let told = c.commit.ensures.told (c.look_over.ensures.wrote.goes.told h.held.told) in
+    let done = c.in_ok-commit.ensures in
+    let ends = ends_by c.commit.ensures.sizes done.pool done.same done.last done.txg done.written done.ends done.empty done.stands done.safe held (done.stays objects held) in
+    answered_writes (one_group_before c.look_over.ensures.wrote h.held.told (next_group ends (in_group_by c.look_over-2.ensures.wrote told)))
+
+pub returns-clause-one_group : goal.returns-clause-one_group
+returns-clause-one_group g c = λ objects h.
+    let held = c.look_over.ensures.stays objects h in
+    let told = c.commit.ensures.told (c.look_over.ensures.wrote.goes.told h.held.told) in
+    let done = c.in_ok-commit.ensures in
+    let ends = ends_by c.commit.ensures.sizes done.pool done.same done.last done.txg done.written done.ends done.empty done.stands done.safe held (done.stays objects held) in
+    one_group_before c.look_over.ensures.wrote h.held.told (next_group ends (in_group_by c.look_over-2.ensures.wrote told))
+
+pub returns-clause-writes : goal.returns-clause-writes
+returns-clause-writes g c = λ objects h.
+    let held = c.look_over.ensures.stays objects h in
+    let told = c.commit.ensures.told (c.look_over.ensures.wrote.goes.told h.held.told) in
+    let done = c.in_ok-commit.ensures in
+    let ends = ends_by c.commit.ensures.sizes done.pool done.same done.last done.txg done.written done.ends done.empty done.stands done.safe held (done.stays objects held) in
+    answered_writes (one_group_before c.look_over.ensures.wrote h.held.told (next_group ends (in_group_by c.look_over-2.ensures.wrote told)))

@@ -1,7 +1,7 @@
 use Rattle.zr_base.specs.declared.refusal.Refusal.TheVariants.{ObjectExists}
 use Rattle.zr_lines.proofs.Coming.{some_there, none_there, no_room_only}
 use Rattle.zr_lines.proofs.Giving.{on_ok_map}
-use Rattle.std.proofs.Common.{rules}
+use Rattle.std.proofs.Common.{rules, inl}
 use Rattle.std.proofs.Common.{◌≡◌, ◌∙◌, Bool, true, false, Option, Some, None, inr, refl, sym, subst}
 use Rattle.std.specs.Prelude.{is_some}
 use Rattle.zr_bptr.specs.declared.ObjRec.{ObjRec}
@@ -9,6 +9,7 @@ use Rattle.zr_txg.specs.Changes.{Changes}
 use Rattle.zr_sync.proofs.Disks.{works_more, works_writes}
 use Rattle.zr_lines.specs.Groups.{IsReadyGroup}
 use Rattle.zr_last.proofs.Lasting.{blocks_last}
+use Rattle.zr_lines.proofs.Stopping.{in_group_by, in_group_itself, one_group_before, writes_before}
 use Rattle.zr_lines.proofs.makes.make.Goals as goal
 
 no_yes : false ≡ true → ⊥
@@ -65,3 +66,29 @@ returns-then-is_some-clause-shown g c = λ told answered. blocks_last c.requires
 pub returns-clause-shown : goal.returns-clause-shown
 returns-clause-shown g c = λ told answered h.
     c.make_absent.ensures.shown (c.find.ensures.wrote.goes.told told) answered (blocks_last c.requires.pool (g.S.Shelf.sound c.args.shelf.now told).sized told c.find.ensures.wrote h)
+
+-- ---- one group
+
+pub returns-then-not-can_make-clause-one_group : goal.returns-then-not-can_make-clause-one_group
+returns-then-not-can_make-clause-one_group g c = λ objects h answered. inl (in_group_itself c.args.pool.now (g.S.Shelf.world c.args.shelf.now))
+
+pub returns-then-not-can_make-clause-writes : goal.returns-then-not-can_make-clause-writes
+returns-then-not-can_make-clause-writes g c = λ objects h. inl (in_group_itself c.args.pool.now (g.S.Shelf.world c.args.shelf.now)).written
+
+pub returns-in_err-find-clause-one_group : goal.returns-in_err-find-clause-one_group
+returns-in_err-find-clause-one_group g c = λ objects h answered. inl (in_group_by c.find.ensures.wrote h.held.told)
+
+pub returns-in_err-find-clause-writes : goal.returns-in_err-find-clause-writes
+returns-in_err-find-clause-writes g c = λ objects h. inl (c.find.ensures.wrote.goes.written h.held.told)
+
+pub returns-then-is_some-clause-one_group : goal.returns-then-is_some-clause-one_group
+returns-then-is_some-clause-one_group g c = λ objects h answered. inl (in_group_by c.find.ensures.wrote h.held.told)
+
+pub returns-then-is_some-clause-writes : goal.returns-then-is_some-clause-writes
+returns-then-is_some-clause-writes g c = λ objects h. inl (c.find.ensures.wrote.goes.written h.held.told)
+
+pub returns-clause-one_group : goal.returns-clause-one_group
+returns-clause-one_group g c = λ objects h answered. one_group_before c.find.ensures.wrote h.held.told (c.make_absent.ensures.one_group objects (c.find.ensures.stays objects h) answered)
+
+pub returns-clause-writes : goal.returns-clause-writes
+returns-clause-writes g c = λ objects h. writes_before c.find.ensures.wrote h.held.told (c.make_absent.ensures.writes objects (c.find.ensures.stays objects h))

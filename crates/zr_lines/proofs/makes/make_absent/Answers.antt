@@ -4,6 +4,7 @@ use Rattle.zr_lines.specs.Groups.{blank}
 use Rattle.zr_lines.proofs.Ways.{group_open, ready_group, ready_takes, set_limits}
 use Rattle.zr_last.proofs.Lasting.{same_last}
 use Rattle.zr_sync.specs.declared.open.OpenPool.{OpenPool}
+use Rattle.zr_lines.proofs.Stopping.{in_group_alone, one_group_more}
 use Rattle.zr_lines.proofs.makes.make_absent.Goals as goal
 
 pub returns-in_err-demand_to_make-clause-group : goal.returns-in_err-demand_to_make-clause-group
@@ -47,3 +48,11 @@ returns-clause-shown g c = λ told answered h.
     let rest = c.record_new.ensures.rest in
     same_last (g.S.Shelf.world c.make_way.new.shelf).now.seen c.make_way.new.pool c.record_new.new.pool
     (record { last = ap (λ (p : OpenPool). p.last) rest; guid = ap (λ (p : OpenPool). p.guid) rest; table = ap (λ (p : OpenPool). p.table) rest }) (c.in_ok-make_way.ensures.shown told h)
+
+-- ---- one group
+
+pub returns-in_err-demand_to_make-clause-one_group : goal.returns-in_err-demand_to_make-clause-one_group
+returns-in_err-demand_to_make-clause-one_group g c = λ objects h answered. c.in_ok-make_way.ensures.one_group objects h
+
+pub returns-clause-one_group : goal.returns-clause-one_group
+returns-clause-one_group g c = λ objects h answered. one_group_more (c.in_ok-make_way.ensures.one_group objects h) (in_group_alone (g.S.Shelf.world c.make_way.new.shelf) c.record_new.ensures.rest)

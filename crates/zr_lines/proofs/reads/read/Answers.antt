@@ -18,3 +18,10 @@ returns-clause-beyond g c = λ objects h is. outside_of_object c.args.pool.now o
 pub returns-clause-object : goal.returns-clause-object
 returns-clause-object g c = λ objects h.
     if_ok c.read_bytes.result (λ bytes are. bytes_of_object c.args.pool.now objects c.args.id h c.args.off c.args.len bytes.items are) (c.read_bytes.ensures.bytes h.stored h.held)
+
+-- ---- one group
+
+pub returns-clause-in_group : goal.returns-clause-in_group
+returns-clause-in_group g c = λ told.
+    let goes = c.read_bytes.ensures.continues in
+    record { written = goes.written told; space = goes.space; root = record { last = refl; guid = refl; table = refl } }

@@ -15,3 +15,10 @@ returns-clause-stays g c = λ objects h. objects_stay c.args.pool.now _ objects 
 pub returns-clause-object : goal.returns-clause-object
 returns-clause-object g c = λ objects h.
     if_ok c.read_sum.result (λ sum is. sum_of_object c.args.pool.now objects c.args.id h sum is) (c.read_sum.ensures.sum h.stored h.held)
+
+-- ---- one group
+
+pub returns-clause-in_group : goal.returns-clause-in_group
+returns-clause-in_group g c = λ told.
+    let goes = c.read_sum.ensures.continues in
+    record { written = goes.written told; space = goes.space; root = record { last = refl; guid = refl; table = refl } }

@@ -1,0 +1,39 @@
+-- What a line leaves for a crash: it works in one group.
+use Rattle.std.specs.Prelude.{◌⊎◌, ℕ, false, List}
+use Rattle.zr_last.specs.Last.{KeepsRoot}
+use Rattle.zr_last.specs.Ends.{EndsCommitted}
+use Rattle.zr_model.specs.Objects.{Objects}
+use Rattle.zr_shelf.specs.Moments.{World}
+use Rattle.zr_sync.specs.Leads.{CommitsObjects}
+use Rattle.zr_sync.specs.Writes.{WritesIntoFree}
+use Rattle.zr_sync.specs.declared.open.OpenPool.{OpenPool}
+use Rattle.zr_vdev.specs.Stores.{KeepsOthers}
+use Rattle.zr_vdev.specs.declared.kind.Kind.TheVariants.{Block}
+
+-- The line stayed in the open group: nothing was written but units that were free, or the group's own. No other unit may be written behind it, and the pool goes on from the same root.
+pub record StaysInGroup (old new : OpenPool) (before now : World) : Type 0 where
+  pub written : WritesIntoFree old before now
+  pub space : KeepsOthers Block old.space new.space
+  pub root : KeepsRoot old new
+
+-- the open group was committed with these objects, and the line stayed in the next one
+pub record StaysInNextGroup (sizes : List ℕ) (objects : Objects) (old new : OpenPool) (before now : World) : Type 0 where
+  pub next : OpenPool
+  pub start : World
+  pub commits : EndsCommitted sizes false old next objects before start
+  pub stays : StaysInGroup next new start now
+
+-- the line stayed in one group: the one that was open, or the next one, behind a commit
+abbrev pub StaysInOneGroup : List ℕ → Objects → OpenPool → OpenPool → World → World → Type 0
+StaysInOneGroup sizes objects old new before now = StaysInGroup old new before now ⊎ StaysInNextGroup sizes objects old new before now
+
+-- the open group was committed with these objects, and the line stopped in the next one
+pub record WritesInNextGroup (sizes : List ℕ) (objects : Objects) (old : OpenPool) (before now : World) : Type 0 where
+  pub next : OpenPool
+  pub start : World
+  pub commits : EndsCommitted sizes false old next objects before start
+  pub written : WritesIntoFree next start now
+
+-- What a line wrote, wherever it stopped: in the open group, in the commit of it, or in the next group behind that.
+abbrev pub WritesInOneGroup : List ℕ → Objects → OpenPool → World → World → Type 0
+WritesInOneGroup sizes objects old before now = WritesIntoFree old before now ⊎ (CommitsObjects sizes old false objects before now ⊎ WritesInNextGroup sizes objects old before now)
