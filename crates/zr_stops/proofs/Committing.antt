@@ -12,8 +12,7 @@ use Rattle.zr_bptr.specs.declared.Bptr.{Bptr}
 use Rattle.zr_bptr.specs.declared.Ptr.{Ptr}
 use Rattle.std.specs.Prelude.{take}
 use Rattle.zr_current.proofs.Committed.{goes_on, large}
-use Rattle.zr_current.proofs.Kept.{shown_still}
-use Rattle.zr_current.specs.Current.{GoesOnFrom, HasSlots, IsShownFor}
+use Rattle.zr_current.specs.Current.{GoesOnFrom, HasSlots}
 use Rattle.zr_current.specs.Next.{IsNextOf}
 use Rattle.zr_found.proofs.Alone.{one_meaning}
 use Rattle.zr_image.specs.Current.{slots_of}
@@ -25,11 +24,14 @@ use Rattle.zr_label.specs.Geometry.{whole}
 use Rattle.zr_label.specs.declared.root.Uber.{Uber}
 use Rattle.zr_model.specs.Objects.{Objects}
 use Rattle.zr_model.specs.State.{PoolState}
+use Rattle.zr_newest.proofs.Newest.{devices_seen, only_newest}
+use Rattle.zr_newest.specs.Newest.{IsNewestOn}
 use Rattle.zr_open.proofs.Left.{objects_meant}
 use Rattle.zr_open.proofs.Same.{shown_objects}
 use Rattle.zr_open.specs.Shown.{Shows}
 use Rattle.zr_rules.specs.Equation.{devices_in}
 use Rattle.zr_rules.specs.Places.{is_gone, is_leaving, no_part, part_of}
+use Rattle.zr_shelf.proofs.Doings.{added_throughout}
 use Rattle.zr_shelf.proofs.Runs.{joined, stays, weaker}
 use Rattle.zr_shelf.specs.Disks.{Stand}
 use Rattle.zr_shelf.specs.Moments.{IsStill, Throughout, World}
@@ -40,7 +42,7 @@ use Rattle.zr_store.specs.Store.{Stored}
 use Rattle.zr_sync.proofs.Holding.{below_labels, published_bytes}
 use Rattle.zr_sync.proofs.Rings.{address_keeps, uber_long}
 use Rattle.zr_sync.proofs.Standing.{head_same}
-use Rattle.zr_sync.specs.Commits.{IsNextRoot, PublishesRoot}
+use Rattle.zr_sync.specs.Commits.{IsNextRoot, IsShownFrom, PublishesRoot}
 use Rattle.zr_sync.specs.Heads.{HasHead, head_of}
 use Rattle.zr_sync.specs.Leads.{CommitsObjects, LeadsTo}
 use Rattle.zr_sync.specs.Pools.{IsAfter, IsOpen}
@@ -49,10 +51,11 @@ use Rattle.zr_sync.specs.declared.open.OpenPool.{OpenPool}
 use Rattle.zr_sync.specs.declared.open.Table.{Table}
 use Rattle.zr_vdev.specs.Runs.{view_of}
 use Rattle.zr_view.specs.Views.{View, address_bytes}
-use Rattle.zr_stops.proofs.Grouped.{group_writes}
-use Rattle.zr_stops.proofs.Images.{group_leaves, group_reads, group_sizes, leaves_now}
+use Rattle.zr_stops.proofs.Images.{Allowed, IsPending, KeepsClear, group_leaves, last_kept, newest_kept, pending_leaves, pending_step, seen_step, within_clear, within_pending}
 use Rattle.zr_stops.proofs.Putting.{IsPutting, almost_throughout, begun_throughout, putting_throughout, torn, units_kept}
 use Rattle.zr_stops.proofs.Torn.{torn_shows}
+use Rattle.zr_stops.proofs.Within.{group_within, within_writes}
+use Rattle.zr_stops.specs.Behind.{StandsInGroup, ShowsOnly}
 use Rattle.zr_stops.specs.Either.{CommitsGroup, ShowsEither}
 use Rattle.zr_stops.specs.Groups.{IsInGroup}
 use Rattle.zr_stops.specs.Last.{HasLast, IsCommitted, LeavesLast}
@@ -99,36 +102,51 @@ service_same sizes x y o q table on = record {
   stays = λ d. ap (λ (r : DevRow). is_leaving r.state) (row_same sizes x y o q table d) ∙ on.stays d;
 }
 
+-- ---- what leaves the last root shows its objects
+
+module _ (sizes : List ℕ) (last : Uber) (first : OpenPool) (before : Objects) (begin : Stand) (was : IsCommitted sizes begin last first before) (from : GoesOnFrom last first) (on : AreInService (devices_in first.space)) where
+  pub open_only : (stand : Stand) → LeavesLast last first before stand → ShowsOnly before stand
+  open_only stand keeps image left paths p shows =
+      let has = keeps image left.leaves in
+      one_meaning (store_of (view_of image first.table.slots first.space)) first.dir p.objects before
+      (shown_objects paths image sizes last first p was.ready on from has.head shows (only_newest image last first.table.slots shows.seen has.newest shows.shown shows.root.uber shows.current) (devices_seen image last first.table.slots shows.seen has.newest shows.shown)) has.objects
+
+  open_either : (after : Objects) (stand : Stand) → LeavesLast last first before stand → ShowsEither before after stand
+  open_either after stand keeps image left paths p shows = inl (open_only stand keeps image left paths p shows)
+
 -- ---- a group, and the root behind it
 
-module _ (sizes : List ℕ) (last : Uber) (first old : OpenPool) (before after : Objects) (begin start mid : World) (was : IsCommitted sizes begin.now last first before) (from : GoesOnFrom last first) (on : AreInService (devices_in first.space))
-    (group : IsInGroup first begin old start) (ready : IsOpen sizes old) (blocks : WritesIntoFree old start mid) where
-  wrote : WritesIntoFree first begin mid
-  wrote = group_writes first begin old old start mid group blocks
+module _ (sizes : List ℕ) (last : Uber) (first old : OpenPool) (before after : Objects) (begin : Stand) (start mid : World) (was : IsCommitted sizes begin last first before) (from : GoesOnFrom last first) (on : AreInService (devices_in first.space))
+    (group : StandsInGroup first begin old start.now) (ready : IsOpen sizes old) (blocks : WritesIntoFree old start mid) where
+  wrote : WritesIntoFree first start mid
+  wrote = within_writes first begin old old start mid group blocks
+
+  abbrev Pending : Stand → Type 0
+  Pending = IsPending sizes last first before begin was
+
+  pending : Throughout Pending start mid × Pending mid.now
+  pending = added_throughout Pending (Allowed sizes last first before begin was) (pending_step sizes last first before begin was) start mid wrote (within_pending sizes last first before begin was old start.now group)
+
+  clear_mid : KeepsClear sizes last first before begin was mid.now.seen
+  clear_mid =
+      (added_throughout (λ (s : Stand). KeepsClear sizes last first before begin was s.seen) (Allowed sizes last first before begin was) (seen_step sizes last first before begin was) start mid wrote (within_clear sizes last first before begin was old start.now group)).1
 
   reads : HasLast mid.now.seen last first before
-  reads = group_reads sizes last first before begin mid was wrote
+  reads = last_kept sizes last first before begin was mid.now.seen clear_mid
 
-  shown_mid : IsShownFor mid.now.seen last first
-  shown_mid = shown_still sizes first begin mid was.ready was.sized wrote last was.shown
+  newest_mid : IsNewestOn mid.now.seen last first.table.slots
+  newest_mid = newest_kept sizes last first before begin was mid.now.seen clear_mid
 
   mid_sizes : map length mid.now.seen ≡ sizes
-  mid_sizes = group_sizes sizes last first before begin mid was wrote
+  mid_sizes = clear_mid.same_sizes ∙ was.sized
 
   -- while the group is open
-  open_either : (stand : Stand) → LeavesLast last first before stand → ShowsEither before after stand
-  open_either stand keeps image left paths p shows =
-      let has = keeps image left.leaves in
-      inl
-      (one_meaning (store_of (view_of image first.table.slots first.space)) first.dir p.objects before
-      (shown_objects paths image sizes last first p was.ready on from has.head shows (has.current.alone shows.seen shows.shown shows.root.uber shows.current) (has.current.slots shows.seen shows.shown)) has.objects)
-
-  group_either : Throughout (ShowsEither before after) begin mid
-  group_either = weaker (LeavesLast last first before) (ShowsEither before after) begin mid open_either (group_leaves sizes last first before begin mid was wrote)
+  group_either : Throughout (ShowsEither before after) start mid
+  group_either = weaker Pending (ShowsEither before after) start mid (λ stand is. open_either sizes last first before begin was from on after stand (pending_leaves sizes last first before begin was stand is)) pending.0
 
   -- and where nothing is done behind it
-  still_either : (now : World) → IsStill mid now → Throughout (ShowsEither before after) begin now
-  still_either now unmoved = stays (ShowsEither before after) begin mid now group_either unmoved (open_either mid.now (leaves_now sizes last first before begin mid was wrote))
+  still_either : (now : World) → IsStill mid now → Throughout (ShowsEither before after) start now
+  still_either now unmoved = stays (ShowsEither before after) start mid now group_either unmoved (open_either sizes last first before begin was from on after mid.now (pending_leaves sizes last first before begin was mid.now pending.1))
 
   -- the root is published, and leads to a pool with these objects
   module _ (u : Uber) (next : OpenPool) (both all : List ℕ) (lawful : IsUber u) (is : IsNextOf last u) (in_both : (slot : ℕ) → Contains both slot → IsSlotInBoth (unwrap_or old.last u) u old.table.slots slot)
@@ -161,7 +179,7 @@ module _ (sizes : List ℕ) (last : Uber) (first old : OpenPool) (before after :
 
       one : ShowsOneOf image last u first
       one =
-          torn_shows first mid.now.seen image shown_mid.seen last u lawful is shown_mid.shown shown_mid.current shown_mid.slots
+          torn_shows first mid.now.seen image last u lawful is newest_mid
           (torn sizes both all u lawful (uber_long u lawful) mid mid_sizes big_both big_all stand putting image left)
 
       module _ (paths : List (List ℕ)) (p : PoolState) (shows : Shows paths image p) where
@@ -188,33 +206,46 @@ module _ (sizes : List ℕ) (last : Uber) (first old : OpenPool) (before after :
         ]
 
     -- at each moment while it is put
-    put_either : (now : World) → Throughout Putting mid now → Throughout (ShowsEither before after) begin now
-    put_either now putting = joined (ShowsEither before after) begin mid now group_either (weaker Putting (ShowsEither before after) mid now (λ stand put image left paths p shows. either stand put image left paths p shows) putting)
+    put_either : (now : World) → Throughout Putting mid now → Throughout (ShowsEither before after) start now
+    put_either now putting = joined (ShowsEither before after) start mid now group_either (weaker Putting (ShowsEither before after) mid now (λ stand put image left paths p shows. either stand put image left paths p shows) putting)
 
-    whole_either : (now : World) → IsPublished sizes both all u mid now → Throughout (ShowsEither before after) begin now
+    whole_either : (now : World) → IsPublished sizes both all u mid now → Throughout (ShowsEither before after) start now
     whole_either now p = put_either now (putting_throughout sizes both all u lawful (uber_long u lawful) mid mid_sizes big_both big_all now p)
 
-    part_either : (now : World) → IsPublishedInPart sizes both all u mid now → Throughout (ShowsEither before after) begin now
+    part_either : (now : World) → IsPublishedInPart sizes both all u mid now → Throughout (ShowsEither before after) start now
     part_either now (inl unmoved) = still_either now unmoved
     part_either now (inr (inl p)) = put_either now (begun_throughout sizes both all u lawful (uber_long u lawful) mid mid_sizes big_both big_all p.first now p.before p.wrote)
     part_either now (inr (inr p)) = put_either now (almost_throughout sizes both all u lawful (uber_long u lawful) mid mid_sizes big_both big_all p.first p.half p.second p.before p.wrote p.between p.durable now p.rest)
 
 -- ---- a commit that succeeded
 
+-- from where its lines began
+early_either : (sizes : List ℕ) (last : Uber) (first old : OpenPool) (before after : Objects) (begin start : World) → IsCommitted sizes begin.now last first before → GoesOnFrom last first → AreInService (devices_in first.space) → IsInGroup first begin old start
+    → Throughout (ShowsEither before after) begin start
+early_either sizes last first old before after begin start was from on group =
+    weaker (LeavesLast last first before) (ShowsEither before after) begin start (open_either sizes last first before begin.now was from on after) (group_leaves sizes last first before begin start was group.written)
+
+module _ (sizes : List ℕ) (last u : Uber) (first old new : OpenPool) (before after : Objects) (begin : Stand) (start mid now : World) (was : IsCommitted sizes begin last first before) (from : GoesOnFrom last first) (on : AreInService (devices_in first.space))
+    (group : StandsInGroup first begin old start.now) (ready : IsOpen sizes old) (wrote : WritesIntoFree old start mid) (shown : IsShownFrom sizes old u mid now) (lawful : IsUber u) (is_next : IsNextOf last u) (done : IsCommitted sizes now.now u new after) (to : GoesOnFrom u new) (table : new.table ≡ first.table) where
+  read_same : (x : Dva) → address_bytes (view_of mid.now.seen new.table.slots new.space) x ≡ address_bytes (view_of now.now.seen new.table.slots new.space) x
+  read_same x = sym (published_bytes sizes shown.both shown.all u (Ok tt) mid now new done.ready lawful shown.published x)
+
+  pub done_either : Throughout (ShowsEither before after) start now
+  done_either =
+      whole_either sizes last first old before after begin start mid was from on group ready wrote u new shown.both shown.all lawful is_next shown.in_both shown.in_all done.ready to table
+      (head_kept new now.now.seen mid.now.seen read_same u.root u.len done.head)
+      (objects_kept new now.now.seen mid.now.seen read_same after (objects_meant (Unit {0}) now.now.seen new after done.empty done.objects)) now shown.published
+
 pub commit_either : (sizes : List ℕ) (last u : Uber) (first old new : OpenPool) (before after : Objects) (begin start mid now : World) → CommitsGroup sizes last u first old new before after begin start mid now → Throughout (ShowsEither before after) begin now
 commit_either sizes last u first old new before after begin start mid now c =
-    whole_either sizes last first old before after begin start mid c.was c.from c.on c.group c.ready c.wrote u new c.shown.both c.shown.all c.lawful c.next c.shown.in_both c.shown.in_all c.done.ready c.to c.table
-    (head_kept new now.now.seen mid.now.seen same u.root u.len c.done.head)
-    (objects_kept new now.now.seen mid.now.seen same after (objects_meant (Unit {0}) now.now.seen new after c.done.empty c.done.objects)) now c.shown.published
-  where
-    same : (x : Dva) → address_bytes (view_of mid.now.seen new.table.slots new.space) x ≡ address_bytes (view_of now.now.seen new.table.slots new.space) x
-    same x = sym (published_bytes sizes c.shown.both c.shown.all u (Ok tt) mid now new c.done.ready c.lawful c.shown.published x)
+    joined (ShowsEither before after) begin start now (early_either sizes last first old before after begin start c.was c.from c.on c.group)
+    (done_either sizes last u first old new before after begin.now start mid now c.was c.from c.on (group_within sizes last first before begin old start c.was c.group) c.ready c.wrote c.shown c.lawful c.next c.done c.to c.table)
 
 -- ---- a commit, wherever it stops
 
 -- the pool goes on from its root through a group
-pub group_from : (last : Uber) (first old : OpenPool) (begin start : World) → IsInGroup first begin old start → GoesOnFrom last first → GoesOnFrom last old
-group_from last first old begin start group from = record {
+pub within_from : (last : Uber) (first old : OpenPool) (begin start : Stand) → StandsInGroup first begin old start → GoesOnFrom last first → GoesOnFrom last old
+within_from last first old begin start group from = record {
   last = group.last ∙ from.last;
   guid = group.guid ∙ from.guid;
   count = ap (λ (t : Table). t.count) group.table ∙ from.count;
@@ -229,11 +260,11 @@ next_of sizes reset last u old ready from next = record {
   rows = next.rows ∙ from.rows;
 }
 
-module _ (sizes : List ℕ) (reset : Bool) (last : Uber) (first old : OpenPool) (before after : Objects) (begin start now : World) (was : IsCommitted sizes begin.now last first before) (from : GoesOnFrom last first) (on : AreInService (devices_in first.space))
-    (group : IsInGroup first begin old start) (ready : IsOpen sizes old) where
+module _ (sizes : List ℕ) (reset : Bool) (last : Uber) (first old : OpenPool) (before after : Objects) (begin : Stand) (start now : World) (was : IsCommitted sizes begin last first before) (from : GoesOnFrom last first) (on : AreInService (devices_in first.space))
+    (group : StandsInGroup first begin old start.now) (ready : IsOpen sizes old) where
   module _ (mid : World) (blocks : WritesIntoFree old start mid) (u : Uber) (lawful : IsUber u) (next_root : IsNextRoot old reset u) (leads : LeadsTo sizes mid.now.seen old u after) where
     is : IsNextOf last u
-    is = next_of sizes reset last u old ready (group_from last first old begin start group from) next_root
+    is = next_of sizes reset last u old ready (within_from last first old begin start.now group from) next_root
 
     to : GoesOnFrom u leads.next
     to = goes_on old leads.next reset u leads.last next_root leads.same
@@ -244,13 +275,19 @@ module _ (sizes : List ℕ) (reset : Bool) (last : Uber) (first old : OpenPool) 
     objects : AreObjects (store_of (view_of mid.now.seen leads.next.table.slots leads.next.space)) leads.next.dir after
     objects = objects_meant (Unit {0}) mid.now.seen leads.next after leads.empty leads.holds
 
-    root_either : PublishesRoot sizes old u mid now → Throughout (ShowsEither before after) begin now
+    root_either : PublishesRoot sizes old u mid now → Throughout (ShowsEither before after) start now
     root_either (inl unmoved) = still_either sizes last first old before after begin start mid was from on group ready blocks now unmoved
     root_either (inr (inl part)) =
         part_either sizes last first old before after begin start mid was from on group ready blocks u leads.next part.both part.all lawful is part.in_both part.in_all leads.ready to table leads.head objects now part.published
     root_either (inr (inr shown)) =
         whole_either sizes last first old before after begin start mid was from on group ready blocks u leads.next shown.both shown.all lawful is shown.in_both shown.in_all leads.ready to table leads.head objects now shown.published
 
-  pub stopped_either : CommitsObjects sizes old reset after start now → Throughout (ShowsEither before after) begin now
-  stopped_either (mid, blocks, inl unmoved) = still_either sizes last first old before after begin start mid was from on group ready blocks now unmoved
-  stopped_either (mid, blocks, inr (u, lawful, next_root, leads, published)) = root_either mid blocks u lawful next_root leads published
+  pub stops_either : CommitsObjects sizes old reset after start now → Throughout (ShowsEither before after) start now
+  stops_either (mid, blocks, inl unmoved) = still_either sizes last first old before after begin start mid was from on group ready blocks now unmoved
+  stops_either (mid, blocks, inr (u, lawful, next_root, leads, published)) = root_either mid blocks u lawful next_root leads published
+
+pub stopped_either : (sizes : List ℕ) (reset : Bool) (last : Uber) (first old : OpenPool) (before after : Objects) (begin start now : World) → IsCommitted sizes begin.now last first before → GoesOnFrom last first → AreInService (devices_in first.space)
+    → IsInGroup first begin old start → IsOpen sizes old → CommitsObjects sizes old reset after start now → Throughout (ShowsEither before after) begin now
+stopped_either sizes reset last first old before after begin start now was from on group ready commits =
+    joined (ShowsEither before after) begin start now (early_either sizes last first old before after begin start was from on group)
+    (stops_either sizes reset last first old before after begin.now start now was from on (group_within sizes last first before begin old start was group) ready commits)

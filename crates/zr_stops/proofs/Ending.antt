@@ -2,15 +2,15 @@
 use Rattle.std.proofs.Common.{◌≡◌, inl, inr, ℕ, zero, suc, ◌<◌, ◌≤◌, Bool, List, [], ◌∷◌, map, length, Option, Some, None, refl, sym, ◌∙◌, subst, arith}
 use Rattle.std.specs.Prelude.{IfSome, slice_index, unwrap_or}
 use Rattle.std.proofs.lemmas.Bool.Decides.{nat_tests}
-use Rattle.zr_current.proofs.Committed.{commit_current, goes_on, large, sizes_kept}
-use Rattle.zr_current.proofs.Kept.{shown_still}
-use Rattle.zr_current.proofs.Showing.{commit_shown}
-use Rattle.zr_current.specs.Current.{GoesOnFrom, HasSlots, IsCurrentOn, IsShownFor}
-use Rattle.zr_image.specs.Current.{slots_of}
+use Rattle.zr_current.proofs.Committed.{goes_on, large, sizes_kept}
+use Rattle.zr_current.specs.Current.{GoesOnFrom}
 use Rattle.zr_label.specs.Blocks.{IsUber}
 use Rattle.zr_label.specs.Geometry.{whole}
 use Rattle.zr_label.specs.declared.root.Uber.{Uber}
+use Rattle.zr_last.proofs.Lasting.{commit_last}
+use Rattle.zr_last.specs.Last.{ShowsLast}
 use Rattle.zr_model.specs.Objects.{Objects}
+use Rattle.zr_newest.specs.Newest.{IsNewestOn}
 use Rattle.zr_shelf.proofs.Doings.{flushed_at_rest}
 use Rattle.zr_shelf.proofs.Runs.{joined, started, weaker}
 use Rattle.zr_shelf.specs.Disks.{Stand}
@@ -23,11 +23,12 @@ use Rattle.zr_sync.specs.Pools.{IsAfter, IsOpen}
 use Rattle.zr_sync.specs.Writes.{WritesIntoFree}
 use Rattle.zr_sync.specs.declared.open.OpenPool.{OpenPool}
 use Rattle.zr_sync.specs.declared.open.Table.{Table}
-use Rattle.zr_stops.proofs.Committing.{commit_either, group_from, next_of, service_same}
-use Rattle.zr_stops.proofs.Images.{group_sizes}
+use Rattle.zr_stops.proofs.Committing.{commit_either, next_of, service_same, within_from}
+use Rattle.zr_stops.proofs.Images.{group_reads, group_sizes}
 use Rattle.zr_stops.proofs.Putting.{base_end}
+use Rattle.zr_stops.proofs.Within.{group_within}
 use Rattle.zr_stops.specs.Either.{ShowsEither}
-use Rattle.zr_stops.specs.Ends.{EndsCommitted}
+use Rattle.zr_last.specs.Ends.{EndsCommitted}
 use Rattle.zr_stops.specs.Follows.{Commit, FollowOn, IsNextCommit, ShowsAmong, Stood, last_of}
 use Rattle.zr_stops.specs.Last.{IsCommitted}
 
@@ -38,14 +39,15 @@ some_last : (o : Option Uber) (txg : ℕ) → IsAfter o txg → 1 < txg → (u :
 some_last None txg after more = absurd (omega (arith, after, more))
 some_last (Some u) txg after more = (u, refl)
 
--- what is shown for a pool is so for one with the same devices
-shown_same : (disks : List (List ℕ)) (u : Uber) (x y : OpenPool) → y.table ≡ x.table → IsShownFor disks u x → IsShownFor disks u y
-shown_same disks u x y table is = record { seen = is.seen; shown = is.shown; current = is.current; slots = subst (λ (t : Table). HasSlots (slots_of u is.seen) t.slots) (sym table) is.slots }
+-- the newest root is so for a pool with the same devices
+pub newest_same : (disks : List (List ℕ)) (u : Uber) (x y : OpenPool) → y.table ≡ x.table → IsNewestOn disks u x.table.slots → IsNewestOn disks u y.table.slots
+newest_same disks u x y table is = subst (λ (t : Table). IsNewestOn disks u t.slots) (sym table) is
 
-current_same : (disks : List (List ℕ)) (u : Uber) (x y : OpenPool) → y.table ≡ x.table → IsCurrentOn disks u x → IsCurrentOn disks u y
-current_same disks u x y table is = record { current = is.current; alone = is.alone; slots = λ seen shown. subst (λ (t : Table). HasSlots (slots_of u seen) t.slots) (sym table) (is.slots seen shown) }
+-- the pool goes on from one root
+one_from : (v u : Uber) (pool : OpenPool) → GoesOnFrom v pool → pool.last ≡ Some u → v ≡ u
+one_from v u pool from is = let both : Some v ≡ Some u = sym from.last ∙ is in cc
 
-module _ (sizes : List ℕ) (reset : Bool) (last u : Uber) (old new : OpenPool) (objects : Objects) (before now : World) (ready : IsOpen sizes old) (from : GoesOnFrom last old) (sized : map length before.now.seen ≡ sizes) (was : IsShownFor before.now.seen last old)
+module _ (sizes : List ℕ) (reset : Bool) (last u : Uber) (old new : OpenPool) (objects : Objects) (before now : World) (ready : IsOpen sizes old) (from : GoesOnFrom last old) (sized : map length before.now.seen ≡ sizes) (was : IsNewestOn before.now.seen last old.table.slots)
     (h : EndsCommitted sizes reset old new objects before now) (root : new.last ≡ Some u) where
   next : IsNextRoot old reset u
   next = subst (λ (o : Option Uber). IfSome o (IsNextRoot old reset)) root h.last
@@ -79,6 +81,11 @@ module _ (sizes : List ℕ) (reset : Bool) (last u : Uber) (old new : OpenPool) 
   pub goes : GoesOnFrom u new
   goes = goes_on old new reset u root next h.same
 
+  newest_now : IsNewestOn now.now.seen u new.table.slots
+  newest_now =
+      let behind = commit_last sizes sizes old new reset before now ready h.pool sized h.txg h.last h.written h.same.guid h.same.table (record { root = last; from = from; newest = was }) in
+      subst (λ (v : Uber). IsNewestOn now.now.seen v new.table.slots) (one_from behind.root u new behind.from root) behind.newest
+
   pub committed : IsCommitted sizes now.now u new objects
   committed = record {
     ready = h.pool;
@@ -86,14 +93,31 @@ module _ (sizes : List ℕ) (reset : Bool) (last u : Uber) (old new : OpenPool) 
     settled = h.ends.ended.opened;
     rest = flushed_at_rest shown.published.whole.now now.now shown.published.behind.step;
     sized = now_sizes;
-    shown = shown_same now.now.seen u old new h.same.table (commit_shown sizes old reset last u before mid now ready from sized was lawful next written.1 shown);
-    current = current_same now.now.seen u old new h.same.table (commit_current sizes old reset last u before mid now ready from sized lawful next written.1 shown was.seen was.shown was.current was.slots);
+    newest = newest_now;
     head = subst (λ (o : Option Uber). IfSome o (λ (v : Uber). HasHead now.now.seen new v.root v.len)) root h.stands;
     safe = subst (λ (o : Option Uber). IfSome o (λ (v : Uber). HasSafeHead now.now.seen new v.root v.len)) root h.safe;
     objects = h.stays;
   }
 
-pub leaves_committed : (sizes : List ℕ) (reset : Bool) (last : Uber) (old new : OpenPool) (objects : Objects) (before now : World) → IsOpen sizes old → GoesOnFrom last old → map length before.now.seen ≡ sizes → IsShownFor before.now.seen last old
+-- where the disks show the last root behind it
+pub ends_committed : (sizes : List ℕ) (reset : Bool) (old new : OpenPool) (objects : Objects) (before now : World) → EndsCommitted sizes reset old new objects before now → (shows : ShowsLast now.now.seen new) → map length now.now.seen ≡ sizes → IsCommitted sizes now.now shows.root new objects
+ends_committed sizes reset old new objects before now h shows sized =
+    let root = shows.from.last in
+    let written = subst (λ (o : Option Uber). IfSome o (λ (v : Uber). (mid : World) × WritesIntoFree old before mid × IsShownFrom sizes old v mid now)) root h.written in
+    let published = written.2.published in
+    record {
+      ready = h.pool;
+      empty = h.empty;
+      settled = h.ends.ended.opened;
+      rest = flushed_at_rest published.whole.now now.now published.behind.step;
+      sized = sized;
+      newest = shows.newest;
+      head = subst (λ (o : Option Uber). IfSome o (λ (v : Uber). HasHead now.now.seen new v.root v.len)) root h.stands;
+      safe = subst (λ (o : Option Uber). IfSome o (λ (v : Uber). HasSafeHead now.now.seen new v.root v.len)) root h.safe;
+      objects = h.stays;
+    }
+
+pub leaves_committed : (sizes : List ℕ) (reset : Bool) (last : Uber) (old new : OpenPool) (objects : Objects) (before now : World) → IsOpen sizes old → GoesOnFrom last old → map length before.now.seen ≡ sizes → IsNewestOn before.now.seen last old.table.slots
     → EndsCommitted sizes reset old new objects before now → (u : Uber) × GoesOnFrom u new × IsCommitted sizes now.now u new objects
 leaves_committed sizes reset last old new objects before now ready from sized was h =
     let first = ready.first in
@@ -108,19 +132,19 @@ module _ (sizes : List ℕ) (a b : Commit) (stood : Stood sizes a) (next : IsNex
   c = stood.committed
 
   old_from : GoesOnFrom a.root next.old
-  old_from = group_from a.root a.pool next.old a.now next.start next.group stood.from
+  old_from = within_from a.root a.pool next.old a.now.now next.start.now (group_within sizes a.root a.pool a.objects a.now next.old next.start c next.group) stood.from
 
   old_sized : map length next.start.now.seen ≡ sizes
   old_sized = group_sizes sizes a.root a.pool a.objects a.now next.start c next.group.written
 
-  old_shown : IsShownFor next.start.now.seen a.root next.old
-  old_shown = shown_same next.start.now.seen a.root a.pool next.old next.group.table (shown_still sizes a.pool a.now next.start c.ready c.sized next.group.written a.root c.shown)
+  old_newest : IsNewestOn next.start.now.seen a.root next.old.table.slots
+  old_newest = newest_same next.start.now.seen a.root a.pool next.old next.group.table (group_reads sizes a.root a.pool a.objects a.now next.start c next.group.written).newest
 
   then_committed : IsCommitted sizes b.now.now b.root b.pool b.objects
-  then_committed = committed sizes next.reset a.root b.root next.old b.pool b.objects next.start b.now next.ready old_from old_sized old_shown next.ends next.root
+  then_committed = committed sizes next.reset a.root b.root next.old b.pool b.objects next.start b.now next.ready old_from old_sized old_newest next.ends next.root
 
   then_from : GoesOnFrom b.root b.pool
-  then_from = goes sizes next.reset a.root b.root next.old b.pool b.objects next.start b.now next.ready old_from old_sized old_shown next.ends next.root
+  then_from = goes sizes next.reset a.root b.root next.old b.pool b.objects next.start b.now next.ready old_from old_sized old_newest next.ends next.root
 
   table : b.pool.table ≡ a.pool.table
   table = next.ends.same.table ∙ next.group.table

@@ -7,25 +7,22 @@ use Rattle.zr_base.specs.Extents.{has_unit}
 use Rattle.zr_base.specs.declared.space.Dva.{Dva}
 use Rattle.zr_bptr.specs.declared.Bptr.{Bptr}
 use Rattle.zr_current.proofs.Committed.{IsAside, count_of, into_clear, label_aside, length_at, ring_aside}
-use Rattle.zr_current.proofs.Kept.{all_shown, shows_still}
-use Rattle.zr_current.proofs.Put.{long_seen, shows_at}
-use Rattle.zr_current.specs.Current.{IsCurrentOn}
 use Rattle.zr_found.proofs.Image.{held_are_found}
-use Rattle.zr_image.specs.Current.{ShowsAll, seen_at}
 use Rattle.zr_image.specs.Reading.{store_of}
 use Rattle.zr_label.specs.Geometry.{label_block_at, ring_slot_at, unit_at}
-use Rattle.zr_label.specs.declared.root.Seen.{Seen}
 use Rattle.zr_label.specs.declared.root.Uber.{Uber}
 use Rattle.zr_image.specs.StateOf.{AreObjects}
 use Rattle.zr_meta.specs.Heads.{head_bytes}
 use Rattle.zr_model.specs.Objects.{Objects}
+use Rattle.zr_newest.proofs.Newest.{newest_still}
+use Rattle.zr_newest.specs.Newest.{IsNewestOn, KeepsRings}
 use Rattle.zr_root.proofs.Beside.{bytes_beside}
 use Rattle.zr_rules.specs.Equation.{devices_in}
 use Rattle.zr_rules.specs.Places.{in_address}
 use Rattle.zr_rules.specs.Resolve.{leads_to}
 use Rattle.zr_rules.specs.Roles.{Role, is_live_role, is_meta_role}
 use Rattle.zr_rules.specs.Space.{OpenSets, Space, is_born, role_at}
-use Rattle.zr_scan.specs.Scan.{Shows, block_of, ring_block}
+use Rattle.zr_scan.specs.Scan.{block_of, ring_block}
 use Rattle.zr_shelf.proofs.Doings.{added_throughout}
 use Rattle.zr_shelf.proofs.Runs.{weaker}
 use Rattle.zr_shelf.specs.Disks.{IsUntouched, MayLeave, Meets, PendingWrite, Stand, disk, part}
@@ -44,6 +41,7 @@ use Rattle.zr_vdev.specs.Stores.{IsStoredAt, IsWriteInto, is_open_role}
 use Rattle.zr_vdev.specs.declared.kind.Kind.TheVariants.{Block}
 use Rattle.zr_view.specs.Runs.{bytes_from}
 use Rattle.zr_view.specs.Views.{View, address_bytes, slot_of}
+use Rattle.zr_stops.specs.Behind.{StandsInGroup}
 use Rattle.zr_stops.specs.Last.{HasLast, IsCommitted, IsSettled, LeavesLast}
 
 -- ---- roles
@@ -82,10 +80,10 @@ module _ (sizes : List ℕ) (u : Uber) (pool : OpenPool) (objects : Objects) (st
   Allowed = IsWriteInto Block slots pool.space
 
   -- the disks are durable as they read at the start, and what is pending lies in units that were free
-  abbrev IsPending : Stand → Type 0
+  abbrev pub IsPending : Stand → Type 0
   IsPending stand = (stand.durable ≡ start.seen) × AllByRecursion Allowed stand.writes
 
-  pending_step : (a b : Stand) → Adds Allowed a b → IsPending a → IsPending b
+  pub pending_step : (a b : Stand) → Adds Allowed a b → IsPending a → IsPending b
   pending_step a b (added_none is) h = subst IsPending (sym is) h
   pending_step a b (added w may written) h = (written.durable ∙ h.0, subst (AllByRecursion Allowed) (sym written.writes) (may, h.1))
 
@@ -126,12 +124,19 @@ module _ (sizes : List ℕ) (u : Uber) (pool : OpenPool) (objects : Objects) (st
   }
 
   -- and so the disks read
-  seen_step : (a b : Stand) → Adds Allowed a b → KeepsClear a.seen → KeepsClear b.seen
+  pub seen_step : (a b : Stand) → Adds Allowed a b → KeepsClear a.seen → KeepsClear b.seen
   seen_step a b (added_none is) h = subst (λ (s : Stand). KeepsClear s.seen) (sym is) h
   seen_step a b (added w may written) h = record {
     same_sizes = written.seen.sizes ∙ h.same_sizes;
     part_kept = λ slot at n clear. written.seen.bytes slot at n (clear w may, tt) ∙ h.part_kept slot at n clear;
   }
+
+  -- within a group too
+  pub within_pending : (old : OpenPool) (now : Stand) → StandsInGroup pool start old now → IsPending now
+  within_pending old now within = (within.durable, within.writes)
+
+  pub within_clear : (old : OpenPool) (now : Stand) → StandsInGroup pool start old now → KeepsClear now.seen
+  within_clear old now within = record { same_sizes = within.seen.sizes; part_kept = λ slot at n clear. within.seen.bytes slot at n (clear_of_all slot at n clear now.writes within.writes) }
 
   seen_start : KeepsClear start.seen
   seen_start = record { same_sizes = refl; part_kept = λ slot at n clear. refl }
@@ -167,23 +172,19 @@ module _ (sizes : List ℕ) (u : Uber) (pool : OpenPool) (objects : Objects) (st
           subst (λ (size : ℕ). ring_block size (disk start.seen sl) n k ≡ ring_block size (disk image sl) n k) (sym image_size)
           (aside_kept (ring_slot_at (slice_index sizes sl) n k) (ring_aside (slice_index sizes sl) n k few low))
 
-      shown_before : (x : Seen) → Shows (length (disk image sl)) (disk image sl) x → Shows (length (disk start.seen sl)) (disk start.seen sl) x
-      shown_before x is =
-          subst (λ (size : ℕ). Shows size (disk start.seen sl) x) (sym old_size)
-          (shows_still (length (disk image sl)) (disk image sl) (disk start.seen sl) label_kept ring_kept x is)
-
-    -- what is seen of the image was seen of the disks
-    all_before : (seen : List Seen) → ShowsAll image seen → ShowsAll start.seen seen
-    all_before seen shown =
-        all_shown start.seen seen (long_seen image seen shown ∙ count_of start.seen image keeps.same_sizes)
-        (λ slot lt. shown_before slot (seen_at seen slot) (shows_at image seen shown slot lt))
-
-    current_kept : IsCurrentOn image u pool
-    current_kept = record {
-      current = λ seen shown. was.current.current seen (all_before seen shown);
-      alone = λ seen shown. was.current.alone seen (all_before seen shown);
-      slots = λ seen shown. was.current.slots seen (all_before seen shown);
+    -- the labels and the rings are as they were
+    pub rings_still : KeepsRings start.seen image
+    rings_still = record {
+      labels = record {
+        count = count_of start.seen image keeps.same_sizes;
+        sizes = λ sl. sym (old_size sl);
+        labels = λ sl n few. subst (λ (size : ℕ). block_of size (disk image sl) n ≡ block_of size (disk start.seen sl) n) (sym (old_size sl)) (sym (label_kept sl n few));
+      };
+      rings = λ sl n k few low. subst (λ (size : ℕ). ring_block size (disk image sl) n k ≡ ring_block size (disk start.seen sl) n k) (sym (old_size sl)) (sym (ring_kept sl n k few low));
     }
+
+    pub newest_kept : IsNewestOn image u pool.table.slots
+    newest_kept = newest_still start.seen image u pool.table.slots rings_still was.newest
 
     -- ---- the head and the objects
 
@@ -210,7 +211,7 @@ module _ (sizes : List ℕ) (u : Uber) (pool : OpenPool) (objects : Objects) (st
         (λ b met. block_kept b (at_each (IsStoredAt Block pool.space None) was.objects.stored.pointers b.at was.objects.held.stored met)) was.objects.has
 
     pub last_kept : HasLast image u pool objects
-    last_kept = record { current = current_kept; head = head_kept; objects = objects_kept }
+    last_kept = record { newest = newest_kept; head = head_kept; objects = objects_kept }
 
 -- at each moment from where the group began, and now
 group_pending : (sizes : List ℕ) (u : Uber) (pool : OpenPool) (objects : Objects) (before now : World) (was : IsCommitted sizes before.now u pool objects) → WritesIntoFree pool before now
@@ -218,15 +219,15 @@ group_pending : (sizes : List ℕ) (u : Uber) (pool : OpenPool) (objects : Objec
 group_pending sizes u pool objects before now was wrote =
     added_throughout (IsPending sizes u pool objects before.now was) (Allowed sizes u pool objects before.now was) (pending_step sizes u pool objects before.now was) before now wrote (pending_start sizes u pool objects before.now was)
 
-pending_leaves : (sizes : List ℕ) (u : Uber) (pool : OpenPool) (objects : Objects) (before : World) (was : IsCommitted sizes before.now u pool objects) (stand : Stand) → IsPending sizes u pool objects before.now was stand → LeavesLast u pool objects stand
-pending_leaves sizes u pool objects before was stand pending image leaves = last_kept sizes u pool objects before.now was image (crash_clear sizes u pool objects before.now was stand pending image leaves)
+pub pending_leaves : (sizes : List ℕ) (u : Uber) (pool : OpenPool) (objects : Objects) (before : Stand) (was : IsCommitted sizes before u pool objects) (stand : Stand) → IsPending sizes u pool objects before was stand → LeavesLast u pool objects stand
+pending_leaves sizes u pool objects before was stand pending image leaves = last_kept sizes u pool objects before was image (crash_clear sizes u pool objects before was stand pending image leaves)
 
 pub group_leaves : (sizes : List ℕ) (u : Uber) (pool : OpenPool) (objects : Objects) (before now : World) → IsCommitted sizes before.now u pool objects → WritesIntoFree pool before now → Throughout (LeavesLast u pool objects) before now
 group_leaves sizes u pool objects before now was wrote =
-    weaker (IsPending sizes u pool objects before.now was) (LeavesLast u pool objects) before now (pending_leaves sizes u pool objects before was) (group_pending sizes u pool objects before now was wrote).0
+    weaker (IsPending sizes u pool objects before.now was) (LeavesLast u pool objects) before now (pending_leaves sizes u pool objects before.now was) (group_pending sizes u pool objects before now was wrote).0
 
 pub leaves_now : (sizes : List ℕ) (u : Uber) (pool : OpenPool) (objects : Objects) (before now : World) → IsCommitted sizes before.now u pool objects → WritesIntoFree pool before now → LeavesLast u pool objects now.now
-leaves_now sizes u pool objects before now was wrote = pending_leaves sizes u pool objects before was now.now (group_pending sizes u pool objects before now was wrote).1
+leaves_now sizes u pool objects before now was wrote = pending_leaves sizes u pool objects before.now was now.now (group_pending sizes u pool objects before now was wrote).1
 
 -- the disks read so too
 pub group_reads : (sizes : List ℕ) (u : Uber) (pool : OpenPool) (objects : Objects) (before now : World) → IsCommitted sizes before.now u pool objects → WritesIntoFree pool before now → HasLast now.now.seen u pool objects

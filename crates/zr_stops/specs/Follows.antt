@@ -10,7 +10,7 @@ use Rattle.zr_rules.specs.Equation.{devices_in}
 use Rattle.zr_shelf.specs.Disks.{Stand}
 use Rattle.zr_shelf.specs.Moments.{World}
 use Rattle.zr_space.specs.Paths.{AreInService}
-use Rattle.zr_stops.specs.Ends.{EndsCommitted}
+use Rattle.zr_last.specs.Ends.{EndsCommitted}
 use Rattle.zr_stops.specs.Groups.{IsInGroup}
 use Rattle.zr_stops.specs.Last.{IsCommitted}
 use Rattle.zr_sync.specs.Pools.{IsOpen}

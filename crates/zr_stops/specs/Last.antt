@@ -1,10 +1,10 @@
 -- The last root of an open pool, on the disks and on what a crash may leave of them.
 use Rattle.std.specs.Prelude.{◌≡◌, ℕ, List, [], length, map}
-use Rattle.zr_current.specs.Current.{IsCurrentOn, IsShownFor}
 use Rattle.zr_image.specs.Reading.{store_of}
 use Rattle.zr_image.specs.StateOf.{AreObjects}
 use Rattle.zr_label.specs.declared.root.Uber.{Uber}
 use Rattle.zr_model.specs.Objects.{Objects}
+use Rattle.zr_newest.specs.Newest.{IsNewestOn}
 use Rattle.zr_rules.specs.Space.{Space, nothing_opened, opened_of}
 use Rattle.zr_shelf.specs.Disks.{IsAtRest, MayLeave, Stand}
 use Rattle.zr_sync.specs.Heads.{HasHead, HasSafeHead}
@@ -17,22 +17,22 @@ use Rattle.zr_vdev.specs.Runs.{view_of}
 abbrev pub IsSettled : Space → Type 0
 IsSettled s = (d : ℕ) → opened_of s d ≡ nothing_opened
 
--- The pool stands as its last commit left it: nothing has changed since and nothing is pending. The disks show its last root, and have its head and its objects.
+-- The pool stands as its last commit left it: nothing has changed since and nothing is pending. Its last root is the newest of the pool on the disks, which have its head and its
+-- objects.
 pub record IsCommitted (sizes : List ℕ) (stand : Stand) (u : Uber) (pool : OpenPool) (all : Objects) : Type 0 where
   pub ready : IsOpen sizes pool
   pub empty : pool.group.objects ≡ []
   pub settled : IsSettled pool.space
   pub rest : IsAtRest stand
   pub sized : map length stand.seen ≡ sizes
-  pub shown : IsShownFor stand.seen u pool
-  pub current : IsCurrentOn stand.seen u pool
+  pub newest : IsNewestOn stand.seen u pool.table.slots
   pub head : HasHead stand.seen pool u.root u.len
   pub safe : HasSafeHead stand.seen pool u.root u.len
   pub objects : HoldsObjects (Unit {0}) stand.seen pool all
 
--- The image has the pool's last root: it is the current one whatever is seen of the slots, its head stands at its pointer, and its directory means these objects.
+-- The image has the pool's last root: it is the newest of the pool there, its head stands at its pointer, and its directory means these objects.
 pub record HasLast (image : List (List ℕ)) (u : Uber) (pool : OpenPool) (all : Objects) : Type 0 where
-  pub current : IsCurrentOn image u pool
+  pub newest : IsNewestOn image u pool.table.slots
   pub head : HasHead image pool u.root u.len
   pub objects : AreObjects (store_of (view_of image pool.table.slots pool.space)) pool.dir all
 

@@ -2,5 +2,5 @@ pub mod Last
 pub mod Groups
 pub mod Torn
 pub mod Either
-pub mod Ends
 pub mod Follows
+pub mod Behind

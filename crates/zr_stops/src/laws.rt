@@ -4,7 +4,8 @@ ghost use Rattle.zr_label.specs.declared.root.Uber.{Uber};
 ghost use Rattle.zr_model.specs.Objects.{Objects};
 ghost use Rattle.zr_model.specs.State.{PoolState};
 ghost use Rattle.zr_open.specs.Shown.{Shows};
-ghost use Rattle.zr_current.specs.Current.{GoesOnFrom, IsShownFor};
+ghost use Rattle.zr_current.specs.Current.{GoesOnFrom};
+ghost use Rattle.zr_newest.specs.Newest.{IsNewestOn};
 ghost use Rattle.zr_rules.specs.Equation.{devices_in};
 ghost use Rattle.zr_shelf.specs.Moments.{Throughout, World};
 ghost use Rattle.zr_space.specs.Paths.{AreInService};
@@ -15,7 +16,7 @@ ghost use Rattle.zr_sync.specs.declared.open.OpenPool.{OpenPool};
 ghost use Rattle.zr_stops.specs.Either.{CommitsGroup, ShowsEither};
 ghost use Rattle.zr_vdev.specs.Stores.{KeepsOthers};
 ghost use Rattle.zr_vdev.specs.declared.kind.Kind.TheVariants.{Block};
-ghost use Rattle.zr_stops.specs.Ends.{EndsCommitted};
+ghost use Rattle.zr_last.specs.Ends.{EndsCommitted};
 ghost use Rattle.zr_stops.specs.Follows.{Commit, FollowOn, ShowsAmong, Stood, last_of};
 ghost use Rattle.zr_stops.specs.Groups.{IsInGroup};
 ghost use Rattle.zr_stops.specs.Last.{HasLast, IsCommitted, LeavesLast};
@@ -32,7 +33,7 @@ pub fn lines_stay_in_their_group()
 {}
 
 /// Where nothing was written since a commit but units that were free then, whatever a crash leaves at any moment has the root
-/// of the commit as the current one, with its head and its objects.
+/// of the commit as the newest one, with its head and its objects.
 pub fn a_group_leaves_the_last_root()
     ensures { (sizes : List ℕ) (u : Uber) (pool : OpenPool) (objects : Objects) (before now : World) → IsCommitted sizes before.now u pool objects → WritesIntoFree pool before now → Throughout (LeavesLast u pool objects) before now }
 {}
@@ -50,10 +51,10 @@ pub fn a_commit_leaves_one_of_two_states()
         → Throughout (ShowsEither before after) begin now }
 {}
 
-/// A commit of a pool whose last root the slots showed leaves it committed, by what the commit says of its end: so the next group
+/// A commit of a pool whose last root was its newest on the disks leaves it committed, by what the commit says of its end: so the next group
 /// begins as this one did.
 pub fn a_commit_leaves_the_pool_committed()
-    ensures { (sizes : List ℕ) (reset : Bool) (last : Uber) (old new : OpenPool) (objects : Objects) (before now : World) → IsOpen sizes old → GoesOnFrom last old → map length before.now.seen ≡ sizes → IsShownFor before.now.seen last old
+    ensures { (sizes : List ℕ) (reset : Bool) (last : Uber) (old new : OpenPool) (objects : Objects) (before now : World) → IsOpen sizes old → GoesOnFrom last old → map length before.now.seen ≡ sizes → IsNewestOn before.now.seen last old.table.slots
         → EndsCommitted sizes reset old new objects before now → (u : Uber) × GoesOnFrom u new × IsCommitted sizes now.now u new objects }
 {}
 

@@ -1,0 +1,11 @@
+use Rattle.zr_stops.proofs.Behind.{commit_behind, commit_shows, stop_shows}
+use Rattle.zr_stops.proofs.runs.a_commit_ends_its_group.Goals as goal
+
+pub returns-clause-stands : goal.returns-clause-stands
+returns-clause-stands c = λ sizes reset before after old new start now h ready ends. commit_behind sizes before old start h ready reset after now new ends
+
+pub returns-clause-shows : goal.returns-clause-shows
+returns-clause-shows c = λ sizes reset before after old new start now h ready ends. commit_shows sizes before old start h ready reset after now new ends
+
+pub returns-clause-stops : goal.returns-clause-stops
+returns-clause-stops c = λ sizes reset before after old start now h ready commits. stop_shows sizes before old start h ready reset after now commits

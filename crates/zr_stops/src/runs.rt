@@ -1,0 +1,49 @@
+//! Lines of a group, and the commit that ends it, by how the disks stand before each of them.
+ghost use Rattle.std.specs.Prelude.{◌≡◌, ℕ, Bool, List, map, length};
+ghost use Rattle.zr_current.specs.Current.{GoesOnFrom};
+ghost use Rattle.zr_newest.specs.Newest.{IsNewestOn};
+ghost use Rattle.zr_label.specs.declared.root.Uber.{Uber};
+ghost use Rattle.zr_model.specs.Objects.{Objects};
+ghost use Rattle.zr_rules.specs.Equation.{devices_in};
+ghost use Rattle.zr_shelf.specs.Disks.{Stand};
+ghost use Rattle.zr_shelf.specs.Moments.{Throughout, World};
+ghost use Rattle.zr_space.specs.Paths.{AreInService};
+ghost use Rattle.zr_stops.specs.Behind.{AreSameDisks, ShowsOnly, StandsBehind};
+ghost use Rattle.zr_stops.specs.Either.{ShowsEither};
+ghost use Rattle.zr_last.specs.Ends.{ComesCommitted, EndsCommitted};
+ghost use Rattle.zr_last.specs.Last.{ShowsLast};
+ghost use Rattle.zr_stops.specs.Last.{IsCommitted};
+ghost use Rattle.zr_sync.specs.Leads.{CommitsObjects};
+ghost use Rattle.zr_sync.specs.Pools.{IsOpen};
+ghost use Rattle.zr_sync.specs.Writes.{WritesIntoFree};
+ghost use Rattle.zr_sync.specs.declared.open.OpenPool.{OpenPool};
+ghost use Rattle.zr_vdev.specs.Stores.{KeepsOthers};
+ghost use Rattle.zr_vdev.specs.declared.kind.Kind.TheVariants.{Block};
+
+/// Behind a commit of a pool of devices in service a group begins: where it left the pool committed, and where the root before it
+/// was the newest, or that of a pool that was made. Then whatever an honest crash shows are the objects of the commit. What is taken of the input, and what is
+/// sent, does not matter.
+pub fn a_commit_begins_a_group()
+    ensures stood { (sizes : List ℕ) (u : Uber) (pool : OpenPool) (objects : Objects) (now : Stand) → IsCommitted sizes now u pool objects → GoesOnFrom u pool → AreInService (devices_in pool.space) → StandsBehind sizes objects pool now }
+    ensures shown { (sizes : List ℕ) (reset : Bool) (last : Uber) (old new : OpenPool) (objects : Objects) (before now : World) → IsOpen sizes old → GoesOnFrom last old → map length before.now.seen ≡ sizes → IsNewestOn before.now.seen last old.table.slots
+        → AreInService (devices_in old.space) → EndsCommitted sizes reset old new objects before now → StandsBehind sizes objects new now.now }
+    ensures made { (sizes : List ℕ) (pool : OpenPool) (objects : Objects) (now : World) → ComesCommitted sizes pool objects now → ShowsLast now.now.seen pool → map length now.now.seen ≡ sizes → AreInService (devices_in pool.space) → StandsBehind sizes objects pool now.now }
+    ensures shows { (sizes : List ℕ) (objects : Objects) (pool : OpenPool) (now : Stand) → StandsBehind sizes objects pool now → ShowsOnly objects now }
+    ensures disks { (sizes : List ℕ) (objects : Objects) (pool : OpenPool) (a b : Stand) → AreSameDisks a b → StandsBehind sizes objects pool a → StandsBehind sizes objects pool b }
+{}
+
+/// A line that writes blocks alone stays in its group, and whatever an honest crash shows at each moment of it are the objects
+/// that were committed last.
+pub fn a_line_stays_in_its_group()
+    ensures stands { (sizes : List ℕ) (objects : Objects) (old new : OpenPool) (before now : World) → StandsBehind sizes objects old before.now → WritesIntoFree old before now → KeepsOthers Block old.space new.space
+        → new.table ≡ old.table → new.last ≡ old.last → new.guid ≡ old.guid → StandsBehind sizes objects new now.now }
+    ensures shows { (sizes : List ℕ) (objects : Objects) (old : OpenPool) (before now : World) → StandsBehind sizes objects old before.now → WritesIntoFree old before now → Throughout (ShowsOnly objects) before now }
+{}
+
+/// A commit ends the group and begins the next one. At each moment of it, done or not, whatever an honest crash shows are the
+/// objects that were committed last, or those that it commits.
+pub fn a_commit_ends_its_group()
+    ensures stands { (sizes : List ℕ) (reset : Bool) (before after : Objects) (old new : OpenPool) (start now : World) → StandsBehind sizes before old start.now → IsOpen sizes old → EndsCommitted sizes reset old new after start now → StandsBehind sizes after new now.now }
+    ensures shows { (sizes : List ℕ) (reset : Bool) (before after : Objects) (old new : OpenPool) (start now : World) → StandsBehind sizes before old start.now → IsOpen sizes old → EndsCommitted sizes reset old new after start now → Throughout (ShowsEither before after) start now }
+    ensures stops { (sizes : List ℕ) (reset : Bool) (before after : Objects) (old : OpenPool) (start now : World) → StandsBehind sizes before old start.now → IsOpen sizes old → CommitsObjects sizes old reset after start now → Throughout (ShowsEither before after) start now }
+{}
