@@ -9,6 +9,7 @@ use Rattle.zr_script.specs.declared.command.Command.TheVariants as cmd
 use Rattle.zr_script.specs.declared.reply.Reply.{Reply}
 use Rattle.zr_script.specs.declared.reply.Reply.TheVariants as reply
 use Rattle.zr_shelf.specs.Disks.{Stand}
+use Rattle.zr_shelf.specs.Moments.{World}
 use Rattle.zr_sync.specs.Pools.{IsOpen}
 use Rattle.zr_sync.specs.declared.fault.Fault.{Fault}
 use Rattle.zr_sync.specs.declared.fault.Fault.TheVariants.{No, Stops}
@@ -18,6 +19,7 @@ use Rattle.zr_pool.specs.Ends.{answer_of, is_closing}
 use Rattle.zr_pool.specs.Plain.{shelf_of}
 use Rattle.zr_pool.specs.Pools.{DeviceState, StandsFor, Stands}
 use Rattle.zr_pool.specs.Turns.{on_devices, on_objects_told, IsAccountTurn, IsOpenAnswer, IsTurn, is_shown, sizes_of, stays_open}
+use Rattle.zr_pool.proofs.Behind.{Behinds}
 use Rattle.zr_pool.proofs.Shown.{Lasts}
 use Rattle.zr_pool.proofs.Turning.{left_of}
 
@@ -30,24 +32,26 @@ module _ (old new : Stand) (before : DeviceState) (command : Command) (pool : Op
 
   -- and so does all that is told
   abbrev pub Leads : Reply → Type 0
-  Leads answer = TurnsTo on_devices (λ disks state. Stands pool disks.seen state) before old command answer new
+  Leads answer = TurnsTo on_devices (λ disks state. Stands pool disks state) before old command answer new
 
   -- the account leads to that of the pool, which is lawful
   pub record Accounts (answer : Reply) : Type 0 where
     pub turn : IsAccountTurn (shelf_of old) before.account command answer (shelf_of new) pool
     pub lawful : IfSome pool (IsOpen (sizes_of new.seen))
 
-  pub with_account : (answer : Reply) → Tells answer → Accounts answer → Lasts old new before command pool answer → Leads answer
-  with_account answer t a l = record {
-    after = record { told = t.after; account = pool; shown = is_shown before.told.is_open before.shown command answer };
-    stands_for = record { told = t.stands_for; account = refl; shown = l.last t.after t.takes };
-    takes = record { objects = t.takes; account = a.turn; lawful = a.lawful; shown = refl; rejoined = l.rejoined t.after t.takes };
+module _ (old : Stand) (world : World) (before : DeviceState) (command : Command) (pool : Option OpenPool) where
+  with_account : (answer : Reply) → Tells old world.now before command pool answer → Accounts old world.now before command pool answer → Lasts old world.now before command pool answer → Behinds world before command pool answer → Leads old world.now before command pool answer
+  with_account answer t a l b = record {
+    after = record { told = t.after; account = pool; shown = is_shown before.told.is_open before.shown command answer; behind = b.behind };
+    stands_for = record { told = t.stands_for; account = refl; shown = l.last t.after t.takes; behind = b.stands };
+    takes = record { objects = t.takes; account = a.turn; lawful = a.lawful; shown = refl; behind = b.turn; rejoined = l.rejoined t.after t.takes };
   }
 
-  pub each_with_account : (q : Result (Option Reply) model.Stop) → IfOk q (λ found. IfSome found Tells) → IfOk q (λ found. IfSome found Accounts) → IfOk q (λ found. IfSome found (λ answer. Lasts old new before command pool answer)) → IfOk q (λ found. IfSome found Leads)
-  each_with_account (Ok None) t a l = tt
-  each_with_account (Ok (Some answer)) t a l = with_account answer t a l
-  each_with_account (Err e) t a l = tt
+  pub each_with_account : (q : Result (Option Reply) model.Stop) → IfOk q (λ found. IfSome found (λ answer. Tells old world.now before command pool answer)) → IfOk q (λ found. IfSome found (λ answer. Accounts old world.now before command pool answer))
+      → IfOk q (λ found. IfSome found (λ answer. Lasts old world.now before command pool answer)) → IfOk q (λ found. IfSome found (λ answer. Behinds world before command pool answer)) → IfOk q (λ found. IfSome found (λ answer. Leads old world.now before command pool answer))
+  each_with_account (Ok None) t a l b = tt
+  each_with_account (Ok (Some answer)) t a l b = with_account answer t a l b
+  each_with_account (Err e) t a l b = tt
 
 -- ---- where a pool is open
 

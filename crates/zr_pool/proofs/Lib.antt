@@ -6,8 +6,9 @@ pub mod Staying
 pub mod Turning
 pub mod Working
 pub mod Shown
-pub mod Accounting
 pub mod Tellings
 pub mod Leavings
 pub mod Blaming
-pub mod Moments
+pub mod Groups
+pub mod Behind
+pub mod Accounting

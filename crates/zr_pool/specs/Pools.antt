@@ -2,6 +2,7 @@
 use Rattle.std.specs.Prelude.{◌≡◌, ℕ, Bool, true, false, ◌≤◌, List, [], length, map, Option, Some, None, IfSome}
 use Rattle.std.specs.List.{list_any}
 use Rattle.zr_base.specs.declared.space.DevPart.{DevPart}
+use Rattle.zr_command.specs.Meanings.{Disks}
 use Rattle.zr_image.specs.StateOf.{is_discarding}
 use Rattle.zr_last.specs.Last.{ShowsLast}
 use Rattle.zr_model.specs.Objects.{Objects}
@@ -10,6 +11,8 @@ use Rattle.zr_open.specs.Left.{LeavesObjects}
 use Rattle.zr_rules.specs.Places.{is_leaving}
 use Rattle.zr_rules.specs.Space.{Space}
 use Rattle.zr_rules.specs.Steps.{has_condensing}
+use Rattle.zr_shelf.specs.Disks.{Stand}
+use Rattle.zr_stops.specs.Behind.{StandsBehind}
 use Rattle.zr_sync.specs.Heads.{HasHead}
 use Rattle.zr_sync.specs.Objects.{HoldsObjects}
 use Rattle.zr_sync.specs.Pools.{IsOpen}
@@ -65,18 +68,30 @@ AreShown (Some pool) disks part = ShowsLast disks pool
 AreShown None disks (Is p) = AreLeft disks p.objects
 AreShown None disks part = Unit {0}
 
--- What is told of a pool on devices between two commands: its objects, as far as these are told, what it holds beside its disks while it is open, and whether the disks show it.
+-- the disks as they stand, whatever the input and the output are
+abbrev pub stand_of : Disks → Stand
+stand_of disks = record { paths = []; durable = disks.durable; writes = disks.writes; seen = disks.seen; left = []; sent = [] }
+
+-- The pool that is open is in the group behind a commit of these objects, when all its devices were in service. Of one that is closed that is not told.
+abbrev pub IsBehind : Option OpenPool → Disks → Objects → Type 0
+IsBehind (Some pool) disks objects = StandsBehind (map length disks.seen) objects pool (stand_of disks)
+IsBehind None disks objects = ⊥
+
+-- What is told of a pool on devices between two commands: its objects, as far as these are told, what it holds beside its disks while it is open, whether the disks show it, and which objects
+-- were committed last, as far as that is told.
 pub record DeviceState : Type 0 where
   pub told : State
   pub account : Option OpenPool
   pub shown : Bool
+  pub behind : Option Objects
 
 -- no pool yet
 abbrev pub no_device_state : DeviceState
-no_device_state = record { told = no_pool; account = None; shown = false }
+no_device_state = record { told = no_pool; account = None; shown = false; behind = None }
 
 -- what is told of the pool and its disks is so, and the account is the pool's own
-pub record Stands (pool : Option OpenPool) (disks : List (List ℕ)) (state : DeviceState) : Type 0 where
-  pub told : StandsFor pool disks state.told
+pub record Stands (pool : Option OpenPool) (disks : Disks) (state : DeviceState) : Type 0 where
+  pub told : StandsFor pool disks.seen state.told
   pub account : state.account ≡ pool
-  pub shown : state.shown ≡ true → AreShown pool disks state.told.shelf
+  pub shown : state.shown ≡ true → AreShown pool disks.seen state.told.shelf
+  pub behind : IfSome state.behind (IsBehind pool disks)

@@ -9,7 +9,8 @@ use Rattle.zr_script.specs.declared.reply.Reply.TheVariants as reply
 use Rattle.zr_lines.specs.Sought.{IsDamaged}
 use Rattle.zr_open.specs.Opened.{IsImportRefusal}
 use Rattle.zr_lines.specs.Answers.{IsNoRoom, IsSumRefusal, IsReadRefusal, IsMakeRefusal, IsDropRefusal}
-use Rattle.zr_model.specs.State.{State, Work, no_pool}
+use Rattle.zr_model.specs.Objects.{Objects}
+use Rattle.zr_model.specs.State.{State, PoolState, Is, Work, no_pool}
 use Rattle.zr_model.specs.declared.actor.Actor.{Actor}
 use Rattle.zr_model.specs.declared.actor.Actor.TheVariants.{Evac, Discard, Condense}
 use Rattle.zr_command.specs.Meanings.{Disks, Meaning}
@@ -17,6 +18,7 @@ use Rattle.zr_model.specs.Runs.{Point, Shelf, Turn}
 use Rattle.zr_sync.specs.Pools.{IsOpen}
 use Rattle.zr_sync.specs.declared.open.OpenPool.{OpenPool}
 use Rattle.zr_pool.specs.Accounts.{Turns, Begins, BeginsNone}
+use Rattle.zr_pool.specs.Behind.{IsBehindTurn, LeavesEither, LeavesOnly, is_in_group}
 use Rattle.zr_pool.specs.Plain.{IsObjectsTurn, IsRejoined, is_of_removal}
 use Rattle.zr_pool.specs.Pools.{DeviceState, no_device_state}
 use Rattle.zr_pool.specs.Replies.{TellsFault}
@@ -243,18 +245,26 @@ told_point p = record { shelf = p.shelf; state = p.state.told }
 abbrev pub told_turn : Turn DeviceState → Turn State
 told_turn t = record { command = t.command; answer = t.answer; point = told_point t.point }
 
--- One line to the pool on devices: what it makes of the objects and of the account, which is that of a lawful pool on these disks, and whether the disks are told to show it. An import
--- finds the objects that were left there.
+-- One line to the pool on devices: what it makes of the objects and of the account, which is that of a lawful pool on these disks, whether the disks are told to show it, and which objects are
+-- told to be committed last. An import finds the objects that were left there.
 pub record IsDeviceTurn (p : Point DeviceState) (t : Turn DeviceState) : Type 0 where
   pub objects : on_objects_told.takes (told_point p) (told_turn t)
   pub account : IsAccountTurn p.shelf p.state.account t.command t.answer t.point.shelf t.point.state.account
   pub lawful : IfSome t.point.state.account (IsOpen (sizes_of t.point.shelf.disks))
   pub shown : t.point.state.shown ≡ is_shown p.state.told.is_open p.state.shown t.command t.answer
+  pub behind : IsBehindTurn p.state t.command t.answer t.point.state.account t.point.state.behind
   pub rejoined : p.state.shown ≡ true → t.command ≡ cmd.Import → t.answer ≡ reply.Done → IsRejoined p.state.told.shelf t.point.state.told.shelf
 
--- How the disks may stand at a moment of a line: while one tells how an open pool stands, they read as before it.
-abbrev pub IsWithin : Point DeviceState → Command → Disks → Type 0
-IsWithin p command disks = IfSome p.state.account (λ pool. is_table command ≡ true → disks.seen ≡ p.shelf.disks)
+-- How the disks may stand between two lines: they read as behind the last, and whatever an honest crash shows are the objects that were committed last.
+pub record RestsOn (p : Point DeviceState) (disks : Disks) : Type 0 where
+  pub reads : disks.seen ≡ p.shelf.disks
+  pub shows : (objects : Objects) → p.state.behind ≡ Some objects → LeavesOnly objects disks
+
+-- How the disks may stand at a moment of a line: while one tells how an open pool stands, they read as before it. Whatever an honest crash shows are the objects that were committed last, or those from before
+-- the line, which it commits.
+pub record IsWithin (p : Point DeviceState) (command : Command) (disks : Disks) : Type 0 where
+  pub tables : IfSome p.state.account (λ pool. is_table command ≡ true → disks.seen ≡ p.shelf.disks)
+  pub shows : (objects : Objects) (q : PoolState) → p.state.behind ≡ Some objects → p.state.told.shelf ≡ Is q → is_in_group command ≡ true → LeavesEither objects q.objects disks
 
 -- What commands mean to the pool on devices.
 abbrev pub on_devices : Meaning
@@ -266,6 +276,6 @@ on_devices = record {
   damages = λ p command found. Unit {0};
   blames = TellsFault;
   works = λ state actor. works_on state.told.is_open state.told.work actor;
-  rests = λ p disks. disks.seen ≡ p.shelf.disks;
+  rests = RestsOn;
   within = IsWithin;
 }

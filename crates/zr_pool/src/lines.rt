@@ -12,8 +12,12 @@ ghost use Rattle.zr_sync.specs.declared.stop.Stop.TheVariants.{DiskFault};
 ghost use Rattle.zr_model.specs.State.{PoolState};
 ghost use Rattle.zr_sync.specs.States.{HoldsState};
 ghost use Rattle.zr_last.specs.Last.{KeepsLast};
+ghost use Rattle.zr_last.specs.Ends.{EndsCommitted};
+ghost use Rattle.zr_lines.specs.Stops.{StaysInOneGroup, WritesInOneGroup};
+ghost use Rattle.zr_sync.specs.Leads.{CommitsObjects};
 ghost use Rattle.zr_script.specs.declared.command.Command.TheVariants.{Export};
 ghost use Rattle.zr_pool.specs.Plain.{IsDone, IsPlainOf, IsPlainRefusal};
+ghost use Rattle.zr_pool.specs.Behind.{is_commit};
 ghost use Rattle.zr_pool.specs.Pools.{IsAtRest};
 ghost use Rattle.zr_pool.specs.Accounts.{Refuses, Turns};
 ghost use Rattle.zr_pool.specs.Replies.{step_reply};
@@ -84,6 +88,9 @@ pub fn object_line<S: Shelf>(
     ensures cause { (p : PoolState) → HoldsState (S.tells shelf.old) (S.world shelf.old).now.seen pool.old p → (r : Refusal) → IsErrOf result (No r) → IsPlainRefusal p command.now r }
     ensures shown { S.tells shelf.old → OnOk result (KeepsLast (S.world shelf.old) (S.world shelf.new) pool.old pool.new) }
     ensures shown_no { S.tells shelf.old → (r : Refusal) → IsErrOf result (No r) → KeepsLast (S.world shelf.old) (S.world shelf.new) pool.old pool.new }
+    ensures one_group { (p : PoolState) → HoldsState (S.tells shelf.old) (S.world shelf.old).now.seen pool.old p → OnOk result (StaysInOneGroup (S.sizes shelf.old) p.objects pool.old pool.new (S.world shelf.old) (S.world shelf.new)) }
+    ensures one_group_no { (p : PoolState) → HoldsState (S.tells shelf.old) (S.world shelf.old).now.seen pool.old p → (r : Refusal) → IsErrOf result (No r) → StaysInOneGroup (S.sizes shelf.old) p.objects pool.old pool.new (S.world shelf.old) (S.world shelf.new) }
+    ensures writes { (p : PoolState) → HoldsState (S.tells shelf.old) (S.world shelf.old).now.seen pool.old p → WritesInOneGroup (S.sizes shelf.old) p.objects pool.old (S.world shelf.old) (S.world shelf.new) }
     ensures account { S.tells shelf.old → (paths : List (List ℕ)) → IfOk result (λ reply. Turns paths (S.sizes shelf.old) (S.world shelf.old).now.seen pool.old command.now reply (S.world shelf.new).now.seen pool.new) }
     ensures account_no { S.tells shelf.old → (paths : List (List ℕ)) → (r : Refusal) → IsErrOf result (No r) → Refuses paths (S.sizes shelf.old) (S.world shelf.old).now.seen pool.old command.now r pool.new }
     ensures done { IfOk result IsDone }
@@ -187,6 +194,8 @@ pub fn pool_line<S: Shelf>(
     ensures shown { S.tells shelf.old → OnOk result (KeepsLast (S.world shelf.old) (S.world shelf.new) pool.old pool.new) }
     ensures shown_no { S.tells shelf.old → (r : Refusal) → IsErrOf result (No r) → KeepsLast (S.world shelf.old) (S.world shelf.new) pool.old pool.new }
     ensures left { command.now ≡ Export → (p : PoolState) → HoldsState (S.tells shelf.old) (S.world shelf.old).now.seen pool.old p → OnOk result (IsAtRest (S.world shelf.new).now.seen pool.new p) }
+    ensures commits { is_commit command.now ≡ true → (p : PoolState) → HoldsState (S.tells shelf.old) (S.world shelf.old).now.seen pool.old p → OnOk result (EndsCommitted (S.sizes shelf.old) false pool.old pool.new p.objects (S.world shelf.old) (S.world shelf.new)) }
+    ensures stops { is_commit command.now ≡ true → (p : PoolState) → HoldsState (S.tells shelf.old) (S.world shelf.old).now.seen pool.old p → CommitsObjects (S.sizes shelf.old) pool.old false p.objects (S.world shelf.old) (S.world shelf.new) }
     ensures account { S.tells shelf.old → IfOk result (λ reply. Turns paths.now (S.sizes shelf.old) (S.world shelf.old).now.seen pool.old command.now reply (S.world shelf.new).now.seen pool.new) }
     ensures account_no { S.tells shelf.old → (r : Refusal) → IsErrOf result (No r) → Refuses paths.now (S.sizes shelf.old) (S.world shelf.old).now.seen pool.old command.now r pool.new }
     ensures done { IfOk result IsDone }

@@ -1,4 +1,5 @@
 //! The pool on the devices of the words, as a run over lines knows it.
+ghost use Rattle.std.specs.FinMap as map;
 ghost use Rattle.std.specs.Prelude.{◌≡◌, ◌≤◌, ℕ, List, Option, None, true, false, is_some, IfOk, IfSome, IfNone, IsErrOf, OnOk, OnErr, length};
 ghost use Rattle.zr_base.specs.Counts.{HasRisen};
 ghost use Rattle.zr_base.specs.declared.refusal.Refusal.{Refusal};
@@ -13,8 +14,11 @@ ghost use Rattle.zr_sync.specs.declared.stop.Stop.TheVariants.{DiskFault};
 ghost use Rattle.zr_model.specs.State.{PoolState};
 ghost use Rattle.zr_pool.specs.Accounts.{Begins, BeginsNone, Refuses, Turns};
 ghost use Rattle.zr_last.specs.Last.{KeepsLast, ShowsLast};
+ghost use Rattle.zr_last.specs.Ends.{ComesCommitted, EndsCommitted};
+ghost use Rattle.zr_lines.specs.Stops.{StaysInOneGroup, WritesInOneGroup};
 ghost use Rattle.zr_script.specs.declared.command.Command.TheVariants.{Export};
 ghost use Rattle.zr_pool.specs.Plain.{IsDone, IsMade, IsOpeningCause, IsPlainOf, IsPlainRefusal, is_of_removal, shelf_of};
+ghost use Rattle.zr_pool.specs.Behind.{is_commit, is_create, is_in_group};
 ghost use Rattle.zr_pool.specs.Pools.{IsAtRest, IsOnShelf};
 ghost use Rattle.zr_pool.specs.Replies.{TellsFault};
 ghost use Rattle.zr_sync.specs.States.{HoldsState};
@@ -95,6 +99,10 @@ fn open_line<S: Shelf>(
     ensures shown { S.tells shelf.old → is_of_removal command.now ≡ false → OnOk result (KeepsLast (S.world shelf.old) (S.world shelf.new) pool.old pool.new) }
     ensures shown_no { S.tells shelf.old → (r : Refusal) → IsErrOf result (No r) → KeepsLast (S.world shelf.old) (S.world shelf.new) pool.old pool.new }
     ensures left { command.now ≡ Export → (p : PoolState) → HoldsState (S.tells shelf.old) (S.world shelf.old).now.seen pool.old p → OnOk result (IsAtRest (S.world shelf.new).now.seen pool.new p) }
+    ensures one_group { is_in_group command.now ≡ true → (p : PoolState) → HoldsState (S.tells shelf.old) (S.world shelf.old).now.seen pool.old p → OnOk result (StaysInOneGroup (S.sizes shelf.old) p.objects pool.old pool.new (S.world shelf.old) (S.world shelf.new)) }
+    ensures one_group_no { is_in_group command.now ≡ true → (p : PoolState) → HoldsState (S.tells shelf.old) (S.world shelf.old).now.seen pool.old p → (r : Refusal) → IsErrOf result (No r) → StaysInOneGroup (S.sizes shelf.old) p.objects pool.old pool.new (S.world shelf.old) (S.world shelf.new) }
+    ensures writes { is_in_group command.now ≡ true → (p : PoolState) → HoldsState (S.tells shelf.old) (S.world shelf.old).now.seen pool.old p → WritesInOneGroup (S.sizes shelf.old) p.objects pool.old (S.world shelf.old) (S.world shelf.new) }
+    ensures commits { is_commit command.now ≡ true → (p : PoolState) → HoldsState (S.tells shelf.old) (S.world shelf.old).now.seen pool.old p → OnOk result (EndsCommitted (S.sizes shelf.old) false pool.old pool.new p.objects (S.world shelf.old) (S.world shelf.new)) }
     ensures account { S.tells shelf.old → IfOk result (λ found. IfSome found (λ reply. Turns paths.now (S.sizes shelf.old) (S.world shelf.old).now.seen pool.old command.now reply (S.world shelf.new).now.seen pool.new)) }
     ensures account_no { S.tells shelf.old → (r : Refusal) → IsErrOf result (No r) → Refuses paths.now (S.sizes shelf.old) (S.world shelf.old).now.seen pool.old command.now r pool.new }
     ensures blamed { IfOk result (λ found. IfSome found (λ reply. TellsFault command.now reply → HasRisen (S.counts shelf.old).disk (S.counts shelf.new).disk)) }
@@ -145,6 +153,7 @@ impl DevicePool {
         ensures begins { S.tells shelf.old → IfSome self.new.pool (Begins self.old.paths (S.sizes shelf.old) (S.world shelf.old).now.seen command.now) }
         ensures begins_no { S.tells shelf.old → (r : Refusal) → IsErrOf result (No r) → BeginsNone self.old.paths (S.sizes shelf.old) (S.world shelf.old).now.seen command.now r }
         ensures last { S.tells shelf.old → IfSome self.new.pool (ShowsLast (S.world shelf.new).now.seen) }
+        ensures ends { S.tells shelf.old → is_create command.now ≡ true → IfSome self.new.pool (λ pool. ComesCommitted (S.sizes shelf.new) pool map.empty (S.world shelf.new)) }
         ensures untouched { S.tells shelf.old → (r : Refusal) → IsErrOf result (No r) → (S.world shelf.new).now.seen ≡ (S.world shelf.old).now.seen }
         ensures turn { IfOk result (λ found. IfSome found (λ reply. IsTurn false command.now reply (is_some self.new.pool))) }
         ensures refused { (r : Refusal) → IsErrOf result (No r) → IsClosedRefusal command.now r }
@@ -164,17 +173,17 @@ impl DevicePool {
 }
 
 impl Pool for DevicePool {
-    ghost use Rattle.std.specs.Prelude.{refl};
     ghost use Rattle.zr_pool.specs.Pools.{Stands, IsOnShelf};
+    ghost use Rattle.zr_pool.specs.Rests.{stands_rest};
     ghost use Rattle.zr_pool.specs.Turns.{on_devices};
 
     ghost paths = { λ p. p.paths };
 
     ghost meaning = { on_devices };
 
-    ghost stands = { λ p disks state. Stands p.pool disks.seen state };
+    ghost stands = { λ p disks state. Stands p.pool disks state };
 
-    ghost rests = { λ p stand state named is. refl };
+    ghost rests = { λ p stand state named is. stands_rest p.pool stand state is };
 
     ghost fits = { λ p sizes. IsOnShelf p.paths p.pool sizes };
 

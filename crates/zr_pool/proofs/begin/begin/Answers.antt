@@ -1,4 +1,4 @@
-use Rattle.std.proofs.Common.{false, None, Err, ◌∙◌, ap, refl, sym, subst}
+use Rattle.std.proofs.Common.{◌≡◌, true, false, None, Err, ◌∙◌, ap, refl, sym, subst}
 use Rattle.zr_base.specs.declared.space.CkptPart.{CkptPart}
 use Rattle.std.proofs.lemmas.Result.{err_from_is_err_and}
 use Rattle.zr_script.specs.declared.command.Command.{Command}
@@ -7,6 +7,7 @@ use Rattle.zr_base.specs.declared.refusal.Refusal.{Refusal}
 use Rattle.zr_sync.specs.declared.fault.Fault.TheVariants.{No}
 use Rattle.zr_open.proofs.Refusing.{back_refusal, looked_refusal, not_kept_shown, rewind_refusal}
 use Rattle.zr_pool.specs.Accounts.{Begins, BeginsNone}
+use Rattle.zr_pool.specs.Behind.{is_create}
 use Rattle.zr_pool.specs.Plain.{IsMade, IsOpeningCause, shelf_of}
 use Rattle.zr_pool.specs.Turns.{IsClosedRefusal}
 use Rattle.zr_pool.proofs.Leavings.{in_the_way, is_new, not_begun}
@@ -244,3 +245,18 @@ returns-in_err-go_back-in-ImportTxg-clause-untouched g c = λ told r is.
     let e = fault_same c.in_err-go_back-in-ImportTxg.field-0.0 q.0 r res.result q.1 q.2 is in
     let was = c.in_err-go_back-in-ImportTxg.was ∙ ap Err e in
     ap (λ (stand : Stand). stand.seen) (c.go_back.ensures.untouched told r was).now
+
+pub returns-in_ok-made-in-Create-clause-ends : goal.returns-in_ok-made-in-Create-clause-ends
+returns-in_ok-made-in-Create-clause-ends g c = λ told create. c.in_ok-made-in-Create.ensures.ends told
+
+pub returns-in_ok-made-in-CreateOld-clause-ends : goal.returns-in_ok-made-in-CreateOld-clause-ends
+returns-in_ok-made-in-CreateOld-clause-ends g c = λ told create. c.in_ok-made-in-CreateOld.ensures.ends told
+
+pub returns-in_ok-import-in-Import-clause-ends : goal.returns-in_ok-import-in-Import-clause-ends
+returns-in_ok-import-in-Import-clause-ends g c = λ told create. absurd (let e = sym (subst (λ (command : Command). is_create command ≡ true) c.in-Import.is create) in cc)
+
+pub returns-in_ok-rewind-in-ImportRewind-clause-ends : goal.returns-in_ok-rewind-in-ImportRewind-clause-ends
+returns-in_ok-rewind-in-ImportRewind-clause-ends g c = λ told create. absurd (let e = sym (subst (λ (command : Command). is_create command ≡ true) c.in-ImportRewind.is create) in cc)
+
+pub returns-in_ok-go_back-in-ImportTxg-clause-ends : goal.returns-in_ok-go_back-in-ImportTxg-clause-ends
+returns-in_ok-go_back-in-ImportTxg-clause-ends g c = λ told create. absurd (let e = sym (subst (λ (command : Command). is_create command ≡ true) c.in-ImportTxg.is create) in cc)

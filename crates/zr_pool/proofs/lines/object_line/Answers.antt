@@ -1,6 +1,6 @@
 use Rattle.zr_sync.specs.States.{HoldsState}
 use Rattle.zr_script.specs.declared.reply.Reply.TheVariants as reply
-use Rattle.std.proofs.Common.{◌≡◌, ◌<◌, ℕ, List, length, replicate, true, refl, sym, ◌∙◌, ap, subst, Err}
+use Rattle.std.proofs.Common.{◌≡◌, inl, ◌<◌, ℕ, List, length, replicate, true, refl, sym, ◌∙◌, ap, subst, Err}
 use Rattle.std.specs.FinMap as map
 use Rattle.zr_model.specs.Objects.{blank}
 use Rattle.zr_model.specs.State.{with_objects}
@@ -382,3 +382,124 @@ returns-in_err-change-in-Punch-clause-shown_no g c = λ told r is.
 
 pub returns-in_ok-change-in-Punch-clause-shown : goal.returns-in_ok-change-in-Punch-clause-shown
 returns-in_ok-change-in-Punch-clause-shown g c = λ told. c.in_ok-change-in-Punch.ensures.shown told
+
+-- ---- one group
+
+pub returns-in_err-make-in-Make-clause-one_group_no : goal.returns-in_err-make-in-Make-clause-one_group_no
+returns-in_err-make-in-Make-clause-one_group_no g c = λ p h r is.
+    let res = c.from_residual in
+    let q = err_from_is_err_and res.result res.ensures.1 in
+    let e = fault_same c.in_err-make-in-Make.field-0.0 q.0 r res.result q.1 q.2 is in
+    let was = c.in_err-make-in-Make.was ∙ ap Err e in
+    c.make.ensures.one_group p.objects h.objects (answered_no c.make.result r was)
+
+pub returns-in_ok-make-in-Make-clause-one_group : goal.returns-in_ok-make-in-Make-clause-one_group
+returns-in_ok-make-in-Make-clause-one_group g c = λ p h. c.make.ensures.one_group p.objects h.objects (answered_ok c.make.result c.in_ok-make-in-Make.was)
+
+pub returns-in_err-make-in-Make-clause-writes : goal.returns-in_err-make-in-Make-clause-writes
+returns-in_err-make-in-Make-clause-writes g c = λ p h. c.make.ensures.writes p.objects h.objects
+
+pub returns-in_ok-make-in-Make-clause-writes : goal.returns-in_ok-make-in-Make-clause-writes
+returns-in_ok-make-in-Make-clause-writes g c = λ p h. c.make.ensures.writes p.objects h.objects
+
+pub returns-in_err-drop-in-Drop-clause-one_group_no : goal.returns-in_err-drop-in-Drop-clause-one_group_no
+returns-in_err-drop-in-Drop-clause-one_group_no g c = λ p h r is.
+    let res = c.from_residual-in_err-drop-in-Drop in
+    let q = err_from_is_err_and res.result res.ensures.1 in
+    let e = fault_same c.in_err-drop-in-Drop.field-0.0 q.0 r res.result q.1 q.2 is in
+    let was = c.in_err-drop-in-Drop.was ∙ ap Err e in
+    c.drop.ensures.one_group p.objects h.objects (answered_no c.drop.result r was)
+
+pub returns-in_ok-drop-in-Drop-clause-one_group : goal.returns-in_ok-drop-in-Drop-clause-one_group
+returns-in_ok-drop-in-Drop-clause-one_group g c = λ p h. c.drop.ensures.one_group p.objects h.objects (answered_ok c.drop.result c.in_ok-drop-in-Drop.was)
+
+pub returns-in_err-drop-in-Drop-clause-writes : goal.returns-in_err-drop-in-Drop-clause-writes
+returns-in_err-drop-in-Drop-clause-writes g c = λ p h. c.drop.ensures.writes p.objects h.objects
+
+pub returns-in_ok-drop-in-Drop-clause-writes : goal.returns-in_ok-drop-in-Drop-clause-writes
+returns-in_ok-drop-in-Drop-clause-writes g c = λ p h. c.drop.ensures.writes p.objects h.objects
+
+pub returns-in_err-bytes-in-Read-clause-one_group_no : goal.returns-in_err-bytes-in-Read-clause-one_group_no
+returns-in_err-bytes-in-Read-clause-one_group_no g c = λ p h r is.
+    let res = c.from_residual-in_err-bytes-in-Read in
+    let q = err_from_is_err_and res.result res.ensures.1 in
+    let e = fault_same c.in_err-bytes-in-Read.field-0.0 q.0 r res.result q.1 q.2 is in
+    let was = c.in_err-bytes-in-Read.was ∙ ap Err e in
+    inl (c.read.ensures.in_group h.objects.held.told)
+
+pub returns-in_ok-bytes-in-Read-clause-one_group : goal.returns-in_ok-bytes-in-Read-clause-one_group
+returns-in_ok-bytes-in-Read-clause-one_group g c = λ p h. inl (c.read.ensures.in_group h.objects.held.told)
+
+pub returns-in_err-bytes-in-Read-clause-writes : goal.returns-in_err-bytes-in-Read-clause-writes
+returns-in_err-bytes-in-Read-clause-writes g c = λ p h. inl (c.read.ensures.in_group h.objects.held.told).written
+
+pub returns-in_ok-bytes-in-Read-clause-writes : goal.returns-in_ok-bytes-in-Read-clause-writes
+returns-in_ok-bytes-in-Read-clause-writes g c = λ p h. inl (c.read.ensures.in_group h.objects.held.told).written
+
+pub returns-in_err-sum-in-Sum-clause-one_group_no : goal.returns-in_err-sum-in-Sum-clause-one_group_no
+returns-in_err-sum-in-Sum-clause-one_group_no g c = λ p h r is.
+    let res = c.from_residual-in_err-sum-in-Sum in
+    let q = err_from_is_err_and res.result res.ensures.1 in
+    let e = fault_same c.in_err-sum-in-Sum.field-0.0 q.0 r res.result q.1 q.2 is in
+    let was = c.in_err-sum-in-Sum.was ∙ ap Err e in
+    inl (c.sum.ensures.in_group h.objects.held.told)
+
+pub returns-in_ok-sum-in-Sum-clause-one_group : goal.returns-in_ok-sum-in-Sum-clause-one_group
+returns-in_ok-sum-in-Sum-clause-one_group g c = λ p h. inl (c.sum.ensures.in_group h.objects.held.told)
+
+pub returns-in_err-sum-in-Sum-clause-writes : goal.returns-in_err-sum-in-Sum-clause-writes
+returns-in_err-sum-in-Sum-clause-writes g c = λ p h. inl (c.sum.ensures.in_group h.objects.held.told).written
+
+pub returns-in_ok-sum-in-Sum-clause-writes : goal.returns-in_ok-sum-in-Sum-clause-writes
+returns-in_ok-sum-in-Sum-clause-writes g c = λ p h. inl (c.sum.ensures.in_group h.objects.held.told).written
+
+pub returns-in_err-change-in-Write-clause-one_group_no : goal.returns-in_err-change-in-Write-clause-one_group_no
+returns-in_err-change-in-Write-clause-one_group_no g c = λ p h r is.
+    let res = c.from_residual-in_err-change-in-Write in
+    let q = err_from_is_err_and res.result res.ensures.1 in
+    let e = fault_same c.in_err-change-in-Write.field-0.0 q.0 r res.result q.1 q.2 is in
+    let was = c.in_err-change-in-Write.was ∙ ap Err e in
+    c.change.ensures.one_group_no p.objects h.objects r was
+
+pub returns-in_ok-change-in-Write-clause-one_group : goal.returns-in_ok-change-in-Write-clause-one_group
+returns-in_ok-change-in-Write-clause-one_group g c = λ p h. c.in_ok-change-in-Write.ensures.one_group p.objects h.objects
+
+pub returns-in_err-change-in-Write-clause-writes : goal.returns-in_err-change-in-Write-clause-writes
+returns-in_err-change-in-Write-clause-writes g c = λ p h. c.change.ensures.writes p.objects h.objects
+
+pub returns-in_ok-change-in-Write-clause-writes : goal.returns-in_ok-change-in-Write-clause-writes
+returns-in_ok-change-in-Write-clause-writes g c = λ p h. c.change.ensures.writes p.objects h.objects
+
+pub returns-in_err-change-in-Fill-clause-one_group_no : goal.returns-in_err-change-in-Fill-clause-one_group_no
+returns-in_err-change-in-Fill-clause-one_group_no g c = λ p h r is.
+    let res = c.from_residual-in_err-change-in-Fill in
+    let q = err_from_is_err_and res.result res.ensures.1 in
+    let e = fault_same c.in_err-change-in-Fill.field-0.0 q.0 r res.result q.1 q.2 is in
+    let was = c.in_err-change-in-Fill.was ∙ ap Err e in
+    c.change-in-Fill.ensures.one_group_no p.objects h.objects r was
+
+pub returns-in_ok-change-in-Fill-clause-one_group : goal.returns-in_ok-change-in-Fill-clause-one_group
+returns-in_ok-change-in-Fill-clause-one_group g c = λ p h. c.in_ok-change-in-Fill.ensures.one_group p.objects h.objects
+
+pub returns-in_err-change-in-Fill-clause-writes : goal.returns-in_err-change-in-Fill-clause-writes
+returns-in_err-change-in-Fill-clause-writes g c = λ p h. c.change-in-Fill.ensures.writes p.objects h.objects
+
+pub returns-in_ok-change-in-Fill-clause-writes : goal.returns-in_ok-change-in-Fill-clause-writes
+returns-in_ok-change-in-Fill-clause-writes g c = λ p h. c.change-in-Fill.ensures.writes p.objects h.objects
+
+pub returns-in_err-change-in-Punch-clause-one_group_no : goal.returns-in_err-change-in-Punch-clause-one_group_no
+returns-in_err-change-in-Punch-clause-one_group_no g c = λ p h r is.
+    let res = c.from_residual-in_err-change-in-Punch in
+    let q = err_from_is_err_and res.result res.ensures.1 in
+    let e = fault_same c.in_err-change-in-Punch.field-0.0 q.0 r res.result q.1 q.2 is in
+    let was = c.in_err-change-in-Punch.was ∙ ap Err e in
+    c.change-in-Punch.ensures.one_group_no p.objects h.objects r was
+
+pub returns-in_ok-change-in-Punch-clause-one_group : goal.returns-in_ok-change-in-Punch-clause-one_group
+returns-in_ok-change-in-Punch-clause-one_group g c = λ p h. c.in_ok-change-in-Punch.ensures.one_group p.objects h.objects
+
+pub returns-in_err-change-in-Punch-clause-writes : goal.returns-in_err-change-in-Punch-clause-writes
+returns-in_err-change-in-Punch-clause-writes g c = λ p h. c.change-in-Punch.ensures.writes p.objects h.objects
+
+pub returns-in_ok-change-in-Punch-clause-writes : goal.returns-in_ok-change-in-Punch-clause-writes
+returns-in_ok-change-in-Punch-clause-writes g c = λ p h. c.change-in-Punch.ensures.writes p.objects h.objects

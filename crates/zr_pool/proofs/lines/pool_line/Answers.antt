@@ -3,6 +3,7 @@ use Rattle.std.proofs.lemmas.Result.{err_from_is_err_and}
 use Rattle.zr_script.specs.declared.command.Command.{Command}
 use Rattle.zr_script.specs.declared.command.Command.TheVariants as cmd
 use Rattle.zr_sync.specs.States.{HoldsState}
+use Rattle.zr_last.proofs.Ending.{ends_by}
 use Rattle.zr_pool.specs.Plain.{IsPlainRefusal, IsPlainOf}
 use Rattle.zr_script.specs.declared.reply.Reply.{Reply}
 use Rattle.zr_script.specs.declared.reply.Reply.TheVariants as reply
@@ -364,3 +365,27 @@ returns-in_err-units-in-StepDiscard-clause-shown_no g c = λ told r is.
     let e = fault_same c.in_err-units-in-StepDiscard.field-0.0 q.0 r res.result q.1 q.2 is in
     let was = c.in_err-units-in-StepDiscard.was ∙ ap Err e in
     same_last (g.S.Shelf.world c.args.shelf.now).now.seen c.args.pool.now c.step.new.pool (same_root c.args.pool.now c.step.new.pool (c.step.ensures.unchanged r was))
+
+-- ---- commits
+
+pub returns-in_ok-commit-in-Sync-clause-commits : goal.returns-in_ok-commit-in-Sync-clause-commits
+returns-in_ok-commit-in-Sync-clause-commits g c = λ ends p h.
+    let done = c.in_ok-commit-in-Sync.ensures in
+    ends_by c.commit.ensures.sizes done.pool done.same done.last done.txg done.written done.ends done.empty done.stands done.safe h.objects (done.stays p.objects h.objects)
+
+pub returns-in_ok-commit-in-Sync-clause-stops : goal.returns-in_ok-commit-in-Sync-clause-stops
+returns-in_ok-commit-in-Sync-clause-stops g c = λ ends p h. c.commit.ensures.leads p.objects h.objects
+
+pub returns-in_err-commit-in-Sync-clause-stops : goal.returns-in_err-commit-in-Sync-clause-stops
+returns-in_err-commit-in-Sync-clause-stops g c = λ ends p h. c.commit.ensures.leads p.objects h.objects
+
+pub returns-in_ok-commit-in-Export-clause-commits : goal.returns-in_ok-commit-in-Export-clause-commits
+returns-in_ok-commit-in-Export-clause-commits g c = λ ends p h.
+    let done = c.in_ok-commit-in-Export.ensures in
+    ends_by c.commit-in-Export.ensures.sizes done.pool done.same done.last done.txg done.written done.ends done.empty done.stands done.safe h.objects (done.stays p.objects h.objects)
+
+pub returns-in_ok-commit-in-Export-clause-stops : goal.returns-in_ok-commit-in-Export-clause-stops
+returns-in_ok-commit-in-Export-clause-stops g c = λ ends p h. c.commit-in-Export.ensures.leads p.objects h.objects
+
+pub returns-in_err-commit-in-Export-clause-stops : goal.returns-in_err-commit-in-Export-clause-stops
+returns-in_err-commit-in-Export-clause-stops g c = λ ends p h. c.commit-in-Export.ensures.leads p.objects h.objects

@@ -1,7 +1,8 @@
-use Rattle.std.proofs.Common.{◌∙◌, ap, refl, sym, Err}
+use Rattle.std.proofs.Common.{◌∙◌, inl, inr, ap, refl, sym, Err}
 use Rattle.std.proofs.lemmas.Result.{err_from_is_err_and}
 use Rattle.zr_shelf.specs.Moments.{World}
 use Rattle.zr_sync.specs.declared.open.OpenPool.{OpenPool}
+use Rattle.zr_pool.proofs.Groups.{commit_alone, commit_refused, commits_in_group, no_object_commit, no_table_commit, none_of_them, not_of_removal, not_opener, pool_commits}
 use Rattle.zr_pool.proofs.Leavings.{opener_refused}
 use Rattle.zr_pool.proofs.Refused.{fault_same}
 use Rattle.zr_pool.proofs.Shown.{same_root, still_last}
@@ -113,3 +114,62 @@ returns-in_err-pool_line-clause-still g c = λ told table off. absurd (let none 
 
 pub returns-in_err-removal_line-clause-still : goal.returns-in_err-removal_line-clause-still
 returns-in_err-removal_line-clause-still g c = λ told table off. absurd (let none = sym c.is_table.ensures ∙ c.if-is_table.false in let both = sym none ∙ table in cc)
+
+-- ---- one group
+
+pub returns-in_err-object_line-clause-one_group_no : goal.returns-in_err-object_line-clause-one_group_no
+returns-in_err-object_line-clause-one_group_no g c = λ group p h r is.
+    let res = c.from_residual in
+    let q = err_from_is_err_and res.result res.ensures.1 in
+    let e = fault_same c.in_err-object_line.field-0.0 q.0 r res.result q.1 q.2 is in
+    c.object_line.ensures.one_group_no p h r (c.in_err-object_line.was ∙ ap Err e)
+
+pub returns-in_err-object_line-clause-writes : goal.returns-in_err-object_line-clause-writes
+returns-in_err-object_line-clause-writes g c = λ group p h. c.object_line.ensures.writes p h
+
+pub returns-in_err-table_line-clause-one_group_no : goal.returns-in_err-table_line-clause-one_group_no
+returns-in_err-table_line-clause-one_group_no g c = λ group p h r is.
+    inl (c.table_line.ensures.in_group h.objects.held.told)
+
+pub returns-in_err-table_line-clause-writes : goal.returns-in_err-table_line-clause-writes
+returns-in_err-table_line-clause-writes g c = λ group p h. inl (c.table_line.ensures.in_group h.objects.held.told).written
+
+pub returns-in_err-pool_line-clause-one_group_no : goal.returns-in_err-pool_line-clause-one_group_no
+returns-in_err-pool_line-clause-one_group_no g c = λ group p h r is.
+    let res = c.from_residual-in_err-pool_line in
+    let q = err_from_is_err_and res.result res.ensures.1 in
+    let e = fault_same c.in_err-pool_line.field-0.0 q.0 r res.result q.1 q.2 is in
+    absurd (commit_refused c.args.command.now r (pool_commits c.args.command.now (sym c.is_on_pool.ensures ∙ c.if-is_on_pool.true) group) (c.pool_line.ensures.refused r (c.in_err-pool_line.was ∙ ap Err e)))
+
+pub returns-in_err-pool_line-clause-writes : goal.returns-in_err-pool_line-clause-writes
+returns-in_err-pool_line-clause-writes g c = λ group p h. inr (inl (c.pool_line.ensures.stops (pool_commits c.args.command.now (sym c.is_on_pool.ensures ∙ c.if-is_on_pool.true) group) p h))
+
+pub returns-in_err-removal_line-clause-one_group_no : goal.returns-in_err-removal_line-clause-one_group_no
+returns-in_err-removal_line-clause-one_group_no g c = λ group p h r is.
+    absurd (not_of_removal c.args.command.now (sym c.is_of_removal.ensures ∙ c.if-is_of_removal.true) group)
+
+pub returns-in_err-removal_line-clause-writes : goal.returns-in_err-removal_line-clause-writes
+returns-in_err-removal_line-clause-writes g c = λ group p h. absurd (not_of_removal c.args.command.now (sym c.is_of_removal.ensures ∙ c.if-is_of_removal.true) group)
+
+pub returns-then-is_opener-clause-one_group_no : goal.returns-then-is_opener-clause-one_group_no
+returns-then-is_opener-clause-one_group_no g c = λ group p h r is. absurd (not_opener c.args.command.now (sym c.is_opener.ensures ∙ c.if-is_opener.true) group)
+
+pub returns-then-is_opener-clause-writes : goal.returns-then-is_opener-clause-writes
+returns-then-is_opener-clause-writes g c = λ group p h. absurd (not_opener c.args.command.now (sym c.is_opener.ensures ∙ c.if-is_opener.true) group)
+
+pub returns-clause-writes : goal.returns-clause-writes
+returns-clause-writes g c = λ group p h. absurd (none_of_them c.args.command.now (sym c.is_on_objects.ensures ∙ c.if-is_on_objects.false) (sym c.is_table.ensures ∙ c.if-is_table.false) (sym c.is_on_pool.ensures ∙ c.if-is_on_pool.false) group)
+
+pub returns-clause-one_group : goal.returns-clause-one_group
+returns-clause-one_group g c = λ group p h. absurd (none_of_them c.args.command.now (sym c.is_on_objects.ensures ∙ c.if-is_on_objects.false) (sym c.is_table.ensures ∙ c.if-is_table.false) (sym c.is_on_pool.ensures ∙ c.if-is_on_pool.false) group)
+
+pub returns-clause-commits : goal.returns-clause-commits
+returns-clause-commits g c = λ ends p h. absurd (none_of_them c.args.command.now (sym c.is_on_objects.ensures ∙ c.if-is_on_objects.false) (sym c.is_table.ensures ∙ c.if-is_table.false) (sym c.is_on_pool.ensures ∙ c.if-is_on_pool.false) (commits_in_group c.args.command.now ends))
+
+pub returns-then-is_on_pool-clause-one_group : goal.returns-then-is_on_pool-clause-one_group
+returns-then-is_on_pool-clause-one_group g c = λ group p h.
+    commit_alone (g.S.Shelf.sizes c.args.shelf.now) p.objects c.args.pool.now c.pool_line.new.pool (g.S.Shelf.world c.args.shelf.now) (g.S.Shelf.world c.pool_line.new.shelf)
+    (c.in_ok-pool_line.ensures.commits (pool_commits c.args.command.now (sym c.is_on_pool.ensures ∙ c.if-is_on_pool.true) group) p h)
+
+pub returns-then-is_on_pool-clause-writes : goal.returns-then-is_on_pool-clause-writes
+returns-then-is_on_pool-clause-writes g c = λ group p h. inr (inl (c.pool_line.ensures.stops (pool_commits c.args.command.now (sym c.is_on_pool.ensures ∙ c.if-is_on_pool.true) group) p h))

@@ -10,6 +10,8 @@ use Rattle.zr_pool.specs.Accounts.{IsRemovalCause, Refuses, Turns}
 use Rattle.zr_pool.proofs.Acting.{listed_as, status_as, audited_as, estimated_as, mapped_as}
 use Rattle.zr_pool.proofs.Refused.{fault_same}
 use Rattle.zr_shelf.specs.Disks.{Stand}
+use Rattle.zr_lines.proofs.Stopping.{in_group_itself}
+use Rattle.zr_pool.proofs.Groups.{table_stays}
 use Rattle.zr_pool.proofs.Shown.{still_last}
 use Rattle.zr_pool.proofs.Staying.{same_state}
 use Rattle.zr_pool.proofs.Tellings.{refused_same}
@@ -110,3 +112,35 @@ returns-in_err-audit-in-Audit-clause-shown_no g c = λ told r is.
     still_last (g.S.Shelf.world c.args.shelf.now) (g.S.Shelf.world c.audit.new.shelf) c.args.pool.now c.audit.new.pool
     (record { last = ap (λ (x : OpenPool). x.last) c.audit.ensures.same; guid = ap (λ (x : OpenPool). x.guid) c.audit.ensures.same; table = ap (λ (x : OpenPool). x.table) c.audit.ensures.same })
     (ap (λ (stand : Stand). stand.seen) (c.audit.ensures.still told).now)
+
+-- ---- the group
+
+pub returns-in_ok-list-in-List-clause-in_group : goal.returns-in_ok-list-in-List-clause-in_group
+returns-in_ok-list-in-List-clause-in_group g c = λ told. in_group_itself c.args.pool.now (g.S.Shelf.world c.args.shelf.now)
+
+pub returns-in_err-list-in-List-clause-in_group : goal.returns-in_err-list-in-List-clause-in_group
+returns-in_err-list-in-List-clause-in_group g c = λ told. in_group_itself c.args.pool.now (g.S.Shelf.world c.args.shelf.now)
+
+pub returns-in_ok-status-in-Status-clause-in_group : goal.returns-in_ok-status-in-Status-clause-in_group
+returns-in_ok-status-in-Status-clause-in_group g c = λ told. in_group_itself c.args.pool.now (g.S.Shelf.world c.args.shelf.now)
+
+pub returns-in_err-status-in-Status-clause-in_group : goal.returns-in_err-status-in-Status-clause-in_group
+returns-in_err-status-in-Status-clause-in_group g c = λ told. in_group_itself c.args.pool.now (g.S.Shelf.world c.args.shelf.now)
+
+pub returns-in_ok-estimate_of-in-Estimate-clause-in_group : goal.returns-in_ok-estimate_of-in-Estimate-clause-in_group
+returns-in_ok-estimate_of-in-Estimate-clause-in_group g c = λ told. in_group_itself c.args.pool.now (g.S.Shelf.world c.args.shelf.now)
+
+pub returns-in_err-estimate_of-in-Estimate-clause-in_group : goal.returns-in_err-estimate_of-in-Estimate-clause-in_group
+returns-in_err-estimate_of-in-Estimate-clause-in_group g c = λ told. in_group_itself c.args.pool.now (g.S.Shelf.world c.args.shelf.now)
+
+pub returns-in_ok-map_lines-in-Map-clause-in_group : goal.returns-in_ok-map_lines-in-Map-clause-in_group
+returns-in_ok-map_lines-in-Map-clause-in_group g c = λ told. in_group_itself c.args.pool.now (g.S.Shelf.world c.args.shelf.now)
+
+pub returns-in_err-map_lines-in-Map-clause-in_group : goal.returns-in_err-map_lines-in-Map-clause-in_group
+returns-in_err-map_lines-in-Map-clause-in_group g c = λ told. in_group_itself c.args.pool.now (g.S.Shelf.world c.args.shelf.now)
+
+pub returns-in_ok-audit-in-Audit-clause-in_group : goal.returns-in_ok-audit-in-Audit-clause-in_group
+returns-in_ok-audit-in-Audit-clause-in_group g c = λ told. table_stays c.args.pool.now c.audit.new.pool (g.S.Shelf.world c.args.shelf.now) (g.S.Shelf.world c.audit.new.shelf) c.audit.ensures.same (c.audit.ensures.still told)
+
+pub returns-in_err-audit-in-Audit-clause-in_group : goal.returns-in_err-audit-in-Audit-clause-in_group
+returns-in_err-audit-in-Audit-clause-in_group g c = λ told. table_stays c.args.pool.now c.audit.new.pool (g.S.Shelf.world c.args.shelf.now) (g.S.Shelf.world c.audit.new.shelf) c.audit.ensures.same (c.audit.ensures.still told)

@@ -1,9 +1,11 @@
 use Rattle.std.proofs.Common.{◌≡◌, [], Bool, false, Option, Some, sym, ap, ◌∙◌, subst}
 use Rattle.std.specs.Prelude.{IfOk, IfSome}
 use Rattle.zr_base.specs.Counts.{HasRisen}
+use Rattle.zr_sync.specs.Pools.{IsOpen}
 use Rattle.zr_sync.specs.declared.open.OpenPool.{OpenPool}
 use Rattle.zr_pool.specs.Ends.{answer_of, is_closing}
-use Rattle.zr_pool.specs.Pools.{AreShown, StandsFor, no_device_state}
+use Rattle.zr_pool.specs.Pools.{AreShown, IsBehind, StandsFor, no_device_state}
+use Rattle.zr_command.specs.Meanings.{disks_of}
 use Rattle.zr_pool.specs.Replies.{TellsFault}
 use Rattle.zr_pool.proofs.Accounting.{Leads, closed_accounts, each_with_account, open_accounts}
 use Rattle.zr_pool.proofs.Blaming.{blamed_answer, blamed_closed}
@@ -12,7 +14,7 @@ use Rattle.zr_pool.proofs.Staying.{told_anew}
 use Rattle.zr_pool.proofs.Turning.{closed_turns, open_turns, left_of}
 use Rattle.zr_base.specs.declared.refusal.Refusal.TheVariants as refusal
 use Rattle.zr_script.specs.declared.command.Command.TheVariants.{Sync}
-use Rattle.zr_pool.proofs.Moments.{closed_within, open_within}
+use Rattle.zr_pool.proofs.Behind.{closed_behinds, closed_within, off_objects, open_behinds, open_within}
 use Rattle.zr_pool.proofs.Outside.{keeps_outside}
 use Rattle.zr_pool.proofs.pool.DevicePoolPool.command.Goals.{then-is_closing+in-Some-1, then-is_closing+in-None-1, else-is_closing}
 use Rattle.zr_pool.proofs.pool.DevicePoolPool.command.Goals as goal
@@ -45,7 +47,8 @@ returns-in_default-clause-step g c = λ told paths before stood.
     let last_part = closed_lasts old new before c.args.command.now pool closed (λ shown. subst (λ (o : Option OpenPool). AreShown o old.seen before.told.shelf) c.in_default.is (stood.shown shown)) r
     c.closed_line.ensures.done c.closed_line.ensures.turn (c.closed_line.ensures.last told) (c.closed_line.ensures.untouched told) c.closed_line.ensures.closed in
     subst (λ q. IfOk q (λ found. IfSome found (λ answer. Leads old new before c.args.command.now pool answer))) (sym c.answer_of.ensures)
-    (each_with_account old new before c.args.command.now pool (answer_of r) told_part account_part last_part)
+    (each_with_account old (g.S.Shelf.world c.closed_line.new.shelf) before c.args.command.now pool (answer_of r) told_part account_part last_part
+    (closed_behinds (g.S.Shelf.world shelf) (g.S.Shelf.world c.closed_line.new.shelf) before c.args.command.now (stood.account ∙ c.in_default.is) (subst (λ (o : Option OpenPool). IfSome before.behind (IsBehind o (disks_of old))) c.in_default.is stood.behind) (g.S.Shelf.sizes c.closed_line.new.shelf) pool (c.closed_line.ensures.ends told) (c.closed_line.ensures.last told) (g.S.Shelf.sound c.closed_line.new.shelf behind).sized r))
 
 pub returns-clause-step : goal.returns-clause-step
 returns-clause-step g c = λ told paths before stood.
@@ -69,9 +72,14 @@ returns-clause-step g c = λ told paths before stood.
     c.open_line-done.ensures.answer (c.open_line-done.ensures.account told) (c.open_line-done.ensures.account_no told) c.open_line-done.ensures.pool c.open_line-done.ensures.pool_no in
     let last_part = open_lasts old new before command x y there (λ shown. subst (λ (o : Option OpenPool). AreShown o old.seen before.told.shelf) c.in-Some.is (stood.shown shown)) (g.S.Shelf.sizes c.open_line-done.new.shelf) (g.S.Shelf.sound c.open_line-done.new.shelf behind).sized r
     c.open_line-done.ensures.done c.open_line-done.ensures.answer (c.open_line-done.ensures.shown told) (c.open_line-done.ensures.shown_no told) (λ exports p held. c.open_line-done.ensures.left exports p (told_anew (Unit {0}) (g.S.Shelf.tells shelf) old.seen x p told held)) c.open_line-done.ensures.pool in
+    let behind_part = open_behinds (g.S.Shelf.world shelf) (g.S.Shelf.world c.open_line-done.new.shelf) before command x y (g.S.Shelf.sizes shelf) (subst (λ (o : Option OpenPool). IfSome o (IsOpen (g.S.Shelf.sizes shelf))) c.in-Some.is c.requires.fits.is_open) (g.S.Shelf.sound shelf told).sized ((g.S.Shelf.sound c.open_line-done.new.shelf behind).sized ∙ c.open_line-done.ensures.sizes)
+    there.part (stood.account ∙ c.in-Some.is) (λ shown. subst (λ (o : Option OpenPool). AreShown o old.seen before.told.shelf) c.in-Some.is (stood.shown shown)) (subst (λ (o : Option OpenPool). IfSome before.behind (IsBehind o (disks_of old))) c.in-Some.is stood.behind) r
+    (λ group p held. c.open_line-done.ensures.one_group group p (told_anew (Unit {0}) (g.S.Shelf.tells shelf) old.seen x p told held))
+    (λ group p held. c.open_line-done.ensures.one_group_no group p (told_anew (Unit {0}) (g.S.Shelf.tells shelf) old.seen x p told held))
+    (λ ends p held. c.open_line-done.ensures.commits ends p (told_anew (Unit {0}) (g.S.Shelf.tells shelf) old.seen x p told held)) in
     subst (λ (o : Option OpenPool). IfOk c.answer_of-2.result (λ found. IfSome found (λ answer. Leads old new before command o answer))) (sym left)
     (subst (λ q. IfOk q (λ found. IfSome found (λ answer. Leads old new before command (left_of (is_closing command r) y) answer))) (sym c.answer_of-2.ensures)
-    (each_with_account old new before command (left_of (is_closing command r) y) (answer_of r) told_part account_part last_part))
+    (each_with_account old (g.S.Shelf.world c.open_line-done.new.shelf) before command (left_of (is_closing command r) y) (answer_of r) told_part account_part last_part behind_part))
 
 -- ---- what tells of a fault
 
@@ -93,7 +101,17 @@ returns-clause-blamed g c =
 -- ---- what holds at each moment
 
 pub returns-in_default-clause-moments : goal.returns-in_default-clause-moments
-returns-in_default-clause-moments g c = λ told paths before stood. closed_within _ _ before c.args.command.now (stood.account ∙ c.in_default.is) (c.closed_line.ensures.disks told)
+returns-in_default-clause-moments g c = λ told paths before stood.
+    closed_within (g.S.Shelf.world c.args.shelf.now) _ before c.args.command.now (stood.account ∙ c.in_default.is) (subst (λ (o : Option OpenPool). IfSome before.behind (IsBehind o (disks_of (g.S.Shelf.world c.args.shelf.now).now))) c.in_default.is stood.behind) (c.closed_line.ensures.disks told)
 
 pub returns-clause-moments : goal.returns-clause-moments
-returns-clause-moments g c = λ told paths before stood. open_within _ _ before c.args.command.now (c.open_line-done.ensures.still told) (c.open_line-done.ensures.disks told)
+returns-clause-moments g c = λ told paths before stood.
+    let shelf = c.args.shelf.now in
+    let old = (g.S.Shelf.world shelf).now in
+    let behind = c.open_line-done.ensures.told told in
+    let x = c.in-Some.pool in
+    let there : StandsFor (Some x) old.seen before.told = subst (λ (o : Option OpenPool). StandsFor o old.seen before.told) c.in-Some.is stood.told in
+    open_within (g.S.Shelf.world shelf) (g.S.Shelf.world c.open_line-done.new.shelf) before c.args.command.now x c.open_line-done.new.pool (g.S.Shelf.sizes shelf) (subst (λ (o : Option OpenPool). IfSome o (IsOpen (g.S.Shelf.sizes shelf))) c.in-Some.is c.requires.fits.is_open) (g.S.Shelf.sound shelf told).sized ((g.S.Shelf.sound c.open_line-done.new.shelf behind).sized ∙ c.open_line-done.ensures.sizes)
+    there.part (stood.account ∙ c.in-Some.is) (λ shown. subst (λ (o : Option OpenPool). AreShown o old.seen before.told.shelf) c.in-Some.is (stood.shown shown)) (subst (λ (o : Option OpenPool). IfSome before.behind (IsBehind o (disks_of old))) c.in-Some.is stood.behind)
+    (λ table. c.open_line-done.ensures.still told table (off_objects c.args.command.now table)) (c.open_line-done.ensures.disks told)
+    (λ group p held. c.open_line-done.ensures.writes group p (told_anew (Unit {0}) (g.S.Shelf.tells shelf) old.seen x p told held))
