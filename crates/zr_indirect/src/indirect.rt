@@ -8,7 +8,6 @@ ghost use Rattle.zr_rules.specs.Condense.{fresh_units};
 ghost use Rattle.zr_rules.specs.Mappings.{entry_at};
 ghost use Rattle.zr_base.specs.Extents.{HasNone, unit_count};
 ghost use Rattle.zr_obsolete.specs.Obsolete.{Fits};
-ghost use Rattle.zr_units.specs.Apart.{IsWithin};
 ghost use Rattle.zr_indirect.specs.Mapped.{HasCounts, HasEntries, IsGone, IsPart, gone_of, is_mapping_due, mapped_words};
 ghost use Rattle.zr_indirect.specs.Changes.{MarksUnits, FoldsFresh, GainsFresh, KeepsRoot};
 
@@ -19,7 +18,7 @@ use zr_base::{Change, Extent, NoMemory};
 use zr_imap::Imap;
 use zr_obsolete::{fold_counts, fresh_in};
 use zr_ranges::RangeSet;
-use zr_units::{merged, set_words};
+use zr_units::merged;
 
 /// A mapping with a count for each entry, the fresh obsolete units, and what came to these in the open group and what went
 /// from them.
@@ -129,16 +128,14 @@ impl Indirect {
         self.counts.as_slice()
     }
 
-    /// The words of the entries and of the fresh units, were they written anew, on a device of so many units.
-    pub fn words(&self, units: u64, version: u64) -> u64
-        requires within { IsWithin self.now.fresh units }
-        requires fresh { unit_count self.now.fresh ≤ units }
-        requires few { length self.now.entries ≤ units }
-        requires small { units < 2 ^ 40 }
+    /// The words of the entries and of the fresh units, were they written anew. They are kept, not counted.
+    pub fn words(&self, version: u64) -> u64
+        requires small { unit_count self.now.fresh < 2 ^ 40 }
+        requires few { length self.now.entries < 2 ^ 40 }
         ensures words { result ≡ mapped_words version self.now }
-        ensures bound { result ≤ 9 * units }
+        ensures bound { result ≤ 8 * length self.now.entries + unit_count self.now.fresh }
     {
-        8 * self.map.len() as u64 + set_words(&self.fresh, units, version)
+        8 * self.map.len() as u64 + self.fresh.words(version)
     }
 
     /// The obsolete units that are not counted yet.

@@ -7,6 +7,7 @@ ghost use Rattle.zr_base.specs.Extents.{HasNone, IsMaximal, unit_count};
 ghost use Rattle.zr_rules.specs.Mappings.{end_of_last};
 ghost use Rattle.zr_evac.specs.Evacuations.{AreLawful, IsFront, copies_at, hits_at, next_of};
 ghost use Rattle.zr_obsolete.specs.Obsolete.{LiesIn};
+ghost use Rattle.zr_rules.specs.Owed.{set_words};
 ghost use Rattle.zr_indirect.specs.Mapped.{IsLeaving, is_mapping_due, mapped_words};
 ghost use Rattle.zr_indirect.specs.Changes.{GoesOn, CopiesFront, FreesCopied, GainsFresh, IsCopiedOrLeft, KeepsRoot};
 
@@ -116,15 +117,22 @@ impl Leaving {
         Ok(counts)
     }
 
-    /// The words of the entries and of the marks, were they written anew, on a device of so many units.
-    pub fn words(&self, _units: u64, version: u64) -> u64
-        requires fresh { unit_count self.now.fresh ≤ _units }
-        requires few { length self.now.entries ≤ _units }
-        requires small { _units < 2 ^ 40 }
+    /// The words of the entries and of the marks, were they written anew. They are kept, not counted.
+    pub fn words(&self, version: u64) -> u64
+        requires small { unit_count self.now.fresh < 2 ^ 40 }
+        requires few { length self.now.entries < 2 ^ 40 }
         ensures words { result ≡ mapped_words version self.now }
-        ensures bound { result ≤ 9 * _units }
+        ensures bound { result ≤ 8 * length self.now.entries + unit_count self.now.fresh }
     {
         8 * self.evac.map().len() as u64 + self.evac.marks().words(version)
+    }
+
+    /// The words of the marks, were they written anew. They are kept, not counted.
+    pub fn mark_words(&self, version: u64) -> u64
+        ensures { result ≡ set_words version self.now.fresh }
+    {
+        let marks = self.evac.marks();
+        marks.words(version)
     }
 
     /// How many units are left to copy.

@@ -9,7 +9,7 @@ ghost use Rattle.zr_rules.specs.Condense.{fresh_units};
 ghost use Rattle.zr_rules.specs.Mappings.{entry_at};
 ghost use Rattle.zr_evac.specs.Evacuations.{AreLawful, IsFront, copies_at, hits_at, next_of};
 ghost use Rattle.zr_obsolete.specs.Obsolete.{Fits, LiesIn};
-ghost use Rattle.zr_units.specs.Apart.{IsWithin};
+ghost use Rattle.zr_rules.specs.Owed.{set_words};
 ghost use Rattle.zr_indirect.specs.Mapped.{HasCounts, HasEntries, IsGone, IsLeaving, in_service, is_mapping_due, mapped_words};
 ghost use Rattle.zr_indirect.specs.Stages.{IsStage, mapped_in};
 ghost use Rattle.zr_indirect.specs.Changes.{CopiesFront, FoldsFresh, FreesCopied, GainsFresh, GoesOn, IsCopiedOrLeft, KeepsRoot, MarksUnits};
@@ -158,21 +158,29 @@ impl Mapping {
         }
     }
 
-    /// The words of the entries and of the marks or the fresh units, were they written anew, on a device of so many units:
-    /// eight for each entry. While the device leaves it goes over the marks. Once it is gone it costs nothing on a device
-    /// of at most 32,768 units, and on a larger one goes over the fresh extents.
-    pub fn words(&self, units: u64, version: u64) -> u64
-        requires within { IsWithin self.now.fresh units }
-        requires fresh { unit_count self.now.fresh ≤ units }
-        requires few { length self.now.entries ≤ units }
-        requires small { units < 2 ^ 40 }
+    /// The words of the entries and of the marks or the fresh units, were they written anew: eight for each entry. They are
+    /// kept, not counted.
+    pub fn words(&self, version: u64) -> u64
+        requires small { unit_count self.now.fresh < 2 ^ 40 }
+        requires few { length self.now.entries < 2 ^ 40 }
         ensures words { result ≡ mapped_words version self.now }
-        ensures bound { result ≤ 9 * units }
+        ensures bound { result ≤ 8 * length self.now.entries + unit_count self.now.fresh }
     {
         match &self.stage {
             Stage::InService => 0,
-            Stage::Leaving(leaving) => leaving.words(units, version),
-            Stage::Gone(indirect) => indirect.words(units, version),
+            Stage::Leaving(leaving) => leaving.words(version),
+            Stage::Gone(indirect) => indirect.words(version),
+        }
+    }
+
+    /// The words of the marks or the fresh obsolete units, were they written anew. They are kept, not counted.
+    pub fn fresh_words(&self, version: u64) -> u64
+        ensures { result ≡ set_words version self.now.fresh }
+    {
+        match &self.stage {
+            Stage::InService => 0,
+            Stage::Leaving(leaving) => leaving.mark_words(version),
+            Stage::Gone(indirect) => indirect.fresh().words(version),
         }
     }
 

@@ -70,7 +70,7 @@ page_some lows p highs u a lt none =
     absurd (grind (arith, common_steps, last.1, none (stop_of p - 1) (omega (arith, lt))))
 
 -- what stands up to a page that ends by the unit has nothing from it on
-none_up : (lows : List (List Extent)) (p : List Extent) (highs : List (List Extent)) (u v : ℕ) → ArePages (lows ++ p ∷ highs) → start_of p ≤ u → stop_of p ≤ u → u ≤ v → has_unit (all_of lows ++ p) v ≡ false
+pub none_up : (lows : List (List Extent)) (p : List Extent) (highs : List (List Extent)) (u v : ℕ) → ArePages (lows ++ p ∷ highs) → start_of p ≤ u → stop_of p ≤ u → u ≤ v → has_unit (all_of lows ++ p) v ≡ false
 none_up lows p highs u v a from le at =
     let here : has_unit p v ≡ true → v < stop_of p = below_stop 0 v p (maximal_page lows p highs a.maximal) in
     grind (arith, common_steps, has_append (all_of lows) p v, here, none_behind lows p highs v a (omega (arith, from, at)), le, at)

@@ -7,5 +7,5 @@ pub mod Nexts
 pub mod Finding
 pub mod Trees
 pub mod Whole
-pub mod SetWords
+pub mod Around
 pub mod Walking

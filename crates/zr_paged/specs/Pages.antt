@@ -2,6 +2,8 @@
 use Rattle.std.specs.Prelude.{◌≡◌, ℕ, ◌+◌, ◌≤◌, ◌<◌, ◌^◌, false, List, [], ◌∷◌, ◌++◌, length}
 use Rattle.zr_base.specs.declared.space.Extent.{Extent}
 use Rattle.zr_base.specs.Extents.{IsMaximal, HasAll, RemovesUnits, has_unit, unit_count}
+use Rattle.zr_ranges.specs.Words.{AreWordsOf}
+use Rattle.zr_ranges.specs.declared.words.Words.{Words}
 use Rattle.zr_paged.specs.Runs.{start_of}
 use Rattle.zr_paged.specs.declared.tree.Tree.{Tree, Empty, Fork'}
 use Rattle.zr_paged.specs.declared.tree.Node.{Node}
@@ -59,8 +61,9 @@ pub record TakesNext (old new : List Extent) (u : ℕ) (next : Extent) : Type 0 
   pub removed : RemovesUnits old new next
   pub gap : has_unit old (next.start + next.len) ≡ false
 
--- the pages of a set, the lowest on top, and the number of its units
-pub record IsPaged (front : Tree) (units : ℕ) : Type 0 where
+-- the pages of a set, the lowest on top, the number of its units and its words
+pub record IsPaged (front : Tree) (units : ℕ) (w : Words) : Type 0 where
   pub front_page : IsFront front
   pub pages : ArePages (pages_in front)
   pub counted : units ≡ unit_count (all_of (pages_in front))
+  pub words : AreWordsOf w (all_of (pages_in front))

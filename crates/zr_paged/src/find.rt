@@ -1,6 +1,7 @@
-//! The first units of a tree of pages from a unit on, and all of them in order.
-ghost use Rattle.std.specs.Prelude.{◌≡◌, ◌++◌, OnOk, IfSome, IfNone};
-ghost use Rattle.zr_base.specs.Extents.{IsMaximal, HasNoneFrom, IsFirstPart};
+//! The first units of a tree of pages from a unit on, the extent that has a unit, and all extents in order.
+ghost use Rattle.std.specs.Prelude.{◌≡◌, ◌++◌, ◌<◌, ◌≤◌, OnOk, IfSome, IfNone, Some};
+ghost use Rattle.zr_base.specs.Extents.{IsMaximal, HasAll, HasNoneFrom, IsFirstPart, end_of};
+ghost use Rattle.zr_ranges.specs.Words.{run_of};
 ghost use Rattle.zr_paged.specs.Pages.{all_of, pages_in, ArePages};
 
 use crate::page::append_page;
@@ -28,6 +29,39 @@ pub fn part_from(tree: &Tree, u: u64) -> Option<Extent>
             }
             part_from(&node.high, u)
         }
+    }
+}
+
+// The extent that has a unit.
+fn run_with(tree: &Tree, u: u64) -> Option<Extent>
+    requires { ArePages (pages_in tree.now) }
+    ensures { result ≡ run_of u (all_of (pages_in tree.now)) }
+{
+    match tree {
+        Tree::Empty => None,
+        Tree::Fork(node) => {
+            if u < node.page.start() {
+                return run_with(&node.low, u);
+            }
+            if u < node.page.stop() {
+                return node.page.run_with(u);
+            }
+            run_with(&node.high, u)
+        }
+    }
+}
+
+/// The extent that has all units of another, which is covered.
+pub fn run_around(tree: &Tree, e: Extent) -> Extent
+    requires pages { ArePages (pages_in tree.now) }
+    requires not_empty { 0 < e.len }
+    requires covered { HasAll (all_of (pages_in tree.now)) e }
+    ensures around { run_of e.start (all_of (pages_in tree.now)) ≡ Some result }
+    ensures inside { end_of e ≤ end_of result }
+{
+    match run_with(tree, e.start) {
+        Some(run) => run,
+        None => unreachable!(),
     }
 }
 

@@ -5,6 +5,8 @@
 //! within it, and the same way back, on which a few links are moved at each node: no array grows with the set. A page that
 //! grows longer is cut in half, into one of a node that stands ready, so a change that was reserved takes no memory. The
 //! lowest page stands apart from the tree, so what is emptied from its lowest unit up goes down the tree once for a page.
+//!
+//! The units of a set and the words that it takes where it is written anew are kept as it changes.
 #![tactic(auto)]
 
 ghost use Rattle.std.specs.Prelude.{◌≡◌, ℕ, ◌+◌, ◌-◌, ◌^◌, ◌<◌, ◌≤◌, ◌∷◌, [], length, min, IsTrue, ◌↔◌, IfOk, IfSome, IfNone, OnOk, OnErr};
@@ -17,18 +19,15 @@ mod front;
 mod page;
 mod tree;
 mod unit_set;
-mod words;
 
-use find::{append_tree, part_from};
+use find::{append_tree, part_from, run_around};
 use front::{add_in, lowest, make_ready, push_in, remove_in, take_in};
 use std::alloc::Global;
 use std::marker::Model;
 use tree::{Node, Tree};
 pub use unit_set::UnitSet;
-use words::words_in;
-pub use words::{extent_words, words_of};
 use zr_base::{Extent, NoMemory};
-use zr_ranges::RangeSet;
+use zr_ranges::{RangeSet, Words};
 
 /// A set of units below 2^62, of any number of extents.
 #[derive(Drop)]
@@ -36,6 +35,7 @@ pub struct PagedSet {
     alloc: Global,
     front: Tree,
     units: u64,
+    words: Words,
     ready: Vec<Box<Node>>,
 }
 
@@ -48,7 +48,7 @@ impl Model for PagedSet {
 
     ghost view = { λ a. record { extents = all_of (pages_in a.front); spare = vec_len a.ready } };
 
-    ghost invariant = { λ a. IsPaged a.front a.units };
+    ghost invariant = { λ a. IsPaged a.front a.units a.words };
 }
 
 impl PagedSet {
@@ -60,6 +60,7 @@ impl PagedSet {
             alloc,
             front: Tree::Empty,
             units: 0,
+            words: Words::none(),
             ready: Vec::new(alloc),
         }
     }
@@ -95,6 +96,7 @@ impl PagedSet {
     {
         push_in(self.alloc, &mut self.front, e)?;
         self.units += e.len;
+        self.words = self.words.joined(e, e);
         Ok(())
     }
 
@@ -119,6 +121,7 @@ impl PagedSet {
     {
         add_in(&mut self.front, &mut self.ready, e);
         self.units += e.len;
+        self.words = self.words.joined(run_around(&self.front, e), e);
     }
 
     /// Takes out the units of an extent that has all in the set. It takes no memory. It is logarithmic in the extents: a way
@@ -130,8 +133,10 @@ impl PagedSet {
         ensures removed { RemovesUnits self.old.extents self.new.extents e }
         ensures spare { self.old.spare ≤ self.new.spare + 1 }
     {
+        let run = run_around(&self.front, e);
         remove_in(&mut self.front, &mut self.ready, e);
         self.units -= e.len;
+        self.words = self.words.cut(run, e);
     }
 
     /// Takes out the lowest units, `n` or, where the lowest extent has fewer, that extent. It takes no memory and moves no
@@ -147,8 +152,12 @@ impl PagedSet {
         ensures removed { RemovesUnits self.old.extents self.new.extents result }
         ensures spare { self.old.spare ≤ self.new.spare }
     {
+        let Some(run) = lowest(&self.front) else {
+            unreachable!();
+        };
         let taken = take_in(&mut self.front, n);
         self.units -= taken.len;
+        self.words = self.words.cut(run, taken);
         taken
     }
 
@@ -194,13 +203,13 @@ impl PagedSet {
         }
     }
 
-    /// The words of the set, were it written anew. It goes over all extents.
+    /// The words of the set, were it written anew in the form that this version of the format has. They are kept, not
+    /// counted.
     pub fn words(&self, version: u64) -> u64
-        requires { unit_count self.now.extents < 2 ^ 40 }
         ensures words { result ≡ set_words version self.now.extents }
         ensures few { result ≤ unit_count self.now.extents }
     {
-        words_in(&self.front, version)
+        self.words.of(version)
     }
 
     /// How many changes take no memory.

@@ -4,6 +4,7 @@
 //! first unit and its end beside its extents, so that a search among pages reads none of them.
 ghost use Rattle.std.specs.Prelude.{◌≡◌, ◌+◌, ◌^◌, ◌<◌, ◌≤◌, ◌∷◌, ◌++◌, [], length, min, vec_len, IfOk, IfSome, IfNone, OnOk};
 ghost use Rattle.zr_base.specs.Extents.{IsMaximal, HasAll, HasNone, HasNoneFrom, IsFirstPart, AddsUnits, RemovesUnits, extent_at};
+ghost use Rattle.zr_ranges.specs.Words.{run_of};
 ghost use Rattle.zr_paged.specs.Runs.{start_of, stop_of};
 
 use std::alloc::Global;
@@ -94,6 +95,13 @@ impl Page {
         ensures none { IfNone result (HasNoneFrom self.now u) }
     {
         self.runs.first_from(u)
+    }
+
+    /// The extent that has a unit.
+    pub fn run_with(&self, u: u64) -> Option<Extent>
+        ensures { result ≡ run_of u self.now }
+    {
+        self.runs.run_with(u)
     }
 
     /// Puts in the units of an extent that has none in the page.

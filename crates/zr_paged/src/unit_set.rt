@@ -10,7 +10,6 @@ ghost use Rattle.zr_base.specs.Extents.{IsMaximal, HasAll, HasNone, HasNoneFrom,
 ghost use Rattle.zr_paged.specs.Forms.{set_in};
 
 use crate::PagedSet;
-use crate::words::words_of;
 use std::alloc::Global;
 use std::marker::Model;
 use zr_base::{Extent, NoMemory};
@@ -201,15 +200,15 @@ impl UnitSet {
         }
     }
 
-    /// The words of the set, were it written anew. It goes over all extents.
+    /// The words of the set, were it written anew in the form that this version of the format has. They are kept, not
+    /// counted.
     pub fn words(&self, version: u64) -> u64
-        requires { unit_count self.now.extents < 2 ^ 40 }
         ensures words { result ≡ set_words version self.now.extents }
         ensures few { result ≤ unit_count self.now.extents }
     {
         match &self.form {
             Form::Paged(paged) => paged.words(version),
-            Form::Flat(flat) => words_of(flat.extents(), version),
+            Form::Flat(flat) => flat.words(version),
         }
     }
 

@@ -1,3 +1,4 @@
+pub mod Cuts
 pub mod Edits
 pub mod Longest
 pub mod Parts

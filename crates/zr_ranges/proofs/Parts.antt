@@ -1,8 +1,12 @@
 -- What is left of a list of maximal extents without its first ones.
-use Rattle.std.proofs.Common.{◌≡◌, ℕ, zero, suc, ◌+◌, ◌-◌, ◌<◌, ◌≤◌, ◌^◌, List, [], ◌∷◌, length, take, drop, set, refl, ap, sym, subst, ◌∙◌, arith, add-zero, length-drop}
+use Rattle.std.proofs.Common.{◌≡◌, ℕ, zero, suc, ◌+◌, ◌-◌, ◌<◌, ◌≤◌, ◌^◌, List, [], ◌∷◌, length, take, drop, set, Some, refl, ap, sym, subst, ◌∙◌, arith, add-zero, length-drop}
 use Rattle.std.proofs.lemmas.List.{drop-drop, drop-set-add}
 use Rattle.zr_base.specs.declared.space.Extent.{Extent}
-use Rattle.zr_base.specs.Extents.{IsMaximal, IsMaximalFrom, RemovesUnits, extent_at, unit_count}
+use Rattle.zr_base.specs.Extents.{IsMaximal, IsMaximalFrom, HasNone, AddsUnits, RemovesUnits, extent_at, end_of, unit_count}
+use Rattle.zr_rules.specs.Owed.{set_words}
+use Rattle.zr_ranges.specs.Words.{run_of, AreWordsOf, IsCut}
+use Rattle.zr_ranges.specs.declared.words.Words.{Words}
+use Rattle.zr_ranges.proofs.Cuts.{cut_again, words_split}
 use Rattle.zr_base.proofs.ExtentSets.{unit_count-more, unit_count-le}
 use Rattle.zr_ranges.specs.Ranges.{IsKept}
 use Rattle.zr_ranges.proofs.Edits.{removes-whole, removes-front}
@@ -55,11 +59,41 @@ removes_front from n xs r m inside is lt =
     (removes-front (drop from xs) r n 0 m (omega (arith, length-drop from xs)) is lt)
 
 -- the set without its first extents
-pub kept_without : (from units n count : ℕ) (xs : List Extent) → IsKept xs from units → n ≤ length (drop from xs) → count ≡ unit_count (take n (drop from xs)) → IsKept xs (from + n) (units - count)
-kept_without from units n count xs kept few counted =
+pub kept_without : (from units n count : ℕ) (w v : Words) (xs : List Extent) → IsKept xs from units w → n ≤ length (drop from xs) → count ≡ unit_count (take n (drop from xs)) → v.first ≡ w.first - set_words 1 (take n (drop from xs)) → v.second ≡ w.second - set_words 2 (take n (drop from xs)) → IsKept xs (from + n) (units - count) v
+kept_without from units n count w v xs kept few counted first second =
     let same : drop n (drop from xs) ≡ drop (from + n) xs = drop-drop n from xs in
+    let w1 = words_split 1 n (drop from xs) in
+    let w2 = words_split 2 n (drop from xs) in
     record {
       within = omega (arith, length-drop from xs, kept.within);
       maximal = subst (λ (l : List Extent). IsMaximal l) same (maximal_drop n (drop from xs) kept.maximal);
       counted = subst (λ (l : List Extent). units - count ≡ unit_count l) same (omega (arith, count_split n (drop from xs), kept.counted, counted));
+      words = subst (λ (l : List Extent). AreWordsOf v l) same (record { first = omega (arith, w1, first, kept.words.first); second = omega (arith, w2, second, kept.words.second) });
+    }
+
+-- the first extents have no more words than all
+pub words_fewer : (version n : ℕ) (xs : List Extent) → set_words version (take n xs) ≤ set_words version xs
+words_fewer version n xs = let w = words_split version n xs in omega (arith, w)
+
+-- the set with units that came
+pub kept_more : (xs ys : List Extent) (from to units : ℕ) (w v : Words) (run e : Extent) → IsKept xs from units w → to ≡ 0 → HasNone (drop from xs) e → 0 < e.len → AddsUnits (drop from xs) ys e → run_of e.start ys ≡ Some run → end_of e ≤ end_of run → ((with without : List Extent) → AreWordsOf w without → IsCut with without run e → AreWordsOf v with) → IsKept ys to (units + e.len) v
+kept_more xs ys from to units w v run e kept zero_is apart some added around inside told =
+    let count = added.count in let was = kept.counted in
+    subst (λ t. IsKept ys t (units + e.len) v) (sym zero_is)
+    (record {
+      within = omega arith;
+      maximal = added.maximal;
+      counted = omega (arith, count, was);
+      words = told ys (drop from xs) kept.words (cut_again (drop from xs) ys run e kept.maximal apart some added around inside);
+    })
+
+-- the set without units that went
+pub kept_less : (xs ys : List Extent) (from to units : ℕ) (w v : Words) (run e : Extent) → IsKept xs from units w → to ≤ length ys → IsCut (drop from xs) (drop to ys) run e → ((with without : List Extent) → AreWordsOf w with → IsCut with without run e → AreWordsOf v without) → IsKept ys to (units - e.len) v
+kept_less xs ys from to units w v run e kept within cut told =
+    let count = cut.removes.count in let was = kept.counted in
+    record {
+      within = within;
+      maximal = cut.removes.maximal;
+      counted = omega (arith, count, was);
+      words = told (drop from xs) (drop to ys) kept.words cut;
     }

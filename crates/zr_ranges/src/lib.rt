@@ -9,18 +9,24 @@
 //! A set is often emptied from its lowest unit up. So the runs begin at an index, and to take out the first ones only
 //! raises it. The room below it is spare like that behind the last run, and the first other change moves all runs down
 //! over it, once.
+//!
+//! The units of a set and the words that it takes where it is written anew are kept as it changes.
 #![tactic(auto)]
 
-ghost use Rattle.std.specs.Prelude.{◌≡◌, ℕ, ◌+◌, ◌-◌, ◌^◌, ◌<◌, ◌≤◌, ◌↔◌, ◌∷◌, [], take, remove, length, min, drop, IsTrue, IsOk, IfSome, IfNone, OnOk, OnErr, vec_len};
+ghost use Rattle.std.specs.Prelude.{◌≡◌, ℕ, ◌+◌, ◌-◌, ◌^◌, ◌<◌, ◌≤◌, ◌↔◌, ◌∷◌, [], take, remove, length, min, drop, IsTrue, IsOk, IfSome, IfNone, OnOk, OnErr, vec_len, Some};
 ghost use Rattle.std.specs.Vec.{vec_capacity};
 ghost use Rattle.zr_ranges.specs.Ranges.{HasRunOf};
+ghost use Rattle.zr_ranges.specs.Words.{run_of};
+ghost use Rattle.zr_rules.specs.Owed.{set_words};
 ghost use Rattle.zr_base.specs.Extents.{IsMaximal, HasAll, HasNone, AddsUnits, RemovesUnits, unit_count, longest_len, first_part_from, end_of, extent_at, EndsBy, IsFirstPart, HasNoneFrom};
 
 mod front;
+mod words;
 
 use front::{count_units, live, settle, take_first};
 use std::alloc::{AllocError, Global};
 use std::marker::Model;
+pub use words::{Words, extent_words, words_of};
 use zr_base::{Extent, NoMemory};
 
 /// A set of units below 2^62.
@@ -29,6 +35,7 @@ pub struct RangeSet {
     runs: Vec<Extent>,
     from: usize,
     units: u64,
+    words: Words,
 }
 
 impl Model for RangeSet {
@@ -40,7 +47,7 @@ impl Model for RangeSet {
 
     ghost view = { λ a. record { extents = drop a.from a.runs.items; spare = vec_capacity a.runs - (vec_len a.runs - a.from) } };
 
-    ghost invariant = { λ a. IsKept a.runs.items a.from a.units };
+    ghost invariant = { λ a. IsKept a.runs.items a.from a.units a.words };
 }
 
 impl RangeSet {
@@ -52,6 +59,7 @@ impl RangeSet {
             runs: Vec::new(alloc),
             from: 0,
             units: 0,
+            words: Words::none(),
         }
     }
 
@@ -75,6 +83,7 @@ impl RangeSet {
         settle(&mut self.runs, &mut self.from);
         add_run(&mut self.runs, e)?;
         self.units += e.len;
+        self.words = self.words.joined(run_around(self.runs.as_slice(), e), e);
         Ok(())
     }
 
@@ -93,8 +102,10 @@ impl RangeSet {
         ensures growth { length self.new.extents ≤ length self.old.extents + 1 }
     {
         settle(&mut self.runs, &mut self.from);
+        let run = run_around(self.runs.as_slice(), e);
         remove_run(&mut self.runs, e)?;
         self.units -= e.len;
+        self.words = self.words.cut(run, e);
         Ok(())
     }
 
@@ -119,6 +130,22 @@ impl RangeSet {
         ensures bound { result ≤ 2 ^ 62 }
     {
         self.units
+    }
+
+    /// The words of the set, were it written anew in the form that this version of the format has. They are kept, not
+    /// counted.
+    pub fn words(&self, version: u64) -> u64
+        ensures words { result ≡ set_words version self.now.extents }
+        ensures few { result ≤ unit_count self.now.extents }
+    {
+        self.words.of(version)
+    }
+
+    /// The extent that has a unit. Logarithmic in the extents.
+    pub fn run_with(&self, u: u64) -> Option<Extent>
+        ensures { result ≡ run_of u self.now.extents }
+    {
+        run_with(live(&self.runs, self.from), u)
     }
 
     /// The most units that follow each other in the set, or 0. It goes over all extents, so a caller keeps it.
@@ -169,9 +196,11 @@ impl RangeSet {
         ensures spare { self.old.spare ≤ self.new.spare }
         ensures capacity { length self.old.extents + self.old.spare ≤ length self.new.extents + self.new.spare }
     {
+        let run = run_at(live(&self.runs, self.from), 0);
         let (taken, from) = take_first(&mut self.runs, self.from, n);
         self.from = from;
         self.units -= taken.len;
+        self.words = self.words.cut(run, taken);
         taken
     }
 
@@ -186,6 +215,7 @@ impl RangeSet {
         let runs = live(&self.runs, self.from);
         let count = n.min(runs.len());
         self.units -= count_units(&runs[..count]);
+        self.words = self.words.without(&runs[..count]);
         self.from += count;
     }
 
@@ -211,8 +241,10 @@ impl RangeSet {
             return self.take_front(n);
         }
         settle(&mut self.runs, &mut self.from);
+        let run = run_at(self.runs.as_slice(), i);
         let taken = take_run(&mut self.runs, i, n);
         self.units -= taken.len;
+        self.words = self.words.cut(run, taken);
         taken
     }
 
@@ -225,6 +257,7 @@ impl RangeSet {
         self.runs.clear();
         self.from = 0;
         self.units = 0;
+        self.words = Words::none();
     }
 
     /// Makes room for `n` changes that take no memory. Where that room is there it costs nothing.
@@ -342,6 +375,18 @@ fn first_part(runs: &[Extent], u: u64) -> Option<Extent>
                 len: run.start + run.len - u,
             })
         }
+    } else {
+        None
+    }
+}
+
+fn run_with(runs: &[Extent], u: u64) -> Option<Extent>
+    requires { IsMaximal runs.now }
+    ensures { result ≡ run_of u runs.now }
+{
+    let i = first_above(runs, u);
+    if i < runs.len() && runs[i].start <= u {
+        Some(runs[i])
     } else {
         None
     }
@@ -478,6 +523,17 @@ fn holder(runs: &[Extent], e: Extent) -> usize
     ensures ends { e.start + e.len ≤ end_of (extent_at runs.now result) }
 {
     first_above(runs, e.start)
+}
+
+// The extent that has all units of another.
+fn run_around(runs: &[Extent], e: Extent) -> Extent
+    requires maximal { IsMaximal runs.now }
+    requires not_empty { 0 < e.len }
+    requires covered { HasAll runs.now e }
+    ensures run { run_of e.start runs.now ≡ Some result }
+    ensures inside { end_of e ≤ end_of result }
+{
+    run_at(runs, holder(runs, e))
 }
 
 fn run_at(runs: &[Extent], i: usize) -> Extent

@@ -28,7 +28,7 @@ use Rattle.zr_space.specs.declared.whole.Whole.{Whole}
 use Rattle.zr_space.proofs.Counts.{count_as, count_within, held_in, allocated_count}
 use Rattle.zr_space.proofs.Keeps.{most_units}
 use Rattle.zr_space.proofs.Synced.{leaving_state}
-use Rattle.zr_space.proofs.Totalling.{sum_passing, from_range, late_meta_is, late1_total, late2_total, units_at, meta_len, words_are, sets_within}
+use Rattle.zr_space.proofs.Totalling.{sum_passing, from_range, late_meta_is, late1_total, late2_total, units_at, meta_len, words_are}
 use Rattle.zr_space.proofs.Views.{part_is}
 
 -- ---- what lies within a device is few
@@ -230,11 +230,9 @@ module _ (whole : Whole) (slabs : Devices) (devs : List Kept) (s : IsSpace whole
       let c = allocated_count (free_at slabs d) (count_at slabs d) (kept_of devs d).uses (s.account d) in
       let there = most_units (kept_of devs d) (s.rows d) in
       record {
-        within = sets_within whole slabs devs s d;
         used = omega (arith, a, there);
         kept = omega (arith, c, a, there);
         small = s.small d;
-        marks = within_of (kept_of devs d).row.units (kept_of devs d).moves.fresh (s.moved d).fresh.within;
         fresh = let f = set_small 0 (kept_of devs d).row.units (kept_of devs d).moves.fresh (s.moved d).fresh.maximal (s.moved d).fresh.within in omega (arith, f);
         entries = let e = entries_few 0 (kept_of devs d).row.units (kept_of devs d).moves.entries (rising d) (s.moved d).sources in omega (arith, e);
       }

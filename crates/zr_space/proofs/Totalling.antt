@@ -21,7 +21,6 @@ use Rattle.zr_rules.specs.Equation.{devices_in}
 use Rattle.zr_rules.specs.Steps.{touch}
 use Rattle.zr_metaslab.specs.Devices.{Devices, count_at}
 use Rattle.zr_units.specs.Uses.{Freed}
-use Rattle.zr_units.specs.Words.{HasWithin}
 use Rattle.zr_space.specs.Views.{units_there, Kept, kept_of, part_in, opened_in, late_runs, addresses, meta_from, space_of, IsSpace}
 use Rattle.zr_space.specs.Totals.{total_by, serving_units, kept_in, current_meta, late1_meta, late2_meta, words_in}
 use Rattle.zr_space.proofs.Sums.{as_runs}
@@ -266,24 +265,6 @@ module _ (whole : Whole) (slabs : Devices) (devs : List Kept) (s : IsSpace whole
       (λ i. ap (λ d. if is_on (state_of_dev (map part_in devs) d) then units_of_dev (map part_in devs) d else 0) (let z : 0 + i ≡ i = omega arith in z) ∙ serving i))
       ∙ (ap (λ n. sum_by (λ d. if is_on (state_of_dev (map part_in devs) d) then units_of_dev (map part_in devs) d else 0) (range_with_len 0 n)) (sym count_is)
       ∙ sym (sum_passing (units_of_dev (map part_in devs)) (λ d. is_on (state_of_dev (map part_in devs) d)) (range_with_len 0 (length (map part_in devs)))))
-
-  pub sets_within : (d : ℕ) → HasWithin (kept_of devs d).uses
-  sets_within d = record { held = within d; kept = kept d; freed = freed d; late1 = late1 d; late2 = late2 d }
-    where
-      within : (d u : ℕ) → has_unit (kept_of devs d).uses.held u ≡ true → u < (kept_of devs d).uses.units
-      within d u is = let o = (s.account d).once u in grind (arith, nat_tests, o, is)
-
-      kept : (d u : ℕ) → has_unit (kept_of devs d).uses.kept u ≡ true → u < (kept_of devs d).uses.units
-      kept d u is = within d u ((s.account d).keeping.held u is)
-
-      freed : (d u : ℕ) → has_unit (kept_of devs d).uses.freed.blocks u ≡ true → u < (kept_of devs d).uses.units
-      freed d u is = let o = (s.account d).once u in grind (arith, nat_tests, o, is)
-
-      late1 : (d u : ℕ) → has_unit (kept_of devs d).uses.late1.blocks u ≡ true → u < (kept_of devs d).uses.units
-      late1 d u is = let o = (s.account d).once u in grind (arith, nat_tests, o, is)
-
-      late2 : (d u : ℕ) → has_unit (kept_of devs d).uses.late2.blocks u ≡ true → u < (kept_of devs d).uses.units
-      late2 d u is = let o = (s.account d).once u in grind (arith, nat_tests, o, is)
 
 -- ---- all devices are in service
 

@@ -6,9 +6,8 @@ use Rattle.zr_rules.specs.Columns.{device_streams}
 use Rattle.zr_rules.specs.Places.{is_on, is_gone}
 use Rattle.zr_rules.specs.Space.{Space}
 use Rattle.zr_indirect.specs.Mapped.{mapped_words}
-use Rattle.zr_units.specs.Apart.{IsWithin}
 use Rattle.zr_units.specs.Uses.{Uses, use_count}
-use Rattle.zr_units.specs.Words.{HasWithin, use_words}
+use Rattle.zr_units.specs.Words.{use_words}
 use Rattle.zr_space.specs.Views.{Kept, kept_of}
 
 abbrev pub total_by : (Uses → ℕ) → List Kept → ℕ
@@ -63,13 +62,11 @@ all_left devs = sum_by (λ (k : Kept). unit_count k.moves.left) devs
 abbrev pub kept_units : Space → ℕ
 kept_units s = sum_by (λ (p : DevPart). unit_count p.kept) s.parts.devs
 
--- the sets and the mapping of the device lie within its units, so that their words can be counted
+-- the sets and the mapping of the device have no more than its units, so that their words can be added
 pub record HasWords (k : Kept) : Type 0 where
-  pub within : HasWithin k.uses
   pub used : use_count k.uses ≤ k.row.units
   pub kept : unit_count k.uses.kept ≤ k.row.units
   pub small : k.row.units < 2 ^ 40
-  pub marks : IsWithin k.moves.fresh k.row.units
   pub fresh : unit_count k.moves.fresh ≤ k.row.units
   pub entries : length k.moves.entries ≤ k.row.units
 

@@ -86,7 +86,7 @@ fn words_of(device: &Device, version: u64) -> u64
     ensures words { result ≡ words_in version device.now }
     ensures few { result ≤ 13 * device.now.row.units }
 {
-    device.units.words(version) + device.moves.words(device.row.units, version)
+    device.units.words(version) + device.moves.words(version)
 }
 
 // How far the devices have come on their way out, taken together: their streams, how many are gone, and in units what is
@@ -207,9 +207,7 @@ impl Space {
         pieces_in(self, self.devs.len(), a.dev, extent_of(&a))
     }
 
-    /// The counts from which the room is computed, with no changed block or object. On devices of at most 32,768 units it
-    /// goes over the devices alone, and over the marks of one that is leaving; of a larger one it goes over the extents of
-    /// five sets.
+    /// The counts from which the room is computed, with no changed block or object. It goes over the devices alone.
     pub fn sizes(&self) -> Sizes
         ensures sizes { result ≡ sizes self.now 0 0 }
         ensures words { result.words ≤ 13 * units_ever self.now }

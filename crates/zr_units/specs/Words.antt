@@ -1,16 +1,7 @@
 -- The words of the sets of a device, were each written anew.
 use Rattle.std.specs.Prelude.{ℕ, ◌+◌, ◌*◌}
 use Rattle.zr_rules.specs.Owed.{set_words}
-use Rattle.zr_units.specs.Apart.{IsWithin}
 use Rattle.zr_units.specs.Uses.{Uses}
-
--- the sets lie within the device
-pub record HasWithin (x : Uses) : Type 0 where
-  pub held : IsWithin x.held x.units
-  pub kept : IsWithin x.kept x.units
-  pub freed : IsWithin x.freed.blocks x.units
-  pub late1 : IsWithin x.late1.blocks x.units
-  pub late2 : IsWithin x.late2.blocks x.units
 
 -- the words of the held units, three times those of the kept ones, and those of blocks that are freed and not free yet
 abbrev pub use_words : ℕ → Uses → ℕ

@@ -11,10 +11,8 @@ mod changes;
 mod freed;
 mod parts;
 mod units;
-mod words;
 
 pub use changes::merged;
 pub use freed::FreedSets;
 pub use parts::{Front, uniform_front};
 pub use units::Units;
-pub use words::set_words;

@@ -5,13 +5,12 @@ ghost use Rattle.zr_metaslab.specs.Devices.{Devices, free_at, count_at, units_at
 ghost use Rattle.zr_units.specs.Uses.{IsAccount, IsKeeping, IsSameUses, unused, use_count, freed_count};
 ghost use Rattle.zr_units.specs.Apart.{AreSetsApart};
 ghost use Rattle.zr_units.specs.Differences.{IsMerged};
-ghost use Rattle.zr_units.specs.Words.{HasWithin, use_words};
+ghost use Rattle.zr_units.specs.Words.{use_words};
 ghost use Rattle.zr_units.specs.Changes.{Holds, HoldsCopy, TurnsCopies, GivesUpCopies, GivesUpSet, HoldsMeta, DropsMeta, DropsSaved, FreesUnits, FreesCopies, KeepsUnits, KeepsBorn, DiscardsUnits, DiscardsFront, TakesBack, FreesBorn, aged_uses, cleared_uses, saved_uses, taken_uses, has_freed};
 
 use crate::changes::merged;
 use crate::freed::FreedSets;
 use crate::parts::{free_parts, give_up_parts, keep_parts, uniform_front};
-use crate::words::set_words;
 use std::alloc::Global;
 use std::marker::Model;
 use std::mem;
@@ -165,10 +164,8 @@ impl Units {
     }
 
     /// The words of the sets that a space map or a late set records, were each written anew: the held units, the kept
-    /// ones three times, and the block units that are freed and not free yet. It goes over the extents of the held and the
-    /// kept units, and on a device of more than 32,768 units over those of what is freed.
+    /// ones three times, and the block units that are freed and not free yet. They are kept, not counted.
     pub fn words(&self, version: u64) -> u64
-        requires within { HasWithin self.now }
         requires small { use_count self.now < 2 ^ 40 }
         requires kept { unit_count self.now.kept < 2 ^ 40 }
         ensures words { result ≡ use_words version self.now }
@@ -176,9 +173,9 @@ impl Units {
     {
         self.held.words(version)
             + 3 * self.kept.words(version)
-            + set_words(&self.freed.blocks, self.units, version)
-            + set_words(&self.late1.blocks, self.units, version)
-            + set_words(&self.late2.blocks, self.units, version)
+            + self.freed.blocks.words(version)
+            + self.late1.blocks.words(version)
+            + self.late2.blocks.words(version)
     }
 
     /// What the open group changed in the held set, as changes by rising place: what it allocated and still has, and what

@@ -1,7 +1,7 @@
 use Rattle.std.proofs.Common.{◌≡◌, ◌≤◌, take}
 use Rattle.zr_base.specs.Extents.{unit_count}
 use Rattle.zr_rules.specs.Owed.{set_words}
-use Rattle.zr_paged.proofs.words.words_of.Given as goal
+use Rattle.zr_ranges.proofs.words.words_of.Given as goal
 
 abbrev pub invariant-loop-e : goal.invariant-loop-e
 invariant-loop-e l = record {
