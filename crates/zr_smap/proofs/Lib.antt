@@ -1,4 +1,5 @@
 pub mod Spelling
 pub mod Cutting
+pub mod Anew
 pub mod SetWords
 pub mod Replaying

@@ -1,10 +1,11 @@
 -- What is known of every set that is written anew.
-use Rattle.std.specs.Prelude.{◌≡◌, ℕ, ◌+◌, ◌≤◌, ◌<◌, ◌^◌, false, List, map}
+use Rattle.std.specs.Prelude.{◌≡◌, ◌⊎◌, ℕ, ◌+◌, ◌≤◌, ◌<◌, ◌^◌, false, List, length, map}
 use Rattle.zr_base.specs.declared.space.Change.{Change}
 use Rattle.zr_base.specs.declared.space.Extent.{Extent}
 use Rattle.zr_base.specs.Extents.{IsMaximal, HasAll, HasNone, AddsUnits, RemovesUnits}
 use Rattle.zr_rules.specs.Logs.{IsAnew, IsReplay}
 use Rattle.zr_rules.specs.Owed.{set_words, extent_words}
+use Rattle.zr_smap.specs.Cuts.{IsInReach}
 
 -- each run is taken
 abbrev pub takes : List Extent → List Change
@@ -13,6 +14,10 @@ takes runs = map (λ e. record { free = false; at = e }) runs
 -- the changes of the words that a set is written anew with leave that set
 abbrev pub AnewReplays : Type 0
 AnewReplays = (version dev : ℕ) (es : List Extent) (words : List ℕ) (anew : IsAnew version dev es words) → IsMaximal es → IsReplay (takes anew.runs) es
+
+-- a set that the version can spell has words that it is written anew with, as many as are reckoned
+abbrev pub CanBeAnew : Type 0
+CanBeAnew = (version dev : ℕ) (es : List Extent) → (version ≡ 1) ⊎ (version ≡ 2) → IsMaximal es → IsInReach version es → (words : List ℕ) × IsAnew version dev es words × (length words ≡ set_words version es)
 
 -- with an extent more a set has at most the words of that extent more
 abbrev pub AddedWords : Type 0

@@ -1,9 +1,14 @@
 //! What holds of every set that is written anew: it replays to itself, and how many words it has more when it changes.
-ghost use Rattle.zr_smap.specs.Laws.{AnewReplays, AddedWords, ShortWords, RemovedWords};
+ghost use Rattle.zr_smap.specs.Laws.{AnewReplays, CanBeAnew, AddedWords, ShortWords, RemovedWords};
 
 /// Read back, a set that was written anew is that set.
 pub fn a_set_written_anew_replays()
     ensures { AnewReplays }
+{}
+
+/// A set that the version can spell can be written anew, with as many words as are reckoned.
+pub fn a_set_can_be_written_anew()
+    ensures { CanBeAnew }
 {}
 
 /// How the number of words of a set changes with an extent more or less: at most one word more for an extent of at most

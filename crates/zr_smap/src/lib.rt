@@ -17,7 +17,7 @@ ghost use Rattle.zr_smap.specs.Cuts.{IsInReach, PutsRun, AreCutWords};
 
 mod laws;
 
-pub use laws::{a_set_written_anew_replays, words_of_a_changed_set};
+pub use laws::{a_set_can_be_written_anew, a_set_written_anew_replays, words_of_a_changed_set};
 use std::alloc::Global;
 use zr_base::{Change, Extent, NoMemory};
 use zr_ranges::RangeSet;

@@ -90,13 +90,13 @@ fn cut_changes(alloc: Global, changes: &[Change], version: u64) -> Result<Vec<Ch
 }
 
 // Whether a log is written anew, with so many words, rather than that words are added.
-fn is_long(words: u64, added: usize, anew: usize) -> bool
+fn is_long(words: u64, added: usize, anew: u64) -> bool
     requires words { words ≤ 2 ^ 34 }
     requires added { added < 2 ^ 63 }
     requires anew { anew ≤ 2 ^ 34 }
     ensures { result ≡ is_long words added anew }
 {
-    2 * anew as u64 + 512 < words + added as u64
+    2 * anew + 512 < words + added as u64
 }
 
 // The set of these extents.
@@ -170,6 +170,18 @@ fn anew_of(
     }
 }
 
+// How many words the set of a log has, were it written anew. They are kept, and no set is gone over.
+fn anew_len(space: &Space, dev: u32, log: Log, version: u64) -> u64
+    requires { dev < length space.now.parts.devs }
+    ensures { result ≡ set_words version (log_set log (part_of space.now.parts.devs dev)) }
+{
+    match log {
+        Log::Held => space.held(dev).words(version),
+        Log::Kept => space.kept(dev).words(version),
+        Log::Fresh => space.moves(dev).fresh_words(version),
+    }
+}
+
 // What a log gains.
 fn changes_of(space: &Space, dev: u32, log: Log) -> Result<Vec<Change>, NoMemory>
     requires dev { dev < length space.now.parts.devs }
@@ -185,7 +197,7 @@ fn changes_of(space: &Space, dev: u32, log: Log) -> Result<Vec<Change>, NoMemory
     }
 }
 
-/// What the open group makes of a log of a device. It goes over what changed, and over the set where anything did.
+/// What the open group makes of a log of a device. It goes over what changed, and over the set where that is written anew.
 pub fn log_words(
     alloc: Global,
     space: &Space,
@@ -209,9 +221,10 @@ pub fn log_words(
     if added.is_empty() {
         return Ok(LogWords::Stays);
     }
-    let anew = anew_of(alloc, space, dev, log, version)?;
-    if is_long(old.words, added.len(), anew.len()) {
-        return Ok(LogWords::Anew(anew));
+    let anew = anew_len(space, dev, log, version);
+    if is_long(old.words, added.len(), anew) {
+        let words = anew_of(alloc, space, dev, log, version)?;
+        return Ok(LogWords::Anew(words));
     }
     Ok(LogWords::Grows(added))
 }
