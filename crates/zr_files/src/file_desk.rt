@@ -504,7 +504,7 @@ impl Shelf for FileDesk {
 
     ghost moment = { λ d. 0 };
 
-    ghost world = { λ d. record { now = record { paths = []; durable = []; writes = []; seen = []; left = []; sent = [] }; past = [] } };
+    ghost world = { λ d. record { now = record { paths = []; makes = []; durable = []; writes = []; seen = []; left = []; sent = [] }; past = [] } };
 
     ghost sound = { λ d told. absurd told };
 

@@ -199,7 +199,7 @@ impl Shelf for LentDesk {
 
     ghost moment = { λ d. 0 };
 
-    ghost world = { λ d. record { now = record { paths = []; durable = []; writes = []; seen = []; left = []; sent = [] }; past = [] } };
+    ghost world = { λ d. record { now = record { paths = []; makes = []; durable = []; writes = []; seen = []; left = []; sent = [] }; past = [] } };
 
     ghost sound = { λ d told. absurd told };
 

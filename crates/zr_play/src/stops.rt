@@ -270,7 +270,7 @@ impl<'a> Walk<'a> {
     // Makes a call again. It answers whether a line is under way or answered after it.
     fn step(&mut self, deed: &'a Deed) -> Result<bool, AllocError> {
         match deed {
-            Deed::Attached(file) => {
+            Deed::Attached(file, _make) => {
                 let path = String::from_str(self.alloc, file.path.as_str())?;
                 let bytes = file.bytes.as_slice().to_vec(self.alloc)?;
                 self.files.push(DiskFile { path, bytes })?;

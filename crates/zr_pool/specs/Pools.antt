@@ -70,7 +70,7 @@ AreShown None disks part = Unit {0}
 
 -- the disks as they stand, whatever the input and the output are
 abbrev pub stand_of : Disks → Stand
-stand_of disks = record { paths = []; durable = disks.durable; writes = disks.writes; seen = disks.seen; left = []; sent = [] }
+stand_of disks = record { paths = []; makes = []; durable = disks.durable; writes = disks.writes; seen = disks.seen; left = []; sent = [] }
 
 -- The pool that is open is in the group behind a commit of these objects, when all its devices were in service. Of one that is closed that is not told.
 abbrev pub IsBehind : Option OpenPool → Disks → Objects → Type 0

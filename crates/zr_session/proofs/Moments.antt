@@ -55,7 +55,7 @@ sending bytes old new r call =
     on_give (IsSending bytes old.now) old old new (started (IsSending bytes old.now) old) ([], (bytes, refl), unsent old.now) bytes r call (λ front back e. (front, (back, e), refl))
   where
     unsent : (stand : Stand) → stand ≡ sent_more stand []
-    unsent stand = ap (λ bytes. record { paths = stand.paths; durable = stand.durable; writes = stand.writes; seen = stand.seen; left = stand.left; sent = bytes }) (sym (append-nil stand.sent))
+    unsent stand = ap (λ bytes. record { paths = stand.paths; makes = stand.makes; durable = stand.durable; writes = stand.writes; seen = stand.seen; left = stand.left; sent = bytes }) (sym (append-nil stand.sent))
 
 -- ---- one command
 

@@ -12,29 +12,33 @@ use Rattle.zr_session.specs.declared.end.End.TheVariants.{Answered, BadWords, In
 use Rattle.zr_session.specs.Ends.{status_of, EndsAs, GeneratesAs, EndsBy, IsOpenedTo}
 
 -- one device more is attached
-pub attached_more : (paths : List (List ℕ)) (path : List ℕ) (old mid new : Stand) → IsAttached paths old mid → ((bytes : List ℕ) × (new ≡ with_disk mid path bytes)) → IsAttached (paths ++ path ∷ []) old new
-attached_more [] path old mid new h d = (d.0, d.1 ∙ ap (λ s. with_disk s path d.0) h)
-attached_more (p ∷ paths) path old mid new h d = (h.0, attached_more paths path (with_disk old p h.0) mid new h.1 d)
+pub attached_more : (devs : List (List ℕ × Option ℕ)) (dev : List ℕ × Option ℕ) (old mid new : Stand) → IsAttached devs old mid → ((bytes : List ℕ) × (new ≡ with_disk mid dev.0 dev.1 bytes)) → IsAttached (devs ++ dev ∷ []) old new
+attached_more [] dev old mid new h d = (d.0, d.1 ∙ ap (λ s. with_disk s dev.0 dev.1 d.0) h)
+attached_more (p ∷ devs) dev old mid new h d = (h.0, attached_more devs dev (with_disk old p.0 p.1 h.0) mid new h.1 d)
+
+-- the paths of devices
+abbrev pub paths_among : List (List ℕ × Option ℕ) → List (List ℕ)
+paths_among devs = map (λ (dev : List ℕ × Option ℕ). dev.0) devs
 
 -- the slots have these paths then
-pub attached_paths : (paths : List (List ℕ)) (old new : Stand) → IsAttached paths old new → new.paths ≡ old.paths ++ paths
+pub attached_paths : (devs : List (List ℕ × Option ℕ)) (old new : Stand) → IsAttached devs old new → new.paths ≡ old.paths ++ paths_among devs
 attached_paths [] old new h = ap (λ s. s.paths) h ∙ sym (append-nil old.paths)
-attached_paths (p ∷ paths) old new h = attached_paths paths (with_disk old p h.0) new h.1 ∙ append_assoc old.paths (p ∷ []) paths
+attached_paths (p ∷ devs) old new h = attached_paths devs (with_disk old p.0 p.1 h.0) new h.1 ∙ append_assoc old.paths (p.0 ∷ []) (paths_among devs)
 
 -- which are all, where there was none
-pub named_first : (paths named : List (List ℕ)) (old new : Stand) → length old.paths ≡ 0 → IsAttached paths old new → named ≡ paths → new.paths ≡ named
-named_first paths named old new z h e = attached_paths paths old new h ∙ (ap (λ ps. ps ++ paths) (none old.paths z) ∙ sym e)
+pub named_first : (devs : List (List ℕ × Option ℕ)) (named : List (List ℕ)) (old new : Stand) → length old.paths ≡ 0 → IsAttached devs old new → named ≡ paths_among devs → new.paths ≡ named
+named_first devs named old new z h e = attached_paths devs old new h ∙ (ap (λ ps. ps ++ paths_among devs) (none old.paths z) ∙ sym e)
   where
     none : (xs : List (List ℕ)) → length xs ≡ 0 → xs ≡ []
     none [] e = refl
     none (x ∷ xs) e = absurd (omega arith)
 
--- one item more of those whose paths are attached
-pub attached_next : {A : Type 0} (f : A → List ℕ) (xs : List A) (i : ℕ) (d : A) (old mid new : Stand) → i < length xs
-    → IsAttached (map f (take i xs)) old mid → ((bytes : List ℕ) × (new ≡ with_disk mid (f (get_or xs i d)) bytes)) → IsAttached (map f (take (i + 1) xs)) old new
+-- one item more of those whose devices are attached
+pub attached_next : {A : Type 0} (f : A → List ℕ × Option ℕ) (xs : List A) (i : ℕ) (d : A) (old mid new : Stand) → i < length xs
+    → IsAttached (map f (take i xs)) old mid → ((bytes : List ℕ) × (new ≡ with_disk mid (f (get_or xs i d)).0 (f (get_or xs i d)).1 bytes)) → IsAttached (map f (take (i + 1) xs)) old new
 attached_next f xs i d old mid new l h w =
     let front = ap (map f) (take_more xs i d l) ∙ map-append f (take i xs) (get_or xs i d ∷ []) in
-    subst (λ ps. IsAttached ps old new) (sym front) (attached_more (map f (take i xs)) (f (get_or xs i d)) old mid new h w)
+    subst (λ devs. IsAttached devs old new) (sym front) (attached_more (map f (take i xs)) (f (get_or xs i d)) old mid new h w)
 
 pub split_at : {A : Type 0} (xs : List A) (i : ℕ) (d : A) → i < length xs → take i xs ++ get_or xs i d ∷ drop (suc i) xs ≡ xs
 split_at [] i d l = absurd (omega arith)
@@ -42,7 +46,7 @@ split_at (y ∷ xs) zero d l = refl
 split_at (y ∷ xs) (suc i) d l = ap (λ ys. y ∷ ys) (split_at xs i d (omega arith))
 
 -- or at which it failed
-pub attached_partly : {A : Type 0} (f : A → List ℕ) (xs : List A) (i : ℕ) (d : A) (old mid new : Stand) → i < length xs
+pub attached_partly : {A : Type 0} (f : A → List ℕ × Option ℕ) (xs : List A) (i : ℕ) (d : A) (old mid new : Stand) → i < length xs
     → IsAttached (map f (take i xs)) old mid → new ≡ mid → IsPartlyAttached (map f xs) old new
 attached_partly f xs i d old mid new l h same = (
   map f (take i xs),
@@ -78,17 +82,17 @@ by_generating meaning line n devs rounds end opening now some d r h =
     (subst (λ k. GeneratesAs meaning (record { number = n.0; count = n.1; devs = devs; rounds = k }) end opening now) r h))
 
 -- a run behind all devices
-pub opened_by : (meaning : Meaning) (line : CommandLine) (end : End) (paths : List (List ℕ)) (old mid new : Stand) → IsAttached paths old mid → EndsBy meaning line end mid new → IsOpenedTo (EndsBy meaning line) end paths old new
-opened_by meaning line Answered paths old mid new d h = (mid, d, h)
-opened_by meaning line BadWords paths old mid new d h = (mid, d, h)
-opened_by meaning line InputFault paths old mid new d h = (mid, d, h)
-opened_by meaning line OutputFault paths old mid new d h = (mid, d, h)
-opened_by meaning line DiskFault paths old mid new d h = (mid, d, h)
-opened_by meaning line BadLine paths old mid new d h = (mid, d, h)
-opened_by meaning line Damaged paths old mid new d h = (mid, d, h)
-opened_by meaning line AttachFault paths old mid new d h = absurd (not_attach_fault meaning line mid new h)
-opened_by meaning line InputLimit paths old mid new d h = (mid, d, h)
-opened_by meaning line NoMemory paths old mid new d h = inr (inr (mid, d, h))
+pub opened_by : (meaning : Meaning) (line : CommandLine) (end : End) (devs : List (List ℕ × Option ℕ)) (old mid new : Stand) → IsAttached devs old mid → EndsBy meaning line end mid new → IsOpenedTo (EndsBy meaning line) end devs old new
+opened_by meaning line Answered devs old mid new d h = (mid, d, h)
+opened_by meaning line BadWords devs old mid new d h = (mid, d, h)
+opened_by meaning line InputFault devs old mid new d h = (mid, d, h)
+opened_by meaning line OutputFault devs old mid new d h = (mid, d, h)
+opened_by meaning line DiskFault devs old mid new d h = (mid, d, h)
+opened_by meaning line BadLine devs old mid new d h = (mid, d, h)
+opened_by meaning line Damaged devs old mid new d h = (mid, d, h)
+opened_by meaning line AttachFault devs old mid new d h = absurd (not_attach_fault meaning line mid new h)
+opened_by meaning line InputLimit devs old mid new d h = (mid, d, h)
+opened_by meaning line NoMemory devs old mid new d h = inr (inr (mid, d, h))
 
 -- an end by its status
 abbrev pub end_from : ℕ → End
@@ -110,8 +114,8 @@ known_end InputLimit = refl
 known_end NoMemory = refl
 
 -- what a run came to by its status
-pub opened_with : (meaning : Meaning) (line : CommandLine) (end : End) (n : ℕ) (paths : List (List ℕ)) (old new : Stand) → status_of end ≡ n → IsOpenedTo (EndsBy meaning line) end paths old new → IsOpenedTo (EndsBy meaning line) (end_from n) paths old new
-opened_with meaning line end n paths old new s h = subst (λ e. IsOpenedTo (EndsBy meaning line) e paths old new) (known_end end ∙ ap end_from s) h
+pub opened_with : (meaning : Meaning) (line : CommandLine) (end : End) (n : ℕ) (devs : List (List ℕ × Option ℕ)) (old new : Stand) → status_of end ≡ n → IsOpenedTo (EndsBy meaning line) end devs old new → IsOpenedTo (EndsBy meaning line) (end_from n) devs old new
+opened_with meaning line end n devs old new s h = subst (λ e. IsOpenedTo (EndsBy meaning line) e devs old new) (known_end end ∙ ap end_from s) h
 
 pub known_status : (e : End) → status_of e ≤ 9
 known_status Answered = omega arith
@@ -127,11 +131,11 @@ known_status NoMemory = omega arith
 
 -- the same of the words
 pub runs_to : (P : ℕ → Stand → Stand → Type 0) (Q : Task → Stand → Stand → Type 0) (names words : List (List ℕ)) (line : CommandLine) (old new : Stand)
-    → IsStarted names words line → ((opening : Stand) × IsAttached (paths_in line) old opening × MatchOption line.generate (P (rounds_in line) opening new) (λ n. Q (task_in line n) opening new)) → RunsTo P Q names words old new
+    → IsStarted names words line → ((opening : Stand) × IsAttached line.devs old opening × MatchOption line.generate (P (rounds_in line) opening new) (λ n. Q (task_in line n) opening new)) → RunsTo P Q names words old new
 runs_to P Q names words line old new s h = (line, h.0, s, h.1, h.2)
 
 pub memory_at : (meaning : Meaning) (names words : List (List ℕ)) (line : CommandLine) (old new : Stand)
-    → IsStarted names words line → IsOpenedTo (EndsBy meaning line) NoMemory (paths_in line) old new
+    → IsStarted names words line → IsOpenedTo (EndsBy meaning line) NoMemory line.devs old new
     → (new ≡ old) ⊎ StopsAtDevice names words old new ⊎ RunsTo (AnswersFront meaning) (TellsNothing meaning) names words old new
 memory_at meaning names words line old new s (inl same) = inl same
 memory_at meaning names words line old new s (inr (inl h)) = inr (inl (line, s, h))

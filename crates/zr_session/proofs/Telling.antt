@@ -1,5 +1,5 @@
 -- What holds at each moment of a generated run, and while devices are attached.
-use Rattle.std.proofs.Common.{◌≡◌, inl, inr, ℕ, ◌+◌, ◌<◌, List, [], ◌∷◌, ◌++◌, length, map, take, drop, get_or, Some, None, MatchOption, Result, refl, sym, ap, subst, ◌∙◌, take-append-drop}
+use Rattle.std.proofs.Common.{◌≡◌, inl, inr, ℕ, ◌+◌, ◌<◌, List, [], ◌∷◌, ◌++◌, length, map, take, drop, get_or, Option, Some, None, MatchOption, Result, refl, sym, ap, subst, ◌∙◌, take-append-drop}
 use Rattle.std.proofs.lemmas.List.{map-append}
 use Rattle.zr_shelf.specs.declared.desk.DeskErr.{DeskErr}
 use Rattle.zr_shelf.specs.Disks.{Stand, with_disk}
@@ -78,39 +78,39 @@ telling_moments m task state counted bytes old mid new d e rests h k =
 -- ---- devices
 
 -- first ones are attached
-first_attached : {A : Type 0} (f : A → List ℕ) (xs : List A) (j : ℕ) (old stand : Stand) → IsAttached (map f (take j xs)) old stand → IsAttaching (map f xs) old stand
+first_attached : {A : Type 0} (f : A → List ℕ × Option ℕ) (xs : List A) (j : ℕ) (old stand : Stand) → IsAttached (map f (take j xs)) old stand → IsAttaching (map f xs) old stand
 first_attached f xs j old stand h = (map f (take j xs), map f (drop j xs), sym (map-append f (take j xs) (drop j xs)) ∙ ap (map f) (take-append-drop j xs), h)
 
 -- a call that attaches one more, whatever it came to
-pub attach_moments : {A : Type 0} (f : A → List ℕ) (xs : List A) (i : ℕ) (d : A) (old mid new : World) (r : Result ℕ DeskErr) → i < length xs → IsAttached (map f (take i xs)) old.now mid.now
-    → Throughout (IsAttaching (map f xs) old.now) old mid → Attaches (f (get_or xs i d)) r mid new → Throughout (IsAttaching (map f xs) old.now) old new
+pub attach_moments : {A : Type 0} (f : A → List ℕ × Option ℕ) (xs : List A) (i : ℕ) (d : A) (old mid new : World) (r : Result ℕ DeskErr) → i < length xs → IsAttached (map f (take i xs)) old.now mid.now
+    → Throughout (IsAttaching (map f xs) old.now) old mid → Attaches (f (get_or xs i d)).0 (f (get_or xs i d)).1 r mid new → Throughout (IsAttaching (map f xs) old.now) old new
 attach_moments f xs i d old mid new r l at h call =
-    on_attach (IsAttaching (map f xs) old.now) old mid new h (first_attached f xs i old.now mid.now at) (f (get_or xs i d)) r call
-    (λ bytes. first_attached f xs (i + 1) old.now (with_disk mid.now (f (get_or xs i d)) bytes) (attached_next f xs i d old.now mid.now (with_disk mid.now (f (get_or xs i d)) bytes) l at (bytes, refl)))
+    on_attach (IsAttaching (map f xs) old.now) old mid new h (first_attached f xs i old.now mid.now at) (f (get_or xs i d)).0 (f (get_or xs i d)).1 r call
+    (λ bytes. first_attached f xs (i + 1) old.now (with_disk mid.now (f (get_or xs i d)).0 (f (get_or xs i d)).1 bytes) (attached_next f xs i d old.now mid.now (with_disk mid.now (f (get_or xs i d)).0 (f (get_or xs i d)).1 bytes) l at (bytes, refl)))
 
 -- ---- the program
 
 -- devices are attached
-pub opening_moments : (m : Meaning) (line : CommandLine) (paths : List (List ℕ)) (old new : World) → paths ≡ paths_in line → Throughout (IsAttaching paths old.now) old new → Throughout (IsSessionMoment m line old.now) old new
-opening_moments m line paths old new same h = weaker (IsAttaching paths old.now) (IsSessionMoment m line old.now) old new (λ stand at. inl (subst (λ ps. IsAttaching ps old.now stand) same at)) h
+pub opening_moments : (m : Meaning) (line : CommandLine) (devs : List (List ℕ × Option ℕ)) (old new : World) → devs ≡ line.devs → Throughout (IsAttaching devs old.now) old new → Throughout (IsSessionMoment m line old.now) old new
+opening_moments m line devs old new same h = weaker (IsAttaching devs old.now) (IsSessionMoment m line old.now) old new (λ stand at. inl (subst (λ ds. IsAttaching ds old.now stand) same at)) h
 
-run_moments : (m : Meaning) (line : CommandLine) (old mid new : World) → IsAttached (paths_in line) old.now mid.now → Throughout (IsRunMoment m line mid.now) mid new → Throughout (IsSessionMoment m line old.now) mid new
+run_moments : (m : Meaning) (line : CommandLine) (old mid new : World) → IsAttached line.devs old.now mid.now → Throughout (IsRunMoment m line mid.now) mid new → Throughout (IsSessionMoment m line old.now) mid new
 run_moments m line old mid new d h = weaker (IsRunMoment m line mid.now) (IsSessionMoment m line old.now) mid new (λ stand at. inr (mid.now, d, at)) h
 
 -- and then the input is answered
-pub serving_moments : (m : Meaning) (line : CommandLine) (paths : List (List ℕ)) (rounds : ℕ) (old mid new : World) → line.generate ≡ None → paths ≡ paths_in line → rounds ≡ rounds_in line → IsAttached (paths_in line) old.now mid.now
-    → Throughout (IsAttaching paths old.now) old mid → Throughout (IsMoment m rounds mid.now) mid new → Throughout (IsSessionMoment m line old.now) old new
-serving_moments m line paths rounds old mid new none same r d h k =
-    joined (IsSessionMoment m line old.now) old mid new (opening_moments m line paths old mid same h)
+pub serving_moments : (m : Meaning) (line : CommandLine) (devs : List (List ℕ × Option ℕ)) (rounds : ℕ) (old mid new : World) → line.generate ≡ None → devs ≡ line.devs → rounds ≡ rounds_in line → IsAttached line.devs old.now mid.now
+    → Throughout (IsAttaching devs old.now) old mid → Throughout (IsMoment m rounds mid.now) mid new → Throughout (IsSessionMoment m line old.now) old new
+serving_moments m line devs rounds old mid new none same r d h k =
+    joined (IsSessionMoment m line old.now) old mid new (opening_moments m line devs old mid same h)
     (run_moments m line old mid new d
     (weaker (IsMoment m rounds mid.now) (IsRunMoment m line mid.now) mid new
     (λ stand at. subst (λ o. MatchOption o (IsMoment m (rounds_in line) mid.now stand) (λ n. IsGeneratedMoment m (task_in line n) mid.now stand)) (sym none) (subst (λ n. IsMoment m n mid.now stand) r at)) k))
 
 -- or the generated run is done
-pub generating_moments : (m : Meaning) (line : CommandLine) (paths : List (List ℕ)) (n : ℕ × ℕ) (rounds : ℕ) (old mid new : World) → line.generate ≡ Some n → paths ≡ paths_in line → rounds ≡ rounds_in line → IsAttached (paths_in line) old.now mid.now
-    → Throughout (IsAttaching paths old.now) old mid → Throughout (IsGeneratedMoment m (record { number = n.0; count = n.1; devs = paths; rounds = rounds }) mid.now) mid new → Throughout (IsSessionMoment m line old.now) old new
-generating_moments m line paths n rounds old mid new some same r d h k =
-    joined (IsSessionMoment m line old.now) old mid new (opening_moments m line paths old mid same h)
+pub generating_moments : (m : Meaning) (line : CommandLine) (devs : List (List ℕ × Option ℕ)) (paths : List (List ℕ)) (n : ℕ × ℕ) (rounds : ℕ) (old mid new : World) → line.generate ≡ Some n → devs ≡ line.devs → paths ≡ paths_in line → rounds ≡ rounds_in line → IsAttached line.devs old.now mid.now
+    → Throughout (IsAttaching devs old.now) old mid → Throughout (IsGeneratedMoment m (record { number = n.0; count = n.1; devs = paths; rounds = rounds }) mid.now) mid new → Throughout (IsSessionMoment m line old.now) old new
+generating_moments m line devs paths n rounds old mid new some alike same r d h k =
+    joined (IsSessionMoment m line old.now) old mid new (opening_moments m line devs old mid alike h)
     (run_moments m line old mid new d
     (weaker (IsGeneratedMoment m (record { number = n.0; count = n.1; devs = paths; rounds = rounds }) mid.now) (IsRunMoment m line mid.now) mid new
     (λ stand at. subst (λ o. MatchOption o (IsMoment m (rounds_in line) mid.now stand) (λ k. IsGeneratedMoment m (task_in line k) mid.now stand)) (sym some)

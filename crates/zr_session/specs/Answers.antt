@@ -26,14 +26,15 @@ paths_in line = map (λ (dev : List ℕ × Option ℕ). dev.0) line.devs
 abbrev pub rounds_in : CommandLine → ℕ
 rounds_in line = unwrap_or line.auto 0
 
--- devices with these paths were attached, in order
-abbrev pub IsAttached : List (List ℕ) → Stand → Stand → Type 0
+-- these devices were attached in order, each to be made with its size were it not there
+abbrev pub IsAttached : List (List ℕ × Option ℕ) → Stand → Stand → Type 0
 IsAttached [] old now = now ≡ old
-IsAttached (path ∷ paths) old now = (bytes : List ℕ) × IsAttached paths (with_disk old path bytes) now
+IsAttached (dev ∷ devs) old now = (bytes : List ℕ) × IsAttached devs (with_disk old dev.0 dev.1 bytes) now
 
 -- the first of these were attached, and not all
-abbrev pub IsPartlyAttached : List (List ℕ) → Stand → Stand → Type 0
-IsPartlyAttached paths old now = (front : List (List ℕ)) × (path : List ℕ) × (back : List (List ℕ)) × (front ++ path ∷ back ≡ paths) × IsAttached front old now
+abbrev pub IsPartlyAttached : List (List ℕ × Option ℕ) → Stand → Stand → Type 0
+IsPartlyAttached devs old now =
+    (front : List (List ℕ × Option ℕ)) × (dev : List ℕ × Option ℕ) × (back : List (List ℕ × Option ℕ)) × (front ++ dev ∷ back ≡ devs) × IsAttached front old now
 
 -- how far a run has come: the lines that were taken up and those that were not, what is done of what is due for the first and what is not, the turns, and what was taken of the input
 pub record Reach (S : Type 0) : Type 0 where

@@ -1,5 +1,5 @@
 -- How a run ends.
-use Rattle.std.specs.Prelude.{◌≡◌, ◌⊎◌, ℕ, List, MatchOption}
+use Rattle.std.specs.Prelude.{◌≡◌, ◌⊎◌, ℕ, Option, List, MatchOption}
 use Rattle.zr_base.specs.Counts.{HasRisen}
 use Rattle.zr_shelf.specs.Counts.{Counts}
 use Rattle.zr_shelf.specs.Disks.{Stand}
@@ -63,7 +63,7 @@ abbrev pub EndsBy : Meaning → CommandLine → End → Stand → Stand → Type
 EndsBy m line end opening now = MatchOption line.generate (EndsAs m (rounds_in line) end opening now) (λ n. GeneratesAs m (task_in line n) end opening now)
 
 -- what a run came to whose devices were to be attached
-abbrev pub IsOpenedTo : (End → Stand → Stand → Type 0) → End → List (List ℕ) → Stand → Stand → Type 0
-IsOpenedTo Ends AttachFault paths old now = IsPartlyAttached paths old now
-IsOpenedTo Ends NoMemory paths old now = (now ≡ old) ⊎ IsPartlyAttached paths old now ⊎ ((opening : Stand) × IsAttached paths old opening × Ends NoMemory opening now)
-IsOpenedTo Ends end paths old now = (opening : Stand) × IsAttached paths old opening × Ends end opening now
+abbrev pub IsOpenedTo : (End → Stand → Stand → Type 0) → End → List (List ℕ × Option ℕ) → Stand → Stand → Type 0
+IsOpenedTo Ends AttachFault devs old now = IsPartlyAttached devs old now
+IsOpenedTo Ends NoMemory devs old now = (now ≡ old) ⊎ IsPartlyAttached devs old now ⊎ ((opening : Stand) × IsAttached devs old opening × Ends NoMemory opening now)
+IsOpenedTo Ends end devs old now = (opening : Stand) × IsAttached devs old opening × Ends end opening now

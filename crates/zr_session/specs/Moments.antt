@@ -1,5 +1,5 @@
 -- How far a run has come at a moment of it, and how the disks may stand then.
-use Rattle.std.specs.Prelude.{◌≡◌, ◌⊎◌, ℕ, List, [], ◌∷◌, ◌++◌, MatchOption}
+use Rattle.std.specs.Prelude.{◌≡◌, ◌⊎◌, ℕ, Option, List, [], ◌∷◌, ◌++◌, MatchOption}
 use Rattle.zr_shelf.specs.Disks.{Stand, sent_more}
 use Rattle.zr_script.specs.declared.command.Command.{Command}
 use Rattle.zr_script.specs.CommandLine.{CommandLine}
@@ -8,7 +8,7 @@ use Rattle.zr_script.specs.ReplyText.{End, last_line}
 use Rattle.zr_command.specs.Meanings.{Meaning, Disks, disks_of, Run}
 use Rattle.zr_model.specs.Runs.{Point, Turn, point, end_of, Asks}
 use Rattle.zr_session.specs.Agenda.{Item, Given, rounds_of, agenda, GivesNone, IsGiven, Plays, IsDue}
-use Rattle.zr_session.specs.Answers.{IsStarted, paths_in, rounds_in, IsAttached}
+use Rattle.zr_session.specs.Answers.{IsStarted, rounds_in, IsAttached}
 use Rattle.zr_session.specs.Generated.{Task, task_in, Stage, due_in, HasGenerated, point_in, tally_text}
 use Rattle.zr_session.specs.Lines.{told_for, told}
 use Rattle.zr_session.specs.declared.replies.Replies.{Replies}
@@ -79,8 +79,8 @@ abbrev pub IsGeneratedMoment : Meaning → Task → Stand → Stand → Type 0
 IsGeneratedMoment m task opening stand = IsMomentOf Command m IsGiven Kept (due_in task) m.none opening stand ⊎ IsTelling m task opening stand
 
 -- first ones of these devices are attached, or all
-abbrev pub IsAttaching : List (List ℕ) → Stand → Stand → Type 0
-IsAttaching paths old stand = (front back : List (List ℕ)) × (front ++ back ≡ paths) × IsAttached front old stand
+abbrev pub IsAttaching : List (List ℕ × Option ℕ) → Stand → Stand → Type 0
+IsAttaching devs old stand = (front back : List (List ℕ × Option ℕ)) × (front ++ back ≡ devs) × IsAttached front old stand
 
 -- a moment of the run that a command line asks for
 abbrev pub IsRunMoment : Meaning → CommandLine → Stand → Stand → Type 0
@@ -88,7 +88,7 @@ IsRunMoment m line opening stand = MatchOption line.generate (IsMoment m (rounds
 
 -- first ones of its devices are attached and no command is begun, or all are and its run goes on
 abbrev pub IsSessionMoment : Meaning → CommandLine → Stand → Stand → Type 0
-IsSessionMoment m line old stand = IsAttaching (paths_in line) old stand ⊎ ((opening : Stand) × IsAttached (paths_in line) old opening × IsRunMoment m line opening stand)
+IsSessionMoment m line old stand = IsAttaching line.devs old stand ⊎ ((opening : Stand) × IsAttached line.devs old opening × IsRunMoment m line opening stand)
 
 -- a moment of the program, whose words are a command line
 abbrev pub IsProgramMoment : Meaning → List (List ℕ) → List (List ℕ) → Stand → Stand → Type 0

@@ -11,7 +11,7 @@ ghost use Rattle.zr_shelf.specs.Counts.{NoneFell};
 ghost use Rattle.zr_shelf.specs.Moments.{Throughout};
 ghost use Rattle.zr_shelf.specs.declared.desk.DeskErr.TheVariants.{Failed};
 ghost use Rattle.zr_command.specs.Meanings.{MayBeDamaged, plain};
-ghost use Rattle.zr_session.specs.Answers.{paths_in, IsAttached, IsPartlyAttached, IsDone, TellsBadLine, TellsLimit, TellsFault, TellsDamage, AnswersTaken, AnswersFront, AnswersPartly};
+ghost use Rattle.zr_session.specs.Answers.{IsAttached, IsPartlyAttached, IsDone, TellsBadLine, TellsLimit, TellsFault, TellsDamage, AnswersTaken, AnswersFront, AnswersPartly};
 ghost use Rattle.zr_session.specs.Ends.{HasCause, EndsBy, IsOpenedTo};
 ghost use Rattle.zr_session.specs.Generated.{TellsTally, TellsPartly, TellsFaultThere, TellsUnserved, TellsDamageThere, TellsNothing, Never};
 ghost use Rattle.zr_session.specs.Moments.{IsAttaching, IsSessionMoment, IsProgramMoment};
@@ -19,7 +19,7 @@ ghost use Rattle.zr_session.specs.Started.{RunsTo, StopsAtDevice};
 ghost use Rattle.zr_session.specs.Headline.{NoneRose, IsNoCommandLine};
 ghost use Rattle.zr_script.specs.CommandLine.{IsCommandLine};
 ghost use Rattle.zr_words.specs.Reading.{HasPaths};
-ghost use Rattle.zr_words.specs.Views.{path_of, line_of};
+ghost use Rattle.zr_words.specs.Views.{path_of, device_of, line_of};
 
 use crate::course::Course;
 use crate::end::End;
@@ -44,11 +44,12 @@ pub fn paths_of(alloc: Global, devices: &[Device]) -> Result<Items<Blob>, NoMemo
     Ok(paths)
 }
 
-/// Attaches the devices in order. Those before one that was not attached stay.
+/// Attaches the devices in order, each to be made with its size were it not there. Those before one that was not
+/// attached stay.
 fn attach_all<D: Desk>(devices: &[Device], desk: &mut D) -> Result<(), DeskErr>
-    ensures done { D.tells desk.old → OnOk result (IsAttached (map path_of devices.now) (D.world desk.old).now (D.world desk.new).now) }
-    ensures partly { D.tells desk.old → IfErr result (λ e. IsPartlyAttached (map path_of devices.now) (D.world desk.old).now (D.world desk.new).now) }
-    ensures moments { D.tells desk.old → Throughout (IsAttaching (map path_of devices.now) (D.world desk.old).now) (D.world desk.old) (D.world desk.new) }
+    ensures done { D.tells desk.old → OnOk result (IsAttached (map device_of devices.now) (D.world desk.old).now (D.world desk.new).now) }
+    ensures partly { D.tells desk.old → IfErr result (λ e. IsPartlyAttached (map device_of devices.now) (D.world desk.old).now (D.world desk.new).now) }
+    ensures moments { D.tells desk.old → Throughout (IsAttaching (map device_of devices.now) (D.world desk.old).now) (D.world desk.old) (D.world desk.new) }
     ensures sizes { OnOk result (length (D.sizes desk.new) ≡ length (D.sizes desk.old) + length devices.now) }
     ensures failed { IsErrOf result Failed → HasRisen (D.counts desk.old).attach (D.counts desk.new).attach }
     ensures none_fell { NoneFell (D.counts desk.old) (D.counts desk.new) }
@@ -70,7 +71,7 @@ fn open_session<P: Pool + Drop, D: Desk>(
     requires none { D.sizes desk.old ≡ [] }
     requires line { (words : List (List ℕ)) × IsCommandLine words (line_of line.now) }
     requires paths { HasPaths (line_of line.now) }
-    ensures ends { D.tells desk.old → IsOpenedTo (EndsBy P.meaning (line_of line.now)) result (paths_in (line_of line.now)) (D.world desk.old).now (D.world desk.new).now }
+    ensures ends { D.tells desk.old → IsOpenedTo (EndsBy P.meaning (line_of line.now)) result (line_of line.now).devs (D.world desk.old).now (D.world desk.new).now }
     ensures moments { D.tells desk.old → Throughout (IsSessionMoment P.meaning (line_of line.now) (D.world desk.old).now) (D.world desk.old) (D.world desk.new) }
     ensures cause { HasCause (MayBeDamaged P.meaning) (D.counts desk.old) (D.counts desk.new) result }
     ensures told { D.tells desk.old → D.tells desk.new }

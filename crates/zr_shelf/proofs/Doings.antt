@@ -28,20 +28,21 @@ module _ (P : Stand → Type 0) (allowed : PendingWrite → Type 0) (keeps : (ol
       let all = all_linked does.more old.now does.linked h in
       (record { more = does.more; joins = does.joins; each = all.0 }, subst P (sym (now_is new.now old.now new.past old.past does.more does.joins)) all.1)
 
--- the same paths, the same input left and the same bytes sent
+-- the same paths and sizes to make, the same input left and the same bytes sent
 pub record IsQuiet (old new : Stand) : Type 0 where
   pub paths : new.paths ≡ old.paths
+  pub makes : new.makes ≡ old.makes
   pub left : new.left ≡ old.left
   pub sent : new.sent ≡ old.sent
 
 quiet_step : (allowed : PendingWrite → Type 0) (first old new : Stand) → Follows allowed old new → IsQuiet first old → IsQuiet first new
 quiet_step allowed first old new (stood is) q = subst (IsQuiet first) (sym is) q
-quiet_step allowed first old new (wrote w may written) q = record { paths = written.paths ∙ q.paths; left = written.left ∙ q.left; sent = written.sent ∙ q.sent }
-quiet_step allowed first old new (flush is) q = subst (IsQuiet first) (sym is) (record { paths = q.paths; left = q.left; sent = q.sent })
+quiet_step allowed first old new (wrote w may written) q = record { paths = written.paths ∙ q.paths; makes = written.makes ∙ q.makes; left = written.left ∙ q.left; sent = written.sent ∙ q.sent }
+quiet_step allowed first old new (flush is) q = subst (IsQuiet first) (sym is) (record { paths = q.paths; makes = q.makes; left = q.left; sent = q.sent })
 
 -- calls on the disks leave paths, input and output at every moment
 pub quiet_throughout : (allowed : PendingWrite → Type 0) (old new : World) → DoesOnly allowed old new → Throughout (IsQuiet old.now) old new × IsQuiet old.now new.now
-quiet_throughout allowed old new does = kept_throughout (IsQuiet old.now) allowed (quiet_step allowed old.now) old new does (record { paths = refl; left = refl; sent = refl })
+quiet_throughout allowed old new does = kept_throughout (IsQuiet old.now) allowed (quiet_step allowed old.now) old new does (record { paths = refl; makes = refl; left = refl; sent = refl })
 
 readable_step : (allowed : PendingWrite → Type 0) (old new : Stand) → Follows allowed old new → MayLeave old old.seen → MayLeave new new.seen
 readable_step allowed old new (stood is) h = subst (λ (s : Stand). MayLeave s s.seen) (sym is) h

@@ -1,5 +1,5 @@
 -- How a run of calls goes on.
-use Rattle.std.proofs.Common.{inl, inr, ℕ, Result, Ok, Err, ◌≡◌, List, [], ◌∷◌, ◌++◌, refl, sym, ◌∙◌, ap, subst, append_assoc}
+use Rattle.std.proofs.Common.{inl, inr, ℕ, Option, Result, Ok, Err, ◌≡◌, List, [], ◌∷◌, ◌++◌, refl, sym, ◌∙◌, ap, subst, append_assoc}
 use Rattle.std.specs.List.{AllByRecursion}
 use Rattle.std.proofs.lemmas.List.{append-nil}
 use Rattle.zr_shelf.specs.declared.desk.DeskErr.{DeskErr}
@@ -66,9 +66,9 @@ module _ (P : Stand → Type 0) (old mid new : World) (so_far : Throughout P old
   on_give bytes (Err Failed) (inr call) after =
       goes_on P _ old mid new so_far call (subst P (sym call.step.3) (after call.step.0 call.step.1 call.step.2))
 
-  pub on_attach : (path : List ℕ) (r : Result ℕ DeskErr) → Attaches path r mid new → ((bytes : List ℕ) → P (with_disk mid.now path bytes)) → Throughout P old new
-  on_attach path (Ok slot) call after = goes_on P _ old mid new so_far call (subst P (sym call.step.1) (after call.step.0))
-  on_attach path (Err e) call after = stays P old mid new so_far call before
+  pub on_attach : (path : List ℕ) (make : Option ℕ) (r : Result ℕ DeskErr) → Attaches path make r mid new → ((bytes : List ℕ) → P (with_disk mid.now path make bytes)) → Throughout P old new
+  on_attach path make (Ok slot) call after = goes_on P _ old mid new so_far call (subst P (sym call.step.1) (after call.step.0))
+  on_attach path make (Err e) call after = stays P old mid new so_far call before
 
   pub on_take : (out : List ℕ) (r : Result ℕ DeskErr) → Takes out r mid new → ((left : List ℕ) → P (taken_to mid.now left)) → Throughout P old new
   on_take out (Ok n) call after =

@@ -46,7 +46,7 @@ good_write s w true fits good =
 good_write s w false fits good = (good.paths, outside_weaker s.writes w s.durable s.seen good.readable)
 
 good_after : (s : Stand) (deed : Deed) → FitsIn s.seen deed → IsGood s → IsGood (stand_after s deed)
-good_after s (Attached file) fits good =
+good_after s (Attached file make) fits good =
     let g = good.paths in
     record {
       paths = omega (arith, g, length-append s.paths (string_bytes file.path ∷ []), length-append s.seen (file.bytes.items ∷ []));

@@ -1,5 +1,5 @@
 -- Disks of bytes, what was written since the last flush, and what a crash may leave.
-use Rattle.std.specs.Prelude.{◌≡◌, ◌<◌, ℕ, ◌+◌, List, [], ◌∷◌, ◌++◌, length, map, take, drop, slice_index_or}
+use Rattle.std.specs.Prelude.{◌≡◌, ◌<◌, ℕ, ◌+◌, Option, List, [], ◌∷◌, ◌++◌, length, map, take, drop, slice_index_or}
 
 -- the bytes of the disk in a slot
 abbrev pub disk : List (List ℕ) → ℕ → List ℕ
@@ -35,6 +35,8 @@ pub record IsSameOutside (writes : List PendingWrite) (old new : List (List ℕ)
 pub record Stand : Type 0 where
   -- the path of each disk, in the order of their slots
   pub paths : List (List ℕ)
+  -- the size in bytes with which each disk was to be made, were its file not there, in the order of their slots
+  pub makes : List (Option ℕ)
   -- as the last flush left the disks
   pub durable : List (List ℕ)
   -- the writes since then, the newest first
@@ -64,6 +66,7 @@ pub record IsAtRest (stand : Stand) : Type 0 where
 -- what a write leaves, done or not
 pub record IsWritten (old : Stand) (w : PendingWrite) (new : Stand) : Type 0 where
   pub paths : new.paths ≡ old.paths
+  pub makes : new.makes ≡ old.makes
   pub durable : new.durable ≡ old.durable
   pub writes : new.writes ≡ w ∷ old.writes
   pub seen : IsSameOutside (w ∷ []) old.seen new.seen
@@ -76,16 +79,23 @@ Reads disks w = part (disk disks w.slot) w.at (length w.bytes) ≡ w.bytes
 
 -- what a flush leaves
 abbrev pub flushed : Stand → Stand
-flushed s = record { paths = s.paths; durable = s.seen; writes = []; seen = s.seen; left = s.left; sent = s.sent }
+flushed s = record { paths = s.paths; makes = s.makes; durable = s.seen; writes = []; seen = s.seen; left = s.left; sent = s.sent }
 
 abbrev pub sent_more : Stand → List ℕ → Stand
-sent_more s bytes = record { paths = s.paths; durable = s.durable; writes = s.writes; seen = s.seen; left = s.left; sent = s.sent ++ bytes }
+sent_more s bytes = record { paths = s.paths; makes = s.makes; durable = s.durable; writes = s.writes; seen = s.seen; left = s.left; sent = s.sent ++ bytes }
 
 -- with this much of the input left
 abbrev pub taken_to : Stand → List ℕ → Stand
-taken_to s left = record { paths = s.paths; durable = s.durable; writes = s.writes; seen = s.seen; left = left; sent = s.sent }
+taken_to s left = record { paths = s.paths; makes = s.makes; durable = s.durable; writes = s.writes; seen = s.seen; left = left; sent = s.sent }
 
--- with one disk more, of which nothing is pending
-abbrev pub with_disk : Stand → List ℕ → List ℕ → Stand
-with_disk s path bytes =
-    record { paths = s.paths ++ path ∷ []; durable = s.durable ++ bytes ∷ []; writes = s.writes; seen = s.seen ++ bytes ∷ []; left = s.left; sent = s.sent }
+-- with one disk more, which was to be made with this size were its file not there, and of which nothing is pending
+abbrev pub with_disk : Stand → List ℕ → Option ℕ → List ℕ → Stand
+with_disk s path make bytes = record {
+  paths = s.paths ++ path ∷ [];
+  makes = s.makes ++ make ∷ [];
+  durable = s.durable ++ bytes ∷ [];
+  writes = s.writes;
+  seen = s.seen ++ bytes ∷ [];
+  left = s.left;
+  sent = s.sent;
+}

@@ -1,5 +1,5 @@
 -- How a shelf in memory stood, from the calls that changed something.
-use Rattle.std.specs.Prelude.{◌≡◌, ◌<◌, ◌≤◌, ℕ, ◌+◌, Bool, List, [], ◌∷◌, ◌++◌, length, map, take, drop, slice_set, slice_index_or, if◌then◌else◌, IsTrue, nat_lt, string_bytes, ◌⊎◌, replicate, Option, Some, None, zero, suc}
+use Rattle.std.specs.Prelude.{◌≡◌, ◌<◌, ◌≤◌, ℕ, ◌+◌, Bool, List, [], ◌∷◌, ◌++◌, length, map, take, drop, slice_set, slice_index_or, if◌then◌else◌, IsTrue, nat_lt, string_bytes, ◌⊎◌, replicate, Option, Some, None, unwrap_or, zero, suc}
 use Rattle.std.specs.Coded.{×_prop, Unit-prop, le_prop}
 use Rattle.std.specs.List.{position}
 use Rattle.zr_shelf.specs.Disks.{Stand, PendingWrite, IsWritten, Reads, MayLeave, disk, flushed, sent_more, taken_to, with_disk}
@@ -34,12 +34,13 @@ as_pending asked = record { slot = asked.slot; at = asked.at; bytes = asked.byte
 
 -- no disk, and all of the input is left
 abbrev pub start : List ℕ → World
-start input = record { now = record { paths = []; durable = []; writes = []; seen = []; left = input; sent = [] }; past = [] }
+start input = record { now = record { paths = []; makes = []; durable = []; writes = []; seen = []; left = input; sent = [] }; past = [] }
 
 abbrev pub stand_after : Stand → Deed → Stand
-stand_after s (Attached file) = with_disk s (string_bytes file.path) file.bytes.items
+stand_after s (Attached file make) = with_disk s (string_bytes file.path) make file.bytes.items
 stand_after s (Wrote asked) = record {
   paths = s.paths;
+  makes = s.makes;
   durable = s.durable;
   writes = as_pending asked ∷ s.writes;
   seen = if asked.done then after_write s.seen (as_pending asked) else s.seen;
@@ -78,7 +79,7 @@ IsLawful w [] = Unit {0}
 IsLawful w (call ∷ calls) = FitsIn w.now.seen call.deed × IsLawful (next w call) calls
 
 fits_prop : (disks : List (List ℕ)) (deed : Deed) → IsProp (FitsIn disks deed)
-fits_prop disks (Attached file) = Unit-prop
+fits_prop disks (Attached file make) = Unit-prop
 fits_prop disks (Wrote asked) = ×_prop le_prop le_prop
 fits_prop disks Flushed = Unit-prop
 fits_prop disks (Sent bytes) = Unit-prop
@@ -118,6 +119,6 @@ pub record IsImage (stand : Stand) (files : List DiskFile) : Type 0 where
   pub paths : paths_of (take (length stand.paths) files) ≡ stand.paths
   pub leaves : MayLeave stand (bytes_of (take (length stand.paths) files))
 
--- one disk more: the file of that path in the folder, or so many zeros where none is there
-abbrev pub IsAttached : List DiskFile → List ℕ → ℕ → Stand → Stand → Type 0
-IsAttached folder path size old new = (bytes : List ℕ) × IsFileOf folder path size bytes × (new ≡ with_disk old path bytes)
+-- one disk more: the file of that path in the folder, or where none is there so many zeros as were asked for, and none without a size
+abbrev pub IsAttached : List DiskFile → List ℕ → Option ℕ → Stand → Stand → Type 0
+IsAttached folder path make old new = (bytes : List ℕ) × IsFileOf folder path (unwrap_or make 0) bytes × (new ≡ with_disk old path make bytes)

@@ -1,5 +1,5 @@
 -- How a shelf stood at each moment so far, and what a call does to that.
-use Rattle.std.specs.Prelude.{◌≡◌, ◌⊎◌, ℕ, List, ◌∷◌, ◌++◌, take, Result, Ok, Err}
+use Rattle.std.specs.Prelude.{◌≡◌, ◌⊎◌, ℕ, Option, List, ◌∷◌, ◌++◌, take, Result, Ok, Err}
 use Rattle.std.specs.List.{AllByRecursion}
 use Rattle.zr_shelf.specs.declared.desk.DeskErr.{DeskErr}
 use Rattle.zr_shelf.specs.declared.desk.DeskErr.TheVariants.{Failed, NoMemory}
@@ -43,10 +43,10 @@ Gives bytes (Ok done) = Steps (λ old new. new ≡ sent_more old bytes)
 Gives bytes (Err Failed) = λ old new. IsStill old new ⊎ Steps (λ old new. (front back : List ℕ) × (front ++ back ≡ bytes) × (new ≡ sent_more old front)) old new
 Gives bytes (Err NoMemory) = IsStill
 
--- A disk more, or nothing. What the file has is not said, since a file that is there is taken as it is.
-abbrev pub Attaches : List ℕ → Result ℕ DeskErr → World → World → Type 0
-Attaches path (Ok slot) = Steps (λ old new. (bytes : List ℕ) × (new ≡ with_disk old path bytes))
-Attaches path (Err e) = IsStill
+-- A disk more, for which this path and this size were asked, or nothing. What the file has is not said, since a file that is there is taken as it is.
+abbrev pub Attaches : List ℕ → Option ℕ → Result ℕ DeskErr → World → World → Type 0
+Attaches path make (Ok slot) = Steps (λ old new. (bytes : List ℕ) × (new ≡ with_disk old path make bytes))
+Attaches path make (Err e) = IsStill
 
 -- the front of what was left is taken, at however many moments, at each of which a front of it is
 pub record IsTaken (front : List ℕ) (old new : World) : Type 0 where

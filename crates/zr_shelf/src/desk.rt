@@ -123,7 +123,7 @@ pub trait Desk: Shelf {
         ensures failed { IsErrOf result Failed → HasRisen (Self.counts self.old).attach (Self.counts self.new).attach }
         ensures told { Self.tells self.old → Self.tells self.new }
         ensures moment { Self.tells self.old → HasRisen (Self.moment self.old) (Self.moment self.new) }
-        ensures world { Self.tells self.old → Attaches path.now result (Self.world self.old) (Self.world self.new) };
+        ensures world { Self.tells self.old → Attaches path.now make result (Self.world self.old) (Self.world self.new) };
 
     /// Puts bytes of the input in front of `out`, and answers how many. None at its end alone, unless `out` is empty.
     fn take(&mut self, out: &mut [u8]) -> Result<usize, DeskErr>

@@ -98,7 +98,7 @@ fn step(
     ensures shown { OnOk result ((s : Stand) → IsShown choice.now s seen.old.items image.old.items place.old → IsShown choice.now (stand_after s deed.now) seen.new.items image.new.items place.new) }
 {
     match deed {
-        Deed::Attached(file) => attach_both(alloc, seen, image, file),
+        Deed::Attached(file, _make) => attach_both(alloc, seen, image, file),
         Deed::Wrote(asked) => {
             let len = come(choice, *place, asked.bytes.len());
             write_image(image, asked, len);

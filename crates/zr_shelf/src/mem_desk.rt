@@ -155,7 +155,7 @@ impl Shelf for MemDesk {
 }
 
 impl Desk for MemDesk {
-    ghost use Rattle.std.specs.Prelude.{ℕ, length, IsErrOf, unwrap_or};
+    ghost use Rattle.std.specs.Prelude.{ℕ, length, IsErrOf};
     ghost use Rattle.zr_base.specs.Counts.{HasRisen};
     ghost use Rattle.zr_shelf.specs.Counts.{NoneFell};
     ghost use Rattle.zr_shelf.specs.Moments.{Attaches};
@@ -171,9 +171,9 @@ impl Desk for MemDesk {
         ensures failed { IsErrOf result Failed → HasRisen self.old.attach_faults self.new.attach_faults }
         ensures told { Unit {0} → Unit {0} }
         ensures moment { Unit {0} → HasRisen self.old.memory.made self.new.memory.made }
-        ensures world { Unit {0} → Attaches path.now result (world_of self.old.memory.history) (world_of self.new.memory.history) }
-        // What is attached is the file of that path, as it is, or so many zeros where there is none.
-        ensures file { OnOk result (IsAttached self.old.memory.folder.items path.now (unwrap_or make 0) (world_of self.old.memory.history).now (world_of self.new.memory.history).now) }
+        ensures world { Unit {0} → Attaches path.now make result (world_of self.old.memory.history) (world_of self.new.memory.history) }
+        // What is attached is the file of that path, as it is, or so many zeros as were asked for where there is none.
+        ensures file { OnOk result (IsAttached self.old.memory.folder.items path.now make (world_of self.old.memory.history).now (world_of self.new.memory.history).now) }
         ensures folder { self.new.memory.folder ≡ self.old.memory.folder }
     {
         let due = self.is_due();
@@ -181,7 +181,7 @@ impl Desk for MemDesk {
             self.attach_faults = self.attach_faults.saturating_add(1);
             return Err(DeskErr::Failed);
         }
-        Ok(self.memory.attach(path, make.unwrap_or(0))?)
+        Ok(self.memory.attach(path, make)?)
     }
 
     fn take(&mut self, out: &mut [u8]) -> Result<usize, DeskErr> {

@@ -4,9 +4,9 @@
 //! functions of that record. A call that takes a part of the input needs no memory: a call keeps how many bytes were
 //! taken since the one before it.
 ghost use Rattle.std.specs.Prelude.{◌≡◌, ◌+◌, ◌-◌, ◌<◌, ◌≤◌, ◌^◌, min, List, ℕ, length, map, OnOk, OnErr, IfOk, slice_index, [], ◌∷◌, ◌++◌, take, drop, IsTrue, MatchOption, ◌↔◌, string_bytes};
-ghost use Rattle.zr_shelf.specs.Disks.{disk, part, IsSound, flushed, sent_more, with_disk};
+ghost use Rattle.zr_shelf.specs.Disks.{disk, part, IsSound, flushed, sent_more};
 ghost use Rattle.zr_shelf.specs.Moments.{Steps, IsTaken};
-ghost use Rattle.zr_shelf.specs.Memory.{bytes_of, paths_of, sizes_of, after_write, WritesAs, start, world_of, run, IsLawful, lawful_prop, IsFileOf, NoneHasPath, HasPathAt, IsImage, stand_at};
+ghost use Rattle.zr_shelf.specs.Memory.{bytes_of, paths_of, sizes_of, after_write, WritesAs, start, world_of, run, IsLawful, lawful_prop, IsAttached, IsFileOf, NoneHasPath, HasPathAt, IsImage, stand_at};
 ghost use Rattle.zr_shelf.specs.Choices.{IsChosen, HasOthers};
 
 use crate::images::{add_others, image_after};
@@ -32,7 +32,8 @@ pub struct Asked {
 /// What a call changed.
 #[derive(Drop)]
 pub enum Deed {
-    Attached(DiskFile),
+    /// A file, and the size in bytes with which it was to be made, were it not there.
+    Attached(DiskFile, Option<u64>),
     Wrote(Asked),
     Flushed,
     Sent(Vec<u8>),
@@ -206,11 +207,12 @@ impl Memory {
         find(&self.folder, path).is_some()
     }
 
-    /// Takes on the folder's file of that path, as it is, or a disk of so many zeros where there is none.
-    pub(crate) fn attach(&mut self, path: &str, size: u64) -> Result<u32, NoMemory>
+    /// Takes on the folder's file of that path, as it is, or a disk of so many zeros where there is none. Without a size
+    /// that disk is empty.
+    pub(crate) fn attach(&mut self, path: &str, make: Option<u64>) -> Result<u32, NoMemory>
         ensures slot { IfOk result (λ slot. slot ≡ length self.old.disks.items) }
         ensures sizes { IfOk result (λ slot. (size : ℕ) × (sizes_of self.new.disks.items ≡ sizes_of self.old.disks.items ++ size ∷ [])) }
-        ensures ok { OnOk result (Steps (λ old new. (bytes : List ℕ) × IsFileOf self.old.folder.items path.now size bytes × (new ≡ with_disk old path.now bytes)) (world_of self.old.history) (world_of self.new.history)) }
+        ensures ok { OnOk result (Steps (IsAttached self.old.folder.items path.now make) (world_of self.old.history) (world_of self.new.history)) }
         ensures err { OnErr result (world_of self.new.history ≡ world_of self.old.history) }
         ensures err_sizes { OnErr result (self.new.disks.items ≡ self.old.disks.items) }
         ensures folder { self.new.folder ≡ self.old.folder }
@@ -219,7 +221,8 @@ impl Memory {
         if self.disks.len() >= u32::MAX as usize {
             return Err(NoMemory);
         }
-        let bytes = bytes_for(self.alloc, &self.folder, path, size as usize)?;
+        let size = make.unwrap_or(0) as usize;
+        let bytes = bytes_for(self.alloc, &self.folder, path, size)?;
         let kept = DiskFile {
             path: String::from_str(self.alloc, path)?,
             bytes: bytes.to_vec(self.alloc)?,
@@ -233,7 +236,7 @@ impl Memory {
         self.history.calls.push(Call {
             moment,
             since,
-            deed: Deed::Attached(kept),
+            deed: Deed::Attached(kept, make),
         })?;
         self.history.since = 0;
         let slot = self.disks.len() as u32;

@@ -115,7 +115,7 @@ impl Shelf for SureDesk {
 }
 
 impl Desk for SureDesk {
-    ghost use Rattle.std.specs.Prelude.{ℕ, length, IsErrOf, unwrap_or};
+    ghost use Rattle.std.specs.Prelude.{ℕ, length, IsErrOf};
     ghost use Rattle.zr_base.specs.Counts.{HasRisen};
     ghost use Rattle.zr_shelf.specs.Counts.{NoneFell};
     ghost use Rattle.zr_shelf.specs.Moments.{Attaches};
@@ -131,13 +131,13 @@ impl Desk for SureDesk {
         ensures failed { IsErrOf result Failed → HasRisen 0 0 }
         ensures told { Unit {0} → Unit {0} }
         ensures moment { Unit {0} → HasRisen self.old.memory.made self.new.memory.made }
-        ensures world { Unit {0} → Attaches path.now result (world_of self.old.memory.history) (world_of self.new.memory.history) }
-        // What is attached is the file of that path, as it is, or so many zeros where there is none.
-        ensures file { OnOk result (IsAttached self.old.memory.folder.items path.now (unwrap_or make 0) (world_of self.old.memory.history).now (world_of self.new.memory.history).now) }
+        ensures world { Unit {0} → Attaches path.now make result (world_of self.old.memory.history) (world_of self.new.memory.history) }
+        // What is attached is the file of that path, as it is, or so many zeros as were asked for where there is none.
+        ensures file { OnOk result (IsAttached self.old.memory.folder.items path.now make (world_of self.old.memory.history).now (world_of self.new.memory.history).now) }
         ensures folder { self.new.memory.folder ≡ self.old.memory.folder }
     {
         self.memory.count();
-        Ok(self.memory.attach(path, make.unwrap_or(0))?)
+        Ok(self.memory.attach(path, make)?)
     }
 
     fn take(&mut self, out: &mut [u8]) -> Result<usize, DeskErr> {

@@ -112,7 +112,7 @@ left_by a b same image left = record {
 }
   where
     stand_with : List (List ℕ) → List PendingWrite → Stand
-    stand_with d ws = record { paths = []; durable = d; writes = ws; seen = []; left = []; sent = [] }
+    stand_with d ws = record { paths = []; makes = []; durable = d; writes = ws; seen = []; left = []; sent = [] }
 
     at : (d : List (List ℕ)) (ws : List PendingWrite) (slot place : ℕ) → Type 0
     at d ws slot place = IsHonestBlock IsMark (stand_with d ws) image slot place

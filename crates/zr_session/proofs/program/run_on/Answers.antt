@@ -2,7 +2,7 @@ use Rattle.std.proofs.Common.{◌≡◌, ℕ, List, refl, sym, ap, ◌∙◌, ma
 use Rattle.std.specs.String.{string_bytes}
 use Rattle.zr_words.specs.Views.{line_of}
 use Rattle.zr_words.specs.Choosing.{chosen}
-use Rattle.zr_session.specs.Answers.{IsStarted, paths_in, IsDone, TellsBadLine, TellsLimit, TellsFault, TellsDamage, AnswersTaken, AnswersPartly}
+use Rattle.zr_session.specs.Answers.{IsStarted, IsDone, TellsBadLine, TellsLimit, TellsFault, TellsDamage, AnswersTaken, AnswersPartly}
 use Rattle.zr_session.specs.Ends.{EndsBy, IsOpenedTo}
 use Rattle.zr_session.specs.Generated.{TellsTally, TellsPartly, TellsFaultThere, TellsUnserved, TellsDamageThere, Never}
 use Rattle.zr_session.proofs.Devices.{is_chosen, none_chosen}
@@ -18,7 +18,7 @@ started g c = record {
 }
 
 opened : (g : _) (c : After-drop-line-in-Ok-Some g) (n : ℕ) → g.D.Shelf.tells c.args.desk.now → c.status-in-Ok-Some.result ≡ n
-    → IsOpenedTo (EndsBy g.P.Pool.meaning (line_of c.in-Ok-Some.line)) (end_from n) (paths_in (line_of c.in-Ok-Some.line)) (g.D.Shelf.world c.args.desk.now).now (g.D.Shelf.world c.open_session.new.desk).now
+    → IsOpenedTo (EndsBy g.P.Pool.meaning (line_of c.in-Ok-Some.line)) (end_from n) (line_of c.in-Ok-Some.line).devs (g.D.Shelf.world c.args.desk.now).now (g.D.Shelf.world c.open_session.new.desk).now
 opened g c n t r = opened_with g.P.Pool.meaning (line_of c.in-Ok-Some.line) c.open_session.result n _ _ _ (sym c.status-in-Ok-Some.ensures ∙ r) (c.open_session.ensures.ends t)
 
 pub returns-in_default-clause-bad_words : goal.returns-in_default-clause-bad_words

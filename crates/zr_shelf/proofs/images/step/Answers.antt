@@ -1,4 +1,4 @@
-use Rattle.std.proofs.Common.{refl, ◌<◌, length-append, length-set, ◌≡◌, List, [], ◌∷◌, ◌++◌, ℕ, length, map, sym, ◌∙◌, ap, subst, arith, string_bytes, Result, Ok, Err, OnOk}
+use Rattle.std.proofs.Common.{refl, ◌<◌, length-append, length-set, ◌≡◌, List, [], ◌∷◌, ◌++◌, ℕ, length, map, sym, ◌∙◌, ap, subst, arith, string_bytes, Option, Result, Ok, Err, OnOk}
 use Rattle.std.specs.Prelude.{slice_index}
 use Rattle.std.specs.List.{AllByRecursion}
 use Rattle.std.proofs.Math.ListN.{set}
@@ -52,12 +52,12 @@ slots_attach [] disks more slots = tt
 slots_attach (w ∷ older) disks more slots =
     let here = slots.0 in (omega (arith, here, length-append disks (more ∷ [])), slots_attach older disks more slots.1)
 
-shown_attached : (choice : List ℕ) (s : Stand) (file : DiskFile) (seen image seen' image' : List DiskFile) (place : ℕ) → bytes_of seen' ≡ bytes_of seen ++ file.bytes.items ∷ [] → paths_of seen' ≡ paths_of seen ++ string_bytes file.path ∷ [] → bytes_of image' ≡ bytes_of image ++ file.bytes.items ∷ [] → paths_of image' ≡ paths_of image ++ string_bytes file.path ∷ [] → IsShown choice s seen image place → IsShown choice (stand_after s (Attached file)) seen' image' place
-shown_attached choice s file seen image seen' image' place b p ib ip shown = record {
+shown_attached : (choice : List ℕ) (s : Stand) (file : DiskFile) (make : Option ℕ) (seen image seen' image' : List DiskFile) (place : ℕ) → bytes_of seen' ≡ bytes_of seen ++ file.bytes.items ∷ [] → paths_of seen' ≡ paths_of seen ++ string_bytes file.path ∷ [] → bytes_of image' ≡ bytes_of image ++ file.bytes.items ∷ [] → paths_of image' ≡ paths_of image ++ string_bytes file.path ∷ [] → IsShown choice s seen image place → IsShown choice (stand_after s (Attached file make)) seen' image' place
+shown_attached choice s file make seen image seen' image' place b p ib ip shown = record {
   bytes = b ∙ ap (λ (l : List (List ℕ)). l ++ file.bytes.items ∷ []) shown.bytes;
   paths = p ∙ ap (λ (l : List (List ℕ)). l ++ string_bytes file.path ∷ []) shown.paths;
   same_paths = ip ∙ ap (λ (l : List (List ℕ)). l ++ string_bytes file.path ∷ []) shown.same_paths;
-  leaves = subst (MayLeave (stand_after s (Attached file))) (sym ib) (outside_attach s.writes s.durable (bytes_of image) file.bytes.items shown.leaves);
+  leaves = subst (MayLeave (stand_after s (Attached file make))) (sym ib) (outside_attach s.writes s.durable (bytes_of image) file.bytes.items shown.leaves);
   slots = slots_attach s.writes s.durable file.bytes.items shown.slots;
   count = shown.count;
   as_chosen = ib ∙ ap (λ (l : List (List ℕ)). l ++ file.bytes.items ∷ []) shown.as_chosen ∙ sym (chosen_attach choice s.writes s.durable file.bytes.items shown.slots);
@@ -75,4 +75,4 @@ returns-in-Attached-clause-shown c =
     on_all _ _ _ _ ((s : Stand) → IsShown choice s c.args.seen.now.items c.args.image.now.items place → IsShown choice (stand_after s c.args.deed.now) c.attach_both.new.seen.items c.attach_both.new.image.items place)
     c.attach_both.result e.seen e.seen_paths e.image e.image_paths
     (λ b p ib ip s shown. subst (λ (d : Deed). IsShown choice (stand_after s d) c.attach_both.new.seen.items c.attach_both.new.image.items place) (sym c.in-Attached.is)
-    (shown_attached choice s c.in-Attached.file c.args.seen.now.items c.args.image.now.items c.attach_both.new.seen.items c.attach_both.new.image.items place b p ib ip shown))
+    (shown_attached choice s c.in-Attached.file c.in-Attached._make c.args.seen.now.items c.args.image.now.items c.attach_both.new.seen.items c.attach_both.new.image.items place b p ib ip shown))

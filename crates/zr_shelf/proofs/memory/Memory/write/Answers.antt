@@ -29,6 +29,7 @@ writes_as old slot at kept bytes true fits is =
     let seen : after_write old.seen (asked slot at kept.items) ≡ after_write old.seen (asked slot at bytes) = ap (λ (b : List ℕ). after_write old.seen (asked slot at b)) is in (
       record {
         paths = refl;
+        makes = refl;
         durable = refl;
         writes = ap (λ (b : List ℕ). asked slot at b ∷ old.writes) is;
         seen = subst (IsSameOutside (asked slot at bytes ∷ []) old.seen) (sym seen) (outside-after_write old.seen (asked slot at bytes) fits);
@@ -40,6 +41,7 @@ writes_as old slot at kept bytes true fits is =
 writes_as old slot at kept bytes false fits is = (
   record {
     paths = refl;
+    makes = refl;
     durable = refl;
     writes = ap (λ (b : List ℕ). asked slot at b ∷ old.writes) is;
     seen = outside_refl (asked slot at bytes ∷ []) old.seen;
