@@ -6,7 +6,7 @@ use Rattle.zr_base.specs.Extents.{has_unit, end_of, IsMaximal}
 use Rattle.zr_base.proofs.ExtentSets.{has_unit-below, StartsAbove}
 use Rattle.zr_ranges.specs.Words.{run_of}
 use Rattle.zr_base.specs.Extents.{AddsUnits, HasNone}
-use Rattle.zr_ranges.specs.Words.{run_of, AreWordsOf, IsCut}
+use Rattle.zr_ranges.specs.Words.{run_of, AreSetWords, TakesFromRun}
 use Rattle.zr_ranges.specs.declared.words.Words.{Words}
 use Rattle.zr_ranges.proofs.Cuts.{run_of-back, run_of-front, cut_again}
 use Rattle.zr_paged.specs.Runs.{start_of, stop_of}
@@ -51,7 +51,7 @@ run_high lows p highs u a from to =
     rw (all_three lows p highs) (run_of-back u (all_of lows) (p ++ all_of highs) low ∙ run_of-back u p (all_of highs) here)
 
 -- the set with units that came
-pub paged_more : (old new : Tree) (units : ℕ) (w v : Words) (run e : Extent) → IsPaged old units w → HasNone (all_of (pages_in old)) e → 0 < e.len → AddsUnits (all_of (pages_in old)) (all_of (pages_in new)) e → AreFit (pages_in new) → IsFront new → run_of e.start (all_of (pages_in new)) ≡ Some run → end_of e ≤ end_of run → ((with without : List Extent) → AreWordsOf w without → IsCut with without run e → AreWordsOf v with) → IsPaged new (units + e.len) v
+pub paged_more : (old new : Tree) (units : ℕ) (w v : Words) (run e : Extent) → IsPaged old units w → HasNone (all_of (pages_in old)) e → 0 < e.len → AddsUnits (all_of (pages_in old)) (all_of (pages_in new)) e → AreFit (pages_in new) → IsFront new → run_of e.start (all_of (pages_in new)) ≡ Some run → end_of e ≤ end_of run → ((with without : List Extent) → AreSetWords w without → TakesFromRun with without run e → AreSetWords v with) → IsPaged new (units + e.len) v
 paged_more old new units w v run e kept apart some added fit front around inside told =
     let count = added.count in let was = kept.counted in
     record {
@@ -62,7 +62,7 @@ paged_more old new units w v run e kept apart some added fit front around inside
     }
 
 -- the set without units that went
-pub paged_less : (old new : Tree) (units : ℕ) (w v : Words) (run e : Extent) → IsPaged old units w → IsCut (all_of (pages_in old)) (all_of (pages_in new)) run e → AreFit (pages_in new) → IsFront new → ((with without : List Extent) → AreWordsOf w with → IsCut with without run e → AreWordsOf v without) → IsPaged new (units - e.len) v
+pub paged_less : (old new : Tree) (units : ℕ) (w v : Words) (run e : Extent) → IsPaged old units w → TakesFromRun (all_of (pages_in old)) (all_of (pages_in new)) run e → AreFit (pages_in new) → IsFront new → ((with without : List Extent) → AreSetWords w with → TakesFromRun with without run e → AreSetWords v without) → IsPaged new (units - e.len) v
 paged_less old new units w v run e kept cut fit front told =
     let count = cut.removes.count in let was = kept.counted in
     record {

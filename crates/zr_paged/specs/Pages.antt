@@ -2,7 +2,7 @@
 use Rattle.std.specs.Prelude.{◌≡◌, ℕ, ◌+◌, ◌≤◌, ◌<◌, ◌^◌, false, List, [], ◌∷◌, ◌++◌, length}
 use Rattle.zr_base.specs.declared.space.Extent.{Extent}
 use Rattle.zr_base.specs.Extents.{IsMaximal, HasAll, RemovesUnits, has_unit, unit_count}
-use Rattle.zr_ranges.specs.Words.{AreWordsOf}
+use Rattle.zr_ranges.specs.Words.{AreSetWords}
 use Rattle.zr_ranges.specs.declared.words.Words.{Words}
 use Rattle.zr_paged.specs.Runs.{start_of}
 use Rattle.zr_paged.specs.declared.tree.Tree.{Tree, Empty, Fork'}
@@ -66,4 +66,4 @@ pub record IsPaged (front : Tree) (units : ℕ) (w : Words) : Type 0 where
   pub front_page : IsFront front
   pub pages : ArePages (pages_in front)
   pub counted : units ≡ unit_count (all_of (pages_in front))
-  pub words : AreWordsOf w (all_of (pages_in front))
+  pub words : AreSetWords w (all_of (pages_in front))

@@ -10,7 +10,7 @@ use Rattle.zr_base.specs.declared.space.Extent.{Extent}
 use Rattle.zr_base.specs.Extents.{in_extent, has_unit, end_of, extent_at, unit_count, IsMaximal, IsMaximalFrom, HasNone, AddsUnits, RemovesUnits, EndsBy, HasAll}
 use Rattle.zr_base.proofs.ExtentSets.{has_unit-below, same_extents, unit_count-more, unit_count-le, extent_fits, low_le_start}
 use Rattle.zr_rules.specs.Owed.{set_words, extent_words}
-use Rattle.zr_ranges.specs.Words.{run_of, part_words, beside_words, IsCut, AreWordsOf}
+use Rattle.zr_ranges.specs.Words.{run_of, part_words, beside_words, TakesFromRun, AreSetWords}
 use Rattle.zr_ranges.specs.declared.words.Words.{Words}
 use Rattle.zr_ranges.proofs.Edits.{count_bound}
 
@@ -157,7 +157,7 @@ left version low r e (x ∷ xs) m some is ends = ⊎_elim
     (cases_Bool (in_extent x e.start))
 
 -- a set without units of a run has its words but those of the run, and those of what is left beside them
-pub cut_words : (version : ℕ) (es fs : List Extent) (r e : Extent) → IsCut es fs r e → set_words version fs + extent_words version r ≡ set_words version es + beside_words version r e
+pub cut_words : (version : ℕ) (es fs : List Extent) (r e : Extent) → TakesFromRun es fs r e → set_words version fs + extent_words version r ≡ set_words version es + beside_words version r e
 cut_words version es fs r e cut =
     let l = left version 0 r e es cut.maximal cut.not_empty cut.around cut.inside in
     let same : l.all ≡ fs = same_extents 0 0 l.all fs l.maximal cut.removes.maximal (λ u. l.members u ∙ sym (cut.removes.members u)) in
@@ -174,7 +174,7 @@ later version ne (e ∷ es) =
     let is : extent_words version e ≡ extent_words 2 e = grind (arith, nat_tests, ne) in
     omega (arith, rest, a, b, is)
 
-pub words_by_version : (version : ℕ) (w : Words) (es : List Extent) → AreWordsOf w es → ((version ≡ 1 → ⊥) → w.second ≡ set_words version es) × (version ≡ 1 → w.first ≡ set_words version es)
+pub words_by_version : (version : ℕ) (w : Words) (es : List Extent) → AreSetWords w es → ((version ≡ 1 → ⊥) → w.second ≡ set_words version es) × (version ≡ 1 → w.first ≡ set_words version es)
 words_by_version version w es are = ((λ ne. are.second ∙ sym (later version ne es)), (λ is. rw is are.first))
 
 -- the words of a run that units come to, or go from, fit
@@ -185,7 +185,7 @@ pub record Fit (version words : ℕ) (run e : Extent) : Type 0 where
   pub fits : end_of run ≤ 2 ^ 62
   pub few : words ≤ 2 ^ 62
 
-fit : (version : ℕ) (all es fs : List Extent) (run e : Extent) → IsMaximal all → IsCut es fs run e → Fit version (set_words version all) run e
+fit : (version : ℕ) (all es fs : List Extent) (run e : Extent) → IsMaximal all → TakesFromRun es fs run e → Fit version (set_words version all) run e
 fit version all es fs run e m cut =
     let has = run_of-has 0 e.start es run cut.maximal cut.around in
     let some = cut.not_empty in
@@ -193,10 +193,10 @@ fit version all es fs run e m cut =
     let a = has.1 in let b = has.2 in
     record { starts = a; ends = inside; some = omega (arith, a, b); fits = has.3; few = words_few version all m }
 
-pub fit_old : (version : ℕ) (es fs : List Extent) (run e : Extent) → IsCut es fs run e → Fit version (set_words version es) run e
+pub fit_old : (version : ℕ) (es fs : List Extent) (run e : Extent) → TakesFromRun es fs run e → Fit version (set_words version es) run e
 fit_old version es fs run e cut = fit version es es fs run e cut.maximal cut
 
-pub fit_new : (version : ℕ) (es fs : List Extent) (run e : Extent) → IsCut es fs run e → Fit version (set_words version fs) run e
+pub fit_new : (version : ℕ) (es fs : List Extent) (run e : Extent) → TakesFromRun es fs run e → Fit version (set_words version fs) run e
 fit_new version es fs run e cut = fit version fs es fs run e cut.removes.maximal cut
 
 -- ---- one more extent
@@ -268,7 +268,7 @@ back false true t is apart = grind (arith, is)
 back false false t is apart = grind (arith, is)
 
 -- units that came are in a run from which they could go again
-pub cut_again : (old new : List Extent) (run e : Extent) → IsMaximal old → HasNone old e → 0 < e.len → AddsUnits old new e → run_of e.start new ≡ Some run → end_of e ≤ end_of run → IsCut new old run e
+pub cut_again : (old new : List Extent) (run e : Extent) → IsMaximal old → HasNone old e → 0 < e.len → AddsUnits old new e → run_of e.start new ≡ Some run → end_of e ≤ end_of run → TakesFromRun new old run e
 cut_again old new run e m apart some added is inside = record {
   maximal = added.maximal;
   not_empty = some;
@@ -282,7 +282,7 @@ cut_again old new run e m apart some added is inside = record {
 }
 
 -- the front of an extent goes
-pub front_cut : (xs ys : List Extent) (i n : ℕ) (run e : Extent) → IsMaximal xs → i < length xs → extent_at xs i ≡ run → e.start ≡ (extent_at xs i).start → e.len ≡ min n (extent_at xs i).len → 0 < e.len → RemovesUnits xs ys e → IsCut xs ys run e
+pub front_cut : (xs ys : List Extent) (i n : ℕ) (run e : Extent) → IsMaximal xs → i < length xs → extent_at xs i ≡ run → e.start ≡ (extent_at xs i).start → e.len ≡ min n (extent_at xs i).len → 0 < e.len → RemovesUnits xs ys e → TakesFromRun xs ys run e
 front_cut xs ys i n run e m lt value start len some removed =
     let is : run_of e.start xs ≡ Some (extent_at xs i) = run_of-holder i xs e m lt some (omega (arith, start)) (omega (arith, start, len)) in
     let inside : end_of e ≤ end_of (extent_at xs i) = omega (arith, start, len) in
@@ -296,24 +296,24 @@ front_cut xs ys i n run e m lt value start len some removed =
 
 -- ---- numbers of words
 
-pub takes_words : (version w : ℕ) (with without : List Extent) (run e : Extent) → w ≡ set_words version with → IsCut with without run e → (extent_words version run ≤ w + beside_words version run e) × (w + beside_words version run e - extent_words version run ≡ set_words version without)
+pub takes_words : (version w : ℕ) (with without : List Extent) (run e : Extent) → w ≡ set_words version with → TakesFromRun with without run e → (extent_words version run ≤ w + beside_words version run e) × (w + beside_words version run e - extent_words version run ≡ set_words version without)
 takes_words version w with without run e is cut =
     let c = cut_words version with without run e cut in
     (omega (arith, c, is), omega (arith, c, is))
 
-pub gives_words : (version w : ℕ) (with without : List Extent) (run e : Extent) → w ≡ set_words version without → IsCut with without run e → (beside_words version run e ≤ w + extent_words version run) × (w + extent_words version run - beside_words version run e ≡ set_words version with)
+pub gives_words : (version w : ℕ) (with without : List Extent) (run e : Extent) → w ≡ set_words version without → TakesFromRun with without run e → (beside_words version run e ≤ w + extent_words version run) × (w + extent_words version run - beside_words version run e ≡ set_words version with)
 gives_words version w with without run e is cut =
     let c = cut_words version with without run e cut in
     (omega (arith, c, is), omega (arith, c, is))
 
-pub words_by_count : (version n : ℕ) (w : Words) (es : List Extent) → IsMaximal es → AreWordsOf w es → ((es : List Extent) → AreWordsOf w es → n ≡ set_words version es) → n ≤ unit_count es
+pub words_by_count : (version n : ℕ) (w : Words) (es : List Extent) → IsMaximal es → AreSetWords w es → ((es : List Extent) → AreSetWords w es → n ≡ set_words version es) → n ≤ unit_count es
 words_by_count version n w es m are told =
     let is = told es are in
     let most = words_at_most version 0 es m in
     omega (arith, is, most)
 
-pub settled_cut : (xs ys : List Extent) (to : ℕ) (run e : Extent) → to ≡ 0 → IsCut xs ys run e → IsCut xs (drop to ys) run e
-settled_cut xs ys to run e zero_is cut = subst (λ t. IsCut xs (drop t ys) run e) (sym zero_is) cut
+pub settled_cut : (xs ys : List Extent) (to : ℕ) (run e : Extent) → to ≡ 0 → TakesFromRun xs ys run e → TakesFromRun xs (drop to ys) run e
+settled_cut xs ys to run e zero_is cut = subst (λ t. TakesFromRun xs (drop t ys) run e) (sym zero_is) cut
 
 -- ---- of extents in two lists
 
@@ -366,7 +366,7 @@ run_of-covers es e r m all is =
     (cases_lt (end_of r) (end_of e))
 
 -- an extent below all others is one of its own
-pub first_cut : (es : List Extent) (e : Extent) → IsMaximal (e ∷ es) → IsCut (e ∷ es) es e e
+pub first_cut : (es : List Extent) (e : Extent) → IsMaximal (e ∷ es) → TakesFromRun (e ∷ es) es e e
 first_cut es e m =
     let some = m.1 in
     record {

@@ -4,7 +4,7 @@ use Rattle.std.proofs.lemmas.List.{drop-drop, drop-set-add}
 use Rattle.zr_base.specs.declared.space.Extent.{Extent}
 use Rattle.zr_base.specs.Extents.{IsMaximal, IsMaximalFrom, HasNone, AddsUnits, RemovesUnits, extent_at, end_of, unit_count}
 use Rattle.zr_rules.specs.Owed.{set_words}
-use Rattle.zr_ranges.specs.Words.{run_of, AreWordsOf, IsCut}
+use Rattle.zr_ranges.specs.Words.{run_of, AreSetWords, TakesFromRun}
 use Rattle.zr_ranges.specs.declared.words.Words.{Words}
 use Rattle.zr_ranges.proofs.Cuts.{cut_again, words_split}
 use Rattle.zr_base.proofs.ExtentSets.{unit_count-more, unit_count-le}
@@ -68,7 +68,7 @@ kept_without from units n count w v xs kept few counted first second =
       within = omega (arith, length-drop from xs, kept.within);
       maximal = subst (λ (l : List Extent). IsMaximal l) same (maximal_drop n (drop from xs) kept.maximal);
       counted = subst (λ (l : List Extent). units - count ≡ unit_count l) same (omega (arith, count_split n (drop from xs), kept.counted, counted));
-      words = subst (λ (l : List Extent). AreWordsOf v l) same (record { first = omega (arith, w1, first, kept.words.first); second = omega (arith, w2, second, kept.words.second) });
+      words = subst (λ (l : List Extent). AreSetWords v l) same (record { first = omega (arith, w1, first, kept.words.first); second = omega (arith, w2, second, kept.words.second) });
     }
 
 -- the first extents have no more words than all
@@ -76,7 +76,7 @@ pub words_fewer : (version n : ℕ) (xs : List Extent) → set_words version (ta
 words_fewer version n xs = let w = words_split version n xs in omega (arith, w)
 
 -- the set with units that came
-pub kept_more : (xs ys : List Extent) (from to units : ℕ) (w v : Words) (run e : Extent) → IsKept xs from units w → to ≡ 0 → HasNone (drop from xs) e → 0 < e.len → AddsUnits (drop from xs) ys e → run_of e.start ys ≡ Some run → end_of e ≤ end_of run → ((with without : List Extent) → AreWordsOf w without → IsCut with without run e → AreWordsOf v with) → IsKept ys to (units + e.len) v
+pub kept_more : (xs ys : List Extent) (from to units : ℕ) (w v : Words) (run e : Extent) → IsKept xs from units w → to ≡ 0 → HasNone (drop from xs) e → 0 < e.len → AddsUnits (drop from xs) ys e → run_of e.start ys ≡ Some run → end_of e ≤ end_of run → ((with without : List Extent) → AreSetWords w without → TakesFromRun with without run e → AreSetWords v with) → IsKept ys to (units + e.len) v
 kept_more xs ys from to units w v run e kept zero_is apart some added around inside told =
     let count = added.count in let was = kept.counted in
     subst (λ t. IsKept ys t (units + e.len) v) (sym zero_is)
@@ -88,7 +88,7 @@ kept_more xs ys from to units w v run e kept zero_is apart some added around ins
     })
 
 -- the set without units that went
-pub kept_less : (xs ys : List Extent) (from to units : ℕ) (w v : Words) (run e : Extent) → IsKept xs from units w → to ≤ length ys → IsCut (drop from xs) (drop to ys) run e → ((with without : List Extent) → AreWordsOf w with → IsCut with without run e → AreWordsOf v without) → IsKept ys to (units - e.len) v
+pub kept_less : (xs ys : List Extent) (from to units : ℕ) (w v : Words) (run e : Extent) → IsKept xs from units w → to ≤ length ys → TakesFromRun (drop from xs) (drop to ys) run e → ((with without : List Extent) → AreSetWords w with → TakesFromRun with without run e → AreSetWords v without) → IsKept ys to (units - e.len) v
 kept_less xs ys from to units w v run e kept within cut told =
     let count = cut.removes.count in let was = kept.counted in
     record {

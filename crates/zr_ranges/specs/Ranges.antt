@@ -3,7 +3,7 @@ use Rattle.std.specs.Prelude.{◌≡◌, ℕ, ◌<◌, ◌≤◌, List, length, 
 use Rattle.zr_base.specs.declared.space.Extent.{Extent}
 use Rattle.zr_base.specs.Extents.{IsMaximal, unit_count, extent_at}
 use Rattle.zr_ranges.specs.declared.words.Words.{Words}
-use Rattle.zr_ranges.specs.Words.{AreWordsOf}
+use Rattle.zr_ranges.specs.Words.{AreSetWords}
 
 -- the maximal extents of the set in order, and how many changes take no memory
 pub record Ranges : Type 0 where
@@ -15,7 +15,7 @@ pub record IsKept (runs : List Extent) (from units : ℕ) (w : Words) : Type 0 w
   pub within : from ≤ length runs
   pub maximal : IsMaximal (drop from runs)
   pub counted : units ≡ unit_count (drop from runs)
-  pub words : AreWordsOf w (drop from runs)
+  pub words : AreSetWords w (drop from runs)
 
 -- one of the extents has so many units
 pub record HasRunOf (runs : List Extent) (n : ℕ) : Type 0 where

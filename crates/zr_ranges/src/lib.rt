@@ -26,7 +26,7 @@ mod words;
 use front::{count_units, live, settle, take_first};
 use std::alloc::{AllocError, Global};
 use std::marker::Model;
-pub use words::{Words, extent_words, words_of};
+pub use words::Words;
 use zr_base::{Extent, NoMemory};
 
 /// A set of units below 2^62.

@@ -7,7 +7,7 @@ ghost use Rattle.std.specs.Prelude.{◌≡◌, ◌+◌, ◌-◌, ◌^◌, ◌<�
 ghost use Rattle.zr_base.specs.declared.space.Extent.{Extent};
 ghost use Rattle.zr_base.specs.Extents.{IsMaximal, end_of, unit_count};
 ghost use Rattle.zr_rules.specs.Owed.{extent_words, set_words};
-ghost use Rattle.zr_ranges.specs.Words.{AreWordsOf, IsCut, beside_words, part_words};
+ghost use Rattle.zr_ranges.specs.Words.{AreSetWords, TakesFromRun, beside_words, part_words};
 
 use zr_base::Extent;
 
@@ -72,7 +72,7 @@ pub struct Words {
 impl Words {
     /// Those of no units.
     pub fn none() -> Words
-        ensures { AreWordsOf result [] }
+        ensures { AreSetWords result [] }
     {
         Words {
             first: 0,
@@ -82,8 +82,8 @@ impl Words {
 
     /// Those of a set to which the units of an extent came, which is now in the run.
     pub fn joined(self, run: Extent, e: Extent) -> Words
-        requires { (with : List Extent) × (without : List Extent) × AreWordsOf self without × IsCut with without run e }
-        ensures { (with without : List Extent) → AreWordsOf self without → IsCut with without run e → AreWordsOf result with }
+        requires { (with : List Extent) × (without : List Extent) × AreSetWords self without × TakesFromRun with without run e }
+        ensures { (with without : List Extent) → AreSetWords self without → TakesFromRun with without run e → AreSetWords result with }
     {
         Words {
             first: self.first + extent_words(run, 1) - beside_words(run, e, 1),
@@ -93,8 +93,8 @@ impl Words {
 
     /// Those of a set from which the units of an extent went, which was in the run.
     pub fn cut(self, run: Extent, e: Extent) -> Words
-        requires { (with : List Extent) × (without : List Extent) × AreWordsOf self with × IsCut with without run e }
-        ensures { (with without : List Extent) → AreWordsOf self with → IsCut with without run e → AreWordsOf result without }
+        requires { (with : List Extent) × (without : List Extent) × AreSetWords self with × TakesFromRun with without run e }
+        ensures { (with without : List Extent) → AreSetWords self with → TakesFromRun with without run e → AreSetWords result without }
     {
         Words {
             first: self.first + beside_words(run, e, 1) - extent_words(run, 1),
@@ -118,7 +118,7 @@ impl Words {
 
     /// How many words, by the version of the format.
     pub fn of(self, version: u64) -> u64
-        ensures { (es : List Extent) → AreWordsOf self es → result ≡ set_words version es }
+        ensures { (es : List Extent) → AreSetWords self es → result ≡ set_words version es }
     {
         if version == 1 {
             self.first

@@ -1,11 +1,11 @@
-use Rattle.zr_ranges.specs.Words.{IsCut}
+use Rattle.zr_ranges.specs.Words.{TakesFromRun}
 use Rattle.zr_paged.specs.Pages.{all_of, pages_in}
 use Rattle.zr_paged.proofs.Around.{paged_less}
 use Rattle.zr_paged.proofs.PagedSet.remove_reserved.Goals as goal
 
 pub invariant_of-self : goal.invariant_of-self
 invariant_of-self c =
-    let cut : IsCut (all_of (pages_in c.self.inside.front)) (all_of (pages_in c.remove_in.new.front)) c.run_around-run.result c.args.e = record {
+    let cut : TakesFromRun (all_of (pages_in c.self.inside.front)) (all_of (pages_in c.remove_in.new.front)) c.run_around-run.result c.args.e = record {
       maximal = c.self.invariant.pages.maximal;
       not_empty = c.requires.not_empty;
       around = c.run_around-run.ensures.around;

@@ -1,6 +1,6 @@
 use Rattle.std.proofs.Common.{◌≡◌, drop, Some, List, arith}
 use Rattle.zr_base.specs.declared.space.Extent.{Extent}
-use Rattle.zr_ranges.specs.Words.{run_of, IsCut}
+use Rattle.zr_ranges.specs.Words.{run_of, TakesFromRun}
 use Rattle.zr_ranges.proofs.Cuts.{settled_cut}
 use Rattle.zr_ranges.proofs.Parts.{kept_less}
 use Rattle.zr_ranges.proofs.RangeSet.remove.Goals as goal
@@ -9,7 +9,7 @@ pub invariant_of-self-2 : goal.invariant_of-self-2
 invariant_of-self-2 c =
     let xs : List Extent = drop c.self.inside.from c.self.inside.runs.items in
     let around : run_of c.args.e.start xs ≡ Some c.run_around-run.result = rw (c.as_slice.ensures.value, c.settle.ensures.items) at c.run_around-run.ensures.run in
-    let cut : IsCut xs c.remove_run.new.runs.items c.run_around-run.result c.args.e = record {
+    let cut : TakesFromRun xs c.remove_run.new.runs.items c.run_around-run.result c.args.e = record {
       maximal = c.self.invariant.maximal;
       not_empty = c.requires.not_empty;
       around = around;
