@@ -1,5 +1,6 @@
 //! The audit of a space.
-ghost use Rattle.std.specs.Prelude.{◌≡◌, IfOk, Option};
+ghost use Rattle.std.specs.Prelude.{◌≡◌, ℕ, ◌<◌, length, IfOk, Option};
+ghost use Rattle.zr_base.specs.Extents.{has_unit};
 ghost use Rattle.zr_rules.specs.Equation.{SavedRoot, Adds, walked};
 ghost use Rattle.zr_audit.specs.Found.{found, allocated_units, AreMeta, for_each_device};
 
@@ -8,7 +9,16 @@ use crate::ends::ends_of;
 use crate::found::count_found;
 use std::alloc::Global;
 use zr_base::{Dva, Items, NoMemory};
+use zr_ranges::RangeSet;
 use zr_space::Space;
+
+// The copies on a device, in one array. It goes over them.
+fn copies_on(space: &Space, dev: u32) -> Result<RangeSet, NoMemory>
+    requires { dev < length space.now.parts.devs }
+    ensures { IfOk result (λ set. (u : ℕ) → has_unit set.extents u ≡ is_copy_role (role_at space.now dev u)) }
+{
+    space.copies(dev).to_set()
+}
 
 /// The units that the addresses of a walk lead to, and copies, beside those that are counted, one number for each device.
 /// `live` are the addresses of the live pointers, and `meta` those of metadata. Units that come twice count once, and one
@@ -28,10 +38,11 @@ pub fn audit(alloc: Global, space: &Space, live: &[Dva], meta: &[Dva]) -> Result
     let mut walked = Items::new(alloc);
     let mut allocated = Items::new(alloc);
     for dev in 0..space.devices() {
+        let copies = copies_on(space, dev)?;
         let units = count_found(
             alloc,
             live_ends.as_slice(),
-            space.copies(dev),
+            &copies,
             meta_ends.as_slice(),
             dev,
             space.units_of(dev),

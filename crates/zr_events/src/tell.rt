@@ -78,20 +78,24 @@ fn put_part(text: &mut String, part: &DevPart) -> Result<(), AllocError> {
 }
 
 // What the open group freed on a device, and which of its units are copies.
-fn put_open(text: &mut String, space: &Space, dev: u32) -> Result<(), AllocError>
+fn put_open(text: &mut String, space: &Space, dev: u32) -> Result<(), NoMemory>
     requires { dev < length space.now.parts.devs }
 {
-    text.push_str("\n freed")?;
     let freed = space.freed(dev);
-    put_extents(text, freed.blocks().extents(), "")?;
-    put_extents(text, freed.meta().extents(), "m")?;
+    let blocks = freed.blocks().to_set()?;
+    let meta = freed.meta().to_set()?;
+    let copies = space.copies(dev).to_set()?;
+    text.push_str("\n freed")?;
+    put_extents(text, blocks.extents(), "")?;
+    put_extents(text, meta.extents(), "m")?;
     text.push_str("\n copies")?;
-    put_extents(text, space.copies(dev).extents(), "")?;
-    text.push_str("\n")
+    put_extents(text, copies.extents(), "")?;
+    text.push_str("\n")?;
+    Ok(())
 }
 
 // A device.
-fn put_device(text: &mut String, space: &Space, dev: u32, part: &DevPart) -> Result<(), AllocError>
+fn put_device(text: &mut String, space: &Space, dev: u32, part: &DevPart) -> Result<(), NoMemory>
     requires { dev < length space.now.parts.devs }
 {
     let row = part.row;

@@ -161,6 +161,16 @@ impl PagedSet {
         taken
     }
 
+    /// Takes out all units. What stands ready for changes stays so. It costs the set's pages.
+    pub fn clear(&mut self)
+        ensures empty { self.new.extents ≡ [] }
+        ensures spare { self.old.spare ≤ self.new.spare }
+    {
+        self.front = Tree::Empty;
+        self.units = 0;
+        self.words = Words::none();
+    }
+
     /// The lowest extent. It costs the same whatever the set has.
     pub fn first(&self) -> Option<Extent>
         ensures some { IfSome result (λ e. (0 < length self.now.extents) × (e ≡ extent_at self.now.extents 0)) }

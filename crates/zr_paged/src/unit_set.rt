@@ -4,7 +4,7 @@
 //! room. So a set for which room is made for more than 8,192 changes goes over into one array: that many pages are what the
 //! units of one block need at most, with all devices that its address may lead over. It goes back into pages where it is
 //! renewed.
-ghost use Rattle.std.specs.Prelude.{◌≡◌, ◌+◌, ◌^◌, ◌<◌, ◌≤◌, [], length, IsTrue, ◌↔◌, IfOk, IfSome, IfNone, OnOk};
+ghost use Rattle.std.specs.Prelude.{◌≡◌, ◌+◌, ◌^◌, ◌<◌, ◌≤◌, [], length, min, IsTrue, ◌↔◌, IfOk, IfSome, IfNone, OnOk};
 ghost use Rattle.zr_rules.specs.Owed.{set_words};
 ghost use Rattle.zr_base.specs.Extents.{IsMaximal, HasAll, HasNone, HasNoneFrom, IsFirstPart, AddsUnits, RemovesUnits, unit_count, extent_at};
 ghost use Rattle.zr_paged.specs.Forms.{set_in};
@@ -143,6 +143,37 @@ impl UnitSet {
             Form::Paged(paged) => paged.remove_reserved(e),
             Form::Flat(flat) => flat.remove_reserved(e),
         }
+    }
+
+    /// Takes out the lowest units, `n` or, where the lowest extent has fewer, that extent. It takes no memory and moves no
+    /// extent, whatever the set has.
+    pub fn take_front(&mut self, n: u64) -> Extent
+        requires not_empty { 0 < length self.old.extents }
+        requires some { 0 < n }
+        ensures start { result.start ≡ (extent_at self.old.extents 0).start }
+        ensures len { result.len ≡ min n (extent_at self.old.extents 0).len }
+        ensures not_empty { 0 < result.len }
+        ensures in_range { result.start + result.len ≤ 2 ^ 62 }
+        ensures covered { HasAll self.old.extents result }
+        ensures removed { RemovesUnits self.old.extents self.new.extents result }
+        ensures spare { self.old.spare ≤ self.new.spare }
+    {
+        match &mut self.form {
+            Form::Paged(paged) => paged.take_front(n),
+            Form::Flat(flat) => flat.take_front(n),
+        }
+    }
+
+    /// Takes out all units. Where the set is in one array it goes over into pages, and has no room for changes. It costs
+    /// the set's pages, and takes no memory.
+    pub fn clear(&mut self)
+        ensures { self.new.extents ≡ [] }
+    {
+        if let Form::Paged(paged) = &mut self.form {
+            paged.clear();
+            return;
+        }
+        self.form = Form::Paged(PagedSet::new(self.alloc));
     }
 
     /// The lowest extent. It costs the same whatever the set has.

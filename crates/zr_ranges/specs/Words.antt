@@ -19,7 +19,7 @@ abbrev pub beside_words : ℕ → Extent → Extent → ℕ
 beside_words version run e = part_words version (e.start - run.start) + part_words version (end_of run - end_of e)
 
 -- units of the run go from a set, and what is left of it stays
-pub record IsCut (old new : List Extent) (run e : Extent) : Type 0 where
+pub record TakesFromRun (old new : List Extent) (run e : Extent) : Type 0 where
   pub maximal : IsMaximal old
   pub not_empty : 0 < e.len
   pub around : run_of e.start old ≡ Some run
@@ -27,6 +27,6 @@ pub record IsCut (old new : List Extent) (run e : Extent) : Type 0 where
   pub removes : RemovesUnits old new e
 
 -- the words of a set in the first form of a space map and in the second
-pub record AreWordsOf (w : Words) (es : List Extent) : Type 0 where
+pub record AreSetWords (w : Words) (es : List Extent) : Type 0 where
   pub first : w.first ≡ set_words 1 es
   pub second : w.second ≡ set_words 2 es

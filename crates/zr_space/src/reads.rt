@@ -104,6 +104,8 @@ pub fn read_late(
     let Some(meta) = read_set(alloc, used, kinds.meta.as_slice(), units)? else {
         return Ok(None);
     };
+    let blocks = UnitSet::of(alloc, &blocks)?;
+    let meta = UnitSet::of(alloc, &meta)?;
     Ok(Some(FreedSets::of_sets(blocks, meta)))
 }
 

@@ -41,8 +41,10 @@ fn late_of(alloc: Global, freed: &FreedSets) -> Result<Items<LateRun>, NoMemory>
     ensures { IfOk result (λ runs. runs ≡ late_runs freed.now.sets) }
 {
     let mut runs = Items::new(alloc);
-    put_runs(&mut runs, freed.blocks().extents(), false)?;
-    put_runs(&mut runs, freed.meta().extents(), true)?;
+    let blocks = freed.blocks().to_set()?;
+    let meta = freed.meta().to_set()?;
+    put_runs(&mut runs, blocks.extents(), false)?;
+    put_runs(&mut runs, meta.extents(), true)?;
     Ok(runs)
 }
 

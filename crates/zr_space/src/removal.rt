@@ -14,7 +14,7 @@ use crate::space::{Space, extent_of};
 use zr_base::{Dva, NoMemory};
 use zr_condense::Condense;
 use zr_indirect::Mapping;
-use zr_ranges::RangeSet;
+use zr_paged::UnitSet;
 
 impl Space {
     /// What a device has beside its units while it is given up. It costs nothing.
@@ -44,7 +44,7 @@ impl Space {
     }
 
     /// The units of a device that have copies of the one that is leaving. It costs nothing.
-    pub fn copies(&self, dev: u32) -> &RangeSet
+    pub fn copies(&self, dev: u32) -> &UnitSet
         requires { dev < length self.now.parts.devs }
         ensures { (u : ℕ) → has_unit result.now.extents u ≡ is_copy_role (role_at self.now dev u) }
     {

@@ -263,11 +263,11 @@ fn words_of_late(
     ensures few { IfOk result (λ words. length words.items ≤ 2 ^ 34) }
     ensures late { IfOk result (λ words. IsLate version dev words.items (late_list freed.now.sets.blocks freed.now.sets.meta)) }
 {
-    let blocks = freed.blocks();
-    let meta = freed.meta();
+    let blocks = freed.blocks().to_set()?;
+    let meta = freed.meta().to_set()?;
     let _blocks = blocks.extents();
     let _meta = meta.extents();
-    late_words(alloc, blocks, meta, version, dev)
+    late_words(alloc, &blocks, &meta, version, dev)
 }
 
 /// The words of the next root's first late set of a device: what the open group freed.

@@ -10,13 +10,13 @@ use crate::parts::let_go;
 use std::alloc::Global;
 use std::marker::Model;
 use zr_metaslab::Slabs;
-use zr_ranges::RangeSet;
+use zr_paged::UnitSet;
 
 /// Units of blocks and of metadata.
 #[derive(Drop)]
 pub struct FreedSets {
-    pub blocks: RangeSet,
-    pub meta: RangeSet,
+    pub blocks: UnitSet,
+    pub meta: UnitSet,
 }
 
 impl Model for FreedSets {
@@ -33,13 +33,13 @@ impl FreedSets {
         ensures { result.sets ≡ none_freed }
     {
         FreedSets {
-            blocks: RangeSet::new(alloc),
-            meta: RangeSet::new(alloc),
+            blocks: UnitSet::new(alloc),
+            meta: UnitSet::new(alloc),
         }
     }
 
     /// These units of blocks and of metadata.
-    pub fn of_sets(blocks: RangeSet, meta: RangeSet) -> FreedSets
+    pub fn of_sets(blocks: UnitSet, meta: UnitSet) -> FreedSets
         ensures blocks { result.sets.blocks ≡ blocks.extents }
         ensures meta { result.sets.meta ≡ meta.extents }
     {
@@ -47,14 +47,14 @@ impl FreedSets {
     }
 
     /// The units of blocks.
-    pub fn blocks(&self) -> &RangeSet
+    pub fn blocks(&self) -> &UnitSet
         ensures { result.now.extents ≡ self.now.sets.blocks }
     {
         &self.blocks
     }
 
     /// The units of metadata.
-    pub fn meta(&self) -> &RangeSet
+    pub fn meta(&self) -> &UnitSet
         ensures { result.now.extents ≡ self.now.sets.meta }
     {
         &self.meta

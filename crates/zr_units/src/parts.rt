@@ -8,7 +8,6 @@ ghost use Rattle.zr_units.specs.Changes.{TakesBack, FreesBorn, GivesUpSet, Keeps
 use zr_base::Extent;
 use zr_metaslab::Slabs;
 use zr_paged::UnitSet;
-use zr_ranges::RangeSet;
 
 /// A front of an extent that is in a set, or apart from it.
 #[derive(Drop)]
@@ -18,7 +17,7 @@ pub struct Front {
 }
 
 /// The longest front of an extent that is all in the set or apart from it. Logarithmic in the set's extents.
-pub fn uniform_front(set: &RangeSet, e: Extent) -> Front
+pub fn uniform_front(set: &UnitSet, e: Extent) -> Front
     requires not_empty { 0 < e.len }
     requires in_range { e.start + e.len ≤ 2 ^ 62 }
     ensures start { result.at.start ≡ e.start }
@@ -50,8 +49,8 @@ pub fn uniform_front(set: &RangeSet, e: Extent) -> Front
 
 /// Lets units of a block go: those that the open group allocated to the allocator, the others to what is deferred.
 pub fn free_parts(
-    born: &mut RangeSet,
-    deferred: &mut RangeSet,
+    born: &mut UnitSet,
+    deferred: &mut UnitSet,
     slabs: &mut Slabs,
     dev: u32,
     e: Extent,
@@ -90,10 +89,10 @@ pub fn free_parts(
 /// Lets all units of a set of copies go, which are then held no more: those that the open group made to the allocator, the
 /// others to what is deferred. It takes no memory, and costs a change of each set for each extent.
 pub fn give_up_parts(
-    copies: &mut RangeSet,
+    copies: &mut UnitSet,
     held: &mut UnitSet,
-    born: &mut RangeSet,
-    deferred: &mut RangeSet,
+    born: &mut UnitSet,
+    deferred: &mut UnitSet,
     slabs: &mut Slabs,
     dev: u32,
 )
@@ -119,7 +118,7 @@ pub fn give_up_parts(
     ensures deferred_maximal { IsMaximal deferred.new.extents }
     ensures given { GivesUpSet copies.old.extents born.old.extents deferred.old.extents deferred.new.extents slabs.old slabs.new dev }
 {
-    while !copies.extents().is_empty() {
+    while !copies.is_empty() {
         let e = copies.take_front(u64::MAX);
         held.remove_reserved(e);
         free_parts(born, deferred, slabs, dev, e);
@@ -130,9 +129,9 @@ pub fn give_up_parts(
 /// group allocated go to the allocator, and the others are kept.
 pub fn keep_parts(
     held: &mut UnitSet,
-    born: &mut RangeSet,
+    born: &mut UnitSet,
     kept: &mut UnitSet,
-    came: &mut RangeSet,
+    came: &mut UnitSet,
     slabs: &mut Slabs,
     dev: u32,
     e: Extent,
@@ -178,15 +177,15 @@ pub fn keep_parts(
     }
 }
 
-/// Gives all units of a set back to the allocator. It takes no memory, and a release an extent.
-pub fn let_go(set: &mut RangeSet, slabs: &mut Slabs, dev: u32)
+/// Gives all units of a set back to the allocator. It takes no memory, and costs a release for each extent.
+pub fn let_go(set: &mut UnitSet, slabs: &mut Slabs, dev: u32)
     requires device { dev < length slabs.old }
     requires within { IsWithin set.old.extents (units_at slabs.old dev) }
     requires apart { AreApart set.old.extents (free_at slabs.old dev) }
     ensures empty { set.new.extents ≡ [] }
     ensures taken { TakesBack slabs.old slabs.new dev (has_unit set.old.extents) (unit_count set.old.extents) }
 {
-    while !set.extents().is_empty() {
+    while !set.is_empty() {
         let e = set.take_front(u64::MAX);
         slabs.release(dev, e);
     }

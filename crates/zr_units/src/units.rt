@@ -24,11 +24,11 @@ use zr_ranges::RangeSet;
 pub struct Units {
     units: u64,
     held: UnitSet,
-    born: RangeSet,
+    born: UnitSet,
     kept: UnitSet,
-    came: RangeSet,
-    went: RangeSet,
-    copies: RangeSet,
+    came: UnitSet,
+    went: UnitSet,
+    copies: UnitSet,
     freed: FreedSets,
     late1: FreedSets,
     late2: FreedSets,
@@ -53,11 +53,11 @@ impl Units {
         Units {
             units,
             held: UnitSet::new(alloc),
-            born: RangeSet::new(alloc),
+            born: UnitSet::new(alloc),
             kept: UnitSet::new(alloc),
-            came: RangeSet::new(alloc),
-            went: RangeSet::new(alloc),
-            copies: RangeSet::new(alloc),
+            came: UnitSet::new(alloc),
+            went: UnitSet::new(alloc),
+            copies: UnitSet::new(alloc),
             freed: FreedSets::new(alloc),
             late1: FreedSets::new(alloc),
             late2: FreedSets::new(alloc),
@@ -80,11 +80,11 @@ impl Units {
         Units {
             units,
             held,
-            born: RangeSet::new(alloc),
+            born: UnitSet::new(alloc),
             kept,
-            came: RangeSet::new(alloc),
-            went: RangeSet::new(alloc),
-            copies: RangeSet::new(alloc),
+            came: UnitSet::new(alloc),
+            went: UnitSet::new(alloc),
+            copies: UnitSet::new(alloc),
             freed: FreedSets::new(alloc),
             late1,
             late2,
@@ -108,7 +108,7 @@ impl Units {
     }
 
     /// The held units that the open group allocated.
-    pub fn born(&self) -> &RangeSet
+    pub fn born(&self) -> &UnitSet
         ensures { result.now.extents ≡ self.now.born }
     {
         &self.born
@@ -122,7 +122,7 @@ impl Units {
     }
 
     /// The held units that have copies of a device that is leaving.
-    pub fn copies(&self) -> &RangeSet
+    pub fn copies(&self) -> &UnitSet
         ensures { result.now.extents ≡ self.now.copies }
     {
         &self.copies
@@ -184,7 +184,9 @@ impl Units {
         requires { AreSetsApart self.now.born self.now.freed.blocks }
         ensures { IfOk result (λ cs. IsMerged self.now.born self.now.freed.blocks cs.items) }
     {
-        merged(alloc, self.born.extents(), self.freed.blocks.extents())
+        let came = self.born.to_set()?;
+        let went = self.freed.blocks.to_set()?;
+        merged(alloc, came.extents(), went.extents())
     }
 
     /// What the open group changed in the kept set, as changes by rising place. It goes over what changed alone.
@@ -192,7 +194,9 @@ impl Units {
         requires { AreSetsApart self.now.came self.now.went }
         ensures { IfOk result (λ cs. IsMerged self.now.came self.now.went cs.items) }
     {
-        merged(alloc, self.came.extents(), self.went.extents())
+        let came = self.came.to_set()?;
+        let went = self.went.to_set()?;
+        merged(alloc, came.extents(), went.extents())
     }
 
     /// How many units are in use: held, or of metadata.
@@ -236,7 +240,7 @@ impl Units {
     {
         self.held.renew()?;
         self.kept.renew()?;
-        self.born.reserve(1)?;
+        self.born.renew()?;
         self.held.add_reserved(e);
         self.born.add_reserved(e);
         Ok(())

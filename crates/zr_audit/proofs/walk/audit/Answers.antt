@@ -12,8 +12,8 @@ loop-dev-preserved c =
     let count = c.devices-dev-end.ensures in
     let known : c.loop-dev.dev < length s.parts.devs = omega (arith, below, count) in
     record {
-      walked = next_found s c.args.live.now c.args.meta.now c.as_slice.result.now c.as_slice-in-loop-dev.result.now c.copies.result.now.extents c.loop-dev.dev c.units_of.result c.in_ok-units.units c.loop-dev.walked c.push.new.self
-          (subst (AreEnds (devices_in s) c.args.live.now) (sym c.as_slice.ensures.value) c.in_ok-live_ends.ensures) (subst (AreEnds (devices_in s) c.args.meta.now) (sym c.as_slice-in-loop-dev.ensures.value) c.in_ok-meta_ends.ensures) c.copies.ensures c.units_of.ensures c.in_ok-units.ensures c.loop-dev.invariant.walked c.in_ok-push.ensures;
+      walked = next_found s c.args.live.now c.args.meta.now c.as_slice.result.now c.as_slice-in-loop-dev.result.now c.in_ok-copies.copies.extents c.loop-dev.dev c.units_of.result c.in_ok-units.units c.loop-dev.walked c.push.new.self
+          (subst (AreEnds (devices_in s) c.args.live.now) (sym c.as_slice.ensures.value) c.in_ok-live_ends.ensures) (subst (AreEnds (devices_in s) c.args.meta.now) (sym c.as_slice-in-loop-dev.ensures.value) c.in_ok-meta_ends.ensures) c.in_ok-copies.ensures c.units_of.ensures c.in_ok-units.ensures c.loop-dev.invariant.walked c.in_ok-push.ensures;
       allocated = one_more (allocated_units s) c.loop-dev.dev c.columns.result.allocated c.loop-dev.allocated c.push-in-loop-dev.new.self (ap (λ (x : Columns). x.allocated) c.columns.ensures) c.loop-dev.invariant.allocated c.in_ok-push-2.ensures;
     }
 

@@ -30,4 +30,4 @@ invariant-loop-copies l = record {
 }
 
 abbrev pub decreases-loop-copies : goal.decreases-loop-copies
-decreases-loop-copies l = length l.copies.extents
+decreases-loop-copies l = unit_count l.copies.extents

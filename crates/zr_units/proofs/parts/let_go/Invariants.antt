@@ -16,4 +16,4 @@ invariant-loop-set l = record {
 }
 
 abbrev pub decreases-loop-set : goal.decreases-loop-set
-decreases-loop-set l = length l.set.extents
+decreases-loop-set l = unit_count l.set.extents
