@@ -2,6 +2,8 @@
 ghost use Rattle.std.specs.Prelude.{◌≡◌, ℕ, ◌<◌, length, IfOk, Option};
 ghost use Rattle.zr_base.specs.Extents.{has_unit};
 ghost use Rattle.zr_rules.specs.Equation.{SavedRoot, Adds, walked};
+ghost use Rattle.zr_rules.specs.Roles.{is_copy_role};
+ghost use Rattle.zr_rules.specs.Space.{role_at};
 ghost use Rattle.zr_audit.specs.Found.{found, allocated_units, AreMeta, for_each_device};
 
 use crate::answer::Audit;
