@@ -17,7 +17,7 @@ use std::marker::Model;
 use zr_base::{Change, Extent, NoMemory};
 use zr_imap::Imap;
 use zr_obsolete::{fold_counts, fresh_in};
-use zr_ranges::RangeSet;
+use zr_paged::UnitSet;
 use zr_units::merged;
 
 /// A mapping with a count for each entry, the fresh obsolete units, and what came to these in the open group and what went
@@ -26,9 +26,9 @@ use zr_units::merged;
 pub struct Indirect {
     map: Imap,
     counts: Vec<u32>,
-    fresh: RangeSet,
-    came: RangeSet,
-    went: RangeSet,
+    fresh: UnitSet,
+    came: UnitSet,
+    went: UnitSet,
 }
 
 impl Model for Indirect {
@@ -47,8 +47,8 @@ impl Indirect {
         alloc: Global,
         map: Imap,
         counts: Vec<u32>,
-        fresh: RangeSet,
-        came: RangeSet,
+        fresh: UnitSet,
+        came: UnitSet,
     ) -> Indirect
         requires counts { HasCounts map.entries counts.items fresh.extents }
         requires came { IsPart came.extents fresh.extents }
@@ -59,7 +59,7 @@ impl Indirect {
             counts,
             fresh,
             came,
-            went: RangeSet::new(alloc),
+            went: UnitSet::new(alloc),
         }
     }
 
@@ -68,9 +68,9 @@ impl Indirect {
         ensures { IsGone self.now }
     {
         let _count = self.map.len();
-        let _fresh = self.fresh.extents();
-        let _came = self.came.extents();
-        let _went = self.went.extents();
+        let _fresh = self.fresh.first();
+        let _came = self.came.first();
+        let _went = self.went.first();
     }
 
     /// Units that are not fresh become so.
@@ -89,19 +89,24 @@ impl Indirect {
         note_came(&mut self.came, &mut self.went, e);
     }
 
-    /// Folds the fresh units into the counts.
+    /// Folds the fresh units into the counts. Those that a root has went from its set.
     pub fn fold(&mut self) -> Result<(), NoMemory>
         ensures ok { OnOk result (FoldsFresh self.old self.new) }
         ensures root { OnOk result (KeepsRoot self.old self.new) }
         ensures err { OnErr result (self.new ≡ record self.old { spare = self.new.spare }) }
     {
-        let came = count_of(&self.came);
-        let fresh = count_of(&self.fresh);
-        self.fresh.reserve(came)?;
-        self.went.reserve(fresh + came)?;
+        let mut came = self.came.to_set()?;
+        let mut synced = self.fresh.to_set()?;
+        let mut went = self.went.to_set()?;
+        let count = count_of(&came);
+        went.reserve(count_of(&synced) + count)?;
+        synced.reserve(count)?;
+        take_out(&mut synced, &mut came);
+        put_in(&mut went, &mut synced);
+        self.went.refill(&went)?;
         fold_counts(&mut self.counts, &self.fresh, &self.map);
-        take_out(&mut self.fresh, &mut self.came);
-        put_in(&mut self.went, &mut self.fresh);
+        self.fresh.clear();
+        self.came.clear();
         Ok(())
     }
 
@@ -139,7 +144,7 @@ impl Indirect {
     }
 
     /// The obsolete units that are not counted yet.
-    pub fn fresh(&self) -> &RangeSet
+    pub fn fresh(&self) -> &UnitSet
         ensures { result.now.extents ≡ self.now.fresh }
     {
         &self.fresh
@@ -159,7 +164,9 @@ impl Indirect {
     pub fn changes(&self, alloc: Global) -> Result<Vec<Change>, NoMemory>
         ensures { IfOk result (λ cs. GainsFresh self.now cs.items) }
     {
-        merged(alloc, self.came.extents(), self.went.extents())
+        let came = self.came.to_set()?;
+        let went = self.went.to_set()?;
+        merged(alloc, came.extents(), went.extents())
     }
 
     /// Whether a quarter of the mapping is fresh.

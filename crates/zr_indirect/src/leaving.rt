@@ -18,6 +18,7 @@ use std::marker::Model;
 use zr_base::{Change, DevState, Extent, NoMemory};
 use zr_evac::Evac;
 use zr_imap::Imap;
+use zr_paged::UnitSet;
 use zr_ranges::RangeSet;
 use zr_units::merged;
 
@@ -25,7 +26,7 @@ use zr_units::merged;
 #[derive(Drop)]
 pub struct Leaving {
     evac: Evac,
-    came: RangeSet,
+    came: UnitSet,
 }
 
 impl Model for Leaving {
@@ -53,7 +54,7 @@ impl Leaving {
         let evac = Evac::begin(alloc, dev, held, map, marks)?;
         Ok(Leaving {
             evac,
-            came: RangeSet::new(alloc),
+            came: UnitSet::new(alloc),
         })
     }
 
@@ -65,7 +66,7 @@ impl Leaving {
         let _count = self.evac.map().len();
         let _next = self.evac.next();
         let _mark = self.evac.marks().first();
-        let _came = self.came.extents();
+        let _came = self.came.first();
     }
 
     /// A front of what is left was copied to a device from `dst` on.
@@ -173,7 +174,8 @@ impl Leaving {
     pub fn changes(&self, alloc: Global) -> Result<Vec<Change>, NoMemory>
         ensures { IfOk result (λ cs. GainsFresh self.now cs.items) }
     {
-        merged(alloc, self.came.extents(), &[])
+        let came = self.came.to_set()?;
+        merged(alloc, came.extents(), &[])
     }
 
     /// Whether no unit of the extent is marked.
@@ -218,7 +220,7 @@ impl Leaving {
     }
 
     /// All is copied, and the device is gone. The counts and the marks are its own.
-    pub fn end(self, alloc: Global, counts: Vec<u32>, marks: RangeSet) -> Indirect
+    pub fn end(self, alloc: Global, counts: Vec<u32>, marks: UnitSet) -> Indirect
         requires none { self.left ≡ [] }
         requires counts { counts.items ≡ self.counts }
         requires marks { marks.extents ≡ self.fresh }

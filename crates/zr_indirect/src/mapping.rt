@@ -22,6 +22,7 @@ use std::marker::Model;
 use std::mem;
 use zr_base::{Change, DevState, Entry, Extent, Items, NoMemory};
 use zr_imap::Imap;
+use zr_paged::UnitSet;
 use zr_ranges::RangeSet;
 
 /// What a device has beside its units.
@@ -80,11 +81,11 @@ impl Mapping {
 
     /// A device is gone, with its mapping, a count for each entry, and the obsolete units that are not counted yet. It takes
     /// no memory.
-    pub fn gone(alloc: Global, map: Imap, counts: Vec<u32>, fresh: RangeSet) -> Mapping
+    pub fn gone(alloc: Global, map: Imap, counts: Vec<u32>, fresh: UnitSet) -> Mapping
         requires { HasCounts map.entries counts.items fresh.extents }
         ensures { result ≡ record in_service { state = DevState.Gone; entries = map.entries; counts = counts.items; fresh = fresh.extents; spare = result.spare } }
     {
-        let indirect = Indirect::new(alloc, map, counts, fresh, RangeSet::new(alloc));
+        let indirect = Indirect::new(alloc, map, counts, fresh, UnitSet::new(alloc));
         Mapping {
             stage: Stage::Gone(indirect),
         }
@@ -191,7 +192,7 @@ impl Mapping {
         match &self.stage {
             Stage::InService => Ok(Items::new(alloc)),
             Stage::Leaving(leaving) => copy_of(alloc, &leaving.marks()?),
-            Stage::Gone(indirect) => copy_of(alloc, indirect.fresh()),
+            Stage::Gone(indirect) => copy_of(alloc, &indirect.fresh().to_set()?),
         }
     }
 
@@ -368,13 +369,17 @@ impl Mapping {
     }
 
     // The counts and the marks of a device that leaves.
-    fn obsolete(&self, alloc: Global) -> Result<(Vec<u32>, RangeSet), NoMemory>
+    fn obsolete(&self, alloc: Global) -> Result<(Vec<u32>, UnitSet), NoMemory>
         requires { self.now.state ≡ DevState.Leaving }
         ensures counts { IfOk result (λ parts. parts.0.items ≡ self.now.counts) }
         ensures marks { IfOk result (λ parts. parts.1.extents ≡ self.now.fresh) }
     {
         match &self.stage {
-            Stage::Leaving(leaving) => Ok((leaving.counts(alloc)?, leaving.marks()?)),
+            Stage::Leaving(leaving) => {
+                let counts = leaving.counts(alloc)?;
+                let marks = leaving.marks()?;
+                Ok((counts, UnitSet::of(alloc, &marks)?))
+            }
             Stage::InService | Stage::Gone(_) => unreachable!(),
         }
     }
@@ -439,7 +444,7 @@ impl Mapping {
 }
 
 // What a device that leaves has once it is gone.
-fn end(stage: Stage, alloc: Global, counts: Vec<u32>, marks: RangeSet) -> Indirect
+fn end(stage: Stage, alloc: Global, counts: Vec<u32>, marks: UnitSet) -> Indirect
     requires leaving { (mapped_in stage).state ≡ DevState.Leaving }
     requires stage { IsStage stage }
     requires none { (mapped_in stage).left ≡ [] }

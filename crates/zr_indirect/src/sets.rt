@@ -7,7 +7,7 @@ ghost use Rattle.zr_units.specs.Apart.{AreSetsApart};
 use std::alloc::Global;
 use zr_base::{Extent, Items, NoMemory};
 use zr_evac::part_below;
-use zr_paged::PagedSet;
+use zr_paged::{PagedSet, UnitSet};
 use zr_ranges::RangeSet;
 use zr_units::uniform_front;
 
@@ -30,7 +30,7 @@ pub fn is_apart(set: &PagedSet, e: Extent) -> bool
 }
 
 /// Adds the units of an extent below a unit.
-pub fn add_below(set: &mut RangeSet, e: Extent, at: u64)
+pub fn add_below(set: &mut UnitSet, e: Extent, at: u64)
     requires apart { HasNone set.old.extents e }
     requires bound { at ≤ 2 ^ 62 }
     requires room { 0 < set.old.spare }
@@ -43,7 +43,7 @@ pub fn add_below(set: &mut RangeSet, e: Extent, at: u64)
 }
 
 /// Notes that units came to a set: where they went from it they did not, after all.
-pub fn note_came(came: &mut RangeSet, went: &mut RangeSet, e: Extent)
+pub fn note_came(came: &mut UnitSet, went: &mut UnitSet, e: Extent)
     requires in_range { e.start + e.len ≤ 2 ^ 62 }
     requires apart { HasNone came.old.extents e }
     requires came_room { e.len ≤ came.old.spare }

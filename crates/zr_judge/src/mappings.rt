@@ -11,6 +11,7 @@ use std::alloc::Global;
 use zr_base::{DevPart, Entry, Extent, NoMemory};
 use zr_imap::{Imap, image_of};
 use zr_obsolete::fresh_in;
+use zr_paged::UnitSet;
 use zr_ranges::RangeSet;
 
 // No device has so many units.
@@ -74,7 +75,7 @@ fn lies_in(alloc: Global, set: &RangeSet, map: &Imap) -> Result<bool, NoMemory>
 }
 
 // Whether no entry has more obsolete units than units, counted or fresh.
-fn are_fitting(counts: &[u32], map: &Imap, fresh: &RangeSet) -> bool
+fn are_fitting(counts: &[u32], map: &Imap, fresh: &UnitSet) -> bool
     requires { length counts.now ≡ length map.now.entries }
     ensures { IsTrue result ↔ Fits map.now.entries counts.now fresh.now.extents }
 {
@@ -117,6 +118,7 @@ fn is_mapped(alloc: Global, part: &DevPart) -> Result<bool, NoMemory>
     if counts.len() != map.len() || !lies_in(alloc, &fresh, &map)? {
         return Ok(false);
     }
+    let fresh = UnitSet::of(alloc, &fresh)?;
     Ok(are_fitting(counts, &map, &fresh))
 }
 

@@ -15,12 +15,12 @@ use std::alloc::Global;
 use std::marker::Model;
 use zr_base::{Entry, Extent, NoMemory};
 use zr_imap::Imap;
-use zr_ranges::RangeSet;
+use zr_paged::UnitSet;
 
 /// The fresh obsolete units of a device, and how many units of each entry of its mapping were counted as obsolete.
 #[derive(Drop)]
 pub struct Obsolete {
-    fresh: RangeSet,
+    fresh: UnitSet,
     counts: Vec<u32>,
 }
 
@@ -34,7 +34,7 @@ impl Model for Obsolete {
 
 impl Obsolete {
     /// Of these fresh units and counts.
-    pub fn new(fresh: RangeSet, counts: Vec<u32>) -> Obsolete
+    pub fn new(fresh: UnitSet, counts: Vec<u32>) -> Obsolete
         ensures fresh { result.fresh ≡ fresh.extents }
         ensures counts { result.counts ≡ counts.items }
     {
@@ -42,7 +42,7 @@ impl Obsolete {
     }
 
     /// The fresh obsolete units.
-    pub fn fresh(&self) -> &RangeSet
+    pub fn fresh(&self) -> &UnitSet
         ensures { result.now.extents ≡ self.now.fresh }
     {
         &self.fresh
@@ -112,7 +112,7 @@ impl Obsolete {
         if mapped == 0 {
             return 0;
         }
-        let _runs = self.fresh.extents();
+        let _first = self.fresh.first();
         let fresh = self.fresh.units() as u128;
         (100 * fresh / mapped as u128) as u64
     }
@@ -120,7 +120,7 @@ impl Obsolete {
 
 /// Adds to each count the fresh units of its entry. It takes no memory, and a look-up for each entry and for each fresh
 /// extent.
-pub fn fold_counts(counts: &mut Vec<u32>, fresh: &RangeSet, map: &Imap)
+pub fn fold_counts(counts: &mut Vec<u32>, fresh: &UnitSet, map: &Imap)
     requires count { length counts.old.items ≡ length map.now.entries }
     requires fits { Fits map.now.entries counts.old.items fresh.now.extents }
     ensures { counts.new.items ≡ folded map.now.entries counts.old.items fresh.now.extents }
@@ -132,7 +132,7 @@ pub fn fold_counts(counts: &mut Vec<u32>, fresh: &RangeSet, map: &Imap)
 }
 
 /// How many fresh units the source of an entry has. It takes a look-up for each extent of them.
-pub fn fresh_in(fresh: &RangeSet, e: Entry) -> u32
+pub fn fresh_in(fresh: &UnitSet, e: Entry) -> u32
     requires { e.src + e.len ≤ 2 ^ 62 }
     ensures units { result ≡ fresh_units fresh.now.extents e }
 {
@@ -174,12 +174,12 @@ mod tests {
             len: 2,
         })?;
         let counts = vec![in rt.alloc(); 0u32, 0]?;
-        let mut obsolete = Obsolete::new(RangeSet::new(rt.alloc()), counts);
+        let mut obsolete = Obsolete::new(UnitSet::new(rt.alloc()), counts);
         obsolete.mark(Extent { start: 10, len: 2 })?;
         assert_eq!(rt; obsolete.percent(&map), 40);
         obsolete.fold(&map);
         assert_eq!(rt; obsolete.counts(), [2, 0].as_slice());
-        assert!(rt; obsolete.fresh().extents().is_empty());
+        assert!(rt; obsolete.fresh().is_empty());
         Ok(())
     }
 }

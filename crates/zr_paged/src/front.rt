@@ -3,7 +3,7 @@
 //! A set is often emptied from its lowest unit up. So its lowest page stands on top, with nothing on its low side, and all
 //! others in a balanced tree on its high side: to take out the lowest units needs no way down. Where that page is empty,
 //! the lowest page of the others comes in its place.
-ghost use Rattle.std.specs.Prelude.{◌≡◌, ℕ, ◌+◌, ◌^◌, ◌<◌, ◌≤◌, ◌∷◌, [], length, vec_len, min, IfOk, IfSome, IfNone, OnOk, OnErr};
+ghost use Rattle.std.specs.Prelude.{◌≡◌, ℕ, ◌+◌, ◌^◌, ◌<◌, ◌≤◌, ◌∷◌, [], length, vec_len, min, IsOk, IfOk, IfSome, IfNone, OnOk, OnErr};
 ghost use Rattle.zr_base.specs.Extents.{IsMaximal, HasAll, HasNone, AddsUnits, RemovesUnits, extent_at};
 ghost use Rattle.zr_paged.specs.Pages.{all_of, pages_in, AreFit, ArePages, IsClear, IsFront, IsHollow, TakesNext};
 ghost use Rattle.zr_paged.specs.declared.tree.Tree.{Empty};
@@ -268,6 +268,7 @@ fn new_node(alloc: Global) -> Result<Box<Node>, NoMemory>
 /// Makes nodes with empty pages, until so many stand ready.
 pub fn make_ready(alloc: Global, ready: &mut Vec<Box<Node>>, wanted: usize) -> Result<(), NoMemory>
     ensures ok { OnOk result (wanted ≤ vec_len ready.new) }
+    ensures room { wanted ≤ vec_len ready.old → IsOk result }
     ensures more { vec_len ready.old ≤ vec_len ready.new }
 {
     while ready.len() < wanted {

@@ -9,7 +9,7 @@
 //! The units of a set and the words that it takes where it is written anew are kept as it changes.
 #![tactic(auto)]
 
-ghost use Rattle.std.specs.Prelude.{◌≡◌, ℕ, ◌+◌, ◌-◌, ◌^◌, ◌<◌, ◌≤◌, ◌∷◌, [], length, min, IsTrue, ◌↔◌, IfOk, IfSome, IfNone, OnOk, OnErr};
+ghost use Rattle.std.specs.Prelude.{◌≡◌, ℕ, ◌+◌, ◌-◌, ◌^◌, ◌<◌, ◌≤◌, ◌∷◌, [], length, min, IsTrue, IsOk, ◌↔◌, IfOk, IfSome, IfNone, OnOk, OnErr};
 ghost use Rattle.zr_rules.specs.Owed.{set_words};
 ghost use Rattle.zr_base.specs.Extents.{IsMaximal, HasAll, HasNone, HasNoneFrom, IsFirstPart, AddsUnits, RemovesUnits, unit_count, extent_at};
 
@@ -103,6 +103,7 @@ impl PagedSet {
     /// Makes room for `n` changes that take no memory, a page for each. Where that room is there it costs nothing.
     pub fn reserve(&mut self, n: usize) -> Result<(), NoMemory>
         ensures ok { OnOk result (n ≤ self.new.spare) }
+        ensures room { n ≤ self.old.spare → IsOk result }
         ensures extents { self.new.extents ≡ self.old.extents }
         ensures spare { self.old.spare ≤ self.new.spare }
     {

@@ -4,7 +4,7 @@
 //! room. So a set for which room is made for more than 8,192 changes goes over into one array: that many pages are what the
 //! units of one block need at most, with all devices that its address may lead over. It goes back into pages where it is
 //! renewed.
-ghost use Rattle.std.specs.Prelude.{◌≡◌, ◌+◌, ◌^◌, ◌<◌, ◌≤◌, [], length, min, IsTrue, ◌↔◌, IfOk, IfSome, IfNone, OnOk};
+ghost use Rattle.std.specs.Prelude.{◌≡◌, ◌+◌, ◌^◌, ◌<◌, ◌≤◌, [], length, min, IsTrue, ◌↔◌, IsOk, IfOk, IfSome, IfNone, OnOk, OnErr};
 ghost use Rattle.zr_rules.specs.Owed.{set_words};
 ghost use Rattle.zr_base.specs.Extents.{IsMaximal, HasAll, HasNone, HasNoneFrom, IsFirstPart, AddsUnits, RemovesUnits, unit_count, extent_at};
 ghost use Rattle.zr_paged.specs.Forms.{set_in};
@@ -112,6 +112,38 @@ impl UnitSet {
             self.form = Form::Paged(paged);
         }
         self.reserve(1)
+    }
+
+    /// Puts in the units of an extent that has none in the set. It costs what `add_reserved` does.
+    pub fn add(&mut self, e: Extent) -> Result<(), NoMemory>
+        requires not_empty { 0 < e.len }
+        requires in_range { e.start + e.len ≤ 2 ^ 62 }
+        requires apart { HasNone self.old.extents e }
+        ensures ok { OnOk result (AddsUnits self.old.extents self.new.extents e) }
+        ensures err { OnErr result (self.new.extents ≡ self.old.extents) }
+
+        // Memory runs out only where nothing is spare.
+        ensures room { 0 < self.old.spare → IsOk result }
+        ensures spare { self.old.spare ≤ self.new.spare + 1 }
+    {
+        match &mut self.form {
+            Form::Paged(paged) => {
+                paged.reserve(1)?;
+                paged.add_reserved(e);
+                Ok(())
+            }
+            Form::Flat(flat) => flat.add(e),
+        }
+    }
+
+    /// Has the units of a set in one array from now on, and no others. It goes over its extents.
+    pub fn refill(&mut self, set: &RangeSet) -> Result<(), NoMemory>
+        ensures ok { OnOk result (self.new.extents ≡ set.now.extents) }
+        ensures err { OnErr result (self.new.extents ≡ self.old.extents) }
+    {
+        let paged = PagedSet::of(self.alloc, set)?;
+        self.form = Form::Paged(paged);
+        Ok(())
     }
 
     /// Puts in the units of an extent that has none in the set. It takes no memory, and is logarithmic in the extents where

@@ -9,7 +9,7 @@ use zr_base::{Entry, Extent, NoMemory};
 use zr_condense::Condense;
 use zr_imap::{Imap, Steps};
 use zr_obsolete::Obsolete;
-use zr_ranges::RangeSet;
+use zr_paged::UnitSet;
 
 // A mapping of so many entries of one unit, at every other unit from 0 on.
 fn every_other(alloc: Global, entries: u64) -> Result<Imap, NoMemory>
@@ -64,7 +64,7 @@ fn an_entry_without_a_unit_in_use_goes(rt: HostRuntime) -> Result<(), Fail> {
     map.push(four_units(4))?;
     map.push(four_units(8))?;
     let counts = vec![in alloc; 0u32, 0, 0]?;
-    let mut obsolete = Obsolete::new(RangeSet::new(alloc), counts);
+    let mut obsolete = Obsolete::new(UnitSet::new(alloc), counts);
     obsolete.mark(Extent { start: 0, len: 7 })?;
     obsolete.fold(&map);
     let counts = [4u32, 3, 0];
@@ -99,7 +99,7 @@ fn a_mark_between_two_steps_waits_for_the_next_condensing(rt: HostRuntime) -> Re
     let alloc = rt.alloc();
     let map = hundred(alloc)?;
     let counts = vec![in alloc; 0u32; 100]?;
-    let mut obsolete = Obsolete::new(RangeSet::new(alloc), counts);
+    let mut obsolete = Obsolete::new(UnitSet::new(alloc), counts);
     obsolete.mark(Extent { start: 0, len: 50 })?;
     obsolete.fold(&map);
     let mut condense = Condense::begin(alloc, 0);
@@ -110,6 +110,7 @@ fn a_mark_between_two_steps_waits_for_the_next_condensing(rt: HostRuntime) -> Re
     let (kept, left) = condense.finish();
     assert_eq!(rt; (kept.len(), left.len()), (50, 50));
     let fresh = [Extent { start: 70, len: 1 }];
-    assert_eq!(rt; obsolete.fresh().extents(), fresh.as_slice());
+    let left = obsolete.fresh().to_set()?;
+    assert_eq!(rt; left.extents(), fresh.as_slice());
     Ok(())
 }

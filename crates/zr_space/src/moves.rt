@@ -80,7 +80,7 @@ fn lies_in(alloc: Global, set: &RangeSet, map: &Imap) -> Result<bool, NoMemory>
 }
 
 // Whether no entry has more obsolete units than units, counted or fresh.
-fn are_fitting(counts: &[u32], map: &Imap, fresh: &RangeSet) -> bool
+fn are_fitting(counts: &[u32], map: &Imap, fresh: &UnitSet) -> bool
     requires { length counts.now ≡ length map.now.entries }
     ensures { IsTrue result ↔ Fits map.now.entries counts.now fresh.now.extents }
 {
@@ -112,7 +112,7 @@ fn are_zero(counts: &[u32]) -> bool
 #[derive(Drop)]
 struct Marked {
     map: Imap,
-    fresh: RangeSet,
+    fresh: UnitSet,
 }
 
 // The entries that a root records of a device, and its obsolete units. None exactly where they and the counts do not go
@@ -139,6 +139,7 @@ fn read_marked(alloc: Global, part: &DevPart) -> Result<Option<Marked>, NoMemory
     if !lies_in(alloc, &fresh, &map)? || counts.len() != map.len() {
         return Ok(None);
     }
+    let fresh = UnitSet::of(alloc, &fresh)?;
     if !are_fitting(counts, &map, &fresh) {
         return Ok(None);
     }
@@ -173,7 +174,8 @@ pub fn read_mapping(
                 return Ok(None);
             }
             let held = held.to_set()?;
-            Mapping::leaving(alloc, dev, map, fresh, &held)?
+            let marks = fresh.to_set()?;
+            Mapping::leaving(alloc, dev, map, marks, &held)?
         }
         DevState::Gone => {
             let counts = Vec::from_slice(alloc, part.counts.as_slice())?;
