@@ -196,16 +196,15 @@ impl UnitSet {
         }
     }
 
-    /// Takes out all units. Where the set is in one array it goes over into pages, and has no room for changes. It costs
-    /// the set's pages, and takes no memory.
+    /// Takes out all units, and keeps the room for changes. It costs the set's pages, or nothing where it is in one array.
     pub fn clear(&mut self)
-        ensures { self.new.extents ≡ [] }
+        ensures empty { self.new.extents ≡ [] }
+        ensures spare { self.old.spare ≤ self.new.spare }
     {
-        if let Form::Paged(paged) = &mut self.form {
-            paged.clear();
-            return;
+        match &mut self.form {
+            Form::Paged(paged) => paged.clear(),
+            Form::Flat(flat) => flat.clear(),
         }
-        self.form = Form::Paged(PagedSet::new(self.alloc));
     }
 
     /// The lowest extent. It costs the same whatever the set has.

@@ -241,6 +241,8 @@ impl Units {
         self.held.renew()?;
         self.kept.renew()?;
         self.born.renew()?;
+        self.came.renew()?;
+        self.freed.blocks.renew()?;
         self.held.add_reserved(e);
         self.born.add_reserved(e);
         Ok(())
