@@ -9,7 +9,7 @@ use Rattle.zr_rules.specs.Space.{IsSet}
 use Rattle.zr_space.specs.Reads.{AreEntries}
 use Rattle.zr_space.proofs.Mapped.{service_read, leaving_read, gone_read}
 use Rattle.zr_space.proofs.moves.read_mapping.Goals as goal
-use Rattle.zr_space.proofs.moves.read_mapping.Goals.{in-On+else-len-gt0, in-Leaving+else-not-are_zero+in_ok-held-in-Leaving+in_ok-moves-in-Leaving, in-Gone+in_ok-counts-in-Gone}
+use Rattle.zr_space.proofs.moves.read_mapping.Goals.{in-On+else-len-gt0, in-Leaving+else-not-are_zero+in_ok-held-in-Leaving+in_ok-marks-in-Leaving+in_ok-moves-in-Leaving, in-Gone+in_ok-counts-in-Gone}
 
 pub returns-clause-some : goal.returns-clause-some
 returns-clause-some c =
@@ -25,13 +25,13 @@ returns-clause-some c =
           let count = w.len.ensures.count in
           let same = ap (λ (es : List Entry). length es) entries in
           service_read p c.match-part.moves w.in-On.is (nil_from_length p.entries (omega (arith, few, count, same))) counts set (w.moves-is ∙ w.in_service-moves.ensures)
-      | in-Leaving+else-not-are_zero+in_ok-held-in-Leaving+in_ok-moves-in-Leaving w ↦
+      | in-Leaving+else-not-are_zero+in_ok-held-in-Leaving+in_ok-marks-in-Leaving+in_ok-moves-in-Leaving w ↦
           let zeros : p.counts ≡ replicate (length p.counts) 0 = subst (λ (ns : List ℕ). ns ≡ replicate (length ns) 0) w.as_slice.ensures (w.if-not-are_zero.ensures.0 refl) in
           let on : GoesOn p.entries p.fresh p.held c.match-part.moves =
           subst (λ (m : Mapped). GoesOn p.entries p.fresh p.held m) (sym w.moves-is)
           (subst (λ (es : List Entry). GoesOn es p.fresh p.held w.in_ok-moves-in-Leaving.moves) entries
-          (subst (λ (xs : List Extent). GoesOn c.in-Some.field-0.map.entries xs p.held w.in_ok-moves-in-Leaving.moves) fresh
-          (subst (λ (xs : List Extent). GoesOn c.in-Some.field-0.map.entries c.in-Some.field-0.fresh.extents xs w.in_ok-moves-in-Leaving.moves) (w.in_ok-held-in-Leaving.ensures ∙ c.requires.held) w.in_ok-moves-in-Leaving.ensures))) in
+          (subst (λ (xs : List Extent). GoesOn c.in-Some.field-0.map.entries xs p.held w.in_ok-moves-in-Leaving.moves) (w.in_ok-marks-in-Leaving.ensures ∙ fresh)
+          (subst (λ (xs : List Extent). GoesOn c.in-Some.field-0.map.entries w.in_ok-marks-in-Leaving.marks.extents xs w.in_ok-moves-in-Leaving.moves) (w.in_ok-held-in-Leaving.ensures ∙ c.requires.held) w.in_ok-moves-in-Leaving.ensures))) in
           leaving_read p c.match-part.moves w.in-Leaving.is rising set (zeros ∙ ap (λ n. replicate n 0) counts.each) on (c.lawful.ensures.leaving (ap (λ (m : Mapped). m.state) on.all))
       | in-Gone+in_ok-counts-in-Gone w ↦
           let listed : w.in_ok-counts-in-Gone.counts.items ≡ p.counts = w.in_ok-counts-in-Gone.ensures.items ∙ w.as_slice-in-Gone.ensures in
