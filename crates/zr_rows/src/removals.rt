@@ -9,6 +9,7 @@ use std::test::Fail;
 use zr_base::{DevState, Entry, Extent, NoMemory};
 use zr_imap::Imap;
 use zr_indirect::Mapping;
+use zr_paged::UnitSet;
 use zr_ranges::RangeSet;
 
 fn run(start: u64, len: u64) -> Extent
@@ -74,7 +75,7 @@ fn gone(alloc: Global) -> Result<Mapping, NoMemory>
         len: 10,
     })?;
     let counts = Vec::from_array(alloc, [0])?;
-    let mut fresh = RangeSet::new(alloc);
+    let mut fresh = UnitSet::new(alloc);
     fresh.add(run(0, 3))?;
     Ok(Mapping::gone(alloc, map, counts, fresh))
 }
