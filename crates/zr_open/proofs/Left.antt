@@ -12,6 +12,7 @@ use Rattle.zr_base.specs.declared.space.DevState.TheVariants.{On, Leaving, Gone}
 use Rattle.zr_base.specs.declared.space.SpaceParts.{SpaceParts}
 use Rattle.zr_bptr.specs.declared.Ptr.{Ptr}
 use Rattle.zr_bptr.specs.declared.Ptr.TheVariants.{Hole, At}
+use Rattle.zr_bptr.specs.declared.Tree.{Tree}
 use Rattle.zr_found.proofs.Image.{held_are_found}
 use Rattle.zr_image.specs.Current.{reset_of, row_at, slots_of}
 use Rattle.zr_image.specs.Reading.{bare_devices, store_of}
@@ -21,6 +22,7 @@ use Rattle.zr_import.specs.Words.{HaveWords}
 use Rattle.zr_label.specs.Blocks.{IsMetaRoot, IsUber, name_of, no_row}
 use Rattle.zr_label.specs.declared.root.Uber.{Uber}
 use Rattle.zr_meta.specs.Heads.{IsHead, head_bytes, stream_count}
+use Rattle.zr_meta.specs.declared.Head.{Head}
 use Rattle.zr_meta.specs.Parts.{AreParts, device_words, devices_words}
 use Rattle.zr_model.specs.Objects.{Objects}
 use Rattle.zr_model.specs.State.{PoolState}
@@ -86,11 +88,16 @@ module _ (sizes : List ℕ) (u : Uber) (pool : OpenPool) (ready : IsOpen sizes p
   tree_for Hole is = absurd is
   tree_for (At b) is = (refl, is.2)
 
-  pub head_read : (disks : List (List ℕ)) → HasHead disks pool u.root u.len → IsHead (rows_of u) (head_of pool) × HasBytes (image_of disks pool.table.slots u) (head_tree u) (head_bytes (head_of pool))
-  head_read disks has = (
-    subst (λ (rs : List DevRow). IsHead rs (head_of pool)) (ap (λ (n : ℕ). take n pool.table.rows) from.count ∙ ap (λ (rs : List DevRow). take u.count rs) from.rows) has.lawful,
-    subst (λ (s : Stored). HasBytes s (head_tree u) (head_bytes (head_of pool))) (own_image disks) (has.stands (head_tree u) (tree_for u.root is_uber.root)),
+  -- a head that stands at the root's pointer, under the pool's table, is one of the root and is read there
+  pub some_head_read : (disks : List (List ℕ)) (k : Head) → IsHead (take pool.table.count pool.table.rows) k → ((t : Tree) → IsTreeFor u.len u.root t → HasBytes (store_of (view_of disks pool.table.slots pool.space)) t (head_bytes k))
+      → IsHead (rows_of u) k × HasBytes (image_of disks pool.table.slots u) (head_tree u) (head_bytes k)
+  some_head_read disks k lawful stands = (
+    subst (λ (rs : List DevRow). IsHead rs k) (ap (λ (n : ℕ). take n pool.table.rows) from.count ∙ ap (λ (rs : List DevRow). take u.count rs) from.rows) lawful,
+    subst (λ (s : Stored). HasBytes s (head_tree u) (head_bytes k)) (own_image disks) (stands (head_tree u) (tree_for u.root is_uber.root)),
   )
+
+  pub head_read : (disks : List (List ℕ)) → HasHead disks pool u.root u.len → IsHead (rows_of u) (head_of pool) × HasBytes (image_of disks pool.table.slots u) (head_tree u) (head_bytes (head_of pool))
+  head_read disks has = some_head_read disks (head_of pool) has.lawful has.stands
 
 -- ---- the devices that the words of a root record
 

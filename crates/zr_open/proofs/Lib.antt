@@ -3,6 +3,7 @@ pub mod Serving
 pub mod Streams
 pub mod Opening
 pub mod Views
+pub mod Flushing
 pub mod Holding
 pub mod Showing
 pub mod Meant

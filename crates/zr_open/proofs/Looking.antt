@@ -2,7 +2,7 @@
 use Rattle.std.proofs.Common.{◌≡◌, ◌⊎◌, inl, inr, ℕ, List, Option, Result, Ok, Err, refl, sym, subst}
 use Rattle.std.specs.Prelude.{IfOk}
 use Rattle.zr_base.specs.declared.refusal.Refusal.{Refusal}
-use Rattle.zr_image.specs.Current.{slots_of}
+use Rattle.zr_image.specs.Current.{ShowsAll, slots_of}
 use Rattle.zr_label.specs.declared.root.Uber.{Uber}
 use Rattle.zr_slots.specs.declared.pool.Found.{Found}
 use Rattle.zr_sync.specs.declared.fault.Fault.{Fault}
@@ -39,6 +39,29 @@ module _ (t1 t2 : Type 0) (disks1 disks2 : List (List ℕ)) (later : t2 → t1) 
 
     pub saved_refused_moved : (r : Refusal) → IsRefusedSaved t1 disks1 slots u r → IsRefusedSaved t2 disks2 these u r
     saved_refused_moved r (is, (block, has)) = (is, (block, block_moved block has))
+
+-- why nothing is opened
+abbrev pub IsRefusedOn : List ℕ → Type 0 → List (List ℕ) → Refusal → Type 0
+IsRefusedOn sizes tells disks r = FindsOn sizes tells disks (Err r) ⊎ (IsRefusedRoot r ⊎ ((u : Uber) × (x : FindsOn sizes tells disks (Ok u)) × IsRefusedSaved tells disks (slots_of u x.seen) u r))
+
+-- what the slots show, and what was looked at by it
+module _ (t1 t2 : Type 0) (disks1 disks2 : List (List ℕ)) (later : t2 → t1) (same_disks : t2 → disks1 ≡ disks2) (sizes : List ℕ) where
+  pub finds_moved : (r : Result Uber Refusal) → FindsOn sizes t1 disks1 r → FindsOn sizes t2 disks2 r
+  finds_moved r h = record {
+    seen = h.seen;
+    shown = record { count = h.shown.count; lawful = h.shown.lawful; shows = λ t. subst (λ (ds : List (List ℕ)). ShowsAll ds h.seen) (same_disks t) (h.shown.shows (later t)) };
+    finds = h.finds;
+  }
+
+  pub whole_moved : (l : Looked) → IsLooked sizes t1 disks1 l → IsLooked sizes t2 disks2 l
+  unfolding finds_moved
+  whole_moved l h = record { finds = finds_moved (Ok l.found.root) h.finds; slots = h.slots; at = looked_moved t1 t2 disks1 disks2 later same_disks sizes l h.at }
+
+  pub refusal_moved : (r : Refusal) → IsRefusedOn sizes t1 disks1 r → IsRefusedOn sizes t2 disks2 r
+  unfolding finds_moved
+  refusal_moved r (inl slots) = inl (finds_moved (Err r) slots)
+  refusal_moved r (inr (inl own)) = inr (inl own)
+  refusal_moved r (inr (inr (u, x, saved))) = inr (inr (u, finds_moved (Ok u) x, saved_refused_moved t1 t2 disks1 disks2 later same_disks (slots_of u x.seen) (slots_of u x.seen) (λ d. refl) u r saved))
 
 -- what was found on the slots, and what it was looked at by
 module _ (t1 t2 : Type 0) (disks1 disks2 : List (List ℕ)) (later : t2 → t1) (same_disks : t2 → disks1 ≡ disks2) (sizes : List ℕ) (found : Found) (at : FindsOn sizes t2 disks2 (Ok found.root)) (slots : HasSlots (slots_of found.root at.seen) found.slots) where

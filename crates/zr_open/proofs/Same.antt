@@ -96,8 +96,8 @@ module _ (s : Stored) (t : Tree) (table other : List DevRow) (h k : Head) (lawfu
 
 -- ---- what is shown
 
-module _ (paths disks : List (List ℕ)) (sizes : List ℕ) (u : Uber) (pool : OpenPool) (p : PoolState) (ready : IsOpen sizes pool) (on : AreInService (devices_in pool.space)) (from : GoesOnFrom u pool) (head : HasHead disks pool u.root u.len) (shows : Shows paths disks p)
-    (same_root : shows.root.uber ≡ u) (slots : HasSlots (slots_of u shows.seen) pool.table.slots) where
+module _ (paths disks : List (List ℕ)) (sizes : List ℕ) (u : Uber) (pool : OpenPool) (p : PoolState) (ready : IsOpen sizes pool) (on : AreInService (devices_in pool.space)) (from : GoesOnFrom u pool) (k : Head) (dir : k.dir ≡ pool.dir)
+    (own : IsHead (rows_of u) k × HasBytes (image_of disks pool.table.slots u) (head_tree u) (head_bytes k)) (shows : Shows paths disks p) (same_root : shows.root.uber ≡ u) (slots : HasSlots (slots_of u shows.seen) pool.table.slots) where
   abbrev root : image.Root
   root = shows.root
 
@@ -118,23 +118,28 @@ module _ (paths disks : List (List ℕ)) (sizes : List ℕ) (u : Uber) (pool : O
 
   same_dir : root.head.dir ≡ pool.dir
   same_dir =
-      let own = head_read sizes u pool ready on from disks head in
-      one_directory (image_of disks pool.table.slots u) (head_tree u) (rows_of u) (rows_of u) root.head (head_of pool) read_head own.0
+      one_directory (image_of disks pool.table.slots u) (head_tree u) (rows_of u) (rows_of u) root.head k read_head own.0
       (subst (λ (s : Stored). HasBytes s (head_tree u) (head_bytes root.head)) (sym here) reads.head) own.1
+      ∙ dir
 
   rows_are : rows_in root.parts.devs ≡ rows_of u
   rows_are =
       ap (λ (ps : SpaceParts). rows_in ps.devs) reads.counted_is
       ∙ (counted_rows (reset_of u == u.txg) reads.parts ∙ parts_rows u.version root.head.form root.head.ckpt 0 (rows_of u) _ reads.parts.devs reads.spelled.devices)
 
-  -- the objects that are shown are those of the pool's directory
-  pub shown_objects : AreObjects (store_of (view_of disks pool.table.slots pool.space)) pool.dir p.objects
-  shown_objects =
+  -- where a head with the pool's directory is read, the objects that are shown are those of that directory
+  pub objects_by_head : AreObjects (store_of (view_of disks pool.table.slots pool.space)) pool.dir p.objects
+  objects_by_head =
       subst (λ (t : Tree). AreObjects (store_of (view_of disks pool.table.slots pool.space)) t p.objects) same_dir
       (subst (λ (s : Stored). AreObjects s root.head.dir p.objects)
       (sym (read_image sizes u pool ready on from root.parts.devs rows_are disks ∙ store_same disks these pool.table.slots (devices_of root.parts.devs) slots)) objects_are)
 
--- so they are those that the pool holds
+-- so it is with the pool's own head
+pub shown_objects : (paths disks : List (List ℕ)) (sizes : List ℕ) (u : Uber) (pool : OpenPool) (p : PoolState) → IsOpen sizes pool → AreInService (devices_in pool.space) → GoesOnFrom u pool → HasHead disks pool u.root u.len → (shows : Shows paths disks p)
+    → shows.root.uber ≡ u → HasSlots (slots_of u shows.seen) pool.table.slots → AreObjects (store_of (view_of disks pool.table.slots pool.space)) pool.dir p.objects
+shown_objects paths disks sizes u pool p ready on from head shows same_root slots = objects_by_head paths disks sizes u pool p ready on from (head_of pool) refl (head_read sizes u pool ready on from disks head) shows same_root slots
+
+-- and the objects are those that the pool holds
 pub shown_is_held : (paths disks : List (List ℕ)) (sizes : List ℕ) (u : Uber) (pool : OpenPool) (objects : Objects) (p : PoolState) → IsOpen sizes pool → AreInService (devices_in pool.space) → GoesOnFrom u pool → pool.group.objects ≡ []
     → IsCurrentOn disks u pool → HasHead disks pool u.root u.len → HoldsObjects (Unit {0}) disks pool objects → Shows paths disks p → p.objects ≡ objects
 shown_is_held paths disks sizes u pool objects p ready on from empty only head held shows =

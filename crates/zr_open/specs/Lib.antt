@@ -8,3 +8,4 @@ pub mod Rewound
 pub mod Left
 pub mod Scanned
 pub mod Groups
+pub mod Flushed

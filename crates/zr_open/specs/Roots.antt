@@ -80,6 +80,7 @@ IsBeside tells disks slots u r (Some saved) = (block : List ℕ) × (r.head.save
 pub record IsOfRoot (tells : Type 0) (disks : List (List ℕ)) (slots : List (Option ℕ)) (u : Uber) (pool : OpenPool) : Type 0 where
   pub last : pool.last ≡ Some u
   pub root : Root
+  pub head : IsHead (rows_of u) root.head
   pub stands : tells → Stands disks slots u root
   pub saved : Option SavedRoot
   pub beside : IsBeside tells disks slots u root saved

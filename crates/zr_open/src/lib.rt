@@ -1,7 +1,8 @@
 //! Opening the pool that the slots of a shelf show.
 //!
-//! An import writes nothing. It looks at all slots first, since a slot says nothing of the others; then it reads the
-//! root that is current, through a store that knows of no unit what it is used for; and only a root that keeps all rules
+//! An import writes nothing. First it makes durable what was written before, so that no crash leaves another pool than the one
+//! that it finds. Then it looks at all slots, since a slot says nothing of the others, and reads the root that is current,
+//! through a store that knows of no unit what it is used for; and only a root that keeps all rules
 //! becomes an open pool. What the root has recorded may have been written by anyone, so nothing of it is believed
 //! before it was looked at.
 //!
