@@ -13,6 +13,7 @@ use Rattle.zr_shelf.specs.Moments.{Throughout, World}
 use Rattle.zr_space.specs.Paths.{AreInService}
 use Rattle.zr_sync.specs.Commits.{IsNextRoot, IsShownFrom}
 use Rattle.zr_sync.specs.Leads.{CommitsObjects}
+use Rattle.zr_sync.specs.Objects.{HoldsObjects}
 use Rattle.zr_sync.specs.Pools.{IsAfter, IsOpen}
 use Rattle.zr_sync.specs.Writes.{WritesIntoFree}
 use Rattle.zr_sync.specs.declared.open.OpenPool.{OpenPool}
@@ -21,8 +22,9 @@ use Rattle.zr_vdev.specs.declared.kind.Kind.TheVariants.{Block}
 use Rattle.zr_stops.proofs.Committing.{done_either, next_of, open_only, service_same, stops_either, within_from}
 use Rattle.zr_stops.proofs.Ending.{ends_committed, leaves_committed, newest_same}
 use Rattle.zr_stops.proofs.Images.{Allowed, IsPending, KeepsClear, newest_kept, pending_leaves, pending_step, within_clear, within_pending}
+use Rattle.zr_stops.proofs.Opened.{opened_committed, opened_from}
 use Rattle.zr_stops.proofs.Within.{begins_within, line_within, within_writes}
-use Rattle.zr_stops.specs.Behind.{ShowsOnly, StandsBehind}
+use Rattle.zr_stops.specs.Behind.{IsJustOpened, ShowsOnly, StandsBehind}
 use Rattle.zr_stops.specs.Either.{ShowsEither}
 use Rattle.zr_last.specs.Ends.{ComesCommitted, EndsCommitted}
 use Rattle.zr_last.specs.Last.{ShowsLast}
@@ -100,3 +102,7 @@ shown_behind sizes reset last old new objects before now ready from sized was on
 pub made_behind : (sizes : List ℕ) (pool : OpenPool) (objects : Objects) (now : World) → ComesCommitted sizes pool objects now → ShowsLast now.now.seen pool → map length now.now.seen ≡ sizes → AreInService (devices_in pool.space) → StandsBehind sizes objects pool now.now
 made_behind sizes pool objects now comes shows sized on =
     begins_behind sizes shows.root pool objects now.now (ends_committed sizes true comes.blank pool objects comes.before now comes.commits shows sized) shows.from on
+
+-- a pool that was just opened
+pub opened_behind : (sizes : List ℕ) (tells : Type 0) → tells → (objects : Objects) (pool : OpenPool) (now : Stand) → IsJustOpened sizes tells now pool → HoldsObjects (Unit {0}) now.seen pool objects → AreInService (devices_in pool.space) → StandsBehind sizes objects pool now
+opened_behind sizes tells told objects pool now h holds on = begins_behind sizes h.root pool objects now (opened_committed sizes tells told now pool objects h holds on) (opened_from sizes tells told now pool objects h holds on) on

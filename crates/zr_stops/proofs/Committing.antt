@@ -10,7 +10,6 @@ use Rattle.zr_base.specs.declared.space.DevRow.{DevRow}
 use Rattle.zr_base.specs.declared.space.Dva.{Dva}
 use Rattle.zr_bptr.specs.declared.Bptr.{Bptr}
 use Rattle.zr_bptr.specs.declared.Ptr.{Ptr}
-use Rattle.std.specs.Prelude.{take}
 use Rattle.zr_current.proofs.Committed.{goes_on, large}
 use Rattle.zr_current.specs.Current.{GoesOnFrom, HasSlots}
 use Rattle.zr_current.specs.Next.{IsNextOf}
@@ -23,12 +22,13 @@ use Rattle.zr_label.specs.Blocks.{IsUber, no_row}
 use Rattle.zr_label.specs.Geometry.{whole}
 use Rattle.zr_label.specs.declared.root.Uber.{Uber}
 use Rattle.zr_model.specs.Objects.{Objects}
+use Rattle.zr_meta.specs.Heads.{head_bytes}
 use Rattle.zr_model.specs.State.{PoolState}
 use Rattle.zr_newest.proofs.Newest.{devices_seen, only_newest}
 use Rattle.zr_newest.specs.Newest.{IsNewestOn}
 use Rattle.zr_open.proofs.Left.{objects_meant}
-use Rattle.zr_open.proofs.Same.{shown_objects}
 use Rattle.zr_open.specs.Shown.{Shows}
+use Rattle.zr_root.specs.Streams.{HasBytes}
 use Rattle.zr_rules.specs.Equation.{devices_in}
 use Rattle.zr_rules.specs.Places.{is_gone, is_leaving, no_part, part_of}
 use Rattle.zr_shelf.proofs.Doings.{added_throughout}
@@ -41,9 +41,7 @@ use Rattle.zr_space.specs.Paths.{AreInService}
 use Rattle.zr_store.specs.Store.{Stored}
 use Rattle.zr_sync.proofs.Holding.{below_labels, published_bytes}
 use Rattle.zr_sync.proofs.Rings.{address_keeps, uber_long}
-use Rattle.zr_sync.proofs.Standing.{head_same}
 use Rattle.zr_sync.specs.Commits.{IsNextRoot, IsShownFrom, PublishesRoot}
-use Rattle.zr_sync.specs.Heads.{HasHead, head_of}
 use Rattle.zr_sync.specs.Leads.{CommitsObjects, LeadsTo}
 use Rattle.zr_sync.specs.Pools.{IsAfter, IsOpen}
 use Rattle.zr_sync.specs.Writes.{WritesIntoFree}
@@ -51,6 +49,7 @@ use Rattle.zr_sync.specs.declared.open.OpenPool.{OpenPool}
 use Rattle.zr_sync.specs.declared.open.Table.{Table}
 use Rattle.zr_vdev.specs.Runs.{view_of}
 use Rattle.zr_view.specs.Views.{View, address_bytes}
+use Rattle.zr_stops.proofs.Directories.{own_directory, shown_objects}
 use Rattle.zr_stops.proofs.Images.{Allowed, IsPending, KeepsClear, group_leaves, last_kept, newest_kept, pending_leaves, pending_step, seen_step, within_clear, within_pending}
 use Rattle.zr_stops.proofs.Putting.{IsPutting, almost_throughout, begun_throughout, putting_throughout, torn, units_kept}
 use Rattle.zr_stops.proofs.Torn.{torn_shows}
@@ -58,7 +57,7 @@ use Rattle.zr_stops.proofs.Within.{group_within, within_writes}
 use Rattle.zr_stops.specs.Behind.{StandsInGroup, ShowsOnly}
 use Rattle.zr_stops.specs.Either.{CommitsGroup, ShowsEither}
 use Rattle.zr_stops.specs.Groups.{IsInGroup}
-use Rattle.zr_stops.specs.Last.{HasLast, IsCommitted, LeavesLast}
+use Rattle.zr_stops.specs.Last.{HasDirectory, HasLast, IsCommitted, LeavesLast}
 use Rattle.zr_stops.specs.Torn.{ShowsOneOf}
 
 -- ---- images on which each address reads the same
@@ -79,8 +78,8 @@ module _ (pool : OpenPool) (a b : List (List ℕ)) (same : (x : Dva) → address
   objects_kept : (objects : Objects) → AreObjects (store_of then) pool.dir objects → AreObjects (store_of now) pool.dir objects
   objects_kept objects are = subst (λ (s : Stored). AreObjects s pool.dir objects) (sym store_kept) are
 
-  head_kept : (root : Ptr) (len : ℕ) → HasHead a pool root len → HasHead b pool root len
-  head_kept root len has = head_same (take pool.table.count pool.table.rows) then now (head_of pool) root len same has
+  head_kept : (root : Ptr) (len : ℕ) → HasDirectory a pool root len → HasDirectory b pool root len
+  head_kept root len has = record { head = has.head; lawful = has.lawful; same = has.same; stands = λ t is. subst (λ (s : Stored). HasBytes s t (head_bytes has.head)) (sym store_kept) (has.stands t is) }
 
 -- ---- devices in service
 
@@ -151,7 +150,7 @@ module _ (sizes : List ℕ) (last : Uber) (first old : OpenPool) (before after :
   -- the root is published, and leads to a pool with these objects
   module _ (u : Uber) (next : OpenPool) (both all : List ℕ) (lawful : IsUber u) (is : IsNextOf last u) (in_both : (slot : ℕ) → Contains both slot → IsSlotInBoth (unwrap_or old.last u) u old.table.slots slot)
       (in_all : (slot : ℕ) → Contains all slot → IsSlotInBoth u u old.table.slots slot) (next_ready : IsOpen sizes next) (to : GoesOnFrom u next) (table : next.table ≡ first.table)
-      (head : HasHead mid.now.seen next u.root u.len) (objects : AreObjects (store_of (view_of mid.now.seen next.table.slots next.space)) next.dir after) where
+      (head : HasDirectory mid.now.seen next u.root u.len) (objects : AreObjects (store_of (view_of mid.now.seen next.table.slots next.space)) next.dir after) where
     large_slot : (root : Uber) (sl : ℕ) → IsSlotInBoth root u old.table.slots sl → 8388608 ≤ whole (slice_index sizes sl)
     large_slot root sl h =
         let at = h.at_index in
@@ -272,15 +271,18 @@ module _ (sizes : List ℕ) (reset : Bool) (last : Uber) (first old : OpenPool) 
     table : leads.next.table ≡ first.table
     table = leads.same.table ∙ group.table
 
+    head : HasDirectory mid.now.seen leads.next u.root u.len
+    head = own_directory mid.now.seen leads.next u.root u.len leads.head
+
     objects : AreObjects (store_of (view_of mid.now.seen leads.next.table.slots leads.next.space)) leads.next.dir after
     objects = objects_meant (Unit {0}) mid.now.seen leads.next after leads.empty leads.holds
 
     root_either : PublishesRoot sizes old u mid now → Throughout (ShowsEither before after) start now
     root_either (inl unmoved) = still_either sizes last first old before after begin start mid was from on group ready blocks now unmoved
     root_either (inr (inl part)) =
-        part_either sizes last first old before after begin start mid was from on group ready blocks u leads.next part.both part.all lawful is part.in_both part.in_all leads.ready to table leads.head objects now part.published
+        part_either sizes last first old before after begin start mid was from on group ready blocks u leads.next part.both part.all lawful is part.in_both part.in_all leads.ready to table head objects now part.published
     root_either (inr (inr shown)) =
-        whole_either sizes last first old before after begin start mid was from on group ready blocks u leads.next shown.both shown.all lawful is shown.in_both shown.in_all leads.ready to table leads.head objects now shown.published
+        whole_either sizes last first old before after begin start mid was from on group ready blocks u leads.next shown.both shown.all lawful is shown.in_both shown.in_all leads.ready to table head objects now shown.published
 
   pub stops_either : CommitsObjects sizes old reset after start now → Throughout (ShowsEither before after) start now
   stops_either (mid, blocks, inl unmoved) = still_either sizes last first old before after begin start mid was from on group ready blocks now unmoved

@@ -24,6 +24,7 @@ use Rattle.zr_sync.specs.Writes.{WritesIntoFree}
 use Rattle.zr_sync.specs.declared.open.OpenPool.{OpenPool}
 use Rattle.zr_sync.specs.declared.open.Table.{Table}
 use Rattle.zr_stops.proofs.Committing.{commit_either, next_of, service_same, within_from}
+use Rattle.zr_stops.proofs.Directories.{own_directory}
 use Rattle.zr_stops.proofs.Images.{group_reads, group_sizes}
 use Rattle.zr_stops.proofs.Putting.{base_end}
 use Rattle.zr_stops.proofs.Within.{group_within}
@@ -94,7 +95,7 @@ module _ (sizes : List ℕ) (reset : Bool) (last u : Uber) (old new : OpenPool) 
     rest = flushed_at_rest shown.published.whole.now now.now shown.published.behind.step;
     sized = now_sizes;
     newest = newest_now;
-    head = subst (λ (o : Option Uber). IfSome o (λ (v : Uber). HasHead now.now.seen new v.root v.len)) root h.stands;
+    head = own_directory now.now.seen new u.root u.len (subst (λ (o : Option Uber). IfSome o (λ (v : Uber). HasHead now.now.seen new v.root v.len)) root h.stands);
     safe = subst (λ (o : Option Uber). IfSome o (λ (v : Uber). HasSafeHead now.now.seen new v.root v.len)) root h.safe;
     objects = h.stays;
   }
@@ -112,7 +113,7 @@ ends_committed sizes reset old new objects before now h shows sized =
       rest = flushed_at_rest published.whole.now now.now published.behind.step;
       sized = sized;
       newest = shows.newest;
-      head = subst (λ (o : Option Uber). IfSome o (λ (v : Uber). HasHead now.now.seen new v.root v.len)) root h.stands;
+      head = own_directory now.now.seen new shows.root.root shows.root.len (subst (λ (o : Option Uber). IfSome o (λ (v : Uber). HasHead now.now.seen new v.root v.len)) root h.stands);
       safe = subst (λ (o : Option Uber). IfSome o (λ (v : Uber). HasSafeHead now.now.seen new v.root v.len)) root h.safe;
       objects = h.stays;
     }

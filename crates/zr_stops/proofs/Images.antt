@@ -30,7 +30,7 @@ use Rattle.zr_shelf.specs.Doings.{Adds}
 use Rattle.zr_shelf.specs.Doings.Adds.{added_none, added}
 use Rattle.zr_shelf.specs.Moments.{Throughout, World}
 use Rattle.zr_store.proofs.Meeting.{at_each}
-use Rattle.zr_sync.specs.Heads.{HasHead, IsInMetadata, head_of}
+use Rattle.zr_sync.specs.Heads.{IsInMetadata}
 use Rattle.zr_sync.specs.Objects.{account_of}
 use Rattle.zr_sync.specs.Writes.{WritesIntoFree}
 use Rattle.zr_sync.specs.declared.open.OpenPool.{OpenPool}
@@ -42,7 +42,7 @@ use Rattle.zr_vdev.specs.declared.kind.Kind.TheVariants.{Block}
 use Rattle.zr_view.specs.Runs.{bytes_from}
 use Rattle.zr_view.specs.Views.{View, address_bytes, slot_of}
 use Rattle.zr_stops.specs.Behind.{StandsInGroup}
-use Rattle.zr_stops.specs.Last.{HasLast, IsCommitted, IsSettled, LeavesLast}
+use Rattle.zr_stops.specs.Last.{HasDirectory, HasLast, IsCommitted, IsSettled, LeavesLast}
 
 -- ---- roles
 
@@ -194,12 +194,13 @@ module _ (sizes : List ℕ) (u : Uber) (pool : OpenPool) (objects : Objects) (st
     abbrev now : View
     now = view_of image slots pool.space
 
-    head_kept : HasHead image pool u.root u.len
+    head_kept : HasDirectory image pool u.root u.len
     head_kept = record {
+      head = was.head.head;
       lawful = was.head.lawful;
-      length_is = was.head.length_is;
+      same = was.head.same;
       stands = λ t is.
-          bytes_beside (store_of then) (store_of now) t (head_bytes (head_of pool)) (λ b met. address_kept b.at (metadata_out pool.space b.at (at_each (IsInMetadata pool.space) (tree_reach (store_of then) t) b.at (was.safe t is) met))) (was.head.stands t is);
+          bytes_beside (store_of then) (store_of now) t (head_bytes was.head.head) (λ b met. address_kept b.at (metadata_out pool.space b.at (at_each (IsInMetadata pool.space) (tree_reach (store_of then) t) b.at (was.safe t is) met))) (was.head.stands t is);
     }
 
     block_kept : (b : Bptr) → IsStoredAt Block pool.space None b.at → (store_of now).bytes b ≡ was.objects.stored.bytes b

@@ -1,3 +1,4 @@
+pub mod Directories
 pub mod Images
 pub mod Grouped
 pub mod Within
@@ -5,4 +6,5 @@ pub mod Torn
 pub mod Putting
 pub mod Committing
 pub mod Ending
+pub mod Opened
 pub mod Behind

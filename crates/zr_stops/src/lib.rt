@@ -15,4 +15,7 @@ pub use laws::{
     a_group_leaves_the_last_root, a_stopped_commit_leaves_one_of_two_states, groups_follow,
     lines_stay_in_their_group, the_last_root_is_shown,
 };
-pub use runs::{a_commit_begins_a_group, a_commit_ends_its_group, a_line_stays_in_its_group};
+pub use runs::{
+    a_commit_begins_a_group, a_commit_ends_its_group, a_line_stays_in_its_group,
+    an_opened_pool_begins_a_group,
+};

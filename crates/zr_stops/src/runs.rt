@@ -8,12 +8,13 @@ ghost use Rattle.zr_rules.specs.Equation.{devices_in};
 ghost use Rattle.zr_shelf.specs.Disks.{Stand};
 ghost use Rattle.zr_shelf.specs.Moments.{Throughout, World};
 ghost use Rattle.zr_space.specs.Paths.{AreInService};
-ghost use Rattle.zr_stops.specs.Behind.{AreSameDisks, ShowsOnly, StandsBehind};
+ghost use Rattle.zr_stops.specs.Behind.{AreSameDisks, IsJustOpened, ShowsOnly, StandsBehind};
 ghost use Rattle.zr_stops.specs.Either.{ShowsEither};
 ghost use Rattle.zr_last.specs.Ends.{ComesCommitted, EndsCommitted};
 ghost use Rattle.zr_last.specs.Last.{ShowsLast};
 ghost use Rattle.zr_stops.specs.Last.{IsCommitted};
 ghost use Rattle.zr_sync.specs.Leads.{CommitsObjects};
+ghost use Rattle.zr_sync.specs.Objects.{HoldsObjects};
 ghost use Rattle.zr_sync.specs.Pools.{IsOpen};
 ghost use Rattle.zr_sync.specs.Writes.{WritesIntoFree};
 ghost use Rattle.zr_sync.specs.declared.open.OpenPool.{OpenPool};
@@ -30,6 +31,12 @@ pub fn a_commit_begins_a_group()
     ensures made { (sizes : List ℕ) (pool : OpenPool) (objects : Objects) (now : World) → ComesCommitted sizes pool objects now → ShowsLast now.now.seen pool → map length now.now.seen ≡ sizes → AreInService (devices_in pool.space) → StandsBehind sizes objects pool now.now }
     ensures shows { (sizes : List ℕ) (objects : Objects) (pool : OpenPool) (now : Stand) → StandsBehind sizes objects pool now → ShowsOnly objects now }
     ensures disks { (sizes : List ℕ) (objects : Objects) (pool : OpenPool) (a b : Stand) → AreSameDisks a b → StandsBehind sizes objects pool a → StandsBehind sizes objects pool b }
+{}
+
+/// A pool that was just opened begins a group too, as a commit of what its root has: where the disks are at rest and all devices are
+/// in service, whatever an honest crash shows are the objects that it holds.
+pub fn an_opened_pool_begins_a_group()
+    ensures { (sizes : List ℕ) (objects : Objects) (pool : OpenPool) (now : Stand) → IsJustOpened sizes (Unit {0}) now pool → HoldsObjects (Unit {0}) now.seen pool objects → AreInService (devices_in pool.space) → StandsBehind sizes objects pool now }
 {}
 
 /// A line that writes blocks alone stays in its group, and whatever an honest crash shows at each moment of it are the objects

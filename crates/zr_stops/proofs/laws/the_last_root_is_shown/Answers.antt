@@ -1,7 +1,7 @@
 use Rattle.zr_found.proofs.Alone.{one_meaning}
 use Rattle.zr_image.specs.Reading.{store_of}
 use Rattle.zr_newest.proofs.Newest.{devices_seen, only_newest}
-use Rattle.zr_open.proofs.Same.{shown_objects}
+use Rattle.zr_stops.proofs.Directories.{shown_objects}
 use Rattle.zr_stops.proofs.laws.the_last_root_is_shown.Goals as goal
 use Rattle.zr_vdev.specs.Runs.{view_of}
 
