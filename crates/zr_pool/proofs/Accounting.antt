@@ -4,6 +4,7 @@ use Rattle.std.specs.Prelude.{IfOk, IfSome, IsSomeAnd, OnOk, OnErr, is_some, if�
 use Rattle.zr_base.specs.declared.refusal.Refusal.{Refusal}
 use Rattle.zr_command.specs.Meanings.{TurnsTo}
 use Rattle.zr_command.specs.declared.pool.Stop as model
+use Rattle.zr_model.specs.State.{ShelfPart, State}
 use Rattle.zr_script.specs.declared.command.Command.{Command}
 use Rattle.zr_script.specs.declared.command.Command.TheVariants as cmd
 use Rattle.zr_script.specs.declared.reply.Reply.{Reply}
@@ -17,7 +18,7 @@ use Rattle.zr_sync.specs.declared.open.OpenPool.{OpenPool}
 use Rattle.zr_pool.specs.Accounts.{Begins, BeginsNone, Refuses, Turns}
 use Rattle.zr_pool.specs.Ends.{answer_of, is_closing}
 use Rattle.zr_pool.specs.Plain.{shelf_of}
-use Rattle.zr_pool.specs.Pools.{DeviceState, StandsFor, Stands}
+use Rattle.zr_pool.specs.Pools.{DeviceState, IsPartOf, StandsFor, Stands}
 use Rattle.zr_pool.specs.Turns.{on_devices, on_objects_told, IsAccountTurn, IsOpenAnswer, IsTurn, is_shown, sizes_of, stays_open}
 use Rattle.zr_pool.proofs.Behind.{Behinds}
 use Rattle.zr_pool.proofs.Shown.{Lasts}
@@ -39,16 +40,28 @@ module _ (old new : Stand) (before : DeviceState) (command : Command) (pool : Op
     pub turn : IsAccountTurn (shelf_of old) before.account command answer (shelf_of new) pool
     pub lawful : IfSome pool (IsOpen (sizes_of new.seen))
 
+-- what a state tells of the objects is held by the pool that stands for it
+part_held : (pool : Option OpenPool) (disks : List (List ℕ)) (state : State) → StandsFor pool disks state → IfSome pool (λ y. IsPartOf disks y state.shelf)
+part_held None disks state stands = tt
+part_held (Some y) disks state stands = stands.part
+
 module _ (old : Stand) (world : World) (before : DeviceState) (command : Command) (pool : Option OpenPool) where
-  with_account : (answer : Reply) → Tells old world.now before command pool answer → Accounts old world.now before command pool answer → Lasts old world.now before command pool answer → Behinds world before command pool answer → Leads old world.now before command pool answer
-  with_account answer t a l b = record {
-    after = record { told = t.after; account = pool; shown = is_shown before.told.is_open before.shown command answer; behind = b.behind };
-    stands_for = record { told = t.stands_for; account = refl; shown = l.last t.after t.takes; behind = b.stands };
-    takes = record { objects = t.takes; account = a.turn; lawful = a.lawful; shown = refl; behind = b.turn; rejoined = l.rejoined t.after t.takes };
-  }
+  -- what is told of the objects is held
+  abbrev pub IsHeld : ShelfPart → Type 0
+  IsHeld part = IfSome pool (λ y. IsPartOf world.now.seen y part)
+
+  with_account : (answer : Reply) → Tells old world.now before command pool answer → Accounts old world.now before command pool answer → Lasts old world.now before command pool answer → ((part : ShelfPart) → IsHeld part → Behinds world before command part pool answer)
+      → Leads old world.now before command pool answer
+  with_account answer t a l behinds =
+      let b = behinds t.after.shelf (part_held pool world.now.seen t.after t.stands_for) in
+      record {
+        after = record { told = t.after; account = pool; shown = is_shown before.told.is_open before.shown command answer; behind = b.behind };
+        stands_for = record { told = t.stands_for; account = refl; shown = l.last t.after t.takes; behind = b.stands };
+        takes = record { objects = t.takes; account = a.turn; lawful = a.lawful; shown = refl; behind = b.turn; rejoined = l.rejoined t.after t.takes };
+      }
 
   pub each_with_account : (q : Result (Option Reply) model.Stop) → IfOk q (λ found. IfSome found (λ answer. Tells old world.now before command pool answer)) → IfOk q (λ found. IfSome found (λ answer. Accounts old world.now before command pool answer))
-      → IfOk q (λ found. IfSome found (λ answer. Lasts old world.now before command pool answer)) → IfOk q (λ found. IfSome found (λ answer. Behinds world before command pool answer)) → IfOk q (λ found. IfSome found (λ answer. Leads old world.now before command pool answer))
+      → IfOk q (λ found. IfSome found (λ answer. Lasts old world.now before command pool answer)) → ((part : ShelfPart) → IsHeld part → IfOk q (λ found. IfSome found (λ answer. Behinds world before command part pool answer))) → IfOk q (λ found. IfSome found (λ answer. Leads old world.now before command pool answer))
   each_with_account (Ok None) t a l b = tt
   each_with_account (Ok (Some answer)) t a l b = with_account answer t a l b
   each_with_account (Err e) t a l b = tt

@@ -23,9 +23,9 @@ use Rattle.zr_shelf.proofs.Runs.{joined, weaker}
 use Rattle.zr_shelf.specs.Disks.{Stand}
 use Rattle.zr_shelf.specs.Moments.{IsStill, Throughout, World}
 use Rattle.zr_space.specs.Paths.{AreInService}
-use Rattle.zr_stops.proofs.Behind.{behind_shows, commit_behind, commit_shows, line_behind, line_shows, made_behind, shown_behind, stop_shows}
+use Rattle.zr_stops.proofs.Behind.{behind_shows, commit_behind, commit_shows, line_behind, line_shows, made_behind, opened_behind, shown_behind, stop_shows}
 use Rattle.zr_stops.proofs.Within.{left_by, same_behind}
-use Rattle.zr_stops.specs.Behind.{AreSameDisks, ShowsOnly, StandsBehind}
+use Rattle.zr_stops.specs.Behind.{AreSameDisks, IsJustOpened, ShowsOnly, StandsBehind}
 use Rattle.zr_stops.specs.Either.{ShowsEither}
 use Rattle.zr_sync.specs.Pools.{IsOpen}
 use Rattle.zr_sync.specs.States.{HoldsState}
@@ -116,19 +116,25 @@ module _ (sizes : List ℕ) (objects told : Objects) (x : OpenPool) (old : World
 
 -- ---- what is told behind a line
 
-module _ (new : World) (before : DeviceState) (command : Command) where
+module _ (new : World) (before : DeviceState) (command : Command) (part : ShelfPart) where
   pub record Behinds (pool : Option OpenPool) (answer : Reply) : Type 0 where
     pub behind : Option Objects
     pub stands : IfSome behind (IsBehind pool (disks_of new.now))
-    pub turn : IsBehindTurn before command answer pool behind
+    pub turn : IsBehindTurn before command answer part pool behind
 
   -- nothing is told
-  untold : (pool : Option OpenPool) (answer : Reply) → (before.account ≡ None → is_create command ≡ true → serves pool ≡ true → ⊥) → ((p : PoolState) → before.told.shelf ≡ Is p → is_some before.behind ≡ true → is_in_group command ≡ true → (command ≡ cmd.Export → ⊥) → ⊥)
+  untold : (pool : Option OpenPool) (answer : Reply) → (before.account ≡ None → is_create command ≡ true → serves pool ≡ true → ⊥) → (before.account ≡ None → command ≡ cmd.Import → serves pool ≡ true → (p : PoolState) → part ≡ Is p → ⊥) → ((p : PoolState) → before.told.shelf ≡ Is p → is_some before.behind ≡ true → is_in_group command ≡ true → (command ≡ cmd.Export → ⊥) → ⊥)
       → ((p : PoolState) (txg : ℕ) → before.told.shelf ≡ Is p → is_known before ≡ true → command ≡ cmd.Sync → answer ≡ reply.Synced txg → ⊥) → Behinds pool answer
-  untold pool answer makes keeps syncs = record {
+  untold pool answer makes opens keeps syncs = record {
     behind = None;
     stands = tt;
-    turn = record { from = λ objects is. none_some objects is; makes = λ none create done serve. absurd (makes none create serve); keeps = λ p told some group open_still. absurd (keeps p told some group open_still); syncs = λ p txg told known is answered. absurd (syncs p txg told known is answered) };
+    turn = record {
+      from = λ objects is. none_some objects is;
+      makes = λ none create done serve. absurd (makes none create serve);
+      opens = λ none import done serve p told. absurd (opens none import serve p told);
+      keeps = λ p told some group open_still. absurd (keeps p told some group open_still);
+      syncs = λ p txg told known is answered. absurd (syncs p txg told known is answered);
+    };
   }
 
   -- these are
@@ -143,6 +149,7 @@ module _ (new : World) (before : DeviceState) (command : Command) where
         | inr now ↦ inr (inl (p, told, sym now ∙ same))
       ];
       makes = λ none create done serve. absurd (is_open none);
+      opens = λ none import done serve q told_q. absurd (is_open none);
       keeps = λ q told_q some group open_still. refl;
       syncs = λ q txg told_q known is answered. let same : p ≡ q = (let both = sym told ∙ told_q in cc) in ap Some (synced txg is answered ∙ ap (λ (r : PoolState). r.objects) same);
     };
@@ -241,6 +248,9 @@ module _ (old new : World) (before : DeviceState) (command : Command) (x y : Ope
   not_made : (pool : Option OpenPool) → before.account ≡ None → is_create command ≡ true → serves pool ≡ true → ⊥
   not_made pool none create serve = is_open none
 
+  not_opened : (s : ShelfPart) (pool : Option OpenPool) → before.account ≡ None → command ≡ cmd.Import → serves pool ≡ true → (p : PoolState) → s ≡ Is p → ⊥
+  not_opened s pool none import serve p told = is_open none
+
   -- what is told is held
   held : (p : PoolState) → before.told.shelf ≡ Is p → HoldsState (Unit {0}) old.now.seen x p
   held p told = subst (λ (s : ShelfPart). IsPartOf old.now.seen x s) told part
@@ -259,74 +269,75 @@ module _ (old new : World) (before : DeviceState) (command : Command) (x y : Ope
           let last = was_shown both.0 in
           shown_behind sizes false last.root x y p.objects old new lawful last.from sized_old last.newest (in_service x (sym (ap serves account) ∙ both.1)) ends
 
-  -- a line that stays in one group
-  line_told : (answer : Reply) (p : PoolState) → before.told.shelf ≡ Is p → ((txg : ℕ) → command ≡ cmd.Sync → answer ≡ reply.Synced txg → ⊥) → StaysInOneGroup sizes p.objects x y old new → Behinds new before command (Some y) answer
-  line_told answer p told no_sync stays = by_last before.behind refl
-    where
-      by_last : (o : Option Objects) → before.behind ≡ o → Behinds new before command (Some y) answer
-      by_last None is = untold new before command (Some y) answer (not_made (Some y)) (λ q told_q some group open_still. no_way (sym (ap (λ (o : Option Objects). is_some o) is) ∙ some)) (λ q txg told_q known sync answered. no_sync txg sync answered)
-      by_last (Some objects) is =
-          let c = one_group_behind sizes objects p.objects x old (stood objects is) lawful y new stays in
-          told_behind new before command y answer p c.all is_open told
-          (elim c.which [
-            | inl same ↦ inl (is ∙ ap Some (sym same))
-            | inr same ↦ inr same
-          ])
-          (to_disks sizes c.all y new.now sized_new c.behind) (λ txg sync answered. absurd (no_sync txg sync answered))
+  module _ (now_told : ShelfPart) where
+    -- a line that stays in one group
+    line_told : (answer : Reply) (p : PoolState) → before.told.shelf ≡ Is p → ((txg : ℕ) → command ≡ cmd.Sync → answer ≡ reply.Synced txg → ⊥) → StaysInOneGroup sizes p.objects x y old new → Behinds new before command now_told (Some y) answer
+    line_told answer p told no_sync stays = by_last before.behind refl
+      where
+        by_last : (o : Option Objects) → before.behind ≡ o → Behinds new before command now_told (Some y) answer
+        by_last None is = untold new before command now_told (Some y) answer (not_made (Some y)) (not_opened now_told (Some y)) (λ q told_q some group open_still. no_way (sym (ap (λ (o : Option Objects). is_some o) is) ∙ some)) (λ q txg told_q known sync answered. no_sync txg sync answered)
+        by_last (Some objects) is =
+            let c = one_group_behind sizes objects p.objects x old (stood objects is) lawful y new stays in
+            told_behind new before command now_told y answer p c.all is_open told
+            (elim c.which [
+              | inl same ↦ inl (is ∙ ap Some (sym same))
+              | inr same ↦ inr same
+            ])
+            (to_disks sizes c.all y new.now sized_new c.behind) (λ txg sync answered. absurd (no_sync txg sync answered))
 
-  -- a `sync`
-  sync_told : (answer : Reply) (p : PoolState) → before.told.shelf ≡ Is p → EndsCommitted sizes false x y p.objects old new → Behinds new before command (Some y) answer
-  sync_told answer p told ends = by_known (is_known before) refl
-    where
-      by_known : (b : Bool) → is_known before ≡ b → Behinds new before command (Some y) answer
-      by_known true known = told_behind new before command y answer p p.objects is_open told (inr refl) (to_disks sizes p.objects y new.now sized_new (commit_stands p known ends)) (λ txg sync answered. refl)
-      by_known false known = untold new before command (Some y) answer (not_made (Some y)) (λ q told_q some group open_still. no_way (sym known ∙ known_some before some)) (λ q txg told_q knows sync answered. no_way (sym known ∙ knows))
+    -- a `sync`
+    sync_told : (answer : Reply) (p : PoolState) → before.told.shelf ≡ Is p → EndsCommitted sizes false x y p.objects old new → Behinds new before command now_told (Some y) answer
+    sync_told answer p told ends = by_known (is_known before) refl
+      where
+        by_known : (b : Bool) → is_known before ≡ b → Behinds new before command now_told (Some y) answer
+        by_known true known = told_behind new before command now_told y answer p p.objects is_open told (inr refl) (to_disks sizes p.objects y new.now sized_new (commit_stands p known ends)) (λ txg sync answered. refl)
+        by_known false known = untold new before command now_told (Some y) answer (not_made (Some y)) (not_opened now_told (Some y)) (λ q told_q some group open_still. no_way (sym known ∙ known_some before some)) (λ q txg told_q knows sync answered. no_way (sym known ∙ knows))
 
-  pub open_behinds : (r : Result (Option Reply) Fault) → (is_in_group command ≡ true → (p : PoolState) → HoldsState (Unit {0}) old.now.seen x p → OnOk r (StaysInOneGroup sizes p.objects x y old new))
-      → (is_in_group command ≡ true → (p : PoolState) → HoldsState (Unit {0}) old.now.seen x p → (n : Refusal) → r ≡ Err (No n) → StaysInOneGroup sizes p.objects x y old new)
-      → (is_commit command ≡ true → (p : PoolState) → HoldsState (Unit {0}) old.now.seen x p → OnOk r (EndsCommitted sizes false x y p.objects old new))
-      → IfOk (answer_of r) (λ found. IfSome found (λ answer. Behinds new before command (left_of (is_closing command r) y) answer))
-  open_behinds (Ok None) one one_no commits = tt
-  open_behinds (Ok (Some answer)) one one_no commits = by_closing (is_closing command (Ok (Some answer))) refl
-    where
-      untold_off : (pool : Option OpenPool) → is_in_group command ≡ false → Behinds new before command pool answer
-      untold_off pool off = untold new before command pool answer (not_made pool) (λ p told some group open_still. no_way (sym off ∙ group)) (λ p txg told known sync answered. no_group command off sync)
+    pub open_behinds : (r : Result (Option Reply) Fault) → (is_in_group command ≡ true → (p : PoolState) → HoldsState (Unit {0}) old.now.seen x p → OnOk r (StaysInOneGroup sizes p.objects x y old new))
+        → (is_in_group command ≡ true → (p : PoolState) → HoldsState (Unit {0}) old.now.seen x p → (n : Refusal) → r ≡ Err (No n) → StaysInOneGroup sizes p.objects x y old new)
+        → (is_commit command ≡ true → (p : PoolState) → HoldsState (Unit {0}) old.now.seen x p → OnOk r (EndsCommitted sizes false x y p.objects old new))
+        → IfOk (answer_of r) (λ found. IfSome found (λ answer. Behinds new before command now_told (left_of (is_closing command r) y) answer))
+    open_behinds (Ok None) one one_no commits = tt
+    open_behinds (Ok (Some answer)) one one_no commits = by_closing (is_closing command (Ok (Some answer))) refl
+      where
+        untold_off : (pool : Option OpenPool) → is_in_group command ≡ false → Behinds new before command now_told pool answer
+        untold_off pool off = untold new before command now_told pool answer (not_made pool) (not_opened now_told pool) (λ p told some group open_still. no_way (sym off ∙ group)) (λ p txg told known sync answered. no_group command off sync)
 
-      untold_part : (pool : Option OpenPool) → ((p : PoolState) → before.told.shelf ≡ Is p → ⊥) → Behinds new before command pool answer
-      untold_part pool none = untold new before command pool answer (not_made pool) (λ p told some group open_still. none p told) (λ p txg told known sync answered. none p told)
+        untold_part : (pool : Option OpenPool) → ((p : PoolState) → before.told.shelf ≡ Is p → ⊥) → Behinds new before command now_told pool answer
+        untold_part pool none = untold new before command now_told pool answer (not_made pool) (not_opened now_told pool) (λ p told some group open_still. none p told) (λ p txg told known sync answered. none p told)
 
-      by_commit : (b : Bool) → is_commit command ≡ b → is_in_group command ≡ true → (p : PoolState) → before.told.shelf ≡ Is p → Behinds new before command (Some y) answer
-      by_commit true ends group p told = sync_told answer p told (commits ends p (held p told))
-      by_commit false ends group p told = line_told answer p told (λ txg sync answered. no_commit command ends sync) (one group p (held p told))
+        by_commit : (b : Bool) → is_commit command ≡ b → is_in_group command ≡ true → (p : PoolState) → before.told.shelf ≡ Is p → Behinds new before command now_told (Some y) answer
+        by_commit true ends group p told = sync_told answer p told (commits ends p (held p told))
+        by_commit false ends group p told = line_told answer p told (λ txg sync answered. no_commit command ends sync) (one group p (held p told))
 
-      by_part : (s : ShelfPart) → before.told.shelf ≡ s → is_in_group command ≡ true → Behinds new before command (Some y) answer
-      by_part (Is p) told group = by_commit (is_commit command) refl group p told
-      by_part Empty told group = untold_part (Some y) (λ p is. let both = sym told ∙ is in absurd cc)
-      by_part (Refused r) told group = untold_part (Some y) (λ p is. let both = sym told ∙ is in absurd cc)
+        by_part : (s : ShelfPart) → before.told.shelf ≡ s → is_in_group command ≡ true → Behinds new before command now_told (Some y) answer
+        by_part (Is p) told group = by_commit (is_commit command) refl group p told
+        by_part Empty told group = untold_part (Some y) (λ p is. let both = sym told ∙ is in absurd cc)
+        by_part (Refused r) told group = untold_part (Some y) (λ p is. let both = sym told ∙ is in absurd cc)
 
-      by_group : (b : Bool) → is_in_group command ≡ b → Behinds new before command (Some y) answer
-      by_group true group = by_part before.told.shelf refl group
-      by_group false off = untold_off (Some y) off
+        by_group : (b : Bool) → is_in_group command ≡ b → Behinds new before command now_told (Some y) answer
+        by_group true group = by_part before.told.shelf refl group
+        by_group false off = untold_off (Some y) off
 
-      by_closing : (b : Bool) → is_closing command (Ok (Some answer)) ≡ b → Behinds new before command (left_of b y) answer
-      by_closing true is =
-          let exports = closing_export command answer is in
-          untold new before command None answer (not_made None) (λ p told some group open_still. open_still exports) (λ p txg told known sync answered. let both = sym exports ∙ sync in absurd cc)
-      by_closing false is = by_group (is_in_group command) refl
-  open_behinds (Err (No n)) one one_no commits = by_group (is_in_group command) refl
-    where
-      no_sync : (txg : ℕ) → command ≡ cmd.Sync → reply.No n ≡ reply.Synced txg → ⊥
-      no_sync txg sync answered = synced_no n txg answered
+        by_closing : (b : Bool) → is_closing command (Ok (Some answer)) ≡ b → Behinds new before command now_told (left_of b y) answer
+        by_closing true is =
+            let exports = closing_export command answer is in
+            untold new before command now_told None answer (not_made None) (not_opened now_told None) (λ p told some group open_still. open_still exports) (λ p txg told known sync answered. let both = sym exports ∙ sync in absurd cc)
+        by_closing false is = by_group (is_in_group command) refl
+    open_behinds (Err (No n)) one one_no commits = by_group (is_in_group command) refl
+      where
+        no_sync : (txg : ℕ) → command ≡ cmd.Sync → reply.No n ≡ reply.Synced txg → ⊥
+        no_sync txg sync answered = synced_no n txg answered
 
-      by_part : (s : ShelfPart) → before.told.shelf ≡ s → is_in_group command ≡ true → Behinds new before command (Some y) (reply.No n)
-      by_part (Is p) told group = line_told (reply.No n) p told no_sync (one_no group p (held p told) n refl)
-      by_part Empty told group = untold new before command (Some y) (reply.No n) (not_made (Some y)) (λ p is some on open_still. let both = sym told ∙ is in absurd cc) (λ p txg is known sync answered. no_sync txg sync answered)
-      by_part (Refused r) told group = untold new before command (Some y) (reply.No n) (not_made (Some y)) (λ p is some on open_still. let both = sym told ∙ is in absurd cc) (λ p txg is known sync answered. no_sync txg sync answered)
+        by_part : (s : ShelfPart) → before.told.shelf ≡ s → is_in_group command ≡ true → Behinds new before command now_told (Some y) (reply.No n)
+        by_part (Is p) told group = line_told (reply.No n) p told no_sync (one_no group p (held p told) n refl)
+        by_part Empty told group = untold new before command now_told (Some y) (reply.No n) (not_made (Some y)) (not_opened now_told (Some y)) (λ p is some on open_still. let both = sym told ∙ is in absurd cc) (λ p txg is known sync answered. no_sync txg sync answered)
+        by_part (Refused r) told group = untold new before command now_told (Some y) (reply.No n) (not_made (Some y)) (not_opened now_told (Some y)) (λ p is some on open_still. let both = sym told ∙ is in absurd cc) (λ p txg is known sync answered. no_sync txg sync answered)
 
-      by_group : (b : Bool) → is_in_group command ≡ b → Behinds new before command (Some y) (reply.No n)
-      by_group true group = by_part before.told.shelf refl group
-      by_group false off = untold new before command (Some y) (reply.No n) (not_made (Some y)) (λ p told some group open_still. no_way (sym off ∙ group)) (λ p txg told known sync answered. no_sync txg sync answered)
-  open_behinds (Err (Stops s)) one one_no commits = tt
+        by_group : (b : Bool) → is_in_group command ≡ b → Behinds new before command now_told (Some y) (reply.No n)
+        by_group true group = by_part before.told.shelf refl group
+        by_group false off = untold new before command now_told (Some y) (reply.No n) (not_made (Some y)) (not_opened now_told (Some y)) (λ p told some group open_still. no_way (sym off ∙ group)) (λ p txg told known sync answered. no_sync txg sync answered)
+    open_behinds (Err (Stops s)) one one_no commits = tt
 
   -- ---- the moments of a line
 
@@ -377,6 +388,13 @@ module _ (old new : World) (before : DeviceState) (command : Command) (x y : Ope
 
 -- ---- where none is open
 
+no_import : (command : Command) → is_create command ≡ true → command ≡ cmd.Import → ⊥
+no_import command create import = no_way (subst (λ (c : Command). is_create c ≡ true) import create)
+
+which_import : (command : Command) → (command ≡ cmd.Import) ⊎ (command ≡ cmd.Import → ⊥)
+which_import cmd.Import = inl refl
+which_import command = inr (λ is. cc)
+
 module _ (old new : World) (before : DeviceState) (command : Command) (account : before.account ≡ None) (was : IfSome before.behind (IsBehind None (disks_of old.now))) where
   not_behind : (objects : Objects) → before.behind ≡ Some objects → ⊥
   not_behind objects is = subst (λ (o : Option Objects). IfSome o (IsBehind None (disks_of old.now))) is was
@@ -395,52 +413,89 @@ module _ (old new : World) (before : DeviceState) (command : Command) (account :
       by_last None is = no_way (sym (ap serves account) ∙ (known_shown before is known).1)
       by_last (Some objects) is = not_behind objects is
 
-  -- nothing is told behind a line that makes no pool of devices in service
-  closed_untold : (pool : Option OpenPool) (answer : Reply) → (is_create command ≡ true → serves pool ≡ true → ⊥) → Behinds new before command pool answer
-  closed_untold pool answer makes = untold new before command pool answer (λ none create serve. makes create serve) (λ p told some group open_still. none_behind some) (λ p txg told known sync answered. not_known known)
+  module _ (now_told : ShelfPart) where
+    -- nothing is told behind a line that makes no pool of devices in service, and imports none
+    closed_untold : (pool : Option OpenPool) (answer : Reply) → (is_create command ≡ true → serves pool ≡ true → ⊥) → (command ≡ cmd.Import → serves pool ≡ true → (p : PoolState) → now_told ≡ Is p → ⊥) → Behinds new before command now_told pool answer
+    closed_untold pool answer makes opens =
+        untold new before command now_told pool answer (λ none create serve. makes create serve) (λ none import serve p told. opens import serve p told) (λ p told some group open_still. none_behind some) (λ p txg told known sync answered. not_known known)
 
-  made : (sizes : List ℕ) (y : OpenPool) (answer : Reply) → is_create command ≡ true → serves (Some y) ≡ true → ComesCommitted sizes y map.empty new → ShowsLast new.now.seen y → map length new.now.seen ≡ sizes → Behinds new before command (Some y) answer
-  made sizes y answer create serve comes shows sized = record {
-    behind = Some map.empty;
-    stands = to_disks sizes map.empty y new.now sized (made_behind sizes y map.empty new comes shows sized (in_service y serve));
-    turn = record {
-      from = λ objects is. inr (inr (create, let same : map.empty ≡ objects = cc in sym same));
-      makes = λ none also done serves_all. refl;
-      keeps = λ p told some group open_still. absurd (none_behind some);
-      syncs = λ p txg told known sync answered. absurd (not_known known);
-    };
-  }
+    made : (sizes : List ℕ) (y : OpenPool) (answer : Reply) → is_create command ≡ true → serves (Some y) ≡ true → ComesCommitted sizes y map.empty new → ShowsLast new.now.seen y → map length new.now.seen ≡ sizes → Behinds new before command now_told (Some y) answer
+    made sizes y answer create serve comes shows sized = record {
+      behind = Some map.empty;
+      stands = to_disks sizes map.empty y new.now sized (made_behind sizes y map.empty new comes shows sized (in_service y serve));
+      turn = record {
+        from = λ objects is. inr (inr (inl (create, let same : map.empty ≡ objects = cc in sym same)));
+        makes = λ none also done serves_all. refl;
+        opens = λ none import done serves_all p told. absurd (no_import command create import);
+        keeps = λ p told some group open_still. absurd (none_behind some);
+        syncs = λ p txg told known sync answered. absurd (not_known known);
+      };
+    }
 
-  pub closed_behinds : (sizes : List ℕ) (pool : Option OpenPool) → (is_create command ≡ true → IfSome pool (λ y. ComesCommitted sizes y map.empty new)) → IfSome pool (ShowsLast new.now.seen) → map length new.now.seen ≡ sizes
-      → (r : Result (Option Reply) Fault) → IfOk (answer_of r) (λ found. IfSome found (λ answer. Behinds new before command pool answer))
-  closed_behinds sizes pool comes shows sized (Ok None) = tt
-  closed_behinds sizes pool comes shows sized (Ok (Some answer)) = by_pool pool comes shows
-    where
-      by_serve : (y : OpenPool) (b : Bool) → serves (Some y) ≡ b → is_create command ≡ true → ComesCommitted sizes y map.empty new → ShowsLast new.now.seen y → Behinds new before command (Some y) answer
+    -- a pool that was imported is as it was found
+    imported : (sizes : List ℕ) (tells : Type 0) → tells → (y : OpenPool) (answer : Reply) → command ≡ cmd.Import → serves (Some y) ≡ true → IsJustOpened sizes tells new.now y → map length new.now.seen ≡ sizes → (p : PoolState) → now_told ≡ Is p → HoldsState (Unit {0}) new.now.seen y p
+        → Behinds new before command now_told (Some y) answer
+    imported sizes tells is_told y answer import serve opened sized p told held = record {
+      behind = Some p.objects;
+      stands = to_disks sizes p.objects y new.now sized (opened_behind sizes tells is_told p.objects y new.now opened held.objects (in_service y serve));
+      turn = record {
+        from = λ objects is. inr (inr (inr (import, (p, told, let same : p.objects ≡ objects = cc in same))));
+        makes = λ none create done serves_all. absurd (no_import command create import);
+        opens = λ none also done serves_all q told_q. let same : p ≡ q = (let both = sym told ∙ told_q in cc) in ap (λ (r : PoolState). Some r.objects) same;
+        keeps = λ q told_q some group open_still. absurd (none_behind some);
+        syncs = λ q txg told_q known sync answered. absurd (not_known known);
+      };
+    }
+
+    module _ (sizes : List ℕ) (tells : Type 0) (is_told : tells) (sized : map length new.now.seen ≡ sizes) (answer : Reply) where
+      -- a pool that was made
+      by_serve : (y : OpenPool) (b : Bool) → serves (Some y) ≡ b → is_create command ≡ true → ComesCommitted sizes y map.empty new → ShowsLast new.now.seen y → Behinds new before command now_told (Some y) answer
       by_serve y true serve create comes shows = made sizes y answer create serve comes shows sized
-      by_serve y false out create comes shows = closed_untold (Some y) answer (λ also serve. no_way (sym out ∙ serve))
+      by_serve y false out create comes shows = closed_untold (Some y) answer (λ also serve. no_way (sym out ∙ serve)) (λ import serve p told. no_way (sym out ∙ serve))
 
-      by_create : (y : OpenPool) (b : Bool) → is_create command ≡ b → (is_create command ≡ true → ComesCommitted sizes y map.empty new) → ShowsLast new.now.seen y → Behinds new before command (Some y) answer
-      by_create y true create comes shows = by_serve y (serves (Some y)) refl create (comes create) shows
-      by_create y false other comes shows = closed_untold (Some y) answer (λ create serve. no_way (sym other ∙ create))
+      -- one that was imported
+      by_part : (y : OpenPool) (s : ShelfPart) → now_told ≡ s → IsPartOf new.now.seen y s → command ≡ cmd.Import → serves (Some y) ≡ true → IsJustOpened sizes tells new.now y → Behinds new before command now_told (Some y) answer
+      by_part y (Is p) told held import serve opened = imported sizes tells is_told y answer import serve opened sized p told held
+      by_part y Empty told held import serve opened = closed_untold (Some y) answer (λ create also. no_import command create import) (λ also serve_all p is. let both = sym told ∙ is in cc)
+      by_part y (Refused r) told held import serve opened = absurd held
 
-      by_pool : (o : Option OpenPool) → (is_create command ≡ true → IfSome o (λ y. ComesCommitted sizes y map.empty new)) → IfSome o (ShowsLast new.now.seen) → Behinds new before command o answer
-      by_pool None comes shows = closed_untold None answer (λ create serve. no_way serve)
-      by_pool (Some y) comes shows = by_create y (is_create command) refl comes shows
-  closed_behinds sizes pool comes shows sized (Err (No n)) = untold_no
-    where
-      untold_no : Behinds new before command pool (reply.No n)
-      untold_no = record {
-        behind = None;
-        stands = tt;
-        turn = record {
-          from = λ objects is. none_some objects is;
-          makes = λ none create done serve. absurd (let e : reply.No n ≡ reply.Done = done in cc);
-          keeps = λ p told some group open_still. absurd (none_behind some);
-          syncs = λ p txg told known sync answered. absurd (not_known known);
-        };
-      }
-  closed_behinds sizes pool comes shows sized (Err (Stops s)) = tt
+      by_all : (y : OpenPool) (b : Bool) → serves (Some y) ≡ b → IsPartOf new.now.seen y now_told → command ≡ cmd.Import → IsJustOpened sizes tells new.now y → Behinds new before command now_told (Some y) answer
+      by_all y true serve held import opened = by_part y now_told refl held import serve opened
+      by_all y false out held import opened = closed_untold (Some y) answer (λ create serve. no_way (sym out ∙ serve)) (λ also serve p told. no_way (sym out ∙ serve))
+
+      -- by what the line is
+      by_import : (y : OpenPool) → is_create command ≡ false → (command ≡ cmd.Import) ⊎ (command ≡ cmd.Import → ⊥) → (command ≡ cmd.Import → IsJustOpened sizes tells new.now y) → IsPartOf new.now.seen y now_told → Behinds new before command now_told (Some y) answer
+      by_import y other (inl import) opened held = by_all y (serves (Some y)) refl held import (opened import)
+      by_import y other (inr not) opened held = closed_untold (Some y) answer (λ create serve. no_way (sym other ∙ create)) (λ import serve p told. not import)
+
+      by_create : (y : OpenPool) (b : Bool) → is_create command ≡ b → (is_create command ≡ true → ComesCommitted sizes y map.empty new) → (command ≡ cmd.Import → IsJustOpened sizes tells new.now y) → ShowsLast new.now.seen y → IsPartOf new.now.seen y now_told → Behinds new before command now_told (Some y) answer
+      by_create y true create comes opened shows held = by_serve y (serves (Some y)) refl create (comes create) shows
+      by_create y false other comes opened shows held = by_import y other (which_import command) opened held
+
+      by_pool : (o : Option OpenPool) → (is_create command ≡ true → IfSome o (λ y. ComesCommitted sizes y map.empty new)) → (command ≡ cmd.Import → IfSome o (IsJustOpened sizes tells new.now)) → IfSome o (ShowsLast new.now.seen) → IfSome o (λ y. IsPartOf new.now.seen y now_told)
+          → Behinds new before command now_told o answer
+      by_pool None comes opened shows held = closed_untold None answer (λ create serve. no_way serve) (λ import serve p told. no_way serve)
+      by_pool (Some y) comes opened shows held = by_create y (is_create command) refl comes opened shows held
+
+    pub closed_behinds : (sizes : List ℕ) (tells : Type 0) → tells → (pool : Option OpenPool) → (is_create command ≡ true → IfSome pool (λ y. ComesCommitted sizes y map.empty new)) → (command ≡ cmd.Import → IfSome pool (IsJustOpened sizes tells new.now)) → IfSome pool (ShowsLast new.now.seen) → map length new.now.seen ≡ sizes
+        → IfSome pool (λ y. IsPartOf new.now.seen y now_told) → (r : Result (Option Reply) Fault) → IfOk (answer_of r) (λ found. IfSome found (λ answer. Behinds new before command now_told pool answer))
+    closed_behinds sizes tells is_told pool comes opened shows sized held (Ok None) = tt
+    closed_behinds sizes tells is_told pool comes opened shows sized held (Ok (Some answer)) = by_pool sizes tells is_told sized answer pool comes opened shows held
+    closed_behinds sizes tells is_told pool comes opened shows sized held (Err (No n)) = untold_no
+      where
+        untold_no : Behinds new before command now_told pool (reply.No n)
+        untold_no = record {
+          behind = None;
+          stands = tt;
+          turn = record {
+            from = λ objects is. none_some objects is;
+            makes = λ none create done serve. absurd (let e : reply.No n ≡ reply.Done = done in cc);
+            opens = λ none import done serve p told. absurd (let e : reply.No n ≡ reply.Done = done in cc);
+            keeps = λ p told some group open_still. absurd (none_behind some);
+            syncs = λ p txg told known sync answered. absurd (not_known known);
+          };
+        }
+    closed_behinds sizes tells is_told pool comes opened shows sized held (Err (Stops s)) = tt
 
   -- nothing is said of the moments of a line
   pub closed_within : WorksOnDisks old new → Throughout (λ stand. IsWithin (point old.now before) command (disks_of stand)) old new

@@ -4,7 +4,7 @@ use Rattle.std.specs.FinMap as map
 use Rattle.zr_base.specs.declared.space.DevPart.{DevPart}
 use Rattle.zr_command.specs.Meanings.{Disks}
 use Rattle.zr_model.specs.Objects.{Objects}
-use Rattle.zr_model.specs.State.{PoolState, Is}
+use Rattle.zr_model.specs.State.{PoolState, ShelfPart, Is}
 use Rattle.zr_rules.specs.Places.{is_on}
 use Rattle.zr_script.specs.declared.command.Command.{Command}
 use Rattle.zr_script.specs.declared.command.Command.TheVariants as cmd
@@ -66,12 +66,18 @@ is_create (cmd.Create name guid devs) = true
 is_create (cmd.CreateOld name guid devs) = true
 is_create _ = false
 
--- Which objects are told to be committed last, behind a line that was answered, and that left this account.
-pub record IsBehindTurn (old : DeviceState) (command : Command) (answer : Reply) (account : Option OpenPool) (behind : Option Objects) : Type 0 where
-  -- they were so before it, or were those that were told before it, or a pool was made, which has none
-  pub from : (objects : Objects) → behind ≡ Some objects → (old.behind ≡ Some objects) ⊎ (((p : PoolState) × (old.told.shelf ≡ Is p) × (p.objects ≡ objects)) ⊎ ((is_create command ≡ true) × (objects ≡ map.empty)))
+-- the pool that is told has these objects
+abbrev pub TellsOf : ShelfPart → Objects → Type 0
+TellsOf part objects = (p : PoolState) × (part ≡ Is p) × (p.objects ≡ objects)
+
+-- Which objects are told to be committed last, behind a line that was answered, and that left this told of the objects and this account.
+pub record IsBehindTurn (old : DeviceState) (command : Command) (answer : Reply) (told : ShelfPart) (account : Option OpenPool) (behind : Option Objects) : Type 0 where
+  -- they were so before it, or were those that were told before it, or a pool was made, which has none, or one was imported, and they are those that are told behind it
+  pub from : (objects : Objects) → behind ≡ Some objects → (old.behind ≡ Some objects) ⊎ (TellsOf old.told.shelf objects ⊎ (((is_create command ≡ true) × (objects ≡ map.empty)) ⊎ ((command ≡ cmd.Import) × TellsOf told objects)))
   -- of a pool that is made, of devices in service, they are told
   pub makes : old.account ≡ None → is_create command ≡ true → answer ≡ reply.Done → serves account ≡ true → behind ≡ Some map.empty
+  -- of a pool that is imported, of devices in service, they are those that are told behind it
+  pub opens : old.account ≡ None → command ≡ cmd.Import → answer ≡ reply.Done → serves account ≡ true → (p : PoolState) → told ≡ Is p → behind ≡ Some p.objects
   -- a line that works in the group leaves them told
   pub keeps : (p : PoolState) → old.told.shelf ≡ Is p → is_some old.behind ≡ true → is_in_group command ≡ true → (command ≡ cmd.Export → ⊥) → is_some behind ≡ true
   -- behind a `sync` they are those that were told before it

@@ -252,7 +252,7 @@ pub record IsDeviceTurn (p : Point DeviceState) (t : Turn DeviceState) : Type 0 
   pub account : IsAccountTurn p.shelf p.state.account t.command t.answer t.point.shelf t.point.state.account
   pub lawful : IfSome t.point.state.account (IsOpen (sizes_of t.point.shelf.disks))
   pub shown : t.point.state.shown ≡ is_shown p.state.told.is_open p.state.shown t.command t.answer
-  pub behind : IsBehindTurn p.state t.command t.answer t.point.state.account t.point.state.behind
+  pub behind : IsBehindTurn p.state t.command t.answer t.point.state.told.shelf t.point.state.account t.point.state.behind
   pub rejoined : p.state.shown ≡ true → t.command ≡ cmd.Import → t.answer ≡ reply.Done → IsRejoined p.state.told.shelf t.point.state.told.shelf
 
 -- How the disks may stand between two lines: they read as behind the last, and whatever an honest crash shows are the objects that were committed last.

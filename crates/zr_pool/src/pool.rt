@@ -16,7 +16,8 @@ ghost use Rattle.zr_pool.specs.Accounts.{Begins, BeginsNone, Refuses, Turns};
 ghost use Rattle.zr_last.specs.Last.{KeepsLast, ShowsLast};
 ghost use Rattle.zr_last.specs.Ends.{ComesCommitted, EndsCommitted};
 ghost use Rattle.zr_lines.specs.Stops.{StaysInOneGroup, WritesInOneGroup};
-ghost use Rattle.zr_script.specs.declared.command.Command.TheVariants.{Export};
+ghost use Rattle.zr_script.specs.declared.command.Command.TheVariants.{Export, Import};
+ghost use Rattle.zr_stops.specs.Behind.{IsJustOpened};
 ghost use Rattle.zr_pool.specs.Plain.{IsDone, IsMade, IsOpeningCause, IsPlainOf, IsPlainRefusal, is_of_removal, shelf_of};
 ghost use Rattle.zr_pool.specs.Behind.{is_commit, is_create, is_in_group};
 ghost use Rattle.zr_pool.specs.Pools.{IsAtRest, IsOnShelf};
@@ -154,6 +155,7 @@ impl DevicePool {
         ensures begins_no { S.tells shelf.old → (r : Refusal) → IsErrOf result (No r) → BeginsNone self.old.paths (S.sizes shelf.old) (S.world shelf.old).now.seen command.now r }
         ensures last { S.tells shelf.old → IfSome self.new.pool (ShowsLast (S.world shelf.new).now.seen) }
         ensures ends { S.tells shelf.old → is_create command.now ≡ true → IfSome self.new.pool (λ pool. ComesCommitted (S.sizes shelf.new) pool map.empty (S.world shelf.new)) }
+        ensures imported { S.tells shelf.old → command.now ≡ Import → IfSome self.new.pool (IsJustOpened (S.sizes shelf.new) (S.tells shelf.old) (S.world shelf.new).now) }
         ensures untouched { S.tells shelf.old → (r : Refusal) → IsErrOf result (No r) → (S.world shelf.new).now.seen ≡ (S.world shelf.old).now.seen }
         ensures turn { IfOk result (λ found. IfSome found (λ reply. IsTurn false command.now reply (is_some self.new.pool))) }
         ensures refused { (r : Refusal) → IsErrOf result (No r) → IsClosedRefusal command.now r }

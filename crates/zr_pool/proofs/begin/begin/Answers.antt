@@ -10,10 +10,11 @@ use Rattle.zr_pool.specs.Accounts.{Begins, BeginsNone}
 use Rattle.zr_pool.specs.Behind.{is_create}
 use Rattle.zr_pool.specs.Plain.{IsMade, IsOpeningCause, shelf_of}
 use Rattle.zr_pool.specs.Turns.{IsClosedRefusal}
+use Rattle.zr_pool.proofs.Imported.{just_opened}
 use Rattle.zr_pool.proofs.Leavings.{in_the_way, is_new, not_begun}
 use Rattle.zr_pool.proofs.Refused.{fault_same, group_cause, rewind_cause}
 use Rattle.zr_shelf.specs.Disks.{Stand}
-use Rattle.zr_sync.proofs.Disks.{works_still}
+use Rattle.zr_open.proofs.Flushing.{flushes_work}
 use Rattle.zr_pool.proofs.begin.begin.Goals as goal
 
 pub returns-in_ok-made-in-Create-clause-made : goal.returns-in_ok-made-in-Create-clause-made
@@ -87,10 +88,10 @@ returns-in_default-clause-begins_no g c = λ told r is.
 -- ---- pools that are opened
 
 pub returns-in_ok-import-in-Import-clause-disks : goal.returns-in_ok-import-in-Import-clause-disks
-returns-in_ok-import-in-Import-clause-disks g c = λ told. works_still _ _ (c.import.ensures.still told)
+returns-in_ok-import-in-Import-clause-disks g c = λ told. flushes_work _ _ (c.import.ensures.flushes told)
 
 pub returns-in_err-import-in-Import-clause-disks : goal.returns-in_err-import-in-Import-clause-disks
-returns-in_err-import-in-Import-clause-disks g c = λ told. works_still _ _ (c.import.ensures.still told)
+returns-in_err-import-in-Import-clause-disks g c = λ told. flushes_work _ _ (c.import.ensures.flushes told)
 
 pub returns-in_ok-import-in-Import-clause-made : goal.returns-in_ok-import-in-Import-clause-made
 returns-in_ok-import-in-Import-clause-made g c = λ told.
@@ -228,7 +229,7 @@ returns-in_err-made-in-CreateOld-clause-untouched g c = λ told r is.
     ap (λ (stand : Stand). stand.seen) (c.create-in-CreateOld.ensures.untouched told r was).now
 
 pub returns-in_err-import-in-Import-clause-untouched : goal.returns-in_err-import-in-Import-clause-untouched
-returns-in_err-import-in-Import-clause-untouched g c = λ told r is. ap (λ (stand : Stand). stand.seen) (c.import.ensures.still told).now
+returns-in_err-import-in-Import-clause-untouched g c = λ told r is. c.import.ensures.reads told
 
 pub returns-in_err-rewind-in-ImportRewind-clause-untouched : goal.returns-in_err-rewind-in-ImportRewind-clause-untouched
 returns-in_err-rewind-in-ImportRewind-clause-untouched g c = λ told r is.
@@ -260,3 +261,24 @@ returns-in_ok-rewind-in-ImportRewind-clause-ends g c = λ told create. absurd (l
 
 pub returns-in_ok-go_back-in-ImportTxg-clause-ends : goal.returns-in_ok-go_back-in-ImportTxg-clause-ends
 returns-in_ok-go_back-in-ImportTxg-clause-ends g c = λ told create. absurd (let e = sym (subst (λ (command : Command). is_create command ≡ true) c.in-ImportTxg.is create) in cc)
+
+-- ---- a pool that was just opened
+
+pub returns-in_ok-made-in-Create-clause-imported : goal.returns-in_ok-made-in-Create-clause-imported
+returns-in_ok-made-in-Create-clause-imported g c = λ told import. absurd (let both = sym c.in-Create.is ∙ import in cc)
+
+pub returns-in_ok-made-in-CreateOld-clause-imported : goal.returns-in_ok-made-in-CreateOld-clause-imported
+returns-in_ok-made-in-CreateOld-clause-imported g c = λ told import. absurd (let both = sym c.in-CreateOld.is ∙ import in cc)
+
+pub returns-in_ok-import-in-Import-clause-imported : goal.returns-in_ok-import-in-Import-clause-imported
+returns-in_ok-import-in-Import-clause-imported g c = λ told import.
+    let old = c.args.shelf.now in
+    let new = c.import.new.shelf in
+    let e = c.in_ok-import-in-Import.ensures in
+    just_opened (g.S.Shelf.sizes old) (g.S.Shelf.sizes new) (g.S.Shelf.tells old) told (g.S.Shelf.world old).now.seen (g.S.Shelf.world new).now c.in_ok-import-in-Import.field-0 e.pool (g.S.Shelf.sound new (c.import.ensures.told told)).sized (e.rests told) (c.import.ensures.reads told) e.fresh e.opened (e.last told)
+
+pub returns-in_ok-rewind-in-ImportRewind-clause-imported : goal.returns-in_ok-rewind-in-ImportRewind-clause-imported
+returns-in_ok-rewind-in-ImportRewind-clause-imported g c = λ told import. absurd (let both = sym c.in-ImportRewind.is ∙ import in cc)
+
+pub returns-in_ok-go_back-in-ImportTxg-clause-imported : goal.returns-in_ok-go_back-in-ImportTxg-clause-imported
+returns-in_ok-go_back-in-ImportTxg-clause-imported g c = λ told import. absurd (let both = sym c.in-ImportTxg.is ∙ import in cc)
