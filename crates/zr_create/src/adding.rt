@@ -2,6 +2,7 @@
 ghost use Rattle.std.specs.Prelude.{◌≡◌, ◌<◌, ◌≤◌, ◌+◌, [], IsErrOf, OnOk, Ok, Err, length};
 ghost use Rattle.zr_base.specs.Counts.{HasRisen};
 ghost use Rattle.zr_base.specs.declared.refusal.Refusal.{Refusal};
+ghost use Rattle.zr_last.specs.Ends.{LeavesCommitted};
 ghost use Rattle.zr_last.specs.Last.{KeepsLast};
 ghost use Rattle.zr_model.specs.Objects.{Objects};
 ghost use Rattle.zr_shelf.specs.Counts.{NoneFell};
@@ -89,6 +90,7 @@ pub fn add<S: Shelf, P: Place>(
     ensures root { OnOk result (IsResetAt (pool.old.group.txg + 1) pool.new.last) }
     ensures settled { OnOk result (NothingWaits pool.new.space) }
     ensures shown { S.tells shelf.old → OnOk result (KeepsLast (S.world shelf.old) (S.world shelf.new) pool.old pool.new) }
+    ensures ends { (objects : Objects) → HoldsObjects (S.tells shelf.old) (S.world shelf.old).now.seen pool.old objects → OnOk result (LeavesCommitted pool.new (S.world shelf.new).now) }
     ensures objects { (objects : Objects) → HoldsObjects (S.tells shelf.old) (S.world shelf.old).now.seen pool.old objects → OnOk result (HoldsObjects (S.tells shelf.new) (S.world shelf.new).now.seen pool.new objects) }
     ensures refused { (r : Refusal) → IsErrOf result (No r) → ChecksNext (S.sizes shelf.old) (S.tells shelf.old) (S.world shelf.old).now.seen pool.old slot (Err r) }
     ensures allowed { OnOk result (ChecksNext (S.sizes shelf.old) (S.tells shelf.old) (S.world shelf.old).now.seen pool.old slot (Ok tt)) }

@@ -17,3 +17,4 @@ pub mod Edited
 pub mod Damaged
 pub mod Lasting
 pub mod Stopping
+pub mod Resetting

@@ -1,13 +1,15 @@
--- What a line leaves for a crash: it works in one group.
-use Rattle.std.specs.Prelude.{◌⊎◌, ℕ, false, List}
+-- What a line leaves for a crash: it works in one group, or ends one by a reset.
+use Rattle.std.specs.Prelude.{◌≡◌, ◌⊎◌, ℕ, true, false, List}
 use Rattle.zr_last.specs.Last.{KeepsRoot}
 use Rattle.zr_last.specs.Ends.{EndsCommitted}
 use Rattle.zr_model.specs.Objects.{Objects}
-use Rattle.zr_shelf.specs.Moments.{World}
+use Rattle.zr_rules.specs.Space.{role_at}
+use Rattle.zr_shelf.specs.Moments.{IsStill, World}
 use Rattle.zr_sync.specs.Leads.{CommitsObjects}
+use Rattle.zr_sync.specs.Pools.{IsOpen}
 use Rattle.zr_sync.specs.Writes.{WritesIntoFree}
 use Rattle.zr_sync.specs.declared.open.OpenPool.{OpenPool}
-use Rattle.zr_vdev.specs.Stores.{KeepsOthers}
+use Rattle.zr_vdev.specs.Stores.{KeepsOthers, is_open_role}
 use Rattle.zr_vdev.specs.declared.kind.Kind.TheVariants.{Block}
 
 -- The line stayed in the open group: nothing was written but units that were free, or the group's own. No other unit may be written behind it, and the pool goes on from the same root.
@@ -37,3 +39,12 @@ pub record WritesInNextGroup (sizes : List ℕ) (objects : Objects) (old : OpenP
 -- What a line wrote, wherever it stopped: in the open group, in the commit of it, or in the next group behind that.
 abbrev pub WritesInOneGroup : List ℕ → Objects → OpenPool → World → World → Type 0
 WritesInOneGroup sizes objects old before now = WritesIntoFree old before now ⊎ (CommitsObjects sizes old false objects before now ⊎ WritesInNextGroup sizes objects old before now)
+
+-- The pool goes on from the same root, and no unit may be written that might not before.
+pub record OpensNoUnit (old new : OpenPool) : Type 0 where
+  pub root : KeepsRoot old new
+  pub units : (d u : ℕ) → is_open_role (role_at new.space d u) ≡ true → is_open_role (role_at old.space d u) ≡ true
+
+-- What a line wrote that ends with a reset, wherever it stopped: nothing, or the pool was changed, and its group was being committed with these objects.
+abbrev pub WritesReset : List ℕ → Objects → OpenPool → World → World → Type 0
+WritesReset sizes objects old before now = IsStill before now ⊎ ((changed : OpenPool) × IsOpen sizes changed × OpensNoUnit old changed × CommitsObjects sizes changed true objects before now)

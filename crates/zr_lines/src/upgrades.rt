@@ -9,7 +9,9 @@ ghost use Rattle.zr_sync.specs.Pools.{IsOpen};
 ghost use Rattle.zr_sync.specs.Writes.{WorksOnDisks};
 ghost use Rattle.zr_sync.specs.declared.fault.Fault.TheVariants.{No, Stops};
 ghost use Rattle.zr_sync.specs.declared.stop.Stop.TheVariants.{DiskFault};
+ghost use Rattle.zr_last.specs.Ends.{LeavesCommitted};
 ghost use Rattle.zr_last.specs.Last.{KeepsLast};
+ghost use Rattle.zr_lines.specs.Stops.{WritesReset};
 ghost use Rattle.zr_lines.specs.Upgrades.{IsUpgradeRefusal, Upgrades, renewed};
 
 use std::alloc::Global;
@@ -66,6 +68,8 @@ pub fn upgrade<S: Shelf>(
     ensures ckpt { OnOk result (pool.new.space.parts.ckpt ≡ pool.old.space.parts.ckpt) }
     ensures upgrades { OnOk result (Upgrades (S.sizes shelf.old) (S.tells shelf.old) (S.world shelf.new) pool.old pool.new) }
     ensures shown { S.tells shelf.old → OnOk result (KeepsLast (S.world shelf.old) (S.world shelf.new) pool.old pool.new) }
+    ensures stops { (objects : Objects) → HoldsObjects (S.tells shelf.old) (S.world shelf.old).now.seen pool.old objects → WritesReset (S.sizes shelf.old) objects pool.old (S.world shelf.old) (S.world shelf.new) }
+    ensures ends { (objects : Objects) → HoldsObjects (S.tells shelf.old) (S.world shelf.old).now.seen pool.old objects → OnOk result (LeavesCommitted pool.new (S.world shelf.new).now) }
     ensures objects { (objects : Objects) → HoldsObjects (S.tells shelf.old) (S.world shelf.old).now.seen pool.old objects → OnOk result (HoldsObjects (S.tells shelf.new) (S.world shelf.new).now.seen pool.new objects) }
     ensures refused { (r : Refusal) → IsErrOf result (No r) → IsUpgradeRefusal pool.old.version r }
     ensures unchanged { (r : Refusal) → IsErrOf result (No r) → pool.new ≡ pool.old }

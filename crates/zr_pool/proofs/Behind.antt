@@ -1,25 +1,26 @@
 -- Which objects are told to be committed last behind a line, and what a crash shows at each moment of it.
 use Rattle.std.proofs.Common.{◌≡◌, ◌⊎◌, inl, inr, ℕ, zero, suc, List, [], ◌∷◌, Bool, true, false, length, map, Option, Some, None, Result, Ok, Err, refl, sym, ◌∙◌, ap, subst}
 use Rattle.std.specs.FinMap as map
-use Rattle.std.specs.Prelude.{IfOk, IfSome, OnOk, is_some, if◌then◌else◌, ◌&&◌}
+use Rattle.std.specs.Prelude.{IfOk, IfSome, OnErr, OnOk, is_some, not, if◌then◌else◌, ◌&&◌, ◌||◌}
 use Rattle.zr_base.specs.declared.refusal.Refusal.{Refusal}
 use Rattle.zr_base.specs.declared.space.DevPart.{DevPart}
 use Rattle.zr_base.specs.declared.space.DevState.{DevState}
 use Rattle.zr_base.specs.declared.space.DevState.TheVariants.{On, Leaving, Gone}
 use Rattle.zr_command.specs.Meanings.{disks_of}
-use Rattle.zr_last.specs.Last.{ShowsLast}
+use Rattle.zr_last.specs.Last.{KeepsLast, ShowsLast}
 use Rattle.zr_last.specs.Ends.{ComesCommitted, EndsCommitted}
-use Rattle.zr_lines.specs.Stops.{StaysInOneGroup, WritesInOneGroup}
+use Rattle.zr_lines.specs.Stops.{OpensNoUnit, StaysInOneGroup, WritesInOneGroup, WritesReset}
 use Rattle.zr_model.specs.Objects.{Objects}
 use Rattle.zr_model.specs.Runs.{point}
 use Rattle.zr_model.specs.State.{PoolState, ShelfPart, Empty, Refused, Is}
+use Rattle.zr_open.specs.Flushed.{FlushesOnly}
 use Rattle.zr_rules.specs.Equation.{devices_in}
 use Rattle.zr_rules.specs.Places.{is_gone, is_leaving, is_on, part_of}
 use Rattle.zr_script.specs.declared.command.Command.{Command}
 use Rattle.zr_script.specs.declared.command.Command.TheVariants as cmd
 use Rattle.zr_script.specs.declared.reply.Reply.{Reply}
 use Rattle.zr_script.specs.declared.reply.Reply.TheVariants as reply
-use Rattle.zr_shelf.proofs.Runs.{joined, weaker}
+use Rattle.zr_shelf.proofs.Runs.{joined, still, weaker}
 use Rattle.zr_shelf.specs.Disks.{Stand}
 use Rattle.zr_shelf.specs.Moments.{IsStill, Throughout, World}
 use Rattle.zr_space.specs.Paths.{AreInService}
@@ -33,12 +34,17 @@ use Rattle.zr_sync.specs.Writes.{WorksOnDisks}
 use Rattle.zr_sync.specs.declared.fault.Fault.{Fault}
 use Rattle.zr_sync.specs.declared.fault.Fault.TheVariants.{No, Stops}
 use Rattle.zr_sync.specs.declared.open.OpenPool.{OpenPool}
+use Rattle.zr_pool.proofs.Closed.{StandsAs, closed_behind, closed_shows, flushes_keep, still_closed}
+use Rattle.zr_pool.proofs.Groups.{acknowledged_commits, commits_in_group, making_stops, not_resetting, opens_no_commit, opens_no_reset}
 use Rattle.zr_pool.proofs.Outside.{keeps_outside}
+use Rattle.zr_pool.proofs.Resets.{behind_last, reset_behind}
 use Rattle.zr_pool.proofs.Turning.{left_of}
-use Rattle.zr_pool.specs.Behind.{IsBehindTurn, LeavesEither, is_commit, is_create, is_in_group, is_known, serve_all, serves}
+use Rattle.zr_pool.specs.Behind.{ComesFrom, HasReset, IsBehindTurn, LeavesEither, LeavesOnly, StaysTold, is_acknowledged, is_commit, is_create, is_in_group, is_known, is_making, is_refusal, is_resetting, leaves_told, may_stop, resets_once, serve_all, serves}
+use Rattle.zr_pool.specs.Behind.ComesFrom.{kept, committed, changed, made, found}
 use Rattle.zr_pool.specs.Ends.{answer_of, is_closing}
-use Rattle.zr_pool.specs.Pools.{DeviceState, IsBehind, IsPartOf, stand_of}
-use Rattle.zr_pool.specs.Turns.{IsWithin, is_on_objects, is_table}
+use Rattle.zr_pool.specs.Plain.{IsDone}
+use Rattle.zr_pool.specs.Pools.{DeviceState, IsBehind, IsClosedBehind, IsPartOf, stand_of}
+use Rattle.zr_pool.specs.Turns.{IsClosedAnswer, IsTurn, IsWithin, is_on_objects, is_opener, is_table}
 
 no_way : {P : Type 0} → false ≡ true → P
 no_way e = absurd cc
@@ -100,11 +106,36 @@ module _ (sizes : List ℕ) (objects told : Objects) (x : OpenPool) (old : World
     pub which : (all ≡ objects) ⊎ (all ≡ told)
     pub behind : StandsBehind sizes all y new.now
 
+  still_behind : (y : OpenPool) (new : World) → IsStill old new → OpensNoUnit x y → StandsBehind sizes objects y new.now
+  still_behind y new nothing opens =
+      subst (StandsBehind sizes objects y) (sym nothing.now)
+      (record {
+        first = h.first;
+        root = h.root;
+        begin = h.begin;
+        committed = h.committed;
+        from = h.from;
+        on = h.on;
+        within = record {
+          table = opens.root.table ∙ h.within.table;
+          last = opens.root.last ∙ h.within.last;
+          guid = opens.root.guid ∙ h.within.guid;
+          open_units = λ d u is. h.within.open_units d u (opens.units d u is);
+          durable = h.within.durable;
+          writes = h.within.writes;
+          seen = h.within.seen;
+        };
+      })
+
   one_group_behind : (y : OpenPool) (new : World) → StaysInOneGroup sizes told x y old new → Committed y new
   one_group_behind y new (inl stays) = record { all = objects; which = inl refl; behind = line_behind sizes objects x old h y new stays.written stays.space stays.root.table stays.root.last stays.root.guid }
   one_group_behind y new (inr more) =
       let b = commit_behind sizes objects x old h lawful false told more.start more.next more.commits in
       record { all = told; which = inr refl; behind = line_behind sizes told more.next more.start b y new more.stays.written more.stays.space more.stays.root.table more.stays.root.last more.stays.root.guid }
+
+  told_still : (y : OpenPool) (new : World) → StaysTold sizes told x y old new → Committed y new
+  told_still y new (inl stays) = one_group_behind y new stays
+  told_still y new (inr (nothing, opens)) = record { all = objects; which = inl refl; behind = still_behind y new nothing opens }
 
   writes_show : (new : World) → WritesInOneGroup sizes told x old new → Throughout (ShowsEither objects told) old new
   writes_show new (inl wrote) = weaker (ShowsOnly objects) (ShowsEither objects told) old new (first_of objects told) (line_shows sizes objects x old h new wrote)
@@ -113,6 +144,11 @@ module _ (sizes : List ℕ) (objects told : Objects) (x : OpenPool) (old : World
       let b = commit_behind sizes objects x old h lawful false told more.start more.next more.commits in
       joined (ShowsEither objects told) old more.start new (commit_shows sizes objects x old h lawful false told more.start more.next more.commits)
       (weaker (ShowsOnly told) (ShowsEither objects told) more.start new (second_of objects told) (line_shows sizes told more.next more.start b new more.written))
+
+  -- a line that ends with a reset: the pool is changed before anything is written
+  reset_shows : (new : World) → WritesReset sizes told x old new → Throughout (ShowsEither objects told) old new
+  reset_shows new (inl nothing) = weaker (λ s. s ≡ old.now) (ShowsEither objects told) old new (λ s same. subst (ShowsEither objects told) (sym same) (first_of objects told old.now (behind_shows sizes objects x old.now h))) nothing.since
+  reset_shows new (inr (other, ready, opens, commits)) = stop_shows sizes objects other old (still_behind other old (still old old refl) opens) ready true told new commits
 
 -- ---- what is told behind a line
 
@@ -123,74 +159,52 @@ module _ (new : World) (before : DeviceState) (command : Command) (part : ShelfP
     pub turn : IsBehindTurn before command answer part pool behind
 
   -- nothing is told
-  untold : (pool : Option OpenPool) (answer : Reply) → (before.account ≡ None → is_create command ≡ true → serves pool ≡ true → ⊥) → (before.account ≡ None → command ≡ cmd.Import → serves pool ≡ true → (p : PoolState) → part ≡ Is p → ⊥) → ((p : PoolState) → before.told.shelf ≡ Is p → is_some before.behind ≡ true → is_in_group command ≡ true → (command ≡ cmd.Export → ⊥) → ⊥)
-      → ((p : PoolState) (txg : ℕ) → before.told.shelf ≡ Is p → is_known before ≡ true → command ≡ cmd.Sync → answer ≡ reply.Synced txg → ⊥) → Behinds pool answer
-  untold pool answer makes opens keeps syncs = record {
+  untold : (pool : Option OpenPool) (answer : Reply) → (before.account ≡ None → is_create command ≡ true → serves pool ≡ true → ⊥) → (before.account ≡ None → command ≡ cmd.Import → serves pool ≡ true → (p : PoolState) → part ≡ Is p → ⊥) → ((p : PoolState) → before.told.shelf ≡ Is p → is_some before.behind ≡ true → leaves_told before.account answer command ≡ true → ⊥)
+      → ((p : PoolState) → before.told.shelf ≡ Is p → is_known before ≡ true → is_resetting command ≡ true → is_refusal answer ≡ false → serves pool ≡ true → ⊥) → ((p : PoolState) → before.told.shelf ≡ Is p → is_known before ≡ true → is_acknowledged answer command ≡ true → ⊥) → Behinds pool answer
+  untold pool answer makes opens keeps resets commits = record {
     behind = None;
     stands = tt;
     turn = record {
       from = λ objects is. none_some objects is;
       makes = λ none create done serve. absurd (makes none create serve);
       opens = λ none import done serve p told. absurd (opens none import serve p told);
-      keeps = λ p told some group open_still. absurd (keeps p told some group open_still);
-      syncs = λ p txg told known is answered. absurd (syncs p txg told known is answered);
+      keeps = λ p told some leaves. absurd (keeps p told some leaves);
+      resets = λ p told known on done serve. absurd (resets p told known on done serve);
+      commits = λ p told known acknowledged. absurd (commits p told known acknowledged);
     };
   }
 
   -- these are
-  told_behind : (y : OpenPool) (answer : Reply) (p : PoolState) (all : Objects) → (before.account ≡ None → ⊥) → before.told.shelf ≡ Is p → (before.behind ≡ Some all) ⊎ (all ≡ p.objects) → IsBehind (Some y) (disks_of new.now) all
-      → ((txg : ℕ) → command ≡ cmd.Sync → answer ≡ reply.Synced txg → all ≡ p.objects) → Behinds (Some y) answer
-  told_behind y answer p all is_open told which stands synced = record {
+  told_behind : (pool : Option OpenPool) (answer : Reply) (p : PoolState) (all : Objects) → (before.account ≡ None → is_create command ≡ true → answer ≡ reply.Done → ⊥) → (before.account ≡ None → command ≡ cmd.Import → answer ≡ reply.Done → ⊥) → before.told.shelf ≡ Is p → ComesFrom before command answer part all
+      → IsBehind pool (disks_of new.now) all → (is_resetting command ≡ true → is_refusal answer ≡ false → all ≡ p.objects) → (is_acknowledged answer command ≡ true → all ≡ p.objects) → Behinds pool answer
+  told_behind pool answer p all not_made not_opened told comes stands reset_all committed_all = record {
     behind = Some all;
     stands = stands;
     turn = record {
-      from = λ objects is. let same : all ≡ objects = cc in elim which [
-        | inl was ↦ inl (was ∙ is)
-        | inr now ↦ inr (inl (p, told, sym now ∙ same))
-      ];
-      makes = λ none create done serve. absurd (is_open none);
-      opens = λ none import done serve q told_q. absurd (is_open none);
-      keeps = λ q told_q some group open_still. refl;
-      syncs = λ q txg told_q known is answered. let same : p ≡ q = (let both = sym told ∙ told_q in cc) in ap Some (synced txg is answered ∙ ap (λ (r : PoolState). r.objects) same);
+      from = λ objects is. let same : all ≡ objects = cc in subst (ComesFrom before command answer part) same comes;
+      makes = λ none create done serve. absurd (not_made none create done);
+      opens = λ none import done serve q told_q. absurd (not_opened none import done);
+      keeps = λ q told_q some leaves. refl;
+      resets = λ q told_q known on done serve. let same : p ≡ q = (let both = sym told ∙ told_q in cc) in ap Some (reset_all on done ∙ ap (λ (r : PoolState). r.objects) same);
+      commits = λ q told_q known acknowledged. let same : p ≡ q = (let both = sym told ∙ told_q in cc) in ap Some (committed_all acknowledged ∙ ap (λ (r : PoolState). r.objects) same);
     };
   }
 
-no_group : (command : Command) → is_in_group command ≡ false → command ≡ cmd.Sync → ⊥
-no_group command off is = no_way (sym (subst (λ (c : Command). is_in_group c ≡ false) is off))
+or_first : (a b : Bool) → a ≡ false → (a || b) ≡ true → b ≡ true
+or_first true b off is = no_way (sym off)
+or_first false b off is = is
 
-no_commit : (command : Command) → is_commit command ≡ false → command ≡ cmd.Sync → ⊥
-no_commit command off is = no_way (sym (subst (λ (c : Command). is_commit c ≡ false) is off))
+or_second : (a b : Bool) → b ≡ true → (a || b) ≡ true
+or_second true b is = refl
+or_second false b is = is
+
+no_refusal : (answer : Reply) → IsDone answer → is_refusal answer ≡ false
+no_refusal (reply.No r) done = absurd done
+no_refusal answer done = refl
 
 closing_export : (command : Command) (answer : Reply) → is_closing command (Ok (Some answer)) ≡ true → command ≡ cmd.Export
-closing_export (cmd.Create name guid devs) answer is = no_way is
-closing_export (cmd.CreateOld name guid devs) answer is = no_way is
-closing_export cmd.Import answer is = no_way is
-closing_export cmd.ImportRewind answer is = no_way is
-closing_export (cmd.ImportTxg txg) answer is = no_way is
 closing_export cmd.Export answer is = refl
-closing_export (cmd.Make id units) answer is = no_way is
-closing_export (cmd.Drop id) answer is = no_way is
-closing_export (cmd.Write id off bytes) answer is = no_way is
-closing_export (cmd.Fill id off len byte) answer is = no_way is
-closing_export (cmd.Punch id off len) answer is = no_way is
-closing_export (cmd.Read id off len) answer is = no_way is
-closing_export (cmd.Sum id) answer is = no_way is
-closing_export cmd.Sync answer is = no_way is
-closing_export (cmd.Add dev) answer is = no_way is
-closing_export (cmd.Remove dev) answer is = no_way is
-closing_export (cmd.Estimate dev) answer is = no_way is
-closing_export cmd.Cancel answer is = no_way is
-closing_export cmd.Checkpoint answer is = no_way is
-closing_export cmd.Discard answer is = no_way is
-closing_export cmd.StepEvac answer is = no_way is
-closing_export cmd.StepDiscard answer is = no_way is
-closing_export cmd.StepCondense answer is = no_way is
-closing_export cmd.List answer is = no_way is
-closing_export cmd.Status answer is = no_way is
-closing_export (cmd.Map index) answer is = no_way is
-closing_export cmd.Audit answer is = no_way is
-closing_export cmd.Upgrade answer is = no_way is
-closing_export cmd.Quit answer is = no_way is
+closing_export command answer is = no_way is
 
 known_some : (state : DeviceState) → is_some state.behind ≡ true → is_known state ≡ true
 known_some state some = ap (λ (b : Bool). if b then true else state.shown && serves state.account) some
@@ -203,40 +217,14 @@ known_shown state none known = both state.shown (serves state.account) (sym (ap 
     both true false is = no_way is
     both false b is = no_way is
 
-synced_no : {P : Type 0} (n : Refusal) (txg : ℕ) → reply.No n ≡ reply.Synced txg → P
-synced_no n txg e = absurd cc
-
 -- a table is no line on objects
 pub off_objects : (command : Command) → is_table command ≡ true → is_on_objects command ≡ false
-off_objects (cmd.Create name guid devs) table = refl
-off_objects (cmd.CreateOld name guid devs) table = refl
-off_objects cmd.Import table = refl
-off_objects cmd.ImportRewind table = refl
-off_objects (cmd.ImportTxg txg) table = refl
-off_objects cmd.Export table = refl
-off_objects (cmd.Make id units) table = absurd cc
-off_objects (cmd.Drop id) table = absurd cc
-off_objects (cmd.Write id off bytes) table = absurd cc
-off_objects (cmd.Fill id off len byte) table = absurd cc
-off_objects (cmd.Punch id off len) table = absurd cc
-off_objects (cmd.Read id off len) table = absurd cc
-off_objects (cmd.Sum id) table = absurd cc
-off_objects cmd.Sync table = refl
-off_objects (cmd.Add dev) table = refl
-off_objects (cmd.Remove dev) table = refl
-off_objects (cmd.Estimate dev) table = refl
-off_objects cmd.Cancel table = refl
-off_objects cmd.Checkpoint table = refl
-off_objects cmd.Discard table = refl
-off_objects cmd.StepEvac table = refl
-off_objects cmd.StepDiscard table = refl
-off_objects cmd.StepCondense table = refl
 off_objects cmd.List table = refl
 off_objects cmd.Status table = refl
-off_objects (cmd.Map index) table = refl
 off_objects cmd.Audit table = refl
-off_objects cmd.Upgrade table = refl
-off_objects cmd.Quit table = refl
+off_objects (cmd.Estimate dev) table = refl
+off_objects (cmd.Map index) table = refl
+off_objects command table = no_way table
 
 -- ---- where a pool is open
 
@@ -250,6 +238,16 @@ module _ (old new : World) (before : DeviceState) (command : Command) (x y : Ope
 
   not_opened : (s : ShelfPart) (pool : Option OpenPool) → before.account ≡ None → command ≡ cmd.Import → serves pool ≡ true → (p : PoolState) → s ≡ Is p → ⊥
   not_opened s pool none import serve p told = is_open none
+
+  group_leaves : (answer : Reply) → is_in_group command ≡ true → leaves_told before.account answer command ≡ true
+  group_leaves answer group = subst (λ (o : Option OpenPool). leaves_told o answer command ≡ true) (sym account) (or_second (is_refusal answer) (is_in_group command) group)
+
+  refused_leaves : (n : Refusal) → leaves_told before.account (reply.No n) command ≡ true
+  refused_leaves n = subst (λ (o : Option OpenPool). leaves_told o (reply.No n) command ≡ true) (sym account) refl
+
+  -- what is done leaves it told only in the group
+  done_leaves : (answer : Reply) → IsDone answer → leaves_told before.account answer command ≡ true → is_in_group command ≡ true
+  done_leaves answer done leaves = or_first (is_refusal answer) (is_in_group command) (no_refusal answer done) (subst (λ (o : Option OpenPool). leaves_told o answer command ≡ true) account leaves)
 
   -- what is told is held
   held : (p : PoolState) → before.told.shelf ≡ Is p → HoldsState (Unit {0}) old.now.seen x p
@@ -269,46 +267,76 @@ module _ (old new : World) (before : DeviceState) (command : Command) (x y : Ope
           let last = was_shown both.0 in
           shown_behind sizes false last.root x y p.objects old new lawful last.from sized_old last.newest (in_service x (sym (ap serves account) ∙ both.1)) ends
 
+  -- the disks show the last root before a commit of what is told
+  known_last : is_known before ≡ true → ShowsLast old.now.seen x
+  known_last known = by_last before.behind refl
+    where
+      by_last : (o : Option Objects) → before.behind ≡ o → ShowsLast old.now.seen x
+      by_last (Some objects) is = behind_last sizes objects x old.now (stood objects is)
+      by_last None is = was_shown (known_shown before is known).0
+
   module _ (now_told : ShelfPart) where
     -- a line that stays in one group
-    line_told : (answer : Reply) (p : PoolState) → before.told.shelf ≡ Is p → ((txg : ℕ) → command ≡ cmd.Sync → answer ≡ reply.Synced txg → ⊥) → StaysInOneGroup sizes p.objects x y old new → Behinds new before command now_told (Some y) answer
-    line_told answer p told no_sync stays = by_last before.behind refl
+    line_told : (answer : Reply) (p : PoolState) → before.told.shelf ≡ Is p → leaves_told before.account answer command ≡ true → (is_resetting command ≡ true → is_refusal answer ≡ false → ⊥) → (is_acknowledged answer command ≡ true → ⊥) → StaysTold sizes p.objects x y old new → Behinds new before command now_told (Some y) answer
+    line_told answer p told leaves no_reset no_commit stays = by_last before.behind refl
       where
         by_last : (o : Option Objects) → before.behind ≡ o → Behinds new before command now_told (Some y) answer
-        by_last None is = untold new before command now_told (Some y) answer (not_made (Some y)) (not_opened now_told (Some y)) (λ q told_q some group open_still. no_way (sym (ap (λ (o : Option Objects). is_some o) is) ∙ some)) (λ q txg told_q known sync answered. no_sync txg sync answered)
+        by_last None is = untold new before command now_told (Some y) answer (not_made (Some y)) (not_opened now_told (Some y)) (λ q told_q some left. no_way (sym (ap (λ (o : Option Objects). is_some o) is) ∙ some)) (λ q told_q known on done serve. no_reset on done) (λ q told_q known acknowledged. no_commit acknowledged)
         by_last (Some objects) is =
-            let c = one_group_behind sizes objects p.objects x old (stood objects is) lawful y new stays in
-            told_behind new before command now_told y answer p c.all is_open told
+            let c = told_still sizes objects p.objects x old (stood objects is) lawful y new stays in
+            told_behind new before command now_told (Some y) answer p c.all (λ none create done. is_open none) (λ none import done. is_open none) told
             (elim c.which [
-              | inl same ↦ inl (is ∙ ap Some (sym same))
-              | inr same ↦ inr same
+              | inl same ↦ kept p told leaves (is ∙ ap Some (sym same))
+              | inr same ↦ committed leaves (p, told, sym same)
             ])
-            (to_disks sizes c.all y new.now sized_new c.behind) (λ txg sync answered. absurd (no_sync txg sync answered))
+            (to_disks sizes c.all y new.now sized_new c.behind) (λ on done. absurd (no_reset on done)) (λ acknowledged. absurd (no_commit acknowledged))
 
-    -- a `sync`
-    sync_told : (answer : Reply) (p : PoolState) → before.told.shelf ≡ Is p → EndsCommitted sizes false x y p.objects old new → Behinds new before command now_told (Some y) answer
-    sync_told answer p told ends = by_known (is_known before) refl
+    -- a `sync`, or an `export`, behind which the pool is closed
+    commit_told : (pool : Option OpenPool) (answer : Reply) (p : PoolState) → before.told.shelf ≡ Is p → leaves_told before.account answer command ≡ true → (is_resetting command ≡ true → ⊥) → EndsCommitted sizes false x y p.objects old new → (StandsBehind sizes p.objects y new.now → IsBehind pool (disks_of new.now) p.objects) → Behinds new before command now_told pool answer
+    commit_told pool answer p told leaves no_reset ends to = by_known (is_known before) refl
       where
-        by_known : (b : Bool) → is_known before ≡ b → Behinds new before command now_told (Some y) answer
-        by_known true known = told_behind new before command now_told y answer p p.objects is_open told (inr refl) (to_disks sizes p.objects y new.now sized_new (commit_stands p known ends)) (λ txg sync answered. refl)
-        by_known false known = untold new before command now_told (Some y) answer (not_made (Some y)) (not_opened now_told (Some y)) (λ q told_q some group open_still. no_way (sym known ∙ known_some before some)) (λ q txg told_q knows sync answered. no_way (sym known ∙ knows))
+        by_known : (b : Bool) → is_known before ≡ b → Behinds new before command now_told pool answer
+        by_known true known = told_behind new before command now_told pool answer p p.objects (λ none create done. is_open none) (λ none import done. is_open none) told (committed leaves (p, told, refl)) (to (commit_stands p known ends)) (λ on done. refl) (λ acknowledged. refl)
+        by_known false known = untold new before command now_told pool answer (not_made pool) (not_opened now_told pool) (λ q told_q some left. no_way (sym known ∙ known_some before some)) (λ q told_q knows on done serve. no_reset on) (λ q told_q knows acknowledged. no_way (sym known ∙ knows))
 
-    pub open_behinds : (r : Result (Option Reply) Fault) → (is_in_group command ≡ true → (p : PoolState) → HoldsState (Unit {0}) old.now.seen x p → OnOk r (StaysInOneGroup sizes p.objects x y old new))
-        → (is_in_group command ≡ true → (p : PoolState) → HoldsState (Unit {0}) old.now.seen x p → (n : Refusal) → r ≡ Err (No n) → StaysInOneGroup sizes p.objects x y old new)
+    pub open_behinds : (r : Result (Option Reply) Fault) → IfOk r (λ answered. IfSome answered IsDone) → OnOk r (IsOpen sizes y) → (is_resetting command ≡ true → OnOk r (KeepsLast old new x y)) → (is_resetting command ≡ true → (p : PoolState) → HoldsState (Unit {0}) old.now.seen x p → OnOk r (HasReset y new.now p.objects)) → (is_in_group command ≡ true → (p : PoolState) → HoldsState (Unit {0}) old.now.seen x p → OnOk r (StaysTold sizes p.objects x y old new))
+        → ((p : PoolState) → HoldsState (Unit {0}) old.now.seen x p → (n : Refusal) → r ≡ Err (No n) → StaysInOneGroup sizes p.objects x y old new)
         → (is_commit command ≡ true → (p : PoolState) → HoldsState (Unit {0}) old.now.seen x p → OnOk r (EndsCommitted sizes false x y p.objects old new))
-        → IfOk (answer_of r) (λ found. IfSome found (λ answer. Behinds new before command now_told (left_of (is_closing command r) y) answer))
-    open_behinds (Ok None) one one_no commits = tt
-    open_behinds (Ok (Some answer)) one one_no commits = by_closing (is_closing command (Ok (Some answer))) refl
+        → IfOk (answer_of r) (λ answered. IfSome answered (λ answer. Behinds new before command now_told (left_of (is_closing command r) y) answer))
+    open_behinds (Ok None) done ready keeps resets one one_no commits = tt
+    open_behinds (Ok (Some answer)) done ready keeps resets one one_no commits = by_closing (is_closing command (Ok (Some answer))) refl
       where
-        untold_off : (pool : Option OpenPool) → is_in_group command ≡ false → Behinds new before command now_told pool answer
-        untold_off pool off = untold new before command now_told pool answer (not_made pool) (not_opened now_told pool) (λ p told some group open_still. no_way (sym off ∙ group)) (λ p txg told known sync answered. no_group command off sync)
+        untold_off : is_in_group command ≡ false → ((p : PoolState) → before.told.shelf ≡ Is p → is_known before ≡ true → is_resetting command ≡ true → serves (Some y) ≡ true → ⊥) → Behinds new before command now_told (Some y) answer
+        untold_off off none =
+            untold new before command now_told (Some y) answer (not_made (Some y)) (not_opened now_told (Some y)) (λ p told some leaves. no_way (sym off ∙ done_leaves answer done leaves)) (λ p told known on is_done serve. none p told known on serve)
+            (λ p told known acknowledged. no_way (sym off ∙ commits_in_group command (acknowledged_commits answer command acknowledged)))
+
+        -- a line that ended with a reset
+        reset_told : is_in_group command ≡ false → is_resetting command ≡ true → (p : PoolState) → before.told.shelf ≡ Is p → is_known before ≡ true → serves (Some y) ≡ true → Behinds new before command now_told (Some y) answer
+        reset_told off on p told known serve =
+            told_behind new before command now_told (Some y) answer p p.objects (λ none create is_done. is_open none) (λ none import is_done. is_open none) told (changed on (no_refusal answer done) (p, told, refl))
+            (to_disks sizes p.objects y new.now sized_new (reset_behind sizes p.objects y new.now (keeps on (known_last known)) ready sized_new (resets on p (held p told)) (in_service y serve))) (λ also is_done. refl) (λ acknowledged. refl)
+
+        reset_known : is_in_group command ≡ false → is_resetting command ≡ true → (p : PoolState) → before.told.shelf ≡ Is p → (a b : Bool) → is_known before ≡ a → serves (Some y) ≡ b → Behinds new before command now_told (Some y) answer
+        reset_known off on p told true true known serve = reset_told off on p told known serve
+        reset_known off on p told false b known serve = untold_off off (λ q told_q knows also serves_all. no_way (sym known ∙ knows))
+        reset_known off on p told true false known out = untold_off off (λ q told_q knows also serves_all. no_way (sym out ∙ serves_all))
+
+        reset_part : is_in_group command ≡ false → is_resetting command ≡ true → (s : ShelfPart) → before.told.shelf ≡ s → Behinds new before command now_told (Some y) answer
+        reset_part off on (Is p) told = reset_known off on p told (is_known before) (serves (Some y)) refl refl
+        reset_part off on Empty told = untold_off off (λ p is known also serve. let both = sym told ∙ is in absurd cc)
+        reset_part off on (Refused r) told = untold_off off (λ p is known also serve. let both = sym told ∙ is in absurd cc)
+
+        by_reset : (b : Bool) → is_resetting command ≡ b → is_in_group command ≡ false → Behinds new before command now_told (Some y) answer
+        by_reset true on off = reset_part off on before.told.shelf refl
+        by_reset false not_on off = untold_off off (λ p told known on serve. no_way (sym not_on ∙ on))
 
         untold_part : (pool : Option OpenPool) → ((p : PoolState) → before.told.shelf ≡ Is p → ⊥) → Behinds new before command now_told pool answer
-        untold_part pool none = untold new before command now_told pool answer (not_made pool) (not_opened now_told pool) (λ p told some group open_still. none p told) (λ p txg told known sync answered. none p told)
+        untold_part pool none = untold new before command now_told pool answer (not_made pool) (not_opened now_told pool) (λ p told some leaves. none p told) (λ p told known on is_done serve. none p told) (λ p told known acknowledged. none p told)
 
         by_commit : (b : Bool) → is_commit command ≡ b → is_in_group command ≡ true → (p : PoolState) → before.told.shelf ≡ Is p → Behinds new before command now_told (Some y) answer
-        by_commit true ends group p told = sync_told answer p told (commits ends p (held p told))
-        by_commit false ends group p told = line_told answer p told (λ txg sync answered. no_commit command ends sync) (one group p (held p told))
+        by_commit true ends group p told = commit_told (Some y) answer p told (group_leaves answer group) (λ on. not_resetting command on group) (commits ends p (held p told)) (to_disks sizes p.objects y new.now sized_new)
+        by_commit false ends group p told = line_told answer p told (group_leaves answer group) (λ on is_done. not_resetting command on group) (λ acknowledged. no_way (sym ends ∙ acknowledged_commits answer command acknowledged)) (one group p (held p told))
 
         by_part : (s : ShelfPart) → before.told.shelf ≡ s → is_in_group command ≡ true → Behinds new before command now_told (Some y) answer
         by_part (Is p) told group = by_commit (is_commit command) refl group p told
@@ -317,27 +345,29 @@ module _ (old new : World) (before : DeviceState) (command : Command) (x y : Ope
 
         by_group : (b : Bool) → is_in_group command ≡ b → Behinds new before command now_told (Some y) answer
         by_group true group = by_part before.told.shelf refl group
-        by_group false off = untold_off (Some y) off
+        by_group false off = by_reset (is_resetting command) refl off
+
+        by_export : command ≡ cmd.Export → (s : ShelfPart) → before.told.shelf ≡ s → Behinds new before command now_told None answer
+        by_export exports (Is p) told =
+            let ends = commits (subst (λ (c : Command). is_commit c ≡ true) (sym exports) refl) p (held p told) in
+            let group = subst (λ (c : Command). is_in_group c ≡ true) (sym exports) refl in
+            commit_told None answer p told (group_leaves answer group) (λ on. not_resetting command on group) ends (λ stands. closed_behind sizes false x y p.objects old new lawful ends (to_disks sizes p.objects y new.now sized_new stands))
+        by_export exports Empty told = untold_part None (λ p is. let both = sym told ∙ is in absurd cc)
+        by_export exports (Refused r) told = untold_part None (λ p is. let both = sym told ∙ is in absurd cc)
 
         by_closing : (b : Bool) → is_closing command (Ok (Some answer)) ≡ b → Behinds new before command now_told (left_of b y) answer
-        by_closing true is =
-            let exports = closing_export command answer is in
-            untold new before command now_told None answer (not_made None) (not_opened now_told None) (λ p told some group open_still. open_still exports) (λ p txg told known sync answered. let both = sym exports ∙ sync in absurd cc)
+        by_closing true is = by_export (closing_export command answer is) before.told.shelf refl
         by_closing false is = by_group (is_in_group command) refl
-    open_behinds (Err (No n)) one one_no commits = by_group (is_in_group command) refl
+    open_behinds (Err (No n)) done ready keeps resets one one_no commits = by_part before.told.shelf refl
       where
-        no_sync : (txg : ℕ) → command ≡ cmd.Sync → reply.No n ≡ reply.Synced txg → ⊥
-        no_sync txg sync answered = synced_no n txg answered
+        untold_no : ((p : PoolState) → before.told.shelf ≡ Is p → ⊥) → Behinds new before command now_told (Some y) (reply.No n)
+        untold_no none = untold new before command now_told (Some y) (reply.No n) (not_made (Some y)) (not_opened now_told (Some y)) (λ p told some leaves. none p told) (λ p told known on is_done serve. no_way (sym is_done)) (λ p told known acknowledged. no_way acknowledged)
 
-        by_part : (s : ShelfPart) → before.told.shelf ≡ s → is_in_group command ≡ true → Behinds new before command now_told (Some y) (reply.No n)
-        by_part (Is p) told group = line_told (reply.No n) p told no_sync (one_no group p (held p told) n refl)
-        by_part Empty told group = untold new before command now_told (Some y) (reply.No n) (not_made (Some y)) (not_opened now_told (Some y)) (λ p is some on open_still. let both = sym told ∙ is in absurd cc) (λ p txg is known sync answered. no_sync txg sync answered)
-        by_part (Refused r) told group = untold new before command now_told (Some y) (reply.No n) (not_made (Some y)) (not_opened now_told (Some y)) (λ p is some on open_still. let both = sym told ∙ is in absurd cc) (λ p txg is known sync answered. no_sync txg sync answered)
-
-        by_group : (b : Bool) → is_in_group command ≡ b → Behinds new before command now_told (Some y) (reply.No n)
-        by_group true group = by_part before.told.shelf refl group
-        by_group false off = untold new before command now_told (Some y) (reply.No n) (not_made (Some y)) (not_opened now_told (Some y)) (λ p told some group open_still. no_way (sym off ∙ group)) (λ p txg told known sync answered. no_sync txg sync answered)
-    open_behinds (Err (Stops s)) one one_no commits = tt
+        by_part : (s : ShelfPart) → before.told.shelf ≡ s → Behinds new before command now_told (Some y) (reply.No n)
+        by_part (Is p) told = line_told (reply.No n) p told (refused_leaves n) (λ on is_done. no_way (sym is_done)) (λ acknowledged. no_way acknowledged) (inl (one_no p (held p told) n refl))
+        by_part Empty told = untold_no (λ p is. let both = sym told ∙ is in absurd cc)
+        by_part (Refused r) told = untold_no (λ p is. let both = sym told ∙ is in absurd cc)
+    open_behinds (Err (Stops s)) done ready keeps resets one one_no commits = tt
 
   -- ---- the moments of a line
 
@@ -347,19 +377,20 @@ module _ (old new : World) (before : DeviceState) (command : Command) (x y : Ope
   at_table : (s : Stand) → (is_table command ≡ true → s.seen ≡ old.now.seen) → IfSome before.account (λ pool. is_table command ≡ true → s.seen ≡ old.now.seen)
   at_table s h = subst (λ (o : Option OpenPool). IfSome o (λ pool. is_table command ≡ true → s.seen ≡ old.now.seen)) (sym account) h
 
-  pub open_within : (is_table command ≡ true → IsStill old new) → WorksOnDisks old new → (is_in_group command ≡ true → (p : PoolState) → HoldsState (Unit {0}) old.now.seen x p → WritesInOneGroup sizes p.objects x old new) → Throughout Within old new
-  open_within still works writes = by_table (is_table command) refl
+  pub open_within : (is_table command ≡ true → IsStill old new) → WorksOnDisks old new → (is_in_group command ≡ true → (p : PoolState) → HoldsState (Unit {0}) old.now.seen x p → WritesInOneGroup sizes p.objects x old new)
+      → (resets_once command ≡ true → (p : PoolState) → HoldsState (Unit {0}) old.now.seen x p → WritesReset sizes p.objects x old new) → Throughout Within old new
+  open_within nothing_done works writes resets = by_table (is_table command) refl
     where
       -- what was committed shows all the time
       still_shows : (objects : Objects) (q : PoolState) → before.behind ≡ Some objects → LeavesEither objects q.objects (disks_of old.now)
       still_shows objects q is = leaves_there objects q.objects old.now (first_of objects q.objects old.now (behind_shows sizes objects x old.now (stood objects is)))
 
-      nothing : is_table command ≡ false → ((objects : Objects) (q : PoolState) → before.behind ≡ Some objects → before.told.shelf ≡ Is q → is_in_group command ≡ true → ⊥) → Throughout Within old new
-      nothing off none = weaker _ Within old new (λ s _. record { tables = at_table s (λ on. no_way (sym off ∙ on)); shows = λ objects q is told group. absurd (none objects q is told group) }) (keeps_outside old new works).since
+      nothing : is_table command ≡ false → ((objects : Objects) (q : PoolState) → before.behind ≡ Some objects → before.told.shelf ≡ Is q → may_stop command ≡ true → ⊥) → Throughout Within old new
+      nothing off none = weaker _ Within old new (λ s _. record { tables = at_table s (λ on. no_way (sym off ∙ on)); shows = λ objects q is told group. absurd (none objects q is told group); opens = λ objects closed is off_making. absurd (is_open closed) }) (keeps_outside old new works).since
 
-      by_part : (o : Option Objects) (s : ShelfPart) → before.behind ≡ o → before.told.shelf ≡ s → is_table command ≡ false → is_in_group command ≡ true → Throughout Within old new
-      by_part None s is told off group = nothing off (λ objects q also told_q on. none_some objects (sym is ∙ also))
-      by_part (Some objects) (Is p) is told off group =
+      by_part : (o : Option Objects) (s : ShelfPart) → before.behind ≡ o → before.told.shelf ≡ s → is_table command ≡ false → ((objects : Objects) → before.behind ≡ Some objects → (p : PoolState) → before.told.shelf ≡ Is p → Throughout (ShowsEither objects p.objects) old new) → Throughout Within old new
+      by_part None s is told off shown = nothing off (λ objects q also told_q on. none_some objects (sym is ∙ also))
+      by_part (Some objects) (Is p) is told off shown =
           weaker (ShowsEither objects p.objects) Within old new
           (λ s shows. record {
             tables = at_table s (λ on. no_way (sym off ∙ on));
@@ -367,14 +398,19 @@ module _ (old new : World) (before : DeviceState) (command : Command) (x y : Ope
                 let first : objects ≡ all = (let both = sym is ∙ also in cc) in
                 let second : p ≡ q = (let both = sym told ∙ told_q in cc) in
                 subst (λ (r : PoolState). LeavesEither all r.objects (disks_of s)) second (subst (λ (a : Objects). LeavesEither a p.objects (disks_of s)) first (leaves_there objects p.objects s shows));
+            opens = λ all closed also off_making. absurd (is_open closed);
           })
-          (writes_show sizes objects p.objects x old (stood objects is) lawful new (writes group p (held p told)))
-      by_part (Some objects) Empty is told off group = nothing off (λ all q also told_q on. let both = sym told ∙ told_q in absurd cc)
-      by_part (Some objects) (Refused r) is told off group = nothing off (λ all q also told_q on. let both = sym told ∙ told_q in absurd cc)
+          (shown objects is p told)
+      by_part (Some objects) Empty is told off shown = nothing off (λ all q also told_q on. let both = sym told ∙ told_q in absurd cc)
+      by_part (Some objects) (Refused r) is told off shown = nothing off (λ all q also told_q on. let both = sym told ∙ told_q in absurd cc)
+
+      by_reset : (b : Bool) → resets_once command ≡ b → is_in_group command ≡ false → is_table command ≡ false → Throughout Within old new
+      by_reset true once out off = by_part before.behind before.told.shelf refl refl off (λ objects is p told. reset_shows sizes objects p.objects x old (stood objects is) lawful new (resets once p (held p told)))
+      by_reset false none out off = nothing off (λ objects q is told may. no_way (sym none ∙ or_first (is_in_group command) (resets_once command) out may))
 
       by_group : (b : Bool) → is_in_group command ≡ b → is_table command ≡ false → Throughout Within old new
-      by_group true group off = by_part before.behind before.told.shelf refl refl off group
-      by_group false out off = nothing off (λ objects q is told on. no_way (sym out ∙ on))
+      by_group true group off = by_part before.behind before.told.shelf refl refl off (λ objects is p told. writes_show sizes objects p.objects x old (stood objects is) lawful new (writes group p (held p told)))
+      by_group false out off = by_reset (resets_once command) refl out off
 
       by_table : (b : Bool) → is_table command ≡ b → Throughout Within old new
       by_table true on =
@@ -382,8 +418,9 @@ module _ (old new : World) (before : DeviceState) (command : Command) (x y : Ope
           (λ s same. record {
             tables = at_table s (λ _. ap (λ (t : Stand). t.seen) same);
             shows = λ objects q is told group. subst (λ (t : Stand). LeavesEither objects q.objects (disks_of t)) (sym same) (still_shows objects q is);
+            opens = λ objects closed is off_making. absurd (is_open closed);
           })
-          (still on).since
+          (nothing_done on).since
       by_table false off = by_group (is_in_group command) refl off
 
 -- ---- where none is open
@@ -396,113 +433,138 @@ which_import cmd.Import = inl refl
 which_import command = inr (λ is. cc)
 
 module _ (old new : World) (before : DeviceState) (command : Command) (account : before.account ≡ None) (was : IfSome before.behind (IsBehind None (disks_of old.now))) where
-  not_behind : (objects : Objects) → before.behind ≡ Some objects → ⊥
-  not_behind objects is = subst (λ (o : Option Objects). IfSome o (IsBehind None (disks_of old.now))) is was
+  closed_at : (objects : Objects) → before.behind ≡ Some objects → IsClosedBehind (disks_of old.now) objects
+  closed_at objects is = subst (λ (o : Option Objects). IfSome o (IsBehind None (disks_of old.now))) is was
 
-  none_behind : is_some before.behind ≡ true → ⊥
-  none_behind some = by_last before.behind refl
-    where
-      by_last : (o : Option Objects) → before.behind ≡ o → ⊥
-      by_last None is = no_way (sym (ap (λ (p : Option Objects). is_some p) is) ∙ some)
-      by_last (Some objects) is = not_behind objects is
+  leaves_closed : (n : Refusal) → is_making command ≡ false → leaves_told before.account (reply.No n) command ≡ true
+  leaves_closed n off = subst (λ (o : Option OpenPool). leaves_told o (reply.No n) command ≡ true) (sym account) (ap not off)
 
-  not_known : is_known before ≡ true → ⊥
-  not_known known = by_last before.behind refl
-    where
-      by_last : (o : Option Objects) → before.behind ≡ o → ⊥
-      by_last None is = no_way (sym (ap serves account) ∙ (known_shown before is known).1)
-      by_last (Some objects) is = not_behind objects is
+  left_closed : (n : Refusal) → leaves_told before.account (reply.No n) command ≡ true → not (is_making command) ≡ true
+  left_closed n leaves = subst (λ (o : Option OpenPool). leaves_told o (reply.No n) command ≡ true) account leaves
+
+  -- what is done here does not leave it told
+  none_left : leaves_told before.account reply.Done command ≡ true → ⊥
+  none_left leaves = no_way (subst (λ (o : Option OpenPool). leaves_told o reply.Done command ≡ true) account leaves)
 
   module _ (now_told : ShelfPart) where
-    -- nothing is told behind a line that makes no pool of devices in service, and imports none
-    closed_untold : (pool : Option OpenPool) (answer : Reply) → (is_create command ≡ true → serves pool ≡ true → ⊥) → (command ≡ cmd.Import → serves pool ≡ true → (p : PoolState) → now_told ≡ Is p → ⊥) → Behinds new before command now_told pool answer
-    closed_untold pool answer makes opens =
-        untold new before command now_told pool answer (λ none create serve. makes create serve) (λ none import serve p told. opens import serve p told) (λ p told some group open_still. none_behind some) (λ p txg told known sync answered. not_known known)
+    module _ (opens : is_opener command ≡ true) where
+      -- nothing is told behind a line that makes no pool of devices in service, and imports none
+      closed_untold : (pool : Option OpenPool) → (is_create command ≡ true → serves pool ≡ true → ⊥) → (command ≡ cmd.Import → serves pool ≡ true → (p : PoolState) → now_told ≡ Is p → ⊥) → Behinds new before command now_told pool reply.Done
+      closed_untold pool makes imports =
+          untold new before command now_told pool reply.Done (λ none create serve. makes create serve) (λ none import serve p told. imports import serve p told) (λ p told some leaves. none_left leaves) (λ p told known on done serve. opens_no_reset command opens on) (λ p told known acknowledged. opens_no_commit command opens acknowledged)
 
-    made : (sizes : List ℕ) (y : OpenPool) (answer : Reply) → is_create command ≡ true → serves (Some y) ≡ true → ComesCommitted sizes y map.empty new → ShowsLast new.now.seen y → map length new.now.seen ≡ sizes → Behinds new before command now_told (Some y) answer
-    made sizes y answer create serve comes shows sized = record {
-      behind = Some map.empty;
-      stands = to_disks sizes map.empty y new.now sized (made_behind sizes y map.empty new comes shows sized (in_service y serve));
-      turn = record {
-        from = λ objects is. inr (inr (inl (create, let same : map.empty ≡ objects = cc in sym same)));
-        makes = λ none also done serves_all. refl;
-        opens = λ none import done serves_all p told. absurd (no_import command create import);
-        keeps = λ p told some group open_still. absurd (none_behind some);
-        syncs = λ p txg told known sync answered. absurd (not_known known);
-      };
-    }
+      was_made : (sizes : List ℕ) (y : OpenPool) → is_create command ≡ true → serves (Some y) ≡ true → ComesCommitted sizes y map.empty new → ShowsLast new.now.seen y → map length new.now.seen ≡ sizes → Behinds new before command now_told (Some y) reply.Done
+      was_made sizes y create serve comes shows sized = record {
+        behind = Some map.empty;
+        stands = to_disks sizes map.empty y new.now sized (made_behind sizes y map.empty new comes shows sized (in_service y serve));
+        turn = record {
+          from = λ objects is. made create refl (let same : map.empty ≡ objects = cc in sym same);
+          makes = λ none also done serves_all. refl;
+          opens = λ none import done serves_all p told. absurd (no_import command create import);
+          keeps = λ p told some leaves. absurd (none_left leaves);
+          resets = λ p told known on done serves_all. absurd (opens_no_reset command opens on);
+          commits = λ p told known acknowledged. absurd (opens_no_commit command opens acknowledged);
+        };
+      }
 
-    -- a pool that was imported is as it was found
-    imported : (sizes : List ℕ) (tells : Type 0) → tells → (y : OpenPool) (answer : Reply) → command ≡ cmd.Import → serves (Some y) ≡ true → IsJustOpened sizes tells new.now y → map length new.now.seen ≡ sizes → (p : PoolState) → now_told ≡ Is p → HoldsState (Unit {0}) new.now.seen y p
-        → Behinds new before command now_told (Some y) answer
-    imported sizes tells is_told y answer import serve opened sized p told held = record {
-      behind = Some p.objects;
-      stands = to_disks sizes p.objects y new.now sized (opened_behind sizes tells is_told p.objects y new.now opened held.objects (in_service y serve));
-      turn = record {
-        from = λ objects is. inr (inr (inr (import, (p, told, let same : p.objects ≡ objects = cc in same))));
-        makes = λ none create done serves_all. absurd (no_import command create import);
-        opens = λ none also done serves_all q told_q. let same : p ≡ q = (let both = sym told ∙ told_q in cc) in ap (λ (r : PoolState). Some r.objects) same;
-        keeps = λ q told_q some group open_still. absurd (none_behind some);
-        syncs = λ q txg told_q known sync answered. absurd (not_known known);
-      };
-    }
+      -- a pool that was imported is as it was found
+      was_found : (sizes : List ℕ) (tells : Type 0) → tells → (y : OpenPool) → command ≡ cmd.Import → serves (Some y) ≡ true → IsJustOpened sizes tells new.now y → map length new.now.seen ≡ sizes → (p : PoolState) → now_told ≡ Is p → HoldsState (Unit {0}) new.now.seen y p
+          → Behinds new before command now_told (Some y) reply.Done
+      was_found sizes tells is_told y import serve opened sized p told held = record {
+        behind = Some p.objects;
+        stands = to_disks sizes p.objects y new.now sized (opened_behind sizes tells is_told p.objects y new.now opened held.objects (in_service y serve));
+        turn = record {
+          from = λ objects is. found import refl (p, told, let same : p.objects ≡ objects = cc in same);
+          makes = λ none create done serves_all. absurd (no_import command create import);
+          opens = λ none also done serves_all q told_q. let same : p ≡ q = (let both = sym told ∙ told_q in cc) in ap (λ (r : PoolState). Some r.objects) same;
+          keeps = λ q told_q some leaves. absurd (none_left leaves);
+          resets = λ q told_q known on done serves_all. absurd (opens_no_reset command opens on);
+          commits = λ q told_q known acknowledged. absurd (opens_no_commit command opens acknowledged);
+        };
+      }
 
-    module _ (sizes : List ℕ) (tells : Type 0) (is_told : tells) (sized : map length new.now.seen ≡ sizes) (answer : Reply) where
-      -- a pool that was made
-      by_serve : (y : OpenPool) (b : Bool) → serves (Some y) ≡ b → is_create command ≡ true → ComesCommitted sizes y map.empty new → ShowsLast new.now.seen y → Behinds new before command now_told (Some y) answer
-      by_serve y true serve create comes shows = made sizes y answer create serve comes shows sized
-      by_serve y false out create comes shows = closed_untold (Some y) answer (λ also serve. no_way (sym out ∙ serve)) (λ import serve p told. no_way (sym out ∙ serve))
+      module _ (sizes : List ℕ) (tells : Type 0) (is_told : tells) (sized : map length new.now.seen ≡ sizes) where
+        -- a pool that was made
+        by_serve : (y : OpenPool) (b : Bool) → serves (Some y) ≡ b → is_create command ≡ true → ComesCommitted sizes y map.empty new → ShowsLast new.now.seen y → Behinds new before command now_told (Some y) reply.Done
+        by_serve y true serve create comes shows = was_made sizes y create serve comes shows sized
+        by_serve y false out create comes shows = closed_untold (Some y) (λ also serve. no_way (sym out ∙ serve)) (λ import serve p told. no_way (sym out ∙ serve))
 
-      -- one that was imported
-      by_part : (y : OpenPool) (s : ShelfPart) → now_told ≡ s → IsPartOf new.now.seen y s → command ≡ cmd.Import → serves (Some y) ≡ true → IsJustOpened sizes tells new.now y → Behinds new before command now_told (Some y) answer
-      by_part y (Is p) told held import serve opened = imported sizes tells is_told y answer import serve opened sized p told held
-      by_part y Empty told held import serve opened = closed_untold (Some y) answer (λ create also. no_import command create import) (λ also serve_all p is. let both = sym told ∙ is in cc)
-      by_part y (Refused r) told held import serve opened = absurd held
+        -- one that was imported
+        by_part : (y : OpenPool) (s : ShelfPart) → now_told ≡ s → IsPartOf new.now.seen y s → command ≡ cmd.Import → serves (Some y) ≡ true → IsJustOpened sizes tells new.now y → Behinds new before command now_told (Some y) reply.Done
+        by_part y (Is p) told held import serve opened = was_found sizes tells is_told y import serve opened sized p told held
+        by_part y Empty told held import serve opened = closed_untold (Some y) (λ create also. no_import command create import) (λ also serve_all p is. let both = sym told ∙ is in cc)
+        by_part y (Refused r) told held import serve opened = absurd held
 
-      by_all : (y : OpenPool) (b : Bool) → serves (Some y) ≡ b → IsPartOf new.now.seen y now_told → command ≡ cmd.Import → IsJustOpened sizes tells new.now y → Behinds new before command now_told (Some y) answer
-      by_all y true serve held import opened = by_part y now_told refl held import serve opened
-      by_all y false out held import opened = closed_untold (Some y) answer (λ create serve. no_way (sym out ∙ serve)) (λ also serve p told. no_way (sym out ∙ serve))
+        by_all : (y : OpenPool) (b : Bool) → serves (Some y) ≡ b → IsPartOf new.now.seen y now_told → command ≡ cmd.Import → IsJustOpened sizes tells new.now y → Behinds new before command now_told (Some y) reply.Done
+        by_all y true serve held import opened = by_part y now_told refl held import serve opened
+        by_all y false out held import opened = closed_untold (Some y) (λ create serve. no_way (sym out ∙ serve)) (λ also serve p told. no_way (sym out ∙ serve))
 
-      -- by what the line is
-      by_import : (y : OpenPool) → is_create command ≡ false → (command ≡ cmd.Import) ⊎ (command ≡ cmd.Import → ⊥) → (command ≡ cmd.Import → IsJustOpened sizes tells new.now y) → IsPartOf new.now.seen y now_told → Behinds new before command now_told (Some y) answer
-      by_import y other (inl import) opened held = by_all y (serves (Some y)) refl held import (opened import)
-      by_import y other (inr not) opened held = closed_untold (Some y) answer (λ create serve. no_way (sym other ∙ create)) (λ import serve p told. not import)
+        -- by what the line is
+        by_import : (y : OpenPool) → is_create command ≡ false → (command ≡ cmd.Import) ⊎ (command ≡ cmd.Import → ⊥) → (command ≡ cmd.Import → IsJustOpened sizes tells new.now y) → IsPartOf new.now.seen y now_told → Behinds new before command now_told (Some y) reply.Done
+        by_import y other (inl import) opened held = by_all y (serves (Some y)) refl held import (opened import)
+        by_import y other (inr not_import) opened held = closed_untold (Some y) (λ create serve. no_way (sym other ∙ create)) (λ import serve p told. not_import import)
 
-      by_create : (y : OpenPool) (b : Bool) → is_create command ≡ b → (is_create command ≡ true → ComesCommitted sizes y map.empty new) → (command ≡ cmd.Import → IsJustOpened sizes tells new.now y) → ShowsLast new.now.seen y → IsPartOf new.now.seen y now_told → Behinds new before command now_told (Some y) answer
-      by_create y true create comes opened shows held = by_serve y (serves (Some y)) refl create (comes create) shows
-      by_create y false other comes opened shows held = by_import y other (which_import command) opened held
+        by_create : (y : OpenPool) (b : Bool) → is_create command ≡ b → (is_create command ≡ true → ComesCommitted sizes y map.empty new) → (command ≡ cmd.Import → IsJustOpened sizes tells new.now y) → ShowsLast new.now.seen y → IsPartOf new.now.seen y now_told → Behinds new before command now_told (Some y) reply.Done
+        by_create y true create comes opened shows held = by_serve y (serves (Some y)) refl create (comes create) shows
+        by_create y false other comes opened shows held = by_import y other (which_import command) opened held
 
-      by_pool : (o : Option OpenPool) → (is_create command ≡ true → IfSome o (λ y. ComesCommitted sizes y map.empty new)) → (command ≡ cmd.Import → IfSome o (IsJustOpened sizes tells new.now)) → IfSome o (ShowsLast new.now.seen) → IfSome o (λ y. IsPartOf new.now.seen y now_told)
-          → Behinds new before command now_told o answer
-      by_pool None comes opened shows held = closed_untold None answer (λ create serve. no_way serve) (λ import serve p told. no_way serve)
-      by_pool (Some y) comes opened shows held = by_create y (is_create command) refl comes opened shows held
+        by_pool : (o : Option OpenPool) → (is_create command ≡ true → IfSome o (λ y. ComesCommitted sizes y map.empty new)) → (command ≡ cmd.Import → IfSome o (IsJustOpened sizes tells new.now)) → IfSome o (ShowsLast new.now.seen) → IfSome o (λ y. IsPartOf new.now.seen y now_told)
+            → Behinds new before command now_told o reply.Done
+        by_pool None comes opened shows held = closed_untold None (λ create serve. no_way serve) (λ import serve p told. no_way serve)
+        by_pool (Some y) comes opened shows held = by_create y (is_create command) refl comes opened shows held
+
+    -- a refusal that writes nothing leaves what is told
+    module _ (n : Refusal) (flushes : is_making command ≡ false → FlushesOnly old new) where
+      untold_no : ((p : PoolState) → before.told.shelf ≡ Is p → is_some before.behind ≡ true → leaves_told before.account (reply.No n) command ≡ true → ⊥) → Behinds new before command now_told None (reply.No n)
+      untold_no none = untold new before command now_told None (reply.No n) (λ also create serve. no_way serve) (λ also import serve p told. no_way serve) none (λ p told known on done serve. no_way serve) (λ p told known acknowledged. no_way acknowledged)
+
+      refused_part : (objects : Objects) → before.behind ≡ Some objects → is_making command ≡ false → (s : ShelfPart) → before.told.shelf ≡ s → Behinds new before command now_told None (reply.No n)
+      refused_part objects is off (Is p) told =
+          told_behind new before command now_told None (reply.No n) p objects (λ none create done. absurd (let e : reply.No n ≡ reply.Done = done in cc)) (λ none import done. absurd (let e : reply.No n ≡ reply.Done = done in cc)) told (kept p told (leaves_closed n off) is)
+          (still_closed (disks_of old.now) new.now objects (flushes_keep old new objects (closed_at objects is) (flushes off)).1 (closed_at objects is)) (λ on done. no_way (sym done)) (λ acknowledged. no_way acknowledged)
+      refused_part objects is off Empty told = untold_no (λ p also some leaves. let both = sym told ∙ also in absurd cc)
+      refused_part objects is off (Refused r) told = untold_no (λ p also some leaves. let both = sym told ∙ also in absurd cc)
+
+      refused_last : (o : Option Objects) → before.behind ≡ o → is_making command ≡ false → Behinds new before command now_told None (reply.No n)
+      refused_last None is off = untold_no (λ p told some leaves. no_way (sym (ap (λ (o : Option Objects). is_some o) is) ∙ some))
+      refused_last (Some objects) is off = refused_part objects is off before.told.shelf refl
+
+      refused_making : (b : Bool) → is_making command ≡ b → Behinds new before command now_told None (reply.No n)
+      refused_making true making = untold_no (λ p told some leaves. no_way (sym (ap not making) ∙ left_closed n leaves))
+      refused_making false off = refused_last before.behind refl off
 
     pub closed_behinds : (sizes : List ℕ) (tells : Type 0) → tells → (pool : Option OpenPool) → (is_create command ≡ true → IfSome pool (λ y. ComesCommitted sizes y map.empty new)) → (command ≡ cmd.Import → IfSome pool (IsJustOpened sizes tells new.now)) → IfSome pool (ShowsLast new.now.seen) → map length new.now.seen ≡ sizes
-        → IfSome pool (λ y. IsPartOf new.now.seen y now_told) → (r : Result (Option Reply) Fault) → IfOk (answer_of r) (λ found. IfSome found (λ answer. Behinds new before command now_told pool answer))
-    closed_behinds sizes tells is_told pool comes opened shows sized held (Ok None) = tt
-    closed_behinds sizes tells is_told pool comes opened shows sized held (Ok (Some answer)) = by_pool sizes tells is_told sized answer pool comes opened shows held
-    closed_behinds sizes tells is_told pool comes opened shows sized held (Err (No n)) = untold_no
-      where
-        untold_no : Behinds new before command now_told pool (reply.No n)
-        untold_no = record {
-          behind = None;
-          stands = tt;
-          turn = record {
-            from = λ objects is. none_some objects is;
-            makes = λ none create done serve. absurd (let e : reply.No n ≡ reply.Done = done in cc);
-            opens = λ none import done serve p told. absurd (let e : reply.No n ≡ reply.Done = done in cc);
-            keeps = λ p told some group open_still. absurd (none_behind some);
-            syncs = λ p txg told known sync answered. absurd (not_known known);
-          };
-        }
-    closed_behinds sizes tells is_told pool comes opened shows sized held (Err (Stops s)) = tt
+        → IfSome pool (λ y. IsPartOf new.now.seen y now_told) → (is_making command ≡ false → FlushesOnly old new) → (r : Result (Option Reply) Fault) → IfOk r (λ answered. IfSome answered (λ answer. IsTurn false command answer (is_some pool))) → IfOk r (λ answered. IfSome answered (λ answer. answer ≡ reply.Done)) → OnErr r (pool ≡ None)
+        → IfOk (answer_of r) (λ answered. IfSome answered (λ answer. Behinds new before command now_told pool answer))
+    closed_behinds sizes tells is_told pool comes opened shows sized held flushes (Ok None) turn done closed = tt
+    closed_behinds sizes tells is_told pool comes opened shows sized held flushes (Ok (Some answer)) turn done closed =
+        subst (λ (a : Reply). Behinds new before command now_told pool a) (sym done) (by_pool (subst (IsClosedAnswer command) done turn.0) sizes tells is_told sized pool comes opened shows held)
+    closed_behinds sizes tells is_told pool comes opened shows sized held flushes (Err (No n)) turn done closed = subst (λ (o : Option OpenPool). Behinds new before command now_told o (reply.No n)) (sym closed) (refused_making n flushes (is_making command) refl)
+    closed_behinds sizes tells is_told pool comes opened shows sized held flushes (Err (Stops s)) turn done closed = tt
 
-  -- nothing is said of the moments of a line
-  pub closed_within : WorksOnDisks old new → Throughout (λ stand. IsWithin (point old.now before) command (disks_of stand)) old new
-  closed_within works =
-      weaker _ (λ stand. IsWithin (point old.now before) command (disks_of stand)) old new
-      (λ s _. record {
-        tables = subst (λ (o : Option OpenPool). IfSome o (λ pool. is_table command ≡ true → s.seen ≡ old.now.seen)) (sym account) tt;
-        shows = λ objects q is told group. absurd (not_behind objects is);
-      })
-      (keeps_outside old new works).since
+  -- ---- the moments of a line
+
+  abbrev ClosedWithin : Stand → Type 0
+  ClosedWithin stand = IsWithin (point old.now before) command (disks_of stand)
+
+  no_table : (s : Stand) → IfSome before.account (λ pool. is_table command ≡ true → s.seen ≡ old.now.seen)
+  no_table s = subst (λ (o : Option OpenPool). IfSome o (λ pool. is_table command ≡ true → s.seen ≡ old.now.seen)) (sym account) tt
+
+  pub closed_within : WorksOnDisks old new → (is_making command ≡ false → FlushesOnly old new) → Throughout ClosedWithin old new
+  closed_within works flushes = by_making (is_making command) refl
+    where
+      nothing : ((objects : Objects) → before.behind ≡ Some objects → is_making command ≡ false → ⊥) → ((objects : Objects) → before.behind ≡ Some objects → may_stop command ≡ true → ⊥) → Throughout ClosedWithin old new
+      nothing none none_group = weaker _ ClosedWithin old new (λ s _. record { tables = no_table s; shows = λ objects q is told group. absurd (none_group objects is group); opens = λ objects closed is off. absurd (none objects is off) }) (keeps_outside old new works).since
+
+      by_last : (o : Option Objects) → before.behind ≡ o → is_making command ≡ false → Throughout ClosedWithin old new
+      by_last None is off = nothing (λ objects also _. none_some objects (sym is ∙ also)) (λ objects also _. none_some objects (sym is ∙ also))
+      by_last (Some objects) is off =
+          weaker (StandsAs (disks_of old.now)) ClosedWithin old new
+          (λ s same.
+          let only : (all : Objects) → before.behind ≡ Some all → LeavesOnly all (disks_of s) = (λ all also. closed_shows (disks_of s) all (still_closed (disks_of old.now) s all same (closed_at all also))) in
+          record { tables = no_table s; shows = λ all q also told group image left paths p shown. inl (only all also image left paths p shown); opens = λ all closed also on. only all also })
+          (flushes_keep old new objects (closed_at objects is) (flushes off)).0
+
+      by_making : (b : Bool) → is_making command ≡ b → Throughout ClosedWithin old new
+      by_making true making = nothing (λ objects is off. no_way (sym off ∙ making)) (λ objects is may. making_stops command making may)
+      by_making false off = by_last before.behind refl off

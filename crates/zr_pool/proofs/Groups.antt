@@ -1,33 +1,44 @@
 -- Which lines work in the group that is open, and which end it.
-use Rattle.std.proofs.Common.{◌≡◌, ◌⊎◌, inl, inr, List, ℕ, Bool, true, false, refl, sym, ◌∙◌, subst, ap}
-use Rattle.zr_base.specs.declared.refusal.Refusal.{Refusal}
+use Rattle.std.proofs.Common.{◌≡◌, ◌⊎◌, inl, inr, List, length, take, ℕ, ◌==◌, Bool, true, false, refl, sym, ◌∙◌, subst, ap}
+use Rattle.std.specs.Prelude.{MatchBool, if◌then◌else◌}
+use Rattle.zr_base.specs.declared.space.CkptPart.{CkptPart}
+use Rattle.zr_base.specs.declared.space.CkptPart.TheVariants.{Clear}
+use Rattle.zr_base.specs.declared.space.Extent.{Extent}
 use Rattle.zr_last.specs.Last.{KeepsRoot}
 use Rattle.zr_lines.proofs.Stopping.{in_group_itself}
 use Rattle.zr_last.specs.Ends.{EndsCommitted}
-use Rattle.zr_lines.specs.Stops.{StaysInGroup, StaysInOneGroup}
+use Rattle.zr_lines.specs.Stops.{OpensNoUnit, StaysInGroup, StaysInOneGroup}
 use Rattle.zr_model.specs.Objects.{Objects}
+use Rattle.zr_rules.specs.Roles.{Role, discarded}
+use Rattle.zr_rules.specs.Roles.Role.{Kept}
+use Rattle.zr_rules.specs.Space.{Space, role_at}
+use Rattle.zr_rules.specs.Steps.{Discards, DiscardsSome, is_among, kept_extents, with_ckpt}
 use Rattle.zr_script.specs.declared.command.Command.{Command}
 use Rattle.zr_script.specs.declared.command.Command.TheVariants as cmd
+use Rattle.zr_script.specs.declared.reply.Reply.{Reply}
+use Rattle.zr_script.specs.declared.reply.Reply.TheVariants as reply
 use Rattle.zr_shelf.proofs.Doings.{writes_still}
+use Rattle.zr_shelf.proofs.Runs.{still}
 use Rattle.zr_shelf.specs.Moments.{IsStill, World}
 use Rattle.zr_sync.specs.declared.open.OpenPool.{OpenPool}
 use Rattle.zr_vdev.proofs.Follows.{others_itself}
-use Rattle.zr_vdev.specs.Stores.{IsWriteInto, KeepsOthers}
+use Rattle.zr_vdev.specs.Stores.{IsWriteInto, KeepsOthers, is_open_role}
 use Rattle.zr_vdev.specs.declared.kind.Kind.TheVariants.{Block}
-use Rattle.zr_pool.specs.Behind.{is_commit, is_in_group}
+use Rattle.zr_pool.specs.Behind.{is_acknowledged, is_commit, is_in_group, is_making, is_resetting, may_stop, resets_once}
 use Rattle.zr_pool.specs.Plain.{is_of_removal}
-use Rattle.zr_pool.specs.Turns.{IsOpenRefusal, is_on_objects, is_on_pool, is_opener, is_table}
+use Rattle.zr_pool.specs.Turns.{is_on_objects, is_on_pool, is_opener, is_table}
 
-no_way : {P : Type 0} → false ≡ true → P
+pub no_way : {P : Type 0} → false ≡ true → P
 no_way e = absurd cc
 
-pub pool_commits : (command : Command) → is_on_pool command ≡ true → is_in_group command ≡ true → is_commit command ≡ true
-pool_commits cmd.Sync on group = refl
-pool_commits cmd.Export on group = refl
+-- of those on a whole pool they are a commit, or a step of discarding
+pub pool_commits : (command : Command) → is_on_pool command ≡ true → is_in_group command ≡ true → (is_commit command ≡ true) ⊎ (command ≡ cmd.StepDiscard)
+pool_commits cmd.Sync on group = inl refl
+pool_commits cmd.Export on group = inl refl
 pool_commits (cmd.Add dev) on group = no_way group
 pool_commits cmd.Checkpoint on group = no_way group
 pool_commits cmd.Discard on group = no_way group
-pool_commits cmd.StepDiscard on group = no_way group
+pool_commits cmd.StepDiscard on group = inr refl
 pool_commits cmd.Upgrade on group = no_way group
 pool_commits command on group = no_way on
 
@@ -51,6 +62,73 @@ not_opener cmd.ImportRewind on group = no_way group
 not_opener (cmd.ImportTxg txg) on group = no_way group
 not_opener command on group = no_way on
 
+-- at no moment of such a line is it told what a crash shows
+pub making_stops : (command : Command) → is_making command ≡ true → may_stop command ≡ true → ⊥
+making_stops (cmd.Create name guid devs) on may = no_way may
+making_stops (cmd.CreateOld name guid devs) on may = no_way may
+making_stops cmd.ImportRewind on may = no_way may
+making_stops (cmd.ImportTxg txg) on may = no_way may
+making_stops command on may = no_way on
+
+pub not_resetting : (command : Command) → is_resetting command ≡ true → is_in_group command ≡ true → ⊥
+not_resetting (cmd.Add dev) on group = no_way group
+not_resetting cmd.Checkpoint on group = no_way group
+not_resetting cmd.Discard on group = no_way group
+not_resetting cmd.Upgrade on group = no_way group
+not_resetting command on group = no_way on
+
+pub resets_on_pool : (command : Command) → is_resetting command ≡ true → is_on_pool command ≡ true
+resets_on_pool (cmd.Add dev) on = refl
+resets_on_pool cmd.Checkpoint on = refl
+resets_on_pool cmd.Discard on = refl
+resets_on_pool cmd.Upgrade on = refl
+resets_on_pool command on = no_way on
+
+pub resets_no_removal : (command : Command) → is_resetting command ≡ true → is_of_removal command ≡ false
+resets_no_removal (cmd.Add dev) on = refl
+resets_no_removal cmd.Checkpoint on = refl
+resets_no_removal cmd.Discard on = refl
+resets_no_removal cmd.Upgrade on = refl
+resets_no_removal command on = no_way on
+
+pub once_resets : (command : Command) → resets_once command ≡ true → is_resetting command ≡ true
+once_resets cmd.Discard on = refl
+once_resets cmd.Upgrade on = refl
+once_resets command on = no_way on
+
+-- it is none of these
+pub resets_elsewhere : (command : Command) → is_resetting command ≡ true → (is_on_objects command ≡ true) ⊎ ((is_table command ≡ true) ⊎ (is_of_removal command ≡ true)) → ⊥
+resets_elsewhere (cmd.Add dev) on (inl is) = no_way is
+resets_elsewhere (cmd.Add dev) on (inr (inl is)) = no_way is
+resets_elsewhere (cmd.Add dev) on (inr (inr is)) = no_way is
+resets_elsewhere cmd.Checkpoint on (inl is) = no_way is
+resets_elsewhere cmd.Checkpoint on (inr (inl is)) = no_way is
+resets_elsewhere cmd.Checkpoint on (inr (inr is)) = no_way is
+resets_elsewhere cmd.Discard on (inl is) = no_way is
+resets_elsewhere cmd.Discard on (inr (inl is)) = no_way is
+resets_elsewhere cmd.Discard on (inr (inr is)) = no_way is
+resets_elsewhere cmd.Upgrade on (inl is) = no_way is
+resets_elsewhere cmd.Upgrade on (inr (inl is)) = no_way is
+resets_elsewhere cmd.Upgrade on (inr (inr is)) = no_way is
+resets_elsewhere command on which = no_way on
+
+pub opens_no_reset : (command : Command) → is_opener command ≡ true → is_resetting command ≡ true → ⊥
+opens_no_reset (cmd.Add dev) opens on = no_way opens
+opens_no_reset cmd.Checkpoint opens on = no_way opens
+opens_no_reset cmd.Discard opens on = no_way opens
+opens_no_reset cmd.Upgrade opens on = no_way opens
+opens_no_reset command opens on = no_way on
+
+pub acknowledged_commits : (answer : Reply) (command : Command) → is_acknowledged answer command ≡ true → is_commit command ≡ true
+acknowledged_commits (reply.Synced txg) cmd.Sync is = refl
+acknowledged_commits reply.Done cmd.Export is = refl
+acknowledged_commits answer command is = no_way is
+
+-- a line that opens a pool commits nothing that was told before it
+pub opens_no_commit : (command : Command) → is_opener command ≡ true → is_acknowledged reply.Done command ≡ true → ⊥
+opens_no_commit cmd.Export opens is = no_way opens
+opens_no_commit command opens is = no_way is
+
 pub no_object_commit : (command : Command) → is_on_objects command ≡ true → is_commit command ≡ true → ⊥
 no_object_commit cmd.Sync on ends = no_way on
 no_object_commit cmd.Export on ends = no_way on
@@ -61,12 +139,7 @@ no_table_commit cmd.Sync on ends = no_way on
 no_table_commit cmd.Export on ends = no_way on
 no_table_commit command on ends = no_way ends
 
-pub commit_refused : (command : Command) (r : Refusal) → is_commit command ≡ true → IsOpenRefusal command r → ⊥
-commit_refused cmd.Sync r ends refused = refused
-commit_refused cmd.Export r ends refused = refused
-commit_refused command r ends refused = no_way ends
-
--- each of them is on an object, a table, or a commit
+-- each of them is on an object, a table, or a whole pool
 pub none_of_them : (command : Command) → is_on_objects command ≡ false → is_table command ≡ false → is_on_pool command ≡ false → is_in_group command ≡ true → ⊥
 none_of_them (cmd.Make id units) a b c group = no_way (sym a)
 none_of_them (cmd.Drop id) a b c group = no_way (sym a)
@@ -82,11 +155,40 @@ none_of_them (cmd.Estimate dev) a b c group = no_way (sym b)
 none_of_them (cmd.Map index) a b c group = no_way (sym b)
 none_of_them cmd.Sync a b c group = no_way (sym c)
 none_of_them cmd.Export a b c group = no_way (sym c)
+none_of_them cmd.StepDiscard a b c group = no_way (sym c)
 none_of_them command a b c group = no_way group
 
 -- a commit and nothing behind it
 pub commit_alone : (sizes : List ℕ) (objects : Objects) (x y : OpenPool) (before now : World) → EndsCommitted sizes false x y objects before now → StaysInOneGroup sizes objects x y before now
 commit_alone sizes objects x y before now ends = inr (record { next = y; start = now; commits = ends; stays = in_group_itself y now })
+
+-- a step of discarding: what a checkpoint kept waits from there on, and is not free yet
+open_before : (b : Bool) (r : Role) → is_open_role (if b then discarded r else r) ≡ true → is_open_role r ≡ true
+open_before false r is = is
+open_before true Kept is = no_way is
+open_before true r is = is
+
+ckpt_role : (s : Space) (c : CkptPart) (d u : ℕ) → role_at (with_ckpt s c) d u ≡ role_at s d u
+unfolding role_at
+ckpt_role s c d u = refl
+
+discards_open : (old new : Space) (es : List (ℕ × Extent)) (b : Bool) → MatchBool b (new ≡ with_ckpt old Clear) (Discards old new es) → (d u : ℕ) → is_open_role (role_at new d u) ≡ true → is_open_role (role_at old d u) ≡ true
+discards_open old new es true same d u is = subst (λ (r : Role). is_open_role r ≡ true) (ckpt_role old Clear d u) (subst (λ (s : Space). is_open_role (role_at s d u) ≡ true) same is)
+discards_open old new es false h d u is = open_before (is_among es d u) (role_at old d u) (subst (λ (r : Role). is_open_role r ≡ true) (h.roles d u) is)
+
+pub step_opens_none : (old new : OpenPool) (units : ℕ) → KeepsRoot old new → DiscardsSome old.space units new.space → OpensNoUnit old new
+step_opens_none old new units root steps = record { root = root; units = discards_open old.space new.space (take 64 (kept_extents old.space)) (length (take 64 (kept_extents old.space)) == 0) steps.1 }
+
+-- a line that is refused
+pub refused_stays : (x y : OpenPool) (before now : World) → y ≡ x → IsStill before now → StaysInGroup x y before now
+refused_stays x y before now same nothing = record {
+  written = writes_still (IsWriteInto Block x.table.slots x.space) before now nothing;
+  space = subst (λ s. KeepsOthers Block x.space s) (sym (ap (λ (p : OpenPool). p.space) same)) (others_itself Block x.space);
+  root = record { last = ap (λ (p : OpenPool). p.last) same; guid = ap (λ (p : OpenPool). p.guid) same; table = ap (λ (p : OpenPool). p.table) same };
+}
+
+pub same_world : (before now : World) → now ≡ before → IsStill before now
+same_world before now same = subst (IsStill before) (sym same) (still before before refl)
 
 -- a table
 pub table_stays : (x y : OpenPool) (before now : World) → y ≡ record x { cache = y.cache } → IsStill before now → StaysInGroup x y before now

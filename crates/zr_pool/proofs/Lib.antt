@@ -11,5 +11,7 @@ pub mod Leavings
 pub mod Blaming
 pub mod Groups
 pub mod Imported
+pub mod Closed
+pub mod Resets
 pub mod Behind
 pub mod Accounting

@@ -1,8 +1,10 @@
 -- What a stop leaves of the pool on devices, in the group that is open and while it is committed.
-use Rattle.std.specs.Prelude.{◌≡◌, ◌⊎◌, ℕ, Bool, true, false, ◌&&◌, List, [], ◌∷◌, Option, Some, None, is_some, if◌then◌else◌}
+use Rattle.std.specs.Prelude.{◌≡◌, ◌⊎◌, ℕ, Bool, true, false, not, ◌&&◌, ◌||◌, List, [], ◌∷◌, Option, Some, None, is_some, if◌then◌else◌}
 use Rattle.std.specs.FinMap as map
 use Rattle.zr_base.specs.declared.space.DevPart.{DevPart}
 use Rattle.zr_command.specs.Meanings.{Disks}
+use Rattle.zr_last.specs.Ends.{LeavesCommitted}
+use Rattle.zr_lines.specs.Stops.{OpensNoUnit, StaysInOneGroup}
 use Rattle.zr_model.specs.Objects.{Objects}
 use Rattle.zr_model.specs.State.{PoolState, ShelfPart, Is}
 use Rattle.zr_rules.specs.Places.{is_on}
@@ -10,12 +12,15 @@ use Rattle.zr_script.specs.declared.command.Command.{Command}
 use Rattle.zr_script.specs.declared.command.Command.TheVariants as cmd
 use Rattle.zr_script.specs.declared.reply.Reply.{Reply}
 use Rattle.zr_script.specs.declared.reply.Reply.TheVariants as reply
+use Rattle.zr_shelf.specs.Disks.{Stand}
+use Rattle.zr_shelf.specs.Moments.{IsStill, World}
 use Rattle.zr_stops.specs.Behind.{ShowsOnly}
 use Rattle.zr_stops.specs.Either.{ShowsEither}
+use Rattle.zr_sync.specs.Objects.{HoldsObjects}
 use Rattle.zr_sync.specs.declared.open.OpenPool.{OpenPool}
 use Rattle.zr_pool.specs.Pools.{DeviceState, stand_of}
 
--- The lines that work in the group that is open, or end it by a commit: those on objects, tables, `sync` and `export`.
+-- The lines that work in the group that is open, or end it by a commit: those on objects, tables, `step discard`, `sync` and `export`.
 abbrev pub is_in_group : Command → Bool
 is_in_group (cmd.Make id units) = true
 is_in_group (cmd.Drop id) = true
@@ -29,6 +34,7 @@ is_in_group cmd.Status = true
 is_in_group cmd.Audit = true
 is_in_group (cmd.Estimate dev) = true
 is_in_group (cmd.Map index) = true
+is_in_group cmd.StepDiscard = true
 is_in_group cmd.Sync = true
 is_in_group cmd.Export = true
 is_in_group _ = false
@@ -38,6 +44,33 @@ abbrev pub is_commit : Command → Bool
 is_commit cmd.Sync = true
 is_commit cmd.Export = true
 is_commit _ = false
+
+-- those that end with a reset: they change the pool and leave its objects
+abbrev pub is_resetting : Command → Bool
+is_resetting (cmd.Add dev) = true
+is_resetting cmd.Checkpoint = true
+is_resetting cmd.Discard = true
+is_resetting cmd.Upgrade = true
+is_resetting _ = false
+
+-- The line ended with a commit of a pool that holds these objects.
+pub record HasReset (pool : OpenPool) (now : Stand) (objects : Objects) : Type 0 where
+  pub leaves : LeavesCommitted pool now
+  pub holds : HoldsObjects (Unit {0}) now.seen pool objects
+
+-- of those the ones that end with one commit
+abbrev pub resets_once : Command → Bool
+resets_once cmd.Discard = true
+resets_once cmd.Upgrade = true
+resets_once _ = false
+
+-- What a crash shows is told at each moment of the line.
+abbrev pub may_stop : Command → Bool
+may_stop command = is_in_group command || resets_once command
+
+-- The line stayed in one group: it did nothing to the disks, or wrote units of the group that is open, or of the next one behind a commit of that.
+abbrev pub StaysTold : List ℕ → Objects → OpenPool → OpenPool → World → World → Type 0
+StaysTold sizes objects old new before now = StaysInOneGroup sizes objects old new before now ⊎ (IsStill before now × OpensNoUnit old new)
 
 -- whatever an honest crash leaves of these disks shows these objects, if it shows a pool
 abbrev pub LeavesOnly : Objects → Disks → Type 0
@@ -66,19 +99,56 @@ is_create (cmd.Create name guid devs) = true
 is_create (cmd.CreateOld name guid devs) = true
 is_create _ = false
 
+-- the lines that write where no pool is open: they make one, or go back
+abbrev pub is_making : Command → Bool
+is_making (cmd.Create name guid devs) = true
+is_making (cmd.CreateOld name guid devs) = true
+is_making cmd.ImportRewind = true
+is_making (cmd.ImportTxg txg) = true
+is_making _ = false
+
+abbrev pub is_refusal : Reply → Bool
+is_refusal (reply.No r) = true
+is_refusal answer = false
+
+-- the answer to the line acknowledges a commit of what was told before it
+abbrev pub is_acknowledged : Reply → Command → Bool
+is_acknowledged (reply.Synced txg) cmd.Sync = true
+is_acknowledged reply.Done cmd.Export = true
+is_acknowledged answer command = false
+
+-- The line leaves it told which objects were committed last: it works in the group that is open, or is refused, and writes nothing where no pool is open.
+abbrev pub leaves_told : Option OpenPool → Reply → Command → Bool
+leaves_told (Some pool) answer command = is_refusal answer || is_in_group command
+leaves_told None answer command = is_refusal answer && not (is_making command)
+
 -- the pool that is told has these objects
 abbrev pub TellsOf : ShelfPart → Objects → Type 0
 TellsOf part objects = (p : PoolState) × (part ≡ Is p) × (p.objects ≡ objects)
 
+-- Where the objects come from that are told to be committed last, behind a line that was answered and left this told:
+pub data ComesFrom (old : DeviceState) (command : Command) (answer : Reply) (told : ShelfPart) (objects : Objects) : Type 0 where
+  -- they were so before it,
+  kept : (p : PoolState) → old.told.shelf ≡ Is p → leaves_told old.account answer command ≡ true → old.behind ≡ Some objects → ComesFrom old command answer told objects
+  -- they were told before it, and it committed them,
+  committed : leaves_told old.account answer command ≡ true → TellsOf old.told.shelf objects → ComesFrom old command answer told objects
+  -- a line that ended with a reset committed them,
+  changed : is_resetting command ≡ true → is_refusal answer ≡ false → TellsOf old.told.shelf objects → ComesFrom old command answer told objects
+  -- a pool was made, which has none,
+  made : is_create command ≡ true → answer ≡ reply.Done → objects ≡ map.empty → ComesFrom old command answer told objects
+  -- or one was imported, and they are those that are told behind it.
+  found : command ≡ cmd.Import → answer ≡ reply.Done → TellsOf told objects → ComesFrom old command answer told objects
+
 -- Which objects are told to be committed last, behind a line that was answered, and that left this told of the objects and this account.
 pub record IsBehindTurn (old : DeviceState) (command : Command) (answer : Reply) (told : ShelfPart) (account : Option OpenPool) (behind : Option Objects) : Type 0 where
-  -- they were so before it, or were those that were told before it, or a pool was made, which has none, or one was imported, and they are those that are told behind it
-  pub from : (objects : Objects) → behind ≡ Some objects → (old.behind ≡ Some objects) ⊎ (TellsOf old.told.shelf objects ⊎ (((is_create command ≡ true) × (objects ≡ map.empty)) ⊎ ((command ≡ cmd.Import) × TellsOf told objects)))
+  pub from : (objects : Objects) → behind ≡ Some objects → ComesFrom old command answer told objects
   -- of a pool that is made, of devices in service, they are told
   pub makes : old.account ≡ None → is_create command ≡ true → answer ≡ reply.Done → serves account ≡ true → behind ≡ Some map.empty
   -- of a pool that is imported, of devices in service, they are those that are told behind it
   pub opens : old.account ≡ None → command ≡ cmd.Import → answer ≡ reply.Done → serves account ≡ true → (p : PoolState) → told ≡ Is p → behind ≡ Some p.objects
-  -- a line that works in the group leaves them told
-  pub keeps : (p : PoolState) → old.told.shelf ≡ Is p → is_some old.behind ≡ true → is_in_group command ≡ true → (command ≡ cmd.Export → ⊥) → is_some behind ≡ true
-  -- behind a `sync` they are those that were told before it
-  pub syncs : (p : PoolState) (txg : ℕ) → old.told.shelf ≡ Is p → is_known old ≡ true → command ≡ cmd.Sync → answer ≡ reply.Synced txg → behind ≡ Some p.objects
+  -- a line that leaves them told does so
+  pub keeps : (p : PoolState) → old.told.shelf ≡ Is p → is_some old.behind ≡ true → leaves_told old.account answer command ≡ true → is_some behind ≡ true
+  -- behind one that ended with a reset they are those that were told before it, while all devices are in service
+  pub resets : (p : PoolState) → old.told.shelf ≡ Is p → is_known old ≡ true → is_resetting command ≡ true → is_refusal answer ≡ false → serves account ≡ true → behind ≡ Some p.objects
+  -- behind a `sync` and an `export` they are those that were told before it
+  pub commits : (p : PoolState) → old.told.shelf ≡ Is p → is_known old ≡ true → is_acknowledged answer command ≡ true → behind ≡ Some p.objects

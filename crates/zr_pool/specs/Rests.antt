@@ -12,7 +12,7 @@ use Rattle.zr_pool.specs.Pools.{DeviceState, IsBehind, Stands, stand_of}
 use Rattle.zr_pool.specs.Turns.{RestsOn}
 
 behind_leaves : (pool : Option OpenPool) (stand : Stand) (objects : Objects) → IsBehind pool (disks_of stand) objects → LeavesOnly objects (disks_of stand)
-behind_leaves None stand objects h = absurd h
+behind_leaves None stand objects h = behind_shows _ objects h.pool (stand_of (disks_of stand)) h.behind
 behind_leaves (Some pool) stand objects h = behind_shows _ objects pool (stand_of (disks_of stand)) h
 
 pub stands_rest : (pool : Option OpenPool) (stand : Stand) (state : DeviceState) → Stands pool (disks_of stand) state → RestsOn (point stand state) (disks_of stand)

@@ -18,7 +18,7 @@ use Rattle.zr_model.specs.Runs.{Point, Shelf, Turn}
 use Rattle.zr_sync.specs.Pools.{IsOpen}
 use Rattle.zr_sync.specs.declared.open.OpenPool.{OpenPool}
 use Rattle.zr_pool.specs.Accounts.{Turns, Begins, BeginsNone}
-use Rattle.zr_pool.specs.Behind.{IsBehindTurn, LeavesEither, LeavesOnly, is_in_group}
+use Rattle.zr_pool.specs.Behind.{IsBehindTurn, LeavesEither, LeavesOnly, is_making, may_stop}
 use Rattle.zr_pool.specs.Plain.{IsObjectsTurn, IsRejoined, is_of_removal}
 use Rattle.zr_pool.specs.Pools.{DeviceState, no_device_state}
 use Rattle.zr_pool.specs.Replies.{TellsFault}
@@ -261,10 +261,11 @@ pub record RestsOn (p : Point DeviceState) (disks : Disks) : Type 0 where
   pub shows : (objects : Objects) → p.state.behind ≡ Some objects → LeavesOnly objects disks
 
 -- How the disks may stand at a moment of a line: while one tells how an open pool stands, they read as before it. Whatever an honest crash shows are the objects that were committed last, or those from before
--- the line, which it commits.
+-- the line, which it commits; and just the former where no pool is open, as long as none is made and nothing is gone back to.
 pub record IsWithin (p : Point DeviceState) (command : Command) (disks : Disks) : Type 0 where
   pub tables : IfSome p.state.account (λ pool. is_table command ≡ true → disks.seen ≡ p.shelf.disks)
-  pub shows : (objects : Objects) (q : PoolState) → p.state.behind ≡ Some objects → p.state.told.shelf ≡ Is q → is_in_group command ≡ true → LeavesEither objects q.objects disks
+  pub shows : (objects : Objects) (q : PoolState) → p.state.behind ≡ Some objects → p.state.told.shelf ≡ Is q → may_stop command ≡ true → LeavesEither objects q.objects disks
+  pub opens : (objects : Objects) → p.state.account ≡ None → p.state.behind ≡ Some objects → is_making command ≡ false → LeavesOnly objects disks
 
 -- What commands mean to the pool on devices.
 abbrev pub on_devices : Meaning

@@ -15,11 +15,12 @@ ghost use Rattle.zr_model.specs.State.{PoolState};
 ghost use Rattle.zr_pool.specs.Accounts.{Begins, BeginsNone, Refuses, Turns};
 ghost use Rattle.zr_last.specs.Last.{KeepsLast, ShowsLast};
 ghost use Rattle.zr_last.specs.Ends.{ComesCommitted, EndsCommitted};
-ghost use Rattle.zr_lines.specs.Stops.{StaysInOneGroup, WritesInOneGroup};
+ghost use Rattle.zr_lines.specs.Stops.{StaysInOneGroup, WritesInOneGroup, WritesReset};
 ghost use Rattle.zr_script.specs.declared.command.Command.TheVariants.{Export, Import};
 ghost use Rattle.zr_stops.specs.Behind.{IsJustOpened};
 ghost use Rattle.zr_pool.specs.Plain.{IsDone, IsMade, IsOpeningCause, IsPlainOf, IsPlainRefusal, is_of_removal, shelf_of};
-ghost use Rattle.zr_pool.specs.Behind.{is_commit, is_create, is_in_group};
+ghost use Rattle.zr_open.specs.Flushed.{FlushesOnly};
+ghost use Rattle.zr_pool.specs.Behind.{HasReset, StaysTold, is_commit, is_create, is_in_group, is_making, is_resetting, resets_once};
 ghost use Rattle.zr_pool.specs.Pools.{IsAtRest, IsOnShelf};
 ghost use Rattle.zr_pool.specs.Replies.{TellsFault};
 ghost use Rattle.zr_sync.specs.States.{HoldsState};
@@ -100,10 +101,12 @@ fn open_line<S: Shelf>(
     ensures shown { S.tells shelf.old → is_of_removal command.now ≡ false → OnOk result (KeepsLast (S.world shelf.old) (S.world shelf.new) pool.old pool.new) }
     ensures shown_no { S.tells shelf.old → (r : Refusal) → IsErrOf result (No r) → KeepsLast (S.world shelf.old) (S.world shelf.new) pool.old pool.new }
     ensures left { command.now ≡ Export → (p : PoolState) → HoldsState (S.tells shelf.old) (S.world shelf.old).now.seen pool.old p → OnOk result (IsAtRest (S.world shelf.new).now.seen pool.new p) }
-    ensures one_group { is_in_group command.now ≡ true → (p : PoolState) → HoldsState (S.tells shelf.old) (S.world shelf.old).now.seen pool.old p → OnOk result (StaysInOneGroup (S.sizes shelf.old) p.objects pool.old pool.new (S.world shelf.old) (S.world shelf.new)) }
-    ensures one_group_no { is_in_group command.now ≡ true → (p : PoolState) → HoldsState (S.tells shelf.old) (S.world shelf.old).now.seen pool.old p → (r : Refusal) → IsErrOf result (No r) → StaysInOneGroup (S.sizes shelf.old) p.objects pool.old pool.new (S.world shelf.old) (S.world shelf.new) }
+    ensures one_group { is_in_group command.now ≡ true → (p : PoolState) → HoldsState (S.tells shelf.old) (S.world shelf.old).now.seen pool.old p → OnOk result (StaysTold (S.sizes shelf.old) p.objects pool.old pool.new (S.world shelf.old) (S.world shelf.new)) }
+    ensures one_group_no { (p : PoolState) → HoldsState (S.tells shelf.old) (S.world shelf.old).now.seen pool.old p → (r : Refusal) → IsErrOf result (No r) → StaysInOneGroup (S.sizes shelf.old) p.objects pool.old pool.new (S.world shelf.old) (S.world shelf.new) }
     ensures writes { is_in_group command.now ≡ true → (p : PoolState) → HoldsState (S.tells shelf.old) (S.world shelf.old).now.seen pool.old p → WritesInOneGroup (S.sizes shelf.old) p.objects pool.old (S.world shelf.old) (S.world shelf.new) }
     ensures commits { is_commit command.now ≡ true → (p : PoolState) → HoldsState (S.tells shelf.old) (S.world shelf.old).now.seen pool.old p → OnOk result (EndsCommitted (S.sizes shelf.old) false pool.old pool.new p.objects (S.world shelf.old) (S.world shelf.new)) }
+    ensures resets { is_resetting command.now ≡ true → (p : PoolState) → HoldsState (S.tells shelf.old) (S.world shelf.old).now.seen pool.old p → OnOk result (HasReset pool.new (S.world shelf.new).now p.objects) }
+    ensures stops_reset { resets_once command.now ≡ true → (p : PoolState) → HoldsState (S.tells shelf.old) (S.world shelf.old).now.seen pool.old p → WritesReset (S.sizes shelf.old) p.objects pool.old (S.world shelf.old) (S.world shelf.new) }
     ensures account { S.tells shelf.old → IfOk result (λ found. IfSome found (λ reply. Turns paths.now (S.sizes shelf.old) (S.world shelf.old).now.seen pool.old command.now reply (S.world shelf.new).now.seen pool.new)) }
     ensures account_no { S.tells shelf.old → (r : Refusal) → IsErrOf result (No r) → Refuses paths.now (S.sizes shelf.old) (S.world shelf.old).now.seen pool.old command.now r pool.new }
     ensures blamed { IfOk result (λ found. IfSome found (λ reply. TellsFault command.now reply → HasRisen (S.counts shelf.old).disk (S.counts shelf.new).disk)) }
@@ -156,6 +159,7 @@ impl DevicePool {
         ensures last { S.tells shelf.old → IfSome self.new.pool (ShowsLast (S.world shelf.new).now.seen) }
         ensures ends { S.tells shelf.old → is_create command.now ≡ true → IfSome self.new.pool (λ pool. ComesCommitted (S.sizes shelf.new) pool map.empty (S.world shelf.new)) }
         ensures imported { S.tells shelf.old → command.now ≡ Import → IfSome self.new.pool (IsJustOpened (S.sizes shelf.new) (S.tells shelf.old) (S.world shelf.new).now) }
+        ensures flushes { S.tells shelf.old → is_making command.now ≡ false → FlushesOnly (S.world shelf.old) (S.world shelf.new) }
         ensures untouched { S.tells shelf.old → (r : Refusal) → IsErrOf result (No r) → (S.world shelf.new).now.seen ≡ (S.world shelf.old).now.seen }
         ensures turn { IfOk result (λ found. IfSome found (λ reply. IsTurn false command.now reply (is_some self.new.pool))) }
         ensures refused { (r : Refusal) → IsErrOf result (No r) → IsClosedRefusal command.now r }

@@ -8,10 +8,12 @@ use Rattle.zr_meta.specs.declared.Stream.{Stream}
 use Rattle.zr_rules.specs.Roles.Role.{DeferredMeta, SavedMeta}
 use Rattle.zr_rules.specs.Space.{Space, role_at}
 use Rattle.zr_rules.specs.Steps.{HoldsCheckpoint, with_ckpt}
-use Rattle.zr_shelf.specs.Moments.{World}
+use Rattle.zr_model.specs.Objects.{Objects}
+use Rattle.zr_shelf.specs.Moments.{IsStill, World}
 use Rattle.zr_vdev.specs.Stores.{KeepsOthers}
 use Rattle.zr_vdev.specs.declared.kind.Kind.TheVariants.{Meta}
 use Rattle.zr_sync.specs.Commits.{EndsGroup, IsNextRoot, IsShownFrom}
+use Rattle.zr_sync.specs.Leads.{CommitsObjects}
 use Rattle.zr_sync.specs.Pools.{IsOpen}
 use Rattle.zr_sync.specs.Writes.{WritesIntoFree}
 use Rattle.zr_sync.specs.declared.open.CondStreams.{CondStreams}
@@ -108,3 +110,7 @@ pub record CommitsWithout (sizes : List ℕ) (before now : World) (old new : Ope
   pub dropped : OpenPool
   pub drops : DropsRoot old dropped
   pub commits : CommitsOn sizes true before now dropped new
+
+-- A checkpoint is given up, wherever that stops: nothing was done, or the pool without a saved root was being committed with these objects, by a reset.
+abbrev pub GivesUpInPart : List ℕ → Objects → OpenPool → World → World → Type 0
+GivesUpInPart sizes objects old before now = IsStill before now ⊎ ((dropped : OpenPool) × IsOpen sizes dropped × DropsRoot old dropped × CommitsObjects sizes dropped true objects before now)

@@ -1,9 +1,11 @@
 use Rattle.std.proofs.Common.{◌≡◌, ◌≢◌, ◌+◌, ℕ, ◌<◌, List, length, subst, sym, ap, ◌∙◌, arith}
 use Rattle.zr_label.specs.declared.root.Label.{Label}
+use Rattle.zr_last.proofs.Ending.{leaves_by}
 use Rattle.zr_last.specs.Last.{ShowsLast}
 use Rattle.zr_scan.specs.Scan.{IsFirstLabel}
 use Rattle.zr_shelf.specs.Disks.{Stand, disk}
 use Rattle.zr_sync.specs.declared.open.Table.{Table}
+use Rattle.zr_sync.specs.Heads.{IsSeen}
 use Rattle.zr_sync.specs.Pools.{IsOpen}
 use Rattle.zr_sync.proofs.Disks.{works_more, works_still}
 use Rattle.zr_create.proofs.Taken.{IsFree}
@@ -67,6 +69,21 @@ returns-clause-objects g c = λ objects h.
     let told = h.held.told in
     let before = objects_still (g.S.Shelf.tells c.args.shelf.now) (g.S.Shelf.tells c.check_next.new.shelf) (g.S.Shelf.world c.args.shelf.now) (g.S.Shelf.world c.check_next.new.shelf) c.args.pool.now objects (c.check_next.ensures.told told) (c.check_next.ensures.still told) h in
     c.in_ok-commit-2.ensures.stays objects (c.in_ok-take_on.ensures.stays objects (c.in_ok-commit.ensures.stays objects before))
+
+-- ---- what is left
+
+pub returns-clause-ends : goal.returns-clause-ends
+returns-clause-ends g c = λ objects h.
+    let t = h.held.told in
+    let told = c.check_next.ensures.told t in
+    let told3 = c.take_on.ensures.told (c.commit.ensures.told told) in
+    let third = c.take_on.new.shelf in
+    let fourth = c.commit-2.new.shelf in
+    let before = objects_still (g.S.Shelf.tells c.args.shelf.now) (g.S.Shelf.tells c.check_next.new.shelf) (g.S.Shelf.world c.args.shelf.now) (g.S.Shelf.world c.check_next.new.shelf) c.args.pool.now objects told (c.check_next.ensures.still t) h in
+    let held = c.in_ok-take_on.ensures.stays objects (c.in_ok-commit.ensures.stays objects before) in
+    let there = c.in_ok-commit-2.ensures in
+    let seen : IsSeen (g.S.Shelf.tells third) (g.S.Shelf.world third).now.seen c.take_on.new.pool = record { told = held.held.told; read = held.held.read } in
+    leaves_by (g.S.Shelf.sizes third) (g.S.Shelf.sizes fourth) c.take_on.new.pool c.commit-2.new.pool (g.S.Shelf.world third) (g.S.Shelf.world fourth) c.in_ok-take_on.ensures.pool there.pool there.txg (there.written told3) there.ends.ended.opened there.empty (there.stands seen) (there.safe seen)
 
 -- ---- the last root
 

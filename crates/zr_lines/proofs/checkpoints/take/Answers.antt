@@ -1,4 +1,5 @@
-use Rattle.zr_lines.proofs.Lasting.{twice_last}
+use Rattle.zr_sync.specs.Heads.{IsSeen}
+use Rattle.zr_lines.proofs.Lasting.{twice_last, twice_leaves}
 use Rattle.zr_lines.proofs.checkpoints.take.Goals as goal
 
 pub returns-clause-shown : goal.returns-clause-shown
@@ -6,3 +7,11 @@ returns-clause-shown g c = λ told.
     let old = c.args.shelf.now in
     let new = c.checkpoint.new.shelf in
     twice_last (g.S.Shelf.sizes old) (g.S.Shelf.world old) (g.S.Shelf.world new) c.args.pool.now c.checkpoint.new.pool (c.in_ok-checkpoint.ensures.commits told)
+
+pub returns-clause-ends : goal.returns-clause-ends
+returns-clause-ends g c = λ objects h.
+    let old = c.args.shelf.now in
+    let new = c.checkpoint.new.shelf in
+    let done = c.in_ok-checkpoint.ensures in
+    let seen : IsSeen (g.S.Shelf.tells old) (g.S.Shelf.world old).now.seen c.args.pool.now = record { told = h.held.told; read = h.held.read } in
+    twice_leaves (g.S.Shelf.sizes old) (g.S.Shelf.tells old) (g.S.Shelf.world old) (g.S.Shelf.world new) c.args.pool.now c.checkpoint.new.pool (done.commits h.held.told) done.takes done.empty (done.stands seen) (done.safe seen)

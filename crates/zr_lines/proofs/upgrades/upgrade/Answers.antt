@@ -1,8 +1,12 @@
-use Rattle.std.proofs.Common.{true, ap, sym, subst}
+use Rattle.std.proofs.Common.{true, inl, refl, ap, sym, subst}
+use Rattle.zr_shelf.proofs.Runs.{still}
 use Rattle.zr_sync.specs.Objects.{HoldsObjects}
 use Rattle.zr_sync.specs.declared.open.OpenPool.{OpenPool}
+use Rattle.zr_lines.proofs.Resetting.{upgraded}
 use Rattle.zr_lines.proofs.Versions.{renewed_objects, upgrades_from}
+use Rattle.zr_last.proofs.Ending.{leaves_by}
 use Rattle.zr_last.proofs.Lasting.{commit_last, same_last}
+use Rattle.zr_sync.specs.Heads.{IsSeen}
 use Rattle.zr_lines.proofs.upgrades.upgrade.Goals as goal
 
 pub commit_anew-requires : goal.commit_anew-requires
@@ -33,3 +37,42 @@ returns-clause-shown g c = λ told h.
     let done = c.in_ok-commit_anew.ensures in
     commit_last (g.S.Shelf.sizes old) (g.S.Shelf.sizes new) renewed c.commit_anew.new.pool true (g.S.Shelf.world old) (g.S.Shelf.world new) (c.renew.ensures.pool (g.S.Shelf.sizes old) c.requires.pool) done.pool (g.S.Shelf.sound old told).sized done.txg done.last (done.written told) done.same.guid done.same.table
     (same_last (g.S.Shelf.world old).now.seen c.args.pool.now renewed (record { last = ap (λ (p : OpenPool). p.last) is; guid = ap (λ (p : OpenPool). p.guid) is; table = ap (λ (p : OpenPool). p.table) is }) h)
+
+-- ---- what it leaves
+
+pub returns-clause-ends : goal.returns-clause-ends
+returns-clause-ends g c = λ objects h.
+    let old = c.args.shelf.now in
+    let sizes = g.S.Shelf.sizes old in
+    let tells = g.S.Shelf.tells old in
+    let disks = (g.S.Shelf.world old).now.seen in
+    let renewed = c.renew.new.pool in
+    let done = c.in_ok-commit_anew.ensures in
+    let held : HoldsObjects tells disks renewed objects = subst (λ (x : OpenPool). HoldsObjects tells disks x objects) (sym c.renew.ensures.value) (renewed_objects sizes tells disks c.args.pool.now objects c.requires.pool h) in
+    let seen : IsSeen tells disks renewed = record { told = held.held.told; read = held.held.read } in
+    leaves_by sizes (g.S.Shelf.sizes c.commit_anew.new.shelf) renewed c.commit_anew.new.pool (g.S.Shelf.world old) (g.S.Shelf.world c.commit_anew.new.shelf) (c.renew.ensures.pool sizes c.requires.pool) done.pool done.txg (done.written held.held.told) done.ends.ended.opened done.empty (done.stands seen) (done.safe seen)
+
+-- ---- wherever it stops
+
+pub returns-in_err-demand_old-clause-stops : goal.returns-in_err-demand_old-clause-stops
+returns-in_err-demand_old-clause-stops g c = λ objects h. inl (still (g.S.Shelf.world c.args.shelf.now) (g.S.Shelf.world c.args.shelf.now) refl)
+
+pub returns-in_err-commit_anew-clause-stops : goal.returns-in_err-commit_anew-clause-stops
+returns-in_err-commit_anew-clause-stops g c = λ objects h.
+    let old = c.args.shelf.now in
+    let sizes = g.S.Shelf.sizes old in
+    let tells = g.S.Shelf.tells old in
+    let disks = (g.S.Shelf.world old).now.seen in
+    let renewed = c.renew.new.pool in
+    let held : HoldsObjects tells disks renewed objects = subst (λ (x : OpenPool). HoldsObjects tells disks x objects) (sym c.renew.ensures.value) (renewed_objects sizes tells disks c.args.pool.now objects c.requires.pool h) in
+    upgraded sizes objects c.args.pool.now renewed (g.S.Shelf.world old) (g.S.Shelf.world c.commit_anew.new.shelf) c.renew.ensures.value (c.renew.ensures.pool sizes c.requires.pool) (c.commit_anew.ensures.leads objects held)
+
+pub returns-clause-stops : goal.returns-clause-stops
+returns-clause-stops g c = λ objects h.
+    let old = c.args.shelf.now in
+    let sizes = g.S.Shelf.sizes old in
+    let tells = g.S.Shelf.tells old in
+    let disks = (g.S.Shelf.world old).now.seen in
+    let renewed = c.renew.new.pool in
+    let held : HoldsObjects tells disks renewed objects = subst (λ (x : OpenPool). HoldsObjects tells disks x objects) (sym c.renew.ensures.value) (renewed_objects sizes tells disks c.args.pool.now objects c.requires.pool h) in
+    upgraded sizes objects c.args.pool.now renewed (g.S.Shelf.world old) (g.S.Shelf.world c.commit_anew.new.shelf) c.renew.ensures.value (c.renew.ensures.pool sizes c.requires.pool) (c.commit_anew.ensures.leads objects held)

@@ -2,6 +2,7 @@ use Rattle.std.proofs.Common.{false, [], ◌∷◌, ◌++◌, ◌==◌, inr, sym
 use Rattle.std.proofs.lemmas.Result.{err_from_is_err_and}
 use Rattle.zr_script.specs.declared.command.Command.{Command}
 use Rattle.zr_script.specs.declared.command.Command.TheVariants as cmd
+use Rattle.zr_sync.proofs.Leading.{untold}
 use Rattle.zr_sync.specs.States.{HoldsState}
 use Rattle.zr_last.proofs.Ending.{ends_by}
 use Rattle.zr_pool.specs.Plain.{IsPlainRefusal, IsPlainOf}
@@ -14,6 +15,7 @@ use Rattle.zr_sync.specs.declared.open.OpenPool.{OpenPool}
 use Rattle.zr_pool.specs.Accounts.{Refuses, Turns}
 use Rattle.zr_pool.proofs.Acting.{plain_refusal, synced_as, added_as, saved_as, given_up_as, stepped_as, upgraded_as}
 use Rattle.zr_pool.specs.Turns.{IsOpenAnswer, IsOpenRefusal}
+use Rattle.zr_pool.proofs.Groups.{refused_stays, same_world, step_opens_none}
 use Rattle.zr_pool.proofs.Refused.{fault_same, add_refusal, take_cause, take_refusal, give_cause, give_refusal, step_cause, step_refusal}
 use Rattle.zr_last.proofs.Lasting.{commit_last, same_last}
 use Rattle.zr_shelf.specs.Disks.{Stand}
@@ -389,3 +391,97 @@ returns-in_ok-commit-in-Export-clause-stops g c = λ ends p h. c.commit-in-Expor
 
 pub returns-in_err-commit-in-Export-clause-stops : goal.returns-in_err-commit-in-Export-clause-stops
 returns-in_err-commit-in-Export-clause-stops g c = λ ends p h. c.commit-in-Export.ensures.leads p.objects h.objects
+
+-- ---- a refusal stays in the group
+
+pub returns-in_err-add-in-Add-clause-stays_no : goal.returns-in_err-add-in-Add-clause-stays_no
+returns-in_err-add-in-Add-clause-stays_no g c = λ told r is.
+    let res = c.from_residual-in_err-add-in-Add in
+    let q = err_from_is_err_and res.result res.ensures.1 in
+    let e = fault_same c.in_err-add-in-Add.field-0.0 q.0 r res.result q.1 q.2 is in
+    let was = c.in_err-add-in-Add.was ∙ ap Err e in
+    refused_stays c.args.pool.now c.add.new.pool (g.S.Shelf.world c.args.shelf.now) (g.S.Shelf.world c.add.new.shelf) (c.add.ensures.unchanged r was) (c.add.ensures.untouched told r was)
+
+pub returns-in_err-take-in-Checkpoint-clause-stays_no : goal.returns-in_err-take-in-Checkpoint-clause-stays_no
+returns-in_err-take-in-Checkpoint-clause-stays_no g c = λ told r is.
+    let res = c.from_residual-in_err-take-in-Checkpoint in
+    let q = err_from_is_err_and res.result res.ensures.1 in
+    let e = fault_same c.in_err-take-in-Checkpoint.field-0.0 q.0 r res.result q.1 q.2 is in
+    let was = c.in_err-take-in-Checkpoint.was ∙ ap Err e in
+    refused_stays c.args.pool.now c.take.new.pool (g.S.Shelf.world c.args.shelf.now) (g.S.Shelf.world c.take.new.shelf) (c.take.ensures.unchanged r was) (same_world (g.S.Shelf.world c.args.shelf.now) (g.S.Shelf.world c.take.new.shelf) (c.take.ensures.untouched r was))
+
+pub returns-in_err-give_up-in-Discard-clause-stays_no : goal.returns-in_err-give_up-in-Discard-clause-stays_no
+returns-in_err-give_up-in-Discard-clause-stays_no g c = λ told r is.
+    let res = c.from_residual-in_err-give_up-in-Discard in
+    let q = err_from_is_err_and res.result res.ensures.1 in
+    let e = fault_same c.in_err-give_up-in-Discard.field-0.0 q.0 r res.result q.1 q.2 is in
+    let was = c.in_err-give_up-in-Discard.was ∙ ap Err e in
+    refused_stays c.args.pool.now c.give_up.new.pool (g.S.Shelf.world c.args.shelf.now) (g.S.Shelf.world c.give_up.new.shelf) (c.give_up.ensures.unchanged r was) (same_world (g.S.Shelf.world c.args.shelf.now) (g.S.Shelf.world c.give_up.new.shelf) (c.give_up.ensures.untouched r was))
+
+pub returns-in_err-upgrade-in-Upgrade-clause-stays_no : goal.returns-in_err-upgrade-in-Upgrade-clause-stays_no
+returns-in_err-upgrade-in-Upgrade-clause-stays_no g c = λ told r is.
+    let res = c.from_residual-in_err-upgrade-in-Upgrade in
+    let q = err_from_is_err_and res.result res.ensures.1 in
+    let e = fault_same c.in_err-upgrade-in-Upgrade.field-0.0 q.0 r res.result q.1 q.2 is in
+    let was = c.in_err-upgrade-in-Upgrade.was ∙ ap Err e in
+    refused_stays c.args.pool.now c.upgrade.new.pool (g.S.Shelf.world c.args.shelf.now) (g.S.Shelf.world c.upgrade.new.shelf) (c.upgrade.ensures.unchanged r was) (same_world (g.S.Shelf.world c.args.shelf.now) (g.S.Shelf.world c.upgrade.new.shelf) (c.upgrade.ensures.untouched r was))
+
+pub returns-in_err-units-in-StepDiscard-clause-stays_no : goal.returns-in_err-units-in-StepDiscard-clause-stays_no
+returns-in_err-units-in-StepDiscard-clause-stays_no g c = λ told r is.
+    let res = c.from_residual-in_err-units-in-StepDiscard in
+    let q = err_from_is_err_and res.result res.ensures.1 in
+    let e = fault_same c.in_err-units-in-StepDiscard.field-0.0 q.0 r res.result q.1 q.2 is in
+    let was = c.in_err-units-in-StepDiscard.was ∙ ap Err e in
+    let world = g.S.Shelf.world c.args.shelf.now in
+    refused_stays c.args.pool.now c.step.new.pool world world (c.step.ensures.unchanged r was) (same_world world world refl)
+
+-- ---- a step of discarding
+
+pub returns-in_ok-units-in-StepDiscard-clause-steps : goal.returns-in_ok-units-in-StepDiscard-clause-steps
+returns-in_ok-units-in-StepDiscard-clause-steps g c = λ step. step_opens_none c.args.pool.now c.step.new.pool c.in_ok-units-in-StepDiscard.units c.in_ok-units-in-StepDiscard.ensures.root c.in_ok-units-in-StepDiscard.ensures.steps
+
+pub returns-in_ok-units-in-StepDiscard-clause-still : goal.returns-in_ok-units-in-StepDiscard-clause-still
+returns-in_ok-units-in-StepDiscard-clause-still g c = λ step. same_world (g.S.Shelf.world c.args.shelf.now) (g.S.Shelf.world c.args.shelf.now) refl
+
+pub returns-in_err-units-in-StepDiscard-clause-still : goal.returns-in_err-units-in-StepDiscard-clause-still
+returns-in_err-units-in-StepDiscard-clause-still g c = λ step. same_world (g.S.Shelf.world c.args.shelf.now) (g.S.Shelf.world c.args.shelf.now) refl
+
+-- ---- a line that ends with a reset
+
+pub returns-in_ok-add-in-Add-clause-resets : goal.returns-in_ok-add-in-Add-clause-resets
+returns-in_ok-add-in-Add-clause-resets g c = λ on p h.
+    let new = c.add.new.shelf in
+    let done = c.in_ok-add-in-Add.ensures in
+    record { leaves = done.ends p.objects h.objects; holds = untold (g.S.Shelf.tells new) (g.S.Shelf.world new).now.seen c.add.new.pool p.objects (done.objects p.objects h.objects) }
+
+pub returns-in_ok-take-in-Checkpoint-clause-resets : goal.returns-in_ok-take-in-Checkpoint-clause-resets
+returns-in_ok-take-in-Checkpoint-clause-resets g c = λ on p h.
+    let new = c.take.new.shelf in
+    let done = c.in_ok-take-in-Checkpoint.ensures in
+    record { leaves = done.ends p.objects h.objects; holds = untold (g.S.Shelf.tells new) (g.S.Shelf.world new).now.seen c.take.new.pool p.objects (done.objects p.objects h.objects) }
+
+pub returns-in_ok-give_up-in-Discard-clause-resets : goal.returns-in_ok-give_up-in-Discard-clause-resets
+returns-in_ok-give_up-in-Discard-clause-resets g c = λ on p h.
+    let new = c.give_up.new.shelf in
+    let done = c.in_ok-give_up-in-Discard.ensures in
+    record { leaves = done.ends p.objects h.objects; holds = untold (g.S.Shelf.tells new) (g.S.Shelf.world new).now.seen c.give_up.new.pool p.objects (done.objects p.objects h.objects) }
+
+pub returns-in_ok-upgrade-in-Upgrade-clause-resets : goal.returns-in_ok-upgrade-in-Upgrade-clause-resets
+returns-in_ok-upgrade-in-Upgrade-clause-resets g c = λ on p h.
+    let new = c.upgrade.new.shelf in
+    let done = c.in_ok-upgrade-in-Upgrade.ensures in
+    record { leaves = done.ends p.objects h.objects; holds = untold (g.S.Shelf.tells new) (g.S.Shelf.world new).now.seen c.upgrade.new.pool p.objects (done.objects p.objects h.objects) }
+
+-- ---- wherever such a line stops
+
+pub returns-in_ok-give_up-in-Discard-clause-stops_reset : goal.returns-in_ok-give_up-in-Discard-clause-stops_reset
+returns-in_ok-give_up-in-Discard-clause-stops_reset g c = λ on p h. c.give_up.ensures.stops p.objects h.objects
+
+pub returns-in_err-give_up-in-Discard-clause-stops_reset : goal.returns-in_err-give_up-in-Discard-clause-stops_reset
+returns-in_err-give_up-in-Discard-clause-stops_reset g c = λ on p h. c.give_up.ensures.stops p.objects h.objects
+
+pub returns-in_ok-upgrade-in-Upgrade-clause-stops_reset : goal.returns-in_ok-upgrade-in-Upgrade-clause-stops_reset
+returns-in_ok-upgrade-in-Upgrade-clause-stops_reset g c = λ on p h. c.upgrade.ensures.stops p.objects h.objects
+
+pub returns-in_err-upgrade-in-Upgrade-clause-stops_reset : goal.returns-in_err-upgrade-in-Upgrade-clause-stops_reset
+returns-in_err-upgrade-in-Upgrade-clause-stops_reset g c = λ on p h. c.upgrade.ensures.stops p.objects h.objects

@@ -1,8 +1,12 @@
 use Rattle.std.proofs.Common.{◌∙◌, inl, inr, ap, refl, sym, Err}
 use Rattle.std.proofs.lemmas.Result.{err_from_is_err_and}
+use Rattle.zr_shelf.proofs.Doings.{writes_still}
 use Rattle.zr_shelf.specs.Moments.{World}
 use Rattle.zr_sync.specs.declared.open.OpenPool.{OpenPool}
-use Rattle.zr_pool.proofs.Groups.{commit_alone, commit_refused, commits_in_group, no_object_commit, no_table_commit, none_of_them, not_of_removal, not_opener, pool_commits}
+use Rattle.zr_vdev.specs.Stores.{IsWriteInto}
+use Rattle.zr_vdev.specs.declared.kind.Kind.TheVariants.{Block}
+use Rattle.zr_lines.proofs.Stopping.{in_group_itself}
+use Rattle.zr_pool.proofs.Groups.{commit_alone, commits_in_group, no_object_commit, no_table_commit, none_of_them, not_of_removal, not_opener, no_way, once_resets, opens_no_reset, pool_commits, refused_stays, resets_elsewhere, resets_on_pool, same_world}
 use Rattle.zr_pool.proofs.Leavings.{opener_refused}
 use Rattle.zr_pool.proofs.Refused.{fault_same}
 use Rattle.zr_pool.proofs.Shown.{same_root, still_last}
@@ -118,7 +122,7 @@ returns-in_err-removal_line-clause-still g c = λ told table off. absurd (let no
 -- ---- one group
 
 pub returns-in_err-object_line-clause-one_group_no : goal.returns-in_err-object_line-clause-one_group_no
-returns-in_err-object_line-clause-one_group_no g c = λ group p h r is.
+returns-in_err-object_line-clause-one_group_no g c = λ p h r is.
     let res = c.from_residual in
     let q = err_from_is_err_and res.result res.ensures.1 in
     let e = fault_same c.in_err-object_line.field-0.0 q.0 r res.result q.1 q.2 is in
@@ -128,31 +132,40 @@ pub returns-in_err-object_line-clause-writes : goal.returns-in_err-object_line-c
 returns-in_err-object_line-clause-writes g c = λ group p h. c.object_line.ensures.writes p h
 
 pub returns-in_err-table_line-clause-one_group_no : goal.returns-in_err-table_line-clause-one_group_no
-returns-in_err-table_line-clause-one_group_no g c = λ group p h r is.
+returns-in_err-table_line-clause-one_group_no g c = λ p h r is.
     inl (c.table_line.ensures.in_group h.objects.held.told)
 
 pub returns-in_err-table_line-clause-writes : goal.returns-in_err-table_line-clause-writes
 returns-in_err-table_line-clause-writes g c = λ group p h. inl (c.table_line.ensures.in_group h.objects.held.told).written
 
 pub returns-in_err-pool_line-clause-one_group_no : goal.returns-in_err-pool_line-clause-one_group_no
-returns-in_err-pool_line-clause-one_group_no g c = λ group p h r is.
+returns-in_err-pool_line-clause-one_group_no g c = λ p h r is.
     let res = c.from_residual-in_err-pool_line in
     let q = err_from_is_err_and res.result res.ensures.1 in
     let e = fault_same c.in_err-pool_line.field-0.0 q.0 r res.result q.1 q.2 is in
-    absurd (commit_refused c.args.command.now r (pool_commits c.args.command.now (sym c.is_on_pool.ensures ∙ c.if-is_on_pool.true) group) (c.pool_line.ensures.refused r (c.in_err-pool_line.was ∙ ap Err e)))
+    inl (c.pool_line.ensures.stays_no h.objects.held.told r (c.in_err-pool_line.was ∙ ap Err e))
 
 pub returns-in_err-pool_line-clause-writes : goal.returns-in_err-pool_line-clause-writes
-returns-in_err-pool_line-clause-writes g c = λ group p h. inr (inl (c.pool_line.ensures.stops (pool_commits c.args.command.now (sym c.is_on_pool.ensures ∙ c.if-is_on_pool.true) group) p h))
+returns-in_err-pool_line-clause-writes g c = λ group p h. elim (pool_commits c.args.command.now (sym c.is_on_pool.ensures ∙ c.if-is_on_pool.true) group) [
+  | inl ends ↦ inr (inl (c.pool_line.ensures.stops ends p h))
+  | inr step ↦ inl (writes_still (IsWriteInto Block c.args.pool.now.table.slots c.args.pool.now.space) (g.S.Shelf.world c.args.shelf.now) (g.S.Shelf.world c.pool_line.new.shelf) (c.pool_line.ensures.still step))
+]
 
 pub returns-in_err-removal_line-clause-one_group_no : goal.returns-in_err-removal_line-clause-one_group_no
-returns-in_err-removal_line-clause-one_group_no g c = λ group p h r is.
-    absurd (not_of_removal c.args.command.now (sym c.is_of_removal.ensures ∙ c.if-is_of_removal.true) group)
+returns-in_err-removal_line-clause-one_group_no g c = λ p h r is.
+    let res = c.from_residual-in_err-removal_line in
+    let q = err_from_is_err_and res.result res.ensures.1 in
+    let e = fault_same c.in_err-removal_line.field-0.0 q.0 r res.result q.1 q.2 is in
+    let was = c.in_err-removal_line.was ∙ ap Err e in
+    let old = g.S.Shelf.world c.args.shelf.now in
+    let new = g.S.Shelf.world c.removal_line.new.shelf in
+    inl (refused_stays c.args.pool.now c.removal_line.new.pool old new (c.removal_line.ensures.unchanged r was) (same_world old new (c.removal_line.ensures.untouched r was)))
 
 pub returns-in_err-removal_line-clause-writes : goal.returns-in_err-removal_line-clause-writes
 returns-in_err-removal_line-clause-writes g c = λ group p h. absurd (not_of_removal c.args.command.now (sym c.is_of_removal.ensures ∙ c.if-is_of_removal.true) group)
 
 pub returns-then-is_opener-clause-one_group_no : goal.returns-then-is_opener-clause-one_group_no
-returns-then-is_opener-clause-one_group_no g c = λ group p h r is. absurd (not_opener c.args.command.now (sym c.is_opener.ensures ∙ c.if-is_opener.true) group)
+returns-then-is_opener-clause-one_group_no g c = λ p h r is. inl (in_group_itself c.args.pool.now (g.S.Shelf.world c.args.shelf.now))
 
 pub returns-then-is_opener-clause-writes : goal.returns-then-is_opener-clause-writes
 returns-then-is_opener-clause-writes g c = λ group p h. absurd (not_opener c.args.command.now (sym c.is_opener.ensures ∙ c.if-is_opener.true) group)
@@ -166,10 +179,58 @@ returns-clause-one_group g c = λ group p h. absurd (none_of_them c.args.command
 pub returns-clause-commits : goal.returns-clause-commits
 returns-clause-commits g c = λ ends p h. absurd (none_of_them c.args.command.now (sym c.is_on_objects.ensures ∙ c.if-is_on_objects.false) (sym c.is_table.ensures ∙ c.if-is_table.false) (sym c.is_on_pool.ensures ∙ c.if-is_on_pool.false) (commits_in_group c.args.command.now ends))
 
+pub returns-then-is_on_objects-clause-one_group : goal.returns-then-is_on_objects-clause-one_group
+returns-then-is_on_objects-clause-one_group g c = λ group p h. inl (c.in_ok-object_line.ensures.one_group p h)
+
+pub returns-then-is_table-clause-one_group : goal.returns-then-is_table-clause-one_group
+returns-then-is_table-clause-one_group g c = λ group p h. inl (inl (c.table_line.ensures.in_group h.objects.held.told))
+
 pub returns-then-is_on_pool-clause-one_group : goal.returns-then-is_on_pool-clause-one_group
-returns-then-is_on_pool-clause-one_group g c = λ group p h.
-    commit_alone (g.S.Shelf.sizes c.args.shelf.now) p.objects c.args.pool.now c.pool_line.new.pool (g.S.Shelf.world c.args.shelf.now) (g.S.Shelf.world c.pool_line.new.shelf)
-    (c.in_ok-pool_line.ensures.commits (pool_commits c.args.command.now (sym c.is_on_pool.ensures ∙ c.if-is_on_pool.true) group) p h)
+returns-then-is_on_pool-clause-one_group g c = λ group p h. elim (pool_commits c.args.command.now (sym c.is_on_pool.ensures ∙ c.if-is_on_pool.true) group) [
+  | inl ends ↦ inl (commit_alone (g.S.Shelf.sizes c.args.shelf.now) p.objects c.args.pool.now c.pool_line.new.pool (g.S.Shelf.world c.args.shelf.now) (g.S.Shelf.world c.pool_line.new.shelf) (c.in_ok-pool_line.ensures.commits ends p h))
+  | inr step ↦ inr (c.pool_line.ensures.still step, c.in_ok-pool_line.ensures.steps step)
+]
 
 pub returns-then-is_on_pool-clause-writes : goal.returns-then-is_on_pool-clause-writes
-returns-then-is_on_pool-clause-writes g c = λ group p h. inr (inl (c.pool_line.ensures.stops (pool_commits c.args.command.now (sym c.is_on_pool.ensures ∙ c.if-is_on_pool.true) group) p h))
+returns-then-is_on_pool-clause-writes g c = λ group p h. elim (pool_commits c.args.command.now (sym c.is_on_pool.ensures ∙ c.if-is_on_pool.true) group) [
+  | inl ends ↦ inr (inl (c.pool_line.ensures.stops ends p h))
+  | inr step ↦ inl (writes_still (IsWriteInto Block c.args.pool.now.table.slots c.args.pool.now.space) (g.S.Shelf.world c.args.shelf.now) (g.S.Shelf.world c.pool_line.new.shelf) (c.pool_line.ensures.still step))
+]
+
+-- ---- a line that ends with a reset is one on a whole pool
+
+pub returns-then-is_on_objects-clause-resets : goal.returns-then-is_on_objects-clause-resets
+returns-then-is_on_objects-clause-resets g c = λ on p h. absurd (resets_elsewhere c.args.command.now on (inl (sym c.is_on_objects.ensures ∙ c.if-is_on_objects.true)))
+
+pub returns-then-is_table-clause-resets : goal.returns-then-is_table-clause-resets
+returns-then-is_table-clause-resets g c = λ on p h. absurd (resets_elsewhere c.args.command.now on (inr (inl (sym c.is_table.ensures ∙ c.if-is_table.true))))
+
+pub returns-then-is_of_removal-clause-resets : goal.returns-then-is_of_removal-clause-resets
+returns-then-is_of_removal-clause-resets g c = λ on p h. absurd (resets_elsewhere c.args.command.now on (inr (inr (sym c.is_of_removal.ensures ∙ c.if-is_of_removal.true))))
+
+pub returns-clause-resets : goal.returns-clause-resets
+returns-clause-resets g c = λ on p h. no_way (sym (sym c.is_on_pool.ensures ∙ c.if-is_on_pool.false) ∙ resets_on_pool c.args.command.now on)
+
+pub returns-then-is_on_objects-clause-stops_reset : goal.returns-then-is_on_objects-clause-stops_reset
+returns-then-is_on_objects-clause-stops_reset g c = λ on p h. absurd (resets_elsewhere c.args.command.now (once_resets c.args.command.now on) (inl (sym c.is_on_objects.ensures ∙ c.if-is_on_objects.true)))
+
+pub returns-in_err-object_line-clause-stops_reset : goal.returns-in_err-object_line-clause-stops_reset
+returns-in_err-object_line-clause-stops_reset g c = λ on p h. absurd (resets_elsewhere c.args.command.now (once_resets c.args.command.now on) (inl (sym c.is_on_objects.ensures ∙ c.if-is_on_objects.true)))
+
+pub returns-then-is_table-clause-stops_reset : goal.returns-then-is_table-clause-stops_reset
+returns-then-is_table-clause-stops_reset g c = λ on p h. absurd (resets_elsewhere c.args.command.now (once_resets c.args.command.now on) (inr (inl (sym c.is_table.ensures ∙ c.if-is_table.true))))
+
+pub returns-in_err-table_line-clause-stops_reset : goal.returns-in_err-table_line-clause-stops_reset
+returns-in_err-table_line-clause-stops_reset g c = λ on p h. absurd (resets_elsewhere c.args.command.now (once_resets c.args.command.now on) (inr (inl (sym c.is_table.ensures ∙ c.if-is_table.true))))
+
+pub returns-then-is_of_removal-clause-stops_reset : goal.returns-then-is_of_removal-clause-stops_reset
+returns-then-is_of_removal-clause-stops_reset g c = λ on p h. absurd (resets_elsewhere c.args.command.now (once_resets c.args.command.now on) (inr (inr (sym c.is_of_removal.ensures ∙ c.if-is_of_removal.true))))
+
+pub returns-in_err-removal_line-clause-stops_reset : goal.returns-in_err-removal_line-clause-stops_reset
+returns-in_err-removal_line-clause-stops_reset g c = λ on p h. absurd (resets_elsewhere c.args.command.now (once_resets c.args.command.now on) (inr (inr (sym c.is_of_removal.ensures ∙ c.if-is_of_removal.true))))
+
+pub returns-then-is_opener-clause-stops_reset : goal.returns-then-is_opener-clause-stops_reset
+returns-then-is_opener-clause-stops_reset g c = λ on p h. absurd (opens_no_reset c.args.command.now (sym c.is_opener.ensures ∙ c.if-is_opener.true) (once_resets c.args.command.now on))
+
+pub returns-clause-stops_reset : goal.returns-clause-stops_reset
+returns-clause-stops_reset g c = λ on p h. no_way (sym (sym c.is_on_pool.ensures ∙ c.if-is_on_pool.false) ∙ resets_on_pool c.args.command.now (once_resets c.args.command.now on))

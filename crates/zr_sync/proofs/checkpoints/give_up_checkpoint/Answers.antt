@@ -1,4 +1,5 @@
-use Rattle.std.proofs.Common.{ℕ, List, ◌∙◌, ap, subst, arith}
+use Rattle.std.proofs.Common.{ℕ, List, inl, inr, refl, ◌∙◌, ap, subst, arith}
+use Rattle.zr_shelf.proofs.Runs.{still}
 use Rattle.zr_sync.specs.Pools.{IsOpen}
 use Rattle.zr_sync.specs.declared.open.OpenPool.{OpenPool}
 use Rattle.zr_sync.proofs.SavedRoots.{drops_seen, drops_objects, drops_same}
@@ -68,3 +69,22 @@ returns-clause-commits g c = λ t.
         table = done.same.table;
       };
     }
+
+-- ---- wherever it stops
+
+pub returns-in_err-drop_root-clause-leads : goal.returns-in_err-drop_root-clause-leads
+returns-in_err-drop_root-clause-leads g c = λ objects h. inl (still (g.S.Shelf.world c.args.shelf.now) (g.S.Shelf.world c.args.shelf.now) refl)
+
+pub returns-in_err-commit-clause-leads : goal.returns-in_err-commit-clause-leads
+returns-in_err-commit-clause-leads g c = λ objects h.
+    let old = c.args.shelf.now in
+    let dropped = c.drop_root.new.pool in
+    let first = c.in_ok-drop_root.ensures in
+    inr (dropped, first.pool (g.S.Shelf.sizes old) c.requires.pool, first.drops, c.commit.ensures.leads objects (drops_objects c.args.pool.now dropped first.drops (g.S.Shelf.sizes old) (g.S.Shelf.counts old) (g.S.Shelf.tells old) (g.S.Shelf.world old) objects c.requires.pool h))
+
+pub returns-clause-leads : goal.returns-clause-leads
+returns-clause-leads g c = λ objects h.
+    let old = c.args.shelf.now in
+    let dropped = c.drop_root.new.pool in
+    let first = c.in_ok-drop_root.ensures in
+    inr (dropped, first.pool (g.S.Shelf.sizes old) c.requires.pool, first.drops, c.commit.ensures.leads objects (drops_objects c.args.pool.now dropped first.drops (g.S.Shelf.sizes old) (g.S.Shelf.counts old) (g.S.Shelf.tells old) (g.S.Shelf.world old) objects c.requires.pool h))

@@ -1,0 +1,58 @@
+-- What a line that ends with a reset wrote, wherever it stopped.
+use Rattle.std.proofs.Common.{◌≡◌, ◌⊎◌, inl, inr, ℕ, Bool, true, false, List, refl, sym, ◌∙◌, ap, subst}
+use Rattle.zr_base.specs.declared.space.CkptPart.{CkptPart}
+use Rattle.zr_base.specs.declared.space.CkptPart.TheVariants.{Discarding}
+use Rattle.zr_last.specs.Last.{KeepsRoot}
+use Rattle.zr_model.specs.Objects.{Objects}
+use Rattle.zr_moves.specs.Moves.{with_version}
+use Rattle.zr_rules.specs.Roles.{Role}
+use Rattle.zr_rules.specs.Roles.Role.{DeferredMeta, SavedMeta}
+use Rattle.zr_rules.specs.Space.{Space, role_at}
+use Rattle.zr_rules.specs.Steps.{with_ckpt}
+use Rattle.zr_shelf.specs.Moments.{World}
+use Rattle.zr_sync.specs.Checkpoints.{DropsRoot, GivesSavedMeta, GivesUpInPart}
+use Rattle.zr_sync.specs.Leads.{CommitsObjects}
+use Rattle.zr_sync.specs.Pools.{IsOpen}
+use Rattle.zr_sync.specs.declared.open.OpenPool.{OpenPool}
+use Rattle.zr_vdev.specs.Stores.{is_open_role}
+use Rattle.zr_lines.specs.Stops.{OpensNoUnit, WritesReset}
+use Rattle.zr_lines.specs.Upgrades.{renewed}
+
+-- ---- a checkpoint is given up
+
+ckpt_role : (s : Space) (c : CkptPart) (d u : ℕ) → role_at (with_ckpt s c) d u ≡ role_at s d u
+unfolding role_at
+ckpt_role s c d u = refl
+
+-- the saved root's metadata waits, and is not free yet
+open_before : (old new : Role) → (new ≡ old) ⊎ ((old ≡ SavedMeta) × (new ≡ DeferredMeta)) → is_open_role new ≡ true → is_open_role old ≡ true
+open_before old new (inl same) is = subst (λ (r : Role). is_open_role r ≡ true) same is
+open_before old new (inr (saved, deferred)) is = let no_way : false ≡ true = subst (λ (r : Role). is_open_role r ≡ true) deferred is in absurd cc
+
+gives_open : (old new : Space) → GivesSavedMeta old new → (d u : ℕ) → is_open_role (role_at new d u) ≡ true → is_open_role (role_at old d u) ≡ true
+gives_open old new h d u is = open_before (role_at old d u) (role_at new d u) (h.roles d u) is
+
+pub dropped_opens : (old new : OpenPool) → DropsRoot old new → OpensNoUnit old new
+dropped_opens old new h = record {
+  root = record { last = ap (λ (p : OpenPool). p.last) h.rest; guid = ap (λ (p : OpenPool). p.guid) h.rest; table = ap (λ (p : OpenPool). p.table) h.rest };
+  units = λ d u is. subst (λ (r : Role). is_open_role r ≡ true) (ckpt_role old.space Discarding d u) (gives_open (with_ckpt old.space Discarding) new.space h.gives d u is);
+}
+
+pub given_up : (sizes : List ℕ) (objects : Objects) (old : OpenPool) (before now : World) → GivesUpInPart sizes objects old before now → WritesReset sizes objects old before now
+given_up sizes objects old before now (inl nothing) = inl nothing
+given_up sizes objects old before now (inr (dropped, ready, drops, commits)) = inr (dropped, ready, dropped_opens old dropped drops, commits)
+
+-- ---- a pool becomes one of the second version
+
+version_role : (s : Space) (v d u : ℕ) → role_at (with_version s v) d u ≡ role_at s d u
+unfolding role_at
+version_role s v d u = refl
+
+renewed_opens : (old : OpenPool) → OpensNoUnit old (renewed old)
+renewed_opens old = record {
+  root = record { last = refl; guid = refl; table = refl };
+  units = λ d u is. subst (λ (r : Role). is_open_role r ≡ true) (version_role old.space 2 d u) is;
+}
+
+pub upgraded : (sizes : List ℕ) (objects : Objects) (old changed : OpenPool) (before now : World) → changed ≡ renewed old → IsOpen sizes changed → CommitsObjects sizes changed true objects before now → WritesReset sizes objects old before now
+upgraded sizes objects old changed before now is ready commits = inr (changed, ready, subst (OpensNoUnit old) (sym is) (renewed_opens old), commits)

@@ -1,0 +1,4 @@
+pub mod Tells
+pub mod Prefixes
+pub mod Stopping
+pub mod Joining

@@ -1,0 +1,106 @@
+-- What is told behind a line that acknowledges a commit, or that made a pool.
+use Rattle.std.proofs.Common.{◌≡◌, ◌⊎◌, inl, inr, Bool, true, false, Option, Some, None, refl, ◌∙◌, ap, sym, subst}
+use Rattle.std.specs.FinMap as map
+use Rattle.std.specs.Prelude.{is_some, not, if◌then◌else◌, ◌&&◌, ◌||◌}
+use Rattle.zr_model.specs.Objects.{Objects}
+use Rattle.zr_model.specs.Runs.{Shelf}
+use Rattle.zr_model.specs.State.{State, PoolState, ShelfPart, Empty, Refused, Is, created}
+use Rattle.zr_moves.specs.Answers.{Acts}
+use Rattle.zr_pool.specs.Behind.{TellsOf, is_acknowledged, is_create, is_in_group, is_known, is_making, is_refusal, is_resetting, leaves_told, serves}
+use Rattle.zr_pool.specs.Plain.{IsObjectsTurn, IsPlainTurn}
+use Rattle.zr_pool.specs.Pools.{DeviceState}
+use Rattle.zr_pool.specs.Turns.{IsTurn}
+use Rattle.zr_script.specs.declared.command.Command.{Command}
+use Rattle.zr_script.specs.declared.command.Command.TheVariants as cmd
+use Rattle.zr_script.specs.declared.reply.Reply.{Reply}
+use Rattle.zr_script.specs.declared.reply.Reply.TheVariants as reply
+use Rattle.zr_sync.specs.declared.open.OpenPool.{OpenPool}
+
+pub no_way : {P : Type 0} → false ≡ true → P
+no_way e = absurd cc
+
+-- a commit leaves the objects
+pub acknowledged_told : (answer : Reply) (command : Command) (is_open : Bool) (part : ShelfPart) (shelf : Shelf) (old new : State) (q : PoolState) → part ≡ Is q → is_acknowledged answer command ≡ true → IsTurn is_open command answer new.is_open → IsObjectsTurn is_open part shelf old command answer new → new.shelf ≡ Is q
+acknowledged_told (reply.Synced txg) cmd.Sync true (Is p) shelf old new q told is turn (after, step, opened) = opened.shelf ∙ (ap Is step.0 ∙ told)
+acknowledged_told (reply.Synced txg) cmd.Sync true Empty shelf old new q told is turn objects = absurd cc
+acknowledged_told (reply.Synced txg) cmd.Sync true (Refused r) shelf old new q told is turn objects = absurd objects
+acknowledged_told (reply.Synced txg) cmd.Sync false part shelf old new q told is turn objects = absurd turn.0
+acknowledged_told reply.Done cmd.Export true (Is p) shelf old new q told is turn objects = ap (λ (s : State). s.shelf) objects ∙ told
+acknowledged_told reply.Done cmd.Export true Empty shelf old new q told is turn objects = absurd cc
+acknowledged_told reply.Done cmd.Export true (Refused r) shelf old new q told is turn objects = absurd objects
+acknowledged_told reply.Done cmd.Export false part shelf old new q told is turn objects = no_way turn.0
+acknowledged_told answer command is_open part shelf old new q told is turn objects = no_way is
+
+-- a line that ends with a reset is one to an open pool
+reset_done : (command : Command) (answer : Reply) (is_open after : Bool) → is_resetting command ≡ true → is_refusal answer ≡ false → IsTurn is_open command answer after → (is_open ≡ true) × (answer ≡ reply.Done)
+reset_done (cmd.Add dev) reply.Done true after on done turn = (refl, refl)
+reset_done (cmd.Add dev) reply.Done false after on done turn = no_way turn.0
+reset_done (cmd.Add dev) (reply.No r) is_open after on done turn = no_way (sym done)
+reset_done (cmd.Add dev) answer true after on done turn = absurd turn.0
+reset_done (cmd.Add dev) answer false after on done turn = absurd turn.0
+reset_done cmd.Checkpoint reply.Done true after on done turn = (refl, refl)
+reset_done cmd.Checkpoint reply.Done false after on done turn = no_way turn.0
+reset_done cmd.Checkpoint (reply.No r) is_open after on done turn = no_way (sym done)
+reset_done cmd.Checkpoint answer true after on done turn = absurd turn.0
+reset_done cmd.Checkpoint answer false after on done turn = absurd turn.0
+reset_done cmd.Discard reply.Done true after on done turn = (refl, refl)
+reset_done cmd.Discard reply.Done false after on done turn = no_way turn.0
+reset_done cmd.Discard (reply.No r) is_open after on done turn = no_way (sym done)
+reset_done cmd.Discard answer true after on done turn = absurd turn.0
+reset_done cmd.Discard answer false after on done turn = absurd turn.0
+reset_done cmd.Upgrade reply.Done true after on done turn = (refl, refl)
+reset_done cmd.Upgrade reply.Done false after on done turn = no_way turn.0
+reset_done cmd.Upgrade (reply.No r) is_open after on done turn = no_way (sym done)
+reset_done cmd.Upgrade answer true after on done turn = absurd turn.0
+reset_done cmd.Upgrade answer false after on done turn = absurd turn.0
+reset_done command answer is_open after on done turn = no_way on
+
+-- it leaves the objects
+reset_step : (command : Command) (p q : PoolState) → is_resetting command ≡ true → Acts p command reply.Done q → q.objects ≡ p.objects
+reset_step (cmd.Add dev) p q on acts = ap (λ (r : PoolState). r.objects) acts
+reset_step cmd.Checkpoint p q on acts = ap (λ (r : PoolState). r.objects) acts
+reset_step cmd.Discard p q on acts = ap (λ (r : PoolState). r.objects) acts
+reset_step cmd.Upgrade p q on acts = ap (λ (r : PoolState). r.objects) acts
+reset_step command p q on acts = no_way on
+
+reset_plain : (command : Command) (p : PoolState) (new : State) → is_resetting command ≡ true → IsPlainTurn p command reply.Done new → TellsOf new.shelf p.objects
+reset_plain (cmd.Add dev) p new on (q, step, opened) = (q, opened.shelf, reset_step (cmd.Add dev) p q on step.0)
+reset_plain cmd.Checkpoint p new on (q, step, opened) = (q, opened.shelf, reset_step cmd.Checkpoint p q on step.0)
+reset_plain cmd.Discard p new on (q, step, opened) = (q, opened.shelf, reset_step cmd.Discard p q on step.0)
+reset_plain cmd.Upgrade p new on (q, step, opened) = (q, opened.shelf, reset_step cmd.Upgrade p q on step.0)
+reset_plain command p new on turn = no_way on
+
+reset_part : (command : Command) (part : ShelfPart) (shelf : Shelf) (old new : State) (q : PoolState) → part ≡ Is q → is_resetting command ≡ true → IsObjectsTurn true part shelf old command reply.Done new → TellsOf new.shelf q.objects
+reset_part command (Is p) shelf old new q told on turn = let same : p ≡ q = cc in subst (λ (r : PoolState). TellsOf new.shelf r.objects) same (reset_plain command p new on turn)
+reset_part command Empty shelf old new q told on turn = absurd cc
+reset_part command (Refused r) shelf old new q told on turn = absurd turn
+
+pub reset_told : (command : Command) (answer : Reply) (is_open : Bool) (part : ShelfPart) (shelf : Shelf) (old new : State) (q : PoolState) → part ≡ Is q → is_resetting command ≡ true → is_refusal answer ≡ false → IsTurn is_open command answer new.is_open → IsObjectsTurn is_open part shelf old command answer new
+    → TellsOf new.shelf q.objects
+reset_told command answer is_open part shelf old new q told on done turn objects =
+    let both = reset_done command answer is_open new.is_open on done turn in
+    reset_part command part shelf old new q told on (subst (λ (a : Reply). IsObjectsTurn true part shelf old command a new) both.1 (subst (λ (b : Bool). IsObjectsTurn b part shelf old command answer new) both.0 objects))
+
+-- a pool that was made is told without objects
+pub made_told : (command : Command) (is_open : Bool) (part : ShelfPart) (shelf : Shelf) (old new : State) → is_create command ≡ true → IsTurn is_open command reply.Done new.is_open → IsObjectsTurn is_open part shelf old command reply.Done new → TellsOf new.shelf map.empty
+made_told (cmd.Create name guid devs) true part shelf old new create turn objects = absurd turn.0
+made_told (cmd.Create name guid devs) false part shelf old new create turn objects = (created name guid devs, objects.shelf, refl)
+made_told (cmd.CreateOld name guid devs) true part shelf old new create turn objects = absurd turn.0
+made_told (cmd.CreateOld name guid devs) false part shelf old new create turn objects = (created name guid devs, objects.shelf, refl)
+made_told command is_open part shelf old new create turn objects = no_way create
+
+first : (a b : Bool) → (a && b) ≡ true → a ≡ true
+first true b is = refl
+first false b is = no_way is
+
+either : (a b : Bool) → (a || b) ≡ true → (b ≡ true) ⊎ (a ≡ true)
+either true b is = inr refl
+either false b is = inl is
+
+-- a line that leaves it told which objects were committed last works in the group, or is refused
+pub leaves_small : (account : Option OpenPool) (answer : Reply) (command : Command) → leaves_told account answer command ≡ true → (is_in_group command ≡ true) ⊎ (is_refusal answer ≡ true)
+leaves_small (Some pool) answer command leaves = either (is_refusal answer) (is_in_group command) leaves
+leaves_small None answer command leaves = inr (first (is_refusal answer) (not (is_making command)) leaves)
+
+pub known_behind : (state : DeviceState) (objects : Objects) → state.behind ≡ Some objects → is_known state ≡ true
+known_behind state objects is = ap (λ (o : Option Objects). if is_some o then true else state.shown && serves state.account) is

@@ -1,0 +1,46 @@
+//! The laws, as calls that do nothing: a caller learns them by their contracts.
+ghost use Rattle.std.specs.Prelude.{◌≡◌, ℕ, List, Some, None};
+ghost use Rattle.zr_command.specs.Meanings.{Disks, Run};
+ghost use Rattle.zr_model.specs.Objects.{Objects};
+ghost use Rattle.zr_model.specs.Runs.{Asks, Point, Turn, end_of};
+ghost use Rattle.zr_pool.specs.Pools.{DeviceState, no_device_state};
+ghost use Rattle.zr_pool.specs.Turns.{IsWithin, RestsOn, on_devices};
+ghost use Rattle.zr_script.specs.declared.command.Command.{Command};
+ghost use Rattle.zr_script.specs.Lines.{lines_of};
+ghost use Rattle.zr_session.specs.Agenda.{IsGiven, agenda};
+ghost use Rattle.zr_session.specs.Generated.{Task, due_in};
+ghost use Rattle.zr_session.specs.Moments.{IsMoment, IsMomentOf};
+ghost use Rattle.zr_session.specs.declared.replies.Replies.TheVariants.{Kept, Sent};
+ghost use Rattle.zr_shelf.specs.Disks.{Stand};
+ghost use Rattle.zr_prefix.specs.Prefix.{IsCovered, IsOfPrefix, IsTold, ShowsPrefix};
+ghost use Rattle.zr_prefix.specs.Joined.{AreJoined, FollowOn, IsStoppedAt, StoppedRun, StopsTold};
+
+/// Behind the lines of a run the objects that are told to be committed last are those behind a prefix of them, and a stop may
+/// lose each line behind that: none of these was answered with a commit.
+pub fn what_is_committed_is_told()
+    ensures { (p : Point DeviceState) (turns : List (Turn DeviceState)) (objects : Objects) → p.state.behind ≡ None → Run on_devices p turns → (end_of p turns).state.behind ≡ Some objects → IsOfPrefix p turns objects }
+{}
+
+/// Between two lines whatever an honest crash leaves shows the objects of such a prefix, where they are told.
+pub fn a_rest_shows_a_prefix()
+    ensures { (p : Point DeviceState) (turns : List (Turn DeviceState)) (disks : Disks) → p.state.behind ≡ None → Run on_devices p turns → IsTold (end_of p turns) → RestsOn (end_of p turns) disks → ShowsPrefix p turns disks }
+{}
+
+/// So it does at each moment of a line behind them that works in the group that is open or commits it, and of one that makes
+/// nothing and goes back to nothing where no pool is open.
+pub fn a_line_shows_a_prefix()
+    ensures { (p : Point DeviceState) (turns : List (Turn DeviceState)) (command : Command) (disks : Disks) → p.state.behind ≡ None → Run on_devices p turns → IsTold (end_of p turns) → IsCovered (end_of p turns) command → IsWithin (end_of p turns) command disks → ShowsPrefix p turns disks }
+{}
+
+/// At a moment of a run at which it is told what was committed, over the lines of an input or generated ones: first lines are
+/// answered, with no more than the one that is due, and whatever an honest crash leaves shows the objects of a prefix of these.
+pub fn a_stopped_run_shows_a_prefix()
+    ensures given { (rounds : ℕ) (opening stand : Stand) (m : IsMoment on_devices rounds opening stand) → StopsTold (List ℕ) Asks Sent (agenda rounds (lines_of opening.left)) opening stand m → IsStoppedAt opening stand }
+    ensures generated { (task : Task) (opening stand : Stand) (m : IsMomentOf Command on_devices IsGiven Kept (due_in task) no_device_state opening stand) → StopsTold Command IsGiven Kept (due_in task) opening stand m → IsStoppedAt opening stand }
+{}
+
+/// Runs of which each begins on an image that an honest crash left of the one before, and imports the pool: each finds the
+/// objects behind a prefix of the lines of the one before.
+pub fn stopped_runs_join()
+    ensures { (first : StoppedRun) (more : List StoppedRun) → FollowOn first more → AreJoined first more }
+{}
