@@ -31,7 +31,7 @@ as_they_are s = record { durable = refl; writes = refl; seen = refl }
 
 flushed_as : (d : Disks) → d.durable ≡ d.seen → d.writes ≡ [] → (a b : Stand) → Follows (λ _. ⊥) a b → StandsAs d a → StandsAs d b
 flushed_as d rest none a b (stood is) h = subst (StandsAs d) (sym is) h
-flushed_as d rest none a b (wrote w no written) h = absurd no
+flushed_as d rest none a b (wrote w never written) h = absurd never
 flushed_as d rest none a b (flush is) h = subst (StandsAs d) (sym is) (record { durable = h.seen ∙ sym rest; writes = sym none; seen = h.seen })
 
 pub flushes_keep : (old new : World) (objects : Objects) → IsClosedBehind (disks_of old.now) objects → FlushesOnly old new → Throughout (StandsAs (disks_of old.now)) old new × StandsAs (disks_of old.now) new.now

@@ -1,5 +1,5 @@
 -- Which lines work in the group that is open, and which end it.
-use Rattle.std.proofs.Common.{◌≡◌, ◌⊎◌, inl, inr, List, length, take, ℕ, ◌==◌, Bool, true, false, refl, sym, ◌∙◌, subst, ap}
+use Rattle.std.proofs.Common.{◌≡◌, ◌⊎◌, inl, inr, List, length, take, ℕ, ◌==◌, Bool, true, false, refl, sym, subst, ap}
 use Rattle.std.specs.Prelude.{MatchBool, if◌then◌else◌}
 use Rattle.zr_base.specs.declared.space.CkptPart.{CkptPart}
 use Rattle.zr_base.specs.declared.space.CkptPart.TheVariants.{Clear}

@@ -6,7 +6,7 @@ use Rattle.zr_sync.specs.declared.open.OpenPool.{OpenPool}
 use Rattle.zr_vdev.specs.Stores.{IsWriteInto}
 use Rattle.zr_vdev.specs.declared.kind.Kind.TheVariants.{Block}
 use Rattle.zr_lines.proofs.Stopping.{in_group_itself}
-use Rattle.zr_pool.proofs.Groups.{commit_alone, commits_in_group, no_object_commit, no_table_commit, none_of_them, not_of_removal, not_opener, no_way, once_resets, opens_no_reset, pool_commits, refused_stays, resets_elsewhere, resets_on_pool, same_world}
+use Rattle.zr_pool.proofs.Groups.{commit_alone, commits_in_group, none_of_them, not_of_removal, not_opener, no_way, once_resets, opens_no_reset, pool_commits, refused_stays, resets_elsewhere, resets_on_pool, same_world}
 use Rattle.zr_pool.proofs.Leavings.{opener_refused}
 use Rattle.zr_pool.proofs.Refused.{fault_same}
 use Rattle.zr_pool.proofs.Shown.{same_root, still_last}
