@@ -1,5 +1,5 @@
 -- Stopped runs, and what the next one finds.
-use Rattle.std.proofs.Common.{◌≡◌, List, [], ◌∷◌, ◌++◌, refl, sym, subst}
+use Rattle.std.proofs.Common.{◌≡◌, List, [], ◌∷◌, ◌++◌, refl, sym, subst, inl, inr}
 use Rattle.zr_command.specs.Meanings.{Run, disks_of}
 use Rattle.zr_model.specs.Runs.{Point, Shelf, Turn, point, end_of}
 use Rattle.zr_model.specs.State.{State, PoolState, IsOpened}
@@ -30,21 +30,26 @@ module _ (A : Type 0) (Means : A → Command → Type 0) (replies : Replies) (it
   abbrev now : Point DeviceState
   now = end_of first m.turns
 
-  by_disks : (d : MayStand on_devices replies (IsDue on_devices Means m.rest now) now m.part (disks_of stand)) → IsToldWhere replies (IsDue on_devices Means m.rest now) now m.part (disks_of stand) d → IsStoppedAt opening stand
-  by_disks (resting rests last) told = (record { begin = opening; turns = m.turns }, refl, record { run = m.run; shows = rest_shows first m.turns (disks_of stand) refl m.run told rests })
-  by_disks (under_way command due within last) (told, covered) = (record { begin = opening; turns = m.turns }, refl, record { run = m.run; shows = line_shows first m.turns (disks_of stand) refl m.run told command covered within })
+  abbrev There : Type 0
+  There = IsStoppedAt opening stand m.turns (IsDue on_devices Means m.rest now)
+
+  by_disks : (d : MayStand on_devices replies (IsDue on_devices Means m.rest now) now m.part (disks_of stand)) → IsToldWhere replies (IsDue on_devices Means m.rest now) now m.part (disks_of stand) d → There
+  by_disks (resting rests last) told = record { done = record { begin = opening; turns = m.turns }; begins = refl; lines = inl refl; stops = record { run = m.run; shows = rest_shows first m.turns (disks_of stand) refl m.run told rests } }
+  by_disks (under_way command due within last) (told, covered) = record { done = record { begin = opening; turns = m.turns }; begins = refl; lines = inl refl; stops = record { run = m.run; shows = line_shows first m.turns (disks_of stand) refl m.run told command covered within } }
   by_disks (replying t due takes rests front) told =
       let run = run_more on_devices first m.turns t m.run takes in
-      let same = end_more first m.turns t in (
-        record { begin = opening; turns = m.turns ++ t ∷ [] },
-        refl,
-        record {
+      let same = end_more first m.turns t in
+      record {
+        done = record { begin = opening; turns = m.turns ++ t ∷ [] };
+        begins = refl;
+        lines = inr (t, due, refl);
+        stops = record {
           run = run;
           shows = rest_shows first (m.turns ++ t ∷ []) (disks_of stand) refl run (subst IsTold (sym same) told) (subst (λ (q : Point DeviceState). RestsOn q (disks_of stand)) (sym same) rests);
-        },
-      )
+        };
+      }
 
-  pub stopped : StopsTold A Means replies items opening stand m → IsStoppedAt opening stand
+  pub stopped : StopsTold A Means replies items opening stand m → There
   stopped told = by_disks m.disks told
 
 -- ---- the next run

@@ -1,5 +1,5 @@
 -- A run that was stopped, and one that goes on from what it left.
-use Rattle.std.specs.Prelude.{◌≡◌, ℕ, List, [], ◌∷◌}
+use Rattle.std.specs.Prelude.{◌≡◌, ◌⊎◌, ℕ, List, [], ◌∷◌, ◌++◌}
 use Rattle.zr_command.specs.Meanings.{Disks, Run, disks_of}
 use Rattle.zr_image.specs.Honest.{IsLeft}
 use Rattle.zr_model.specs.Objects.{Objects}
@@ -31,9 +31,12 @@ pub record IsStopped (r : StoppedRun) (stop : Stand) : Type 0 where
   pub run : Run on_devices (begin_of r) r.turns
   pub shows : ShowsPrefix (begin_of r) r.turns (disks_of stop)
 
--- first lines of a run that began so, and was stopped there
-abbrev pub IsStoppedAt : Stand → Stand → Type 0
-IsStoppedAt opening stop = (r : StoppedRun) × (r.begin ≡ opening) × IsStopped r stop
+-- A run that began so was stopped there: its lines are those that were answered, or these and the one that was due, which is done.
+pub record IsStoppedAt (opening stop : Stand) (answered : List (Turn DeviceState)) (Due : Command → Type 0) : Type 0 where
+  pub done : StoppedRun
+  pub begins : done.begin ≡ opening
+  pub lines : (done.turns ≡ answered) ⊎ ((t : Turn DeviceState) × Due t.command × (done.turns ≡ answered ++ t ∷ []))
+  pub stops : IsStopped done stop
 
 -- At a moment of a run it is told what was committed: between two lines, within one that may be stopped at any moment, or behind one.
 abbrev pub IsToldWhere : (replies : Replies) (Due : Command → Type 0) (p : Point DeviceState) (part : List ℕ) (disks : Disks) → MayStand on_devices replies Due p part disks → Type 0

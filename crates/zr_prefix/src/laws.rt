@@ -2,12 +2,12 @@
 ghost use Rattle.std.specs.Prelude.{◌≡◌, ℕ, List, Some, None};
 ghost use Rattle.zr_command.specs.Meanings.{Disks, Run};
 ghost use Rattle.zr_model.specs.Objects.{Objects};
-ghost use Rattle.zr_model.specs.Runs.{Asks, Point, Turn, end_of};
+ghost use Rattle.zr_model.specs.Runs.{Asks, Point, Turn, end_of, point};
 ghost use Rattle.zr_pool.specs.Pools.{DeviceState, no_device_state};
 ghost use Rattle.zr_pool.specs.Turns.{IsWithin, RestsOn, on_devices};
 ghost use Rattle.zr_script.specs.declared.command.Command.{Command};
 ghost use Rattle.zr_script.specs.Lines.{lines_of};
-ghost use Rattle.zr_session.specs.Agenda.{IsGiven, agenda};
+ghost use Rattle.zr_session.specs.Agenda.{IsDue, IsGiven, agenda};
 ghost use Rattle.zr_session.specs.Generated.{Task, due_in};
 ghost use Rattle.zr_session.specs.Moments.{IsMoment, IsMomentOf};
 ghost use Rattle.zr_session.specs.declared.replies.Replies.TheVariants.{Kept, Sent};
@@ -32,11 +32,11 @@ pub fn a_line_shows_a_prefix()
     ensures { (p : Point DeviceState) (turns : List (Turn DeviceState)) (command : Command) (disks : Disks) → p.state.behind ≡ None → Run on_devices p turns → IsTold (end_of p turns) → IsCovered (end_of p turns) command → IsWithin (end_of p turns) command disks → ShowsPrefix p turns disks }
 {}
 
-/// At a moment of a run at which it is told what was committed, over the lines of an input or generated ones: first lines are
-/// answered, with no more than the one that is due, and whatever an honest crash leaves shows the objects of a prefix of these.
+/// At a moment of a run at which it is told what was committed, over the lines of an input or generated ones, whatever an honest
+/// crash leaves shows the objects of a prefix of the lines that are answered by then, or of these and the one that was due.
 pub fn a_stopped_run_shows_a_prefix()
-    ensures given { (rounds : ℕ) (opening stand : Stand) (m : IsMoment on_devices rounds opening stand) → StopsTold (List ℕ) Asks Sent (agenda rounds (lines_of opening.left)) opening stand m → IsStoppedAt opening stand }
-    ensures generated { (task : Task) (opening stand : Stand) (m : IsMomentOf Command on_devices IsGiven Kept (due_in task) no_device_state opening stand) → StopsTold Command IsGiven Kept (due_in task) opening stand m → IsStoppedAt opening stand }
+    ensures given { (rounds : ℕ) (opening stand : Stand) (m : IsMoment on_devices rounds opening stand) → StopsTold (List ℕ) Asks Sent (agenda rounds (lines_of opening.left)) opening stand m → IsStoppedAt opening stand m.turns (IsDue on_devices Asks m.rest (end_of (point opening no_device_state) m.turns)) }
+    ensures generated { (task : Task) (opening stand : Stand) (m : IsMomentOf Command on_devices IsGiven Kept (due_in task) no_device_state opening stand) → StopsTold Command IsGiven Kept (due_in task) opening stand m → IsStoppedAt opening stand m.turns (IsDue on_devices IsGiven m.rest (end_of (point opening no_device_state) m.turns)) }
 {}
 
 /// Runs of which each begins on an image that an honest crash left of the one before, and imports the pool: each finds the
