@@ -5,7 +5,7 @@ ghost use Rattle.zr_base.specs.Counts.{HasRisen};
 ghost use Rattle.zr_base.specs.declared.space.CkptPart.TheVariants.{Clear};
 ghost use Rattle.zr_base.specs.declared.refusal.Refusal.{Refusal};
 ghost use Rattle.zr_label.specs.Blocks.{IsName};
-ghost use Rattle.zr_last.specs.Ends.{ComesCommitted};
+ghost use Rattle.zr_sync.specs.Ends.{ComesCommitted};
 ghost use Rattle.zr_last.specs.Last.{ShowsLast};
 ghost use Rattle.zr_shelf.specs.Counts.{NoneFell};
 ghost use Rattle.zr_shelf.specs.Moments.{IsStill};

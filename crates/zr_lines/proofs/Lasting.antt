@@ -3,7 +3,7 @@ use Rattle.std.proofs.Common.{◌≡◌, ℕ, Bool, true, false, List, [], ap}
 use Rattle.std.specs.Prelude.{IfSome}
 use Rattle.zr_last.proofs.Ending.{leaves_by}
 use Rattle.zr_last.proofs.Lasting.{commit_last, same_last}
-use Rattle.zr_last.specs.Ends.{LeavesCommitted}
+use Rattle.zr_sync.specs.Ends.{LeavesCommitted}
 use Rattle.zr_last.specs.Last.{KeepsLast, KeepsRoot}
 use Rattle.zr_shelf.specs.Moments.{World}
 use Rattle.zr_sync.specs.Checkpoints.{CommitsOn, CommitsTwice, CommitsWithout, DropsRoot, GivesUpCheckpoint, SavesRoot, TakesCheckpoint}

@@ -1,28 +1,24 @@
 -- What a line that ends with a reset wrote, wherever it stopped.
 use Rattle.std.proofs.Common.{◌≡◌, ◌⊎◌, inl, inr, ℕ, Bool, true, false, List, refl, sym, ◌∙◌, ap, subst}
-use Rattle.zr_base.specs.declared.space.CkptPart.{CkptPart}
 use Rattle.zr_base.specs.declared.space.CkptPart.TheVariants.{Discarding}
 use Rattle.zr_last.specs.Last.{KeepsRoot}
 use Rattle.zr_model.specs.Objects.{Objects}
-use Rattle.zr_moves.specs.Moves.{with_version}
-use Rattle.zr_rules.specs.Roles.{Role}
-use Rattle.zr_rules.specs.Roles.Role.{DeferredMeta, SavedMeta}
+use Rattle.zr_rules.specs.Roles.{Role, saved}
+use Rattle.zr_rules.specs.Roles.Role.{DeferredMeta, Meta, SavedMeta}
 use Rattle.zr_rules.specs.Space.{Space, role_at}
 use Rattle.zr_rules.specs.Steps.{with_ckpt}
 use Rattle.zr_shelf.specs.Moments.{World}
-use Rattle.zr_sync.specs.Checkpoints.{DropsRoot, GivesSavedMeta, GivesUpInPart}
+use Rattle.zr_sync.proofs.SavedRoots.{ckpt_role}
+use Rattle.zr_sync.specs.Checkpoints.{DropsRoot, GivesSavedMeta, GivesUpInPart, SavesRoot, TakesInPart}
 use Rattle.zr_sync.specs.Leads.{CommitsObjects}
 use Rattle.zr_sync.specs.Pools.{IsOpen}
 use Rattle.zr_sync.specs.declared.open.OpenPool.{OpenPool}
 use Rattle.zr_vdev.specs.Stores.{is_open_role}
+use Rattle.zr_lines.proofs.Versions.{version_role}
 use Rattle.zr_lines.specs.Stops.{OpensNoUnit, WritesReset}
 use Rattle.zr_lines.specs.Upgrades.{renewed}
 
 -- ---- a checkpoint is given up
-
-ckpt_role : (s : Space) (c : CkptPart) (d u : ℕ) → role_at (with_ckpt s c) d u ≡ role_at s d u
-unfolding role_at
-ckpt_role s c d u = refl
 
 -- the saved root's metadata waits, and is not free yet
 open_before : (old new : Role) → (new ≡ old) ⊎ ((old ≡ SavedMeta) × (new ≡ DeferredMeta)) → is_open_role new ≡ true → is_open_role old ≡ true
@@ -39,14 +35,27 @@ dropped_opens old new h = record {
 }
 
 pub given_up : (sizes : List ℕ) (objects : Objects) (old : OpenPool) (before now : World) → GivesUpInPart sizes objects old before now → WritesReset sizes objects old before now
-given_up sizes objects old before now (inl nothing) = inl nothing
-given_up sizes objects old before now (inr (dropped, ready, drops, commits)) = inr (dropped, ready, dropped_opens old dropped drops, commits)
+given_up sizes objects old before now (inl nothing) = inl (inl nothing)
+given_up sizes objects old before now (inr (dropped, ready, drops, commits)) = inl (inr (dropped, ready, dropped_opens old dropped drops, commits))
+
+-- ---- a checkpoint is taken
+
+-- what the saved root has is not free
+saved_open : (r : Role) → is_open_role (saved r) ≡ true → is_open_role r ≡ true
+saved_open Meta is = let no_way : false ≡ true = is in absurd cc
+saved_open r is = is
+
+held_opens : (old new : OpenPool) → SavesRoot old new → OpensNoUnit old new
+held_opens old new h = record {
+  root = record { last = ap (λ (p : OpenPool). p.last) h.rest; guid = ap (λ (p : OpenPool). p.guid) h.rest; table = ap (λ (p : OpenPool). p.table) h.rest };
+  units = λ d u is. gives_open old.space h.given h.gives d u (saved_open (role_at h.given d u) (subst (λ (r : Role). is_open_role r ≡ true) (h.holds.roles d u) is));
+}
+
+pub taken : (sizes : List ℕ) (objects : Objects) (old : OpenPool) (before now : World) → TakesInPart sizes objects old before now → WritesReset sizes objects old before now
+taken sizes objects old before now (inl commits) = inr (inl commits)
+taken sizes objects old before now (inr more) = inr (inr (record { next = more.ended; start = more.mid; commits = more.first; resets = inr (more.held, more.ready, held_opens more.ended more.held more.saves, more.second) }))
 
 -- ---- a pool becomes one of the second version
-
-version_role : (s : Space) (v d u : ℕ) → role_at (with_version s v) d u ≡ role_at s d u
-unfolding role_at
-version_role s v d u = refl
 
 renewed_opens : (old : OpenPool) → OpensNoUnit old (renewed old)
 renewed_opens old = record {
@@ -55,4 +64,4 @@ renewed_opens old = record {
 }
 
 pub upgraded : (sizes : List ℕ) (objects : Objects) (old changed : OpenPool) (before now : World) → changed ≡ renewed old → IsOpen sizes changed → CommitsObjects sizes changed true objects before now → WritesReset sizes objects old before now
-upgraded sizes objects old changed before now is ready commits = inr (changed, ready, subst (OpensNoUnit old) (sym is) (renewed_opens old), commits)
+upgraded sizes objects old changed before now is ready commits = inl (inr (changed, ready, subst (OpensNoUnit old) (sym is) (renewed_opens old), commits))

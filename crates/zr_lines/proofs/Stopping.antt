@@ -20,7 +20,7 @@ use Rattle.zr_vdev.proofs.Follows.{narrower, others_itself, others_more}
 use Rattle.zr_vdev.specs.Stores.{IsWriteInto, KeepsOthers}
 use Rattle.zr_vdev.specs.declared.kind.Kind.TheVariants.{Block}
 use Rattle.zr_lines.proofs.Pools.{same_by, same_more}
-use Rattle.zr_last.specs.Ends.{EndsCommitted}
+use Rattle.zr_sync.specs.Ends.{EndsCommitted}
 use Rattle.zr_lines.specs.Stops.{StaysInGroup, StaysInOneGroup, WritesInOneGroup}
 
 -- ---- in the open group

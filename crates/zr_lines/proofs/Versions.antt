@@ -22,7 +22,7 @@ use Rattle.zr_lines.specs.Upgrades.{Upgrades, renewed}
 
 -- ---- the space
 
-version_role : (s : Space) (v d u : ℕ) → role_at (with_version s v) d u ≡ role_at s d u
+pub version_role : (s : Space) (v d u : ℕ) → role_at (with_version s v) d u ≡ role_at s d u
 unfolding role_at
 version_role s v d u = refl
 

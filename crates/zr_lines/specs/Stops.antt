@@ -1,7 +1,7 @@
 -- What a line leaves for a crash: it works in one group, or ends one by a reset.
 use Rattle.std.specs.Prelude.{◌≡◌, ◌⊎◌, ℕ, true, false, List}
 use Rattle.zr_last.specs.Last.{KeepsRoot}
-use Rattle.zr_last.specs.Ends.{EndsCommitted}
+use Rattle.zr_sync.specs.Ends.{EndsCommitted}
 use Rattle.zr_model.specs.Objects.{Objects}
 use Rattle.zr_rules.specs.Space.{role_at}
 use Rattle.zr_shelf.specs.Moments.{IsStill, World}
@@ -45,6 +45,17 @@ pub record OpensNoUnit (old new : OpenPool) : Type 0 where
   pub root : KeepsRoot old new
   pub units : (d u : ℕ) → is_open_role (role_at new.space d u) ≡ true → is_open_role (role_at old.space d u) ≡ true
 
--- What a line wrote that ends with a reset, wherever it stopped: nothing, or the pool was changed, and its group was being committed with these objects.
+-- What a reset wrote, wherever it stopped: nothing, or the pool was changed, and its group was being committed with these objects.
+abbrev pub WritesOneReset : List ℕ → Objects → OpenPool → World → World → Type 0
+WritesOneReset sizes objects old before now = IsStill before now ⊎ ((changed : OpenPool) × IsOpen sizes changed × OpensNoUnit old changed × CommitsObjects sizes changed true objects before now)
+
+-- the open group was committed with these objects, and a reset followed
+pub record WritesResetBehind (sizes : List ℕ) (objects : Objects) (old : OpenPool) (before now : World) : Type 0 where
+  pub next : OpenPool
+  pub start : World
+  pub commits : EndsCommitted sizes false old next objects before start
+  pub resets : WritesOneReset sizes objects next start now
+
+-- What a line wrote that ends with a reset, wherever it stopped: the reset alone, or the commit of the open group, or the reset behind that.
 abbrev pub WritesReset : List ℕ → Objects → OpenPool → World → World → Type 0
-WritesReset sizes objects old before now = IsStill before now ⊎ ((changed : OpenPool) × IsOpen sizes changed × OpensNoUnit old changed × CommitsObjects sizes changed true objects before now)
+WritesReset sizes objects old before now = WritesOneReset sizes objects old before now ⊎ (CommitsObjects sizes old false objects before now ⊎ WritesResetBehind sizes objects old before now)

@@ -13,7 +13,7 @@ ghost use Rattle.zr_sync.specs.Pools.{IsOpen};
 ghost use Rattle.zr_sync.specs.Writes.{WorksOnDisks};
 ghost use Rattle.zr_sync.specs.declared.fault.Fault.TheVariants.{No, Stops};
 ghost use Rattle.zr_sync.specs.declared.stop.Stop.TheVariants.{DiskFault};
-ghost use Rattle.zr_last.specs.Ends.{LeavesCommitted};
+ghost use Rattle.zr_sync.specs.Ends.{LeavesCommitted};
 ghost use Rattle.zr_last.specs.Last.{KeepsLast, KeepsRoot};
 ghost use Rattle.zr_lines.specs.Stops.{WritesReset};
 ghost use Rattle.zr_lines.specs.Refusals.{AllStay, IsGiveRefusal, IsRemovalRefusal, IsStepRefusal, IsTakeRefusal, checkpoint_needs};
@@ -106,6 +106,7 @@ pub fn take<S: Shelf>(
     ensures held { OnOk result (pool.new.space.parts.ckpt ≡ Held pool.old.group.txg) }
     ensures takes { OnOk result (TakesCheckpoint (S.sizes shelf.old) (S.tells shelf.old) (S.world shelf.new) pool.old pool.new) }
     ensures shown { S.tells shelf.old → OnOk result (KeepsLast (S.world shelf.old) (S.world shelf.new) pool.old pool.new) }
+    ensures stops { (objects : Objects) → HoldsObjects (S.tells shelf.old) (S.world shelf.old).now.seen pool.old objects → WritesReset (S.sizes shelf.old) objects pool.old (S.world shelf.old) (S.world shelf.new) }
     ensures ends { (objects : Objects) → HoldsObjects (S.tells shelf.old) (S.world shelf.old).now.seen pool.old objects → OnOk result (LeavesCommitted pool.new (S.world shelf.new).now) }
     ensures objects { (objects : Objects) → HoldsObjects (S.tells shelf.old) (S.world shelf.old).now.seen pool.old objects → OnOk result (HoldsObjects (S.tells shelf.new) (S.world shelf.new).now.seen pool.new objects) }
     ensures refused { (r : Refusal) → IsErrOf result (No r) → IsTakeRefusal pool.old pool.old.space.parts.ckpt r }

@@ -9,7 +9,7 @@ ghost use Rattle.zr_sync.specs.Pools.{IsOpen};
 ghost use Rattle.zr_sync.specs.Writes.{WorksOnDisks};
 ghost use Rattle.zr_sync.specs.declared.fault.Fault.TheVariants.{No, Stops};
 ghost use Rattle.zr_sync.specs.declared.stop.Stop.TheVariants.{DiskFault};
-ghost use Rattle.zr_last.specs.Ends.{LeavesCommitted};
+ghost use Rattle.zr_sync.specs.Ends.{LeavesCommitted};
 ghost use Rattle.zr_last.specs.Last.{KeepsLast};
 ghost use Rattle.zr_lines.specs.Stops.{WritesReset};
 ghost use Rattle.zr_lines.specs.Upgrades.{IsUpgradeRefusal, Upgrades, renewed};

@@ -94,10 +94,10 @@ module _ (tells : Type 0) (told : tells) (disks : List (List ℕ)) (sizes : List
   -- as it is opened in a later group, as a reset
   module _ (txg : ℕ) (le : l.found.root.txg ≤ txg) (pool : OpenPool) (is : IsUber (rewound l.found.root txg)) (ready : IsOpen sizes pool) (fresh : IsFresh (rewound l.found.root txg) pool)
       (parts : HasParts (record l.root { parts = without_late l.root.parts }) (meta_of l.saved) pool) (slots : pool.table.slots ≡ l.found.slots) where
-    abbrev back : Root
+    abbrev pub back : Root
     back = record l.root { parts = without_late l.root.parts }
 
-    stands_back : Stands disks pool.table.slots (rewound l.found.root txg) back
+    pub stands_back : Stands disks pool.table.slots (rewound l.found.root txg) back
     stands_back =
         subst (λ (ss : List (Option ℕ)). Stands disks ss (rewound l.found.root txg) back) (sym slots)
         (stands_rewound disks l.found.slots l.found.root txg l.root le (h.stands told))

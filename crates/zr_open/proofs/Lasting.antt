@@ -31,7 +31,6 @@ use Rattle.zr_rules.specs.Equation.{devices_in}
 use Rattle.zr_rules.specs.Places.{is_gone, is_leaving, no_part, part_of}
 use Rattle.zr_shelf.specs.Moments.{World}
 use Rattle.zr_slots.specs.declared.pool.Found.{Found}
-use Rattle.zr_space.specs.Paths.{AreInService}
 use Rattle.zr_sync.specs.Commits.{IsShownFrom}
 use Rattle.zr_sync.specs.Pools.{IsAfter, IsOpen}
 use Rattle.zr_sync.specs.declared.fault.Fault.{Fault}
@@ -44,7 +43,8 @@ use Rattle.zr_open.specs.Looked.{IsLooked}
 use Rattle.zr_open.specs.Opened.{IsFresh}
 use Rattle.zr_open.specs.Rewound.{rewound}
 use Rattle.zr_open.specs.Scanned.{IsScanned}
-use Rattle.zr_open.specs.Shown.{IsInService, Shows}
+use Rattle.zr_open.specs.Shown.{Shows}
+use Rattle.zr_open.specs.There.{AreThere, IsStillThere}
 use Rattle.zr_open.specs.declared.find.Scanned.{Scanned}
 use Rattle.zr_open.specs.declared.look.Looked.{Looked}
 use Rattle.zr_open.proofs.Beside.{cut_there, same_row, within}
@@ -100,51 +100,48 @@ saved_own u saved slots cut txg is saved_is guid still own = record {
 pub saved_at : (u saved : Uber) (slots cut : List (Option ℕ)) (txg : ℕ) (seen : List Seen) → HasSlots (slots_of u seen) slots → HasOwnDevices u (rewound saved txg) slots cut → HasSlots (slots_of (rewound saved txg) seen) cut
 saved_at u saved slots cut txg seen devices own = devices_own u (rewound saved txg) slots cut seen devices own
 
--- ---- devices in service
+-- ---- devices that are there
 
-on_row : (paths : List (List ℕ)) (state : DevState) (slot : Option ℕ) → IsInService (device_at paths state slot) → state ≡ row.On
-on_row paths state None serves = absurd serves
-on_row paths row.On (Some slot) serves = refl
-on_row paths row.Leaving (Some slot) serves = absurd serves
-on_row paths row.Gone (Some slot) serves = absurd serves
+there_row : (paths : List (List ℕ)) (state : DevState) (slot : Option ℕ) → IsStillThere (device_at paths state slot) → is_gone state ≡ false
+there_row paths state None there = absurd there
+there_row paths row.On (Some slot) there = refl
+there_row paths row.Leaving (Some slot) there = refl
+there_row paths row.Gone (Some slot) there = absurd there
 
 abbrev placed : List (List ℕ) → List (Option ℕ) → ℕ × DevRow → Device
 placed paths slots p = device_at paths p.1.state (slice_index_or slots p.0 None)
 
-on_rows : (paths : List (List ℕ)) (slots : List (Option ℕ)) (n : ℕ) (rows : List DevRow) → All IsInService (map (placed paths slots) (enumerate_from n rows)) → All (λ (r : DevRow). r.state ≡ row.On) rows
-on_rows paths slots n [] serve = All-nil (λ (r : DevRow). r.state ≡ row.On)
-on_rows paths slots n (r ∷ rows) serve =
+there_rows : (paths : List (List ℕ)) (slots : List (Option ℕ)) (n : ℕ) (rows : List DevRow) → All IsStillThere (map (placed paths slots) (enumerate_from n rows)) → All (λ (r : DevRow). is_gone r.state ≡ false) rows
+there_rows paths slots n [] there = All-nil (λ (r : DevRow). is_gone r.state ≡ false)
+there_rows paths slots n (r ∷ rows) there =
     let rest = map (placed paths slots) (enumerate_from (n + 1) rows) in
-    All-cons (λ (x : DevRow). x.state ≡ row.On) r rows
-    (on_row paths r.state (slice_index_or slots n None) (All-head IsInService (placed paths slots (n, r)) rest serve))
-    (on_rows paths slots (n + 1) rows (All-tail IsInService (placed paths slots (n, r)) rest serve))
+    All-cons (λ (x : DevRow). is_gone x.state ≡ false) r rows
+    (there_row paths r.state (slice_index_or slots n None) (All-head IsStillThere (placed paths slots (n, r)) rest there))
+    (there_rows paths slots (n + 1) rows (All-tail IsStillThere (placed paths slots (n, r)) rest there))
 
-module _ (paths disks : List (List ℕ)) (sizes : List ℕ) (u : Uber) (pool : OpenPool) (ready : IsOpen sizes pool) (from : GoesOnFrom u pool) (slots : List (Option ℕ)) (serve : All IsInService (devices_at paths slots u)) where
-  state_on : (d : ℕ) → (part_of pool.space.parts.devs d).row.state ≡ row.On
-  state_on d = elim (cases_lt d u.count) [
+module _ (paths disks : List (List ℕ)) (sizes : List ℕ) (u : Uber) (pool : OpenPool) (ready : IsOpen sizes pool) (from : GoesOnFrom u pool) (slots : List (Option ℕ)) (there : All IsStillThere (devices_at paths slots u)) where
+  pub all_there : AreThere (devices_in pool.space)
+  all_there d = elim (cases_lt d u.count) [
     | inl lt ↦
         let n = from.count in let few = ready.few in let size = ready.table.size in
         let long = length-take-le u.count u.rows (let same = ap (λ (rs : List DevRow). length rs) from.rows in omega (arith, size, few, n, same)) in
-        let at = All-get_or (λ (r : DevRow). r.state ≡ row.On) (rows_of u) d no_row (omega (arith, lt, long)) (on_rows paths slots 0 (rows_of u) serve) in
-        ap (λ (r : DevRow). r.state) (ready.rows d (omega (arith, n, lt)) ∙ (ap (λ (rs : List DevRow). slice_index_or rs d no_row) from.rows ∙ sym (get_or-take u.count u.rows d no_row lt))) ∙ at
+        let at = All-get_or (λ (r : DevRow). is_gone r.state ≡ false) (rows_of u) d no_row (omega (arith, lt, long)) (there_rows paths slots 0 (rows_of u) there) in
+        ap (λ (r : DevRow). is_gone r.state) (ready.rows d (omega (arith, n, lt)) ∙ (ap (λ (rs : List DevRow). slice_index_or rs d no_row) from.rows ∙ sym (get_or-take u.count u.rows d no_row lt))) ∙ at
     | inr ge ↦
         let n = from.count in let m = ready.devices in
-        ap (λ (p : DevPart). p.row.state) (get_or-eq_default pool.space.parts.devs no_part {n = d} (omega (arith, n, m, ge)))
+        ap (λ (p : DevPart). is_gone p.row.state) (get_or-eq_default pool.space.parts.devs no_part {n = d} (omega (arith, n, m, ge)))
   ]
-
-  pub in_service : AreInService (devices_in pool.space)
-  in_service = record { there = λ d. ap is_gone (state_on d); stays = λ d. ap is_leaving (state_on d) }
 
 -- ---- what was left is found
 
-pub left_found : (paths disks : List (List ℕ)) (sizes : List ℕ) (pool : OpenPool) (objects : Objects) (p : PoolState) → IsOpen sizes pool → LeavesObjects disks pool objects → Shows paths disks p → All IsInService p.devs → p.objects ≡ objects
-left_found paths disks sizes pool objects p ready left shows serve =
+pub left_found : (paths disks : List (List ℕ)) (sizes : List ℕ) (pool : OpenPool) (objects : Objects) (p : PoolState) → IsOpen sizes pool → LeavesObjects disks pool objects → Shows paths disks p → All IsStillThere p.devs → p.objects ≡ objects
+left_found paths disks sizes pool objects p ready left shows there =
     let u = left.last.root in
     let newest = left.last.newest in
     let from = left.last.from in
     let same = only_newest disks u pool.table.slots shows.seen newest shows.shown shows.root.uber shows.current in
-    let here = subst (λ (devs : List Device). All IsInService devs) shows.means.devs serve in
-    let own = subst (λ (v : Uber). All IsInService (devices_at paths (slots_of v shows.seen) v)) same here in
-    let on = in_service paths disks sizes u pool ready from (slots_of u shows.seen) own in
+    let here = subst (λ (devs : List Device). All IsStillThere devs) shows.means.devs there in
+    let own = subst (λ (v : Uber). All IsStillThere (devices_at paths (slots_of v shows.seen) v)) same here in
+    let on = all_there paths disks sizes u pool ready from (slots_of u shows.seen) own in
     one_meaning (store_of (view_of disks pool.table.slots pool.space)) pool.dir p.objects objects
     (shown_objects paths disks sizes u pool p ready on from left.head shows same (devices_seen disks u pool.table.slots shows.seen newest shows.shown)) (objects_meant (Unit {0}) disks pool objects left.empty left.holds)

@@ -30,7 +30,7 @@ use Rattle.zr_root.specs.Streams.{HasBytes, IsTreeFor}
 use Rattle.zr_rules.specs.Devices.{devices_of}
 use Rattle.zr_rules.specs.Equation.{devices_in}
 use Rattle.zr_rules.specs.Places.{is_gone, is_leaving, no_part, part_of}
-use Rattle.zr_space.specs.Paths.{AreInService}
+use Rattle.zr_open.specs.There.{AreThere}
 use Rattle.zr_store.proofs.Meeting.{at_each}
 use Rattle.zr_store.specs.Store.{Stored}
 use Rattle.zr_sync.specs.Heads.{HasHead, head_of}
@@ -60,7 +60,7 @@ objects_meant tells disks pool objects empty h =
 
 -- ---- the devices of a root
 
-module _ (sizes : List ℕ) (u : Uber) (pool : OpenPool) (ready : IsOpen sizes pool) (on : AreInService (devices_in pool.space)) (from : GoesOnFrom u pool) where
+module _ (sizes : List ℕ) (u : Uber) (pool : OpenPool) (ready : IsOpen sizes pool) (on : AreThere (devices_in pool.space)) (from : GoesOnFrom u pool) where
   is_uber : IsUber u
   is_uber = (subst (λ (o : Option Uber). IsAfter o pool.group.txg) from.last ready.after).0
 
@@ -76,11 +76,8 @@ module _ (sizes : List ℕ) (u : Uber) (pool : OpenPool) (ready : IsOpen sizes p
   pub own_image : (disks : List (List ℕ)) → store_of (view_of disks pool.table.slots pool.space) ≡ image_of disks pool.table.slots u
   own_image disks = same_store disks pool.table.slots (devices_in pool.space) (bare_devices u) (ready.devices ∙ from.count) row_is on
 
-  bare_service : AreInService (bare_devices u)
-  bare_service = record {
-    there = λ d. sym (ap (λ (r : DevRow). is_gone r.state) (row_is d)) ∙ on.there d;
-    stays = λ d. sym (ap (λ (r : DevRow). is_leaving r.state) (row_is d)) ∙ on.stays d;
-  }
+  bare_there : AreThere (bare_devices u)
+  bare_there d = sym (ap (λ (r : DevRow). is_gone r.state) (row_is d)) ∙ on d
 
   -- ---- the head
 
@@ -135,7 +132,7 @@ counted_rows false parts = refl
 row_of : (devs : List DevPart) (rows : List DevRow) (d : ℕ) → rows_in devs ≡ rows → (part_of devs d).row ≡ get_or rows d no_row
 row_of devs rows d are = sym (get_or-map (λ (p : DevPart). p.row) devs d no_part) ∙ ap (λ (rs : List DevRow). get_or rs d no_row) are
 
-module _ (sizes : List ℕ) (u : Uber) (pool : OpenPool) (ready : IsOpen sizes pool) (on : AreInService (devices_in pool.space)) (from : GoesOnFrom u pool) (devs : List DevPart) (are : rows_in devs ≡ rows_of u) where
+module _ (sizes : List ℕ) (u : Uber) (pool : OpenPool) (ready : IsOpen sizes pool) (on : AreThere (devices_in pool.space)) (from : GoesOnFrom u pool) (devs : List DevPart) (are : rows_in devs ≡ rows_of u) where
   uber_is : IsUber u
   uber_is = is_uber sizes u pool ready on from
 
@@ -150,11 +147,11 @@ module _ (sizes : List ℕ) (u : Uber) (pool : OpenPool) (ready : IsOpen sizes p
 
   -- the disks by the parts that were read are those by the pool's space
   pub read_image : (disks : List (List ℕ)) → store_of (view_of disks pool.table.slots pool.space) ≡ store_of (record { disks = disks; slots = pool.table.slots; devices = devices_of devs })
-  read_image disks = own_image sizes u pool ready on from disks ∙ same_store disks pool.table.slots (bare_devices u) (devices_of devs) (sym many) row_read (bare_service sizes u pool ready on from)
+  read_image disks = own_image sizes u pool ready on from disks ∙ same_store disks pool.table.slots (bare_devices u) (devices_of devs) (sym many) row_read (bare_there sizes u pool ready on from)
 
 -- ---- the pool that is shown
 
-module _ (tells : Type 0) (paths disks : List (List ℕ)) (sizes : List ℕ) (u : Uber) (pool : OpenPool) (objects : Objects) (ready : IsOpen sizes pool) (on : AreInService (devices_in pool.space)) (left : LeavesRoot paths disks u pool) (held : HoldsObjects tells disks pool objects) where
+module _ (tells : Type 0) (paths disks : List (List ℕ)) (sizes : List ℕ) (u : Uber) (pool : OpenPool) (objects : Objects) (ready : IsOpen sizes pool) (on : AreThere (devices_in pool.space)) (left : LeavesRoot paths disks u pool) (held : HoldsObjects tells disks pool objects) where
   abbrev slots : List (Option ℕ)
   slots = slots_of u left.slots.seen
 

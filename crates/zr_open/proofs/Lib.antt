@@ -18,3 +18,4 @@ pub mod Looking
 pub mod Grouping
 pub mod Backing
 pub mod Lasting
+pub mod Resting

@@ -14,7 +14,7 @@ use Rattle.zr_sync.specs.Pools.{IsAfter, IsOpen, IsSamePool}
 use Rattle.zr_sync.specs.Writes.{WritesIntoFree}
 use Rattle.zr_sync.specs.declared.open.OpenPool.{OpenPool}
 use Rattle.zr_rules.specs.Equation.{devices_in}
-use Rattle.zr_space.specs.Paths.{AreInService}
+use Rattle.zr_open.specs.There.{AreThere}
 use Rattle.zr_sync.specs.declared.open.Table.{Table}
 use Rattle.zr_current.proofs.Committed.{commit_current, goes_on}
 use Rattle.zr_open.proofs.Same.{shown_is_held}
@@ -31,7 +31,7 @@ same_current disks u old new table h = record {
 
 pub commit_found : (paths : List (List ℕ)) (sizes : List ℕ) (old new : OpenPool) (reset : Bool) (last u : Uber) (before mid now : World) (seen : List Seen) (objects : Objects) (p : PoolState) → IsOpen sizes old → GoesOnFrom last old
     → map length before.now.seen ≡ sizes → ShowsAll before.now.seen seen → FindsCurrent seen (Ok last) → HasSlots (slots_of last seen) old.table.slots
-    → WritesIntoFree old before mid → IsShownFrom sizes old u mid now → IsNextRoot old reset u → IsOpen sizes new → AreInService (devices_in new.space) → IsSamePool old new → new.last ≡ Some u → new.group.objects ≡ []
+    → WritesIntoFree old before mid → IsShownFrom sizes old u mid now → IsNextRoot old reset u → IsOpen sizes new → AreThere (devices_in new.space) → IsSamePool old new → new.last ≡ Some u → new.group.objects ≡ []
     → HasHead now.now.seen new u.root u.len → HoldsObjects (Unit {0}) now.now.seen new objects → Shows paths now.now.seen p → p.objects ≡ objects
 commit_found paths sizes old new reset last u before mid now seen objects p ready from sized shown current slots wrote published next then on same is empty head held shows =
     let lawful : IsUber u = (subst (λ (o : Option Uber). IsAfter o new.group.txg) is then.after).0 in

@@ -27,7 +27,7 @@ use Rattle.zr_model.specs.State.{PoolState}
 use Rattle.zr_root.specs.Streams.{HasBytes}
 use Rattle.zr_rules.specs.Devices.{devices_of}
 use Rattle.zr_rules.specs.Equation.{devices_in}
-use Rattle.zr_space.specs.Paths.{AreInService}
+use Rattle.zr_open.specs.There.{AreThere}
 use Rattle.zr_store.specs.Store.{Stored}
 use Rattle.zr_sync.specs.Heads.{HasHead, head_of}
 use Rattle.zr_sync.specs.Objects.{HoldsObjects}
@@ -96,7 +96,7 @@ module _ (s : Stored) (t : Tree) (table other : List DevRow) (h k : Head) (lawfu
 
 -- ---- what is shown
 
-module _ (paths disks : List (List ℕ)) (sizes : List ℕ) (u : Uber) (pool : OpenPool) (p : PoolState) (ready : IsOpen sizes pool) (on : AreInService (devices_in pool.space)) (from : GoesOnFrom u pool) (k : Head) (dir : k.dir ≡ pool.dir)
+module _ (paths disks : List (List ℕ)) (sizes : List ℕ) (u : Uber) (pool : OpenPool) (p : PoolState) (ready : IsOpen sizes pool) (on : AreThere (devices_in pool.space)) (from : GoesOnFrom u pool) (k : Head) (dir : k.dir ≡ pool.dir)
     (own : IsHead (rows_of u) k × HasBytes (image_of disks pool.table.slots u) (head_tree u) (head_bytes k)) (shows : Shows paths disks p) (same_root : shows.root.uber ≡ u) (slots : HasSlots (slots_of u shows.seen) pool.table.slots) where
   abbrev root : image.Root
   root = shows.root
@@ -135,12 +135,12 @@ module _ (paths disks : List (List ℕ)) (sizes : List ℕ) (u : Uber) (pool : O
       (sym (read_image sizes u pool ready on from root.parts.devs rows_are disks ∙ store_same disks these pool.table.slots (devices_of root.parts.devs) slots)) objects_are)
 
 -- so it is with the pool's own head
-pub shown_objects : (paths disks : List (List ℕ)) (sizes : List ℕ) (u : Uber) (pool : OpenPool) (p : PoolState) → IsOpen sizes pool → AreInService (devices_in pool.space) → GoesOnFrom u pool → HasHead disks pool u.root u.len → (shows : Shows paths disks p)
+pub shown_objects : (paths disks : List (List ℕ)) (sizes : List ℕ) (u : Uber) (pool : OpenPool) (p : PoolState) → IsOpen sizes pool → AreThere (devices_in pool.space) → GoesOnFrom u pool → HasHead disks pool u.root u.len → (shows : Shows paths disks p)
     → shows.root.uber ≡ u → HasSlots (slots_of u shows.seen) pool.table.slots → AreObjects (store_of (view_of disks pool.table.slots pool.space)) pool.dir p.objects
 shown_objects paths disks sizes u pool p ready on from head shows same_root slots = objects_by_head paths disks sizes u pool p ready on from (head_of pool) refl (head_read sizes u pool ready on from disks head) shows same_root slots
 
 -- and the objects are those that the pool holds
-pub shown_is_held : (paths disks : List (List ℕ)) (sizes : List ℕ) (u : Uber) (pool : OpenPool) (objects : Objects) (p : PoolState) → IsOpen sizes pool → AreInService (devices_in pool.space) → GoesOnFrom u pool → pool.group.objects ≡ []
+pub shown_is_held : (paths disks : List (List ℕ)) (sizes : List ℕ) (u : Uber) (pool : OpenPool) (objects : Objects) (p : PoolState) → IsOpen sizes pool → AreThere (devices_in pool.space) → GoesOnFrom u pool → pool.group.objects ≡ []
     → IsCurrentOn disks u pool → HasHead disks pool u.root u.len → HoldsObjects (Unit {0}) disks pool objects → Shows paths disks p → p.objects ≡ objects
 shown_is_held paths disks sizes u pool objects p ready on from empty only head held shows =
     one_meaning (store_of (view_of disks pool.table.slots pool.space)) pool.dir p.objects objects

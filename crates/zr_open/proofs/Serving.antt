@@ -1,4 +1,4 @@
--- Devices in service with the same rows lead alike, whatever mappings are told of them.
+-- Devices that are there with the same rows lead alike, whatever mappings are told of them.
 use Rattle.std.proofs.Common.{◌≡◌, ℕ, zero, suc, List, [], ◌∷◌, ◌++◌, map, Option, Some, None, false, refl, sym, ◌∙◌, ap}
 use Rattle.std.specs.Prelude.{◌&&◌, nat_lt, if◌then◌else◌}
 use Rattle.std.specs.List.{flat_map}
@@ -9,17 +9,17 @@ use Rattle.zr_image.specs.Reading.{store_of}
 use Rattle.zr_rules.specs.Devices.{Devices}
 use Rattle.zr_rules.specs.Places.{Place, is_gone, places_of}
 use Rattle.zr_rules.specs.Resolve.{resolve, resolved, resolved_units}
-use Rattle.zr_space.specs.Paths.{AreInService}
+use Rattle.zr_open.specs.There.{AreThere}
 use Rattle.zr_store.specs.Store.{Stored}
 use Rattle.zr_view.specs.Views.{View, address_bytes, place_bytes, slot_of, unit_bytes}
 
 -- ---- devices with the same rows lead alike
 
-module _ (disks : List (List ℕ)) (slots : List (Option ℕ)) (es ds : Devices) (count : es.count ≡ ds.count) (rows : (d : ℕ) → es.row d ≡ ds.row d) (on : AreInService es) where
+module _ (disks : List (List ℕ)) (slots : List (Option ℕ)) (es ds : Devices) (count : es.count ≡ ds.count) (rows : (d : ℕ) → es.row d ≡ ds.row d) (on : AreThere es) where
   leads_same : (n d u : ℕ) → resolve n es d u ≡ resolve n ds d u
   leads_same zero d u = refl
   leads_same (suc n) d u =
-      let there = on.there d in
+      let there = on d in
       let here : is_gone (ds.row d).state ≡ false = sym (ap (λ (r : DevRow). is_gone r.state) (rows d)) ∙ there in
       rw (there, here)
       (ap (λ (c : ℕ). if nat_lt d c && nat_lt u (es.row d).units then Some (d, u) else None) count

@@ -17,7 +17,11 @@ use Rattle.zr_meta.specs.Streams.{SpellsPart}
 use Rattle.zr_model.specs.Objects.{Objects}
 use Rattle.zr_model.specs.State.{Saved}
 use Rattle.zr_root.specs.Streams.{HasWords}
+use Rattle.zr_rules.specs.Equation.{devices_in}
+use Rattle.zr_shelf.specs.Disks.{Stand}
+use Rattle.zr_open.specs.There.{AreThere}
 use Rattle.zr_store.specs.Store.{Stored}
+use Rattle.zr_sync.specs.Ends.{LeavesCommitted}
 use Rattle.zr_sync.specs.Heads.{HasHead, head_of}
 use Rattle.zr_sync.specs.Objects.{HoldsObjects}
 use Rattle.zr_sync.specs.declared.open.DeviceStreams.{DeviceStreams}
@@ -78,3 +82,7 @@ pub record LeavesObjects (disks : List (List ℕ)) (pool : OpenPool) (objects : 
   pub last : ShowsLast disks pool
   pub head : HasHead disks pool last.root.root last.root.len
   pub holds : HoldsObjects (Unit {0}) disks pool objects
+
+-- A pool that was opened stands as a commit left it, where no device is gone.
+abbrev pub IsLeftCommitted : Stand → OpenPool → Type 0
+IsLeftCommitted now pool = AreThere (devices_in pool.space) → LeavesCommitted pool now

@@ -9,3 +9,4 @@ pub mod Left
 pub mod Scanned
 pub mod Groups
 pub mod Flushed
+pub mod There

@@ -2,7 +2,7 @@
 use Rattle.std.specs.Prelude.{ℕ, List, Option, Some, None, Ok}
 use Rattle.zr_label.specs.declared.root.Seen.{Seen}
 use Rattle.zr_meta.specs.Heads.{IsHead}
-use Rattle.zr_model.specs.State.{Device, InService, Leaving, Removed, PoolState}
+use Rattle.zr_model.specs.State.{PoolState}
 use Rattle.zr_image.specs.Current.{ShowsAll, FindsCurrent, IsGroup, IsInWindow, slots_of}
 use Rattle.zr_label.specs.declared.root.Uber.{Uber}
 use Rattle.zr_image.specs.Roots.{Root, rows_of, IsSavedUber}
@@ -46,9 +46,3 @@ pub record ShowsGroup (paths disks : List (List ℕ)) (txg : ℕ) (p : PoolState
   pub saved : Option Root
   pub beside : IsShownBeside disks (slots_of root.uber seen) root root.head.saved saved
   pub means : Means paths disks (slots_of root.uber seen) root saved p
-
--- the device is in service
-abbrev pub IsInService : Device → Type 0
-IsInService (InService path) = Unit {0}
-IsInService (Leaving path) = ⊥
-IsInService Removed = ⊥

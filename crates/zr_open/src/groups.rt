@@ -17,12 +17,14 @@ ghost use Rattle.zr_sync.specs.declared.fault.Fault.TheVariants.{No, Stops};
 ghost use Rattle.zr_sync.specs.declared.stop.Stop.TheVariants.{DiskFault};
 ghost use Rattle.zr_open.specs.Found.{FindsOn};
 ghost use Rattle.zr_open.specs.Groups.{HoldsGroup, HoldsRoot, IsBack, IsBackRefusal};
+ghost use Rattle.zr_open.specs.Left.{IsLeftCommitted};
 ghost use Rattle.zr_open.specs.Looked.{IsLookedAt, WasLookedAt};
 ghost use Rattle.zr_open.specs.Opened.{CoversOwed, IsFresh, MayRefuse};
 ghost use Rattle.zr_open.specs.Rewound.{rewound};
 ghost use Rattle.zr_open.specs.Roots.{meta_of};
 
 use crate::find::{Scanned, scan};
+use crate::imports::settle;
 use crate::look::{Looked, look_at};
 use crate::pool::open;
 use crate::rewinds::{rewound, show};
@@ -53,6 +55,7 @@ fn reset<S: Shelf>(
     ensures fresh { IfOk result (IsFresh (rewound then.old.found.root (current.now.txg + 1))) }
     ensures shown { S.tells shelf.old → IfOk result (λ pool. IsShownFrom (S.sizes shelf.old) (record pool { last = Some current.now }) (rewound then.old.found.root (current.now.txg + 1)) (S.world shelf.old) (S.world shelf.new)) }
     ensures objects { S.tells shelf.old → IsLookedAt (S.sizes shelf.old) (Unit {0}) (S.world shelf.old).now.seen then.old → IfOk result (HoldsRoot (S.world shelf.old).now.seen (S.tells shelf.new) (S.world shelf.new).now.seen then.old) }
+    ensures leaves { S.tells shelf.old → IsLookedAt (S.sizes shelf.old) (Unit {0}) (S.world shelf.old).now.seen then.old → IfOk result (IsLeftCommitted (S.world shelf.new).now) }
     ensures placed { IfOk result (λ pool. pool.table.slots ≡ then.old.found.slots) }
     ensures room { IfOk result (λ pool. CoversOwed pool.space) }
     ensures groups { IfOk result (λ pool. pool.group.txg ≤ 2 ^ 63 + 1) }
@@ -77,7 +80,7 @@ fn reset<S: Shelf>(
 }
 
 /// Opens the pool as a group that is kept left it. The group of the current root is opened as `import` does; the root of
-/// a lower one is written once more, one group above the current one and as a reset.
+/// a lower one is written once more, one group above the current one and as a reset. All is durable behind it.
 ///
 /// It reads what `import` reads, for a lower group twice. What it answers but Ok has written nothing, or stops the run.
 pub fn go_back<S: Shelf>(alloc: Global, shelf: &mut S, txg: u64) -> Result<OpenPool, Fault>
@@ -91,6 +94,7 @@ pub fn go_back<S: Shelf>(alloc: Global, shelf: &mut S, txg: u64) -> Result<OpenP
     ensures back { IfOk result (IsBack (S.sizes shelf.old) (S.tells shelf.old) (S.world shelf.old).now.seen txg) }
     ensures objects { S.tells shelf.old → IfOk result (HoldsGroup (S.world shelf.old).now.paths (S.world shelf.old).now.seen txg (S.tells shelf.new) (S.world shelf.new).now.seen) }
     ensures last { S.tells shelf.old → IfOk result (ShowsLast (S.world shelf.new).now.seen) }
+    ensures leaves { S.tells shelf.old → IfOk result (IsLeftCommitted (S.world shelf.new).now) }
     ensures room { IfOk result (λ pool. CoversOwed pool.space) }
     ensures groups { IfOk result (λ pool. pool.group.txg ≤ 2 ^ 63 + 1) }
     ensures refused { (r : Refusal) → IsErrOf result (No r) → FindsOn (S.sizes shelf.old) (S.tells shelf.old) (S.world shelf.old).now.seen (Err r) ⊎ ((u : Uber) × (at : FindsOn (S.sizes shelf.old) (S.tells shelf.old) (S.world shelf.old).now.seen (Ok u)) × IsBackRefusal (S.tells shelf.old) (S.world shelf.old).now.seen at.seen u txg r) }
@@ -100,6 +104,7 @@ pub fn go_back<S: Shelf>(alloc: Global, shelf: &mut S, txg: u64) -> Result<OpenP
     let now = look_at(alloc, shelf, &found)?;
     let root = kept_root(seen.as_slice(), &found.root, txg)?;
     if txg == found.root.txg {
+        settle(shelf)?;
         return Ok(now.pool);
     }
     drop(now);

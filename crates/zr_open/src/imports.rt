@@ -13,6 +13,7 @@ ghost use Rattle.zr_sync.specs.declared.fault.Fault.TheVariants.{No, Stops};
 ghost use Rattle.zr_sync.specs.declared.stop.Stop.TheVariants.{DiskFault};
 ghost use Rattle.zr_open.specs.Flushed.{FlushesOnly};
 ghost use Rattle.zr_open.specs.Found.{FindsOn};
+ghost use Rattle.zr_open.specs.Left.{IsLeftCommitted};
 ghost use Rattle.zr_open.specs.Opened.{CoversOwed, IsFresh, IsRefusedRoot, IsRefusedSaved};
 ghost use Rattle.zr_open.specs.Roots.{IsOfRoot};
 ghost use Rattle.zr_open.specs.Shown.{Shows};
@@ -25,8 +26,8 @@ use zr_scan::ScanErr;
 use zr_shelf::Shelf;
 use zr_sync::{Fault, OpenPool};
 
-// Makes all that was written before durable.
-fn settle<S: Shelf>(shelf: &mut S) -> Result<(), ScanErr>
+/// Makes all that was written before durable.
+pub(crate) fn settle<S: Shelf>(shelf: &mut S) -> Result<(), ScanErr>
     ensures sizes { S.sizes shelf.new ≡ S.sizes shelf.old }
     ensures none_fell { NoneFell (S.counts shelf.old) (S.counts shelf.new) }
     ensures failed { IsErrOf result Failed → HasRisen (S.counts shelf.old).disk (S.counts shelf.new).disk }
@@ -59,6 +60,7 @@ pub fn import<S: Shelf>(alloc: Global, shelf: &mut S) -> Result<OpenPool, Fault>
     ensures opened { IfOk result (λ pool. (u : Uber) × (at : FindsOn (S.sizes shelf.old) (S.tells shelf.old) (S.world shelf.old).now.seen (Ok u)) × IsOfRoot (S.tells shelf.old) (S.world shelf.old).now.seen (slots_of u at.seen) u pool) }
     ensures objects { S.tells shelf.old → IfOk result (λ pool. (p : PoolState) × Shows (S.world shelf.old).now.paths (S.world shelf.old).now.seen p × HoldsState (S.tells shelf.new) (S.world shelf.new).now.seen pool p) }
     ensures last { S.tells shelf.old → IfOk result (ShowsLast (S.world shelf.new).now.seen) }
+    ensures leaves { S.tells shelf.old → IfOk result (IsLeftCommitted (S.world shelf.new).now) }
     ensures room { IfOk result (λ pool. CoversOwed pool.space) }
     ensures groups { IfOk result (λ pool. pool.group.txg ≤ 2 ^ 63 + 1) }
     ensures refused { (r : Refusal) → IsErrOf result (No r) → FindsOn (S.sizes shelf.old) (S.tells shelf.old) (S.world shelf.old).now.seen (Err r) ⊎ (IsRefusedRoot r ⊎ ((u : Uber) × (at : FindsOn (S.sizes shelf.old) (S.tells shelf.old) (S.world shelf.old).now.seen (Ok u)) × IsRefusedSaved (S.tells shelf.old) (S.world shelf.old).now.seen (slots_of u at.seen) u r)) }

@@ -15,7 +15,6 @@ ghost use Rattle.zr_model.specs.Objects.{Objects};
 ghost use Rattle.zr_model.specs.State.{PoolState, Is};
 ghost use Rattle.zr_root.specs.Streams.{HasBytes};
 ghost use Rattle.zr_rules.specs.Equation.{devices_in};
-ghost use Rattle.zr_space.specs.Paths.{AreInService};
 ghost use Rattle.zr_shelf.specs.Moments.{World};
 ghost use Rattle.zr_sync.specs.Commits.{IsNextRoot, IsShownFrom};
 ghost use Rattle.zr_sync.specs.Heads.{HasHead, head_of};
@@ -28,7 +27,8 @@ ghost use Rattle.zr_vdev.specs.Runs.{view_of};
 ghost use Rattle.zr_current.specs.Current.{GoesOnFrom, HasSlots, IsCurrentOn};
 ghost use Rattle.zr_open.specs.Left.{LeavesObjects, LeavesRoot, RecordsDevices, RecordsParts};
 ghost use Rattle.zr_roots.specs.Standing.{image_of};
-ghost use Rattle.zr_open.specs.Shown.{IsInService, Shows};
+ghost use Rattle.zr_open.specs.Shown.{Shows};
+ghost use Rattle.zr_open.specs.There.{AreThere, IsStillThere};
 
 /// A pool that an image of the disks means, by all checks of an import in their order, is one that they show.
 pub fn meant_is_shown()
@@ -41,31 +41,31 @@ pub fn held_is_meant()
 {}
 
 /// The head of an open pool, which stands on the disks as the pool sees them, is the one that an import reads there: the
-/// devices of the root are in service, so each pointer leads where it leads by the pool's space.
+/// devices of the root are there, so each pointer leads where it leads by the pool's space.
 pub fn head_is_read()
-    ensures lawful { (disks : List (List ℕ)) (sizes : List ℕ) (u : Uber) (pool : OpenPool) → IsOpen sizes pool → AreInService (devices_in pool.space) → GoesOnFrom u pool → HasHead disks pool u.root u.len → IsHead (rows_of u) (head_of pool) }
-    ensures bytes { (disks : List (List ℕ)) (sizes : List ℕ) (u : Uber) (pool : OpenPool) → IsOpen sizes pool → AreInService (devices_in pool.space) → GoesOnFrom u pool → HasHead disks pool u.root u.len → HasBytes (image_of disks pool.table.slots u) (head_tree u) (head_bytes (head_of pool)) }
+    ensures lawful { (disks : List (List ℕ)) (sizes : List ℕ) (u : Uber) (pool : OpenPool) → IsOpen sizes pool → AreThere (devices_in pool.space) → GoesOnFrom u pool → HasHead disks pool u.root u.len → IsHead (rows_of u) (head_of pool) }
+    ensures bytes { (disks : List (List ℕ)) (sizes : List ℕ) (u : Uber) (pool : OpenPool) → IsOpen sizes pool → AreThere (devices_in pool.space) → GoesOnFrom u pool → HasHead disks pool u.root u.len → HasBytes (image_of disks pool.table.slots u) (head_tree u) (head_bytes (head_of pool)) }
 {}
 
-/// What the disks show is what an open pool of devices in service holds, where its last root is the current one and leads to its head, and nothing has
+/// What the disks show is what an open pool of devices that are there holds, where its last root is the current one and leads to its head, and nothing has
 /// changed since: so the objects that an import finds there are those that the pool held.
 pub fn shown_is_held()
-    ensures { (paths disks : List (List ℕ)) (sizes : List ℕ) (u : Uber) (pool : OpenPool) (objects : Objects) (p : PoolState) → IsOpen sizes pool → AreInService (devices_in pool.space) → GoesOnFrom u pool → pool.group.objects ≡ []
+    ensures { (paths disks : List (List ℕ)) (sizes : List ℕ) (u : Uber) (pool : OpenPool) (objects : Objects) (p : PoolState) → IsOpen sizes pool → AreThere (devices_in pool.space) → GoesOnFrom u pool → pool.group.objects ≡ []
         → IsCurrentOn disks u pool → HasHead disks pool u.root u.len → HoldsObjects (Unit {0}) disks pool objects → Shows paths disks p → p.objects ≡ objects }
 {}
 
-/// What a commit of a pool of devices in service left is what is shown: the pool that the disks show behind it, as an import finds it, has the objects that the
+/// What a commit of a pool of devices that are there left is what is shown: the pool that the disks show behind it, as an import finds it, has the objects that the
 /// committed pool holds.
 pub fn commit_is_found()
     ensures { (paths : List (List ℕ)) (sizes : List ℕ) (old new : OpenPool) (reset : Bool) (last u : Uber) (before mid now : World) (seen : List Seen) (objects : Objects) (p : PoolState) → IsOpen sizes old → GoesOnFrom last old
         → map length before.now.seen ≡ sizes → ShowsAll before.now.seen seen → FindsCurrent seen (Ok last) → HasSlots (slots_of last seen) old.table.slots
-        → WritesIntoFree old before mid → IsShownFrom sizes old u mid now → IsNextRoot old reset u → IsOpen sizes new → AreInService (devices_in new.space) → IsSamePool old new → new.last ≡ Some u → new.group.objects ≡ []
+        → WritesIntoFree old before mid → IsShownFrom sizes old u mid now → IsNextRoot old reset u → IsOpen sizes new → AreThere (devices_in new.space) → IsSamePool old new → new.last ≡ Some u → new.group.objects ≡ []
         → HasHead now.now.seen new u.root u.len → HoldsObjects (Unit {0}) now.now.seen new objects → Shows paths now.now.seen p → p.objects ≡ objects }
 {}
 
-/// Whatever pool the disks show where an open pool has left its objects has these objects, if all devices of what is shown are in service.
+/// Whatever pool the disks show where an open pool has left its objects has these objects, if no device of what is shown is removed.
 pub fn left_is_found()
-    ensures { (paths disks : List (List ℕ)) (sizes : List ℕ) (pool : OpenPool) (objects : Objects) (p : PoolState) → IsOpen sizes pool → LeavesObjects disks pool objects → Shows paths disks p → All IsInService p.devs → p.objects ≡ objects }
+    ensures { (paths disks : List (List ℕ)) (sizes : List ℕ) (pool : OpenPool) (objects : Objects) (p : PoolState) → IsOpen sizes pool → LeavesObjects disks pool objects → Shows paths disks p → All IsStillThere p.devs → p.objects ≡ objects }
 {}
 
 /// Where all devices are in service, nothing is condensed, and the words of each device's streams record a part, those of all
@@ -75,9 +75,9 @@ pub fn streams_record_parts()
         → RecordsDevices (image_of disks pool.table.slots u) u.version pool.space.parts.ckpt 0 (rows_of u) pool.streams.items parts.devs → (h : RecordsParts disks u pool) × (h.parts ≡ parts) }
 {}
 
-/// Where the disks have all that an import reads of the last root of an open pool of devices in service, they show a pool with the objects that it
+/// Where the disks have all that an import reads of the last root of an open pool of devices that are there, they show a pool with the objects that it
 /// holds, and whose checkpoint stands as its own does.
 pub fn left_is_shown()
-    ensures { (paths disks : List (List ℕ)) (sizes : List ℕ) (u : Uber) (pool : OpenPool) (objects : Objects) → IsOpen sizes pool → AreInService (devices_in pool.space) → LeavesRoot paths disks u pool → HoldsObjects (Unit {0}) disks pool objects
+    ensures { (paths disks : List (List ℕ)) (sizes : List ℕ) (u : Uber) (pool : OpenPool) (objects : Objects) → IsOpen sizes pool → AreThere (devices_in pool.space) → LeavesRoot paths disks u pool → HoldsObjects (Unit {0}) disks pool objects
         → (p : PoolState) × Shows paths disks p × HoldsState (Unit {0}) disks pool p × (p.objects ≡ objects) }
 {}

@@ -21,6 +21,7 @@ ghost use Rattle.zr_base.specs.declared.refusal.Refusal.TheVariants.{NoCheckpoin
 ghost use Rattle.zr_image.specs.Current.{slots_of};
 ghost use Rattle.zr_label.specs.declared.root.Uber.{Uber};
 ghost use Rattle.zr_open.specs.Found.{FindsOn};
+ghost use Rattle.zr_open.specs.Left.{IsLeftCommitted};
 ghost use Rattle.zr_open.specs.Opened.{CoversOwed, IsRefusedRoot, IsRefusedSaved};
 ghost use Rattle.zr_open.specs.Rewound.{HasNoSaved, HoldsSaved, IsRewound, IsShownBehind, ShowsNoSaved, rewound};
 
@@ -90,6 +91,7 @@ pub fn rewind<S: Shelf>(alloc: Global, shelf: &mut S) -> Result<OpenPool, Fault>
     ensures shown { S.tells shelf.old → IfOk result (λ pool. (u : Uber) × FindsOn (S.sizes shelf.old) (S.tells shelf.old) (S.world shelf.old).now.seen (Ok u) × IsShownBehind (S.sizes shelf.old) u pool (S.world shelf.old) (S.world shelf.new)) }
     ensures objects { S.tells shelf.old → IfOk result (HoldsSaved (S.world shelf.old).now.paths (S.world shelf.old).now.seen (S.tells shelf.new) (S.world shelf.new).now.seen) }
     ensures last { S.tells shelf.old → IfOk result (ShowsLast (S.world shelf.new).now.seen) }
+    ensures leaves { S.tells shelf.old → IfOk result (IsLeftCommitted (S.world shelf.new).now) }
     ensures room { IfOk result (λ pool. CoversOwed pool.space) }
     ensures groups { IfOk result (λ pool. pool.group.txg ≤ 2 ^ 63 + 1) }
     ensures refused { (r : Refusal) → IsErrOf result (No r) → FindsOn (S.sizes shelf.old) (S.tells shelf.old) (S.world shelf.old).now.seen (Err r) ⊎ (IsRefusedRoot r ⊎ ((u : Uber) × (at : FindsOn (S.sizes shelf.old) (S.tells shelf.old) (S.world shelf.old).now.seen (Ok u)) × (IsRefusedSaved (S.tells shelf.old) (S.world shelf.old).now.seen (slots_of u at.seen) u r ⊎ ((r ≡ NoCheckpoint) × HasNoSaved (S.tells shelf.old) (S.world shelf.old).now.seen (slots_of u at.seen) u)))) }

@@ -1,10 +1,12 @@
 -- Lines as steps of plain objects.
-use Rattle.std.proofs.Common.{◌≡◌, ◌∙◌, ℕ, zero, ◌<◌, arith, if◌then◌else◌, List, [], ◌∷◌, ◌++◌, length, replicate, true, false, Option, Some, None, refl, sym, ap, subst}
-use Rattle.std.specs.Prelude.{unwrap_or, option_map, Bool}
+use Rattle.std.proofs.Common.{◌≡◌, ◌∙◌, ℕ, zero, ◌<◌, ◌≤◌, arith, if◌then◌else◌, List, [], ◌∷◌, ◌++◌, length, replicate, true, false, Option, Some, None, refl, sym, ap, subst}
+use Rattle.std.specs.Prelude.{unwrap_or, option_map, Bool, map as list_map}
 use Rattle.std.specs.FinMap as map
 use Rattle.std.proofs.lemmas.List.{length-replicate}
 use Rattle.zr_base.specs.declared.refusal.Refusal.{Refusal}
 use Rattle.zr_base.specs.declared.refusal.Refusal.TheVariants as refusal
+use Rattle.zr_base.specs.declared.space.Condensed.{Condensed}
+use Rattle.zr_base.specs.declared.space.Condensed.TheVariants as condensed
 use Rattle.zr_script.specs.declared.command.Command.{Command}
 use Rattle.zr_script.specs.declared.command.Command.TheVariants as cmd
 use Rattle.zr_script.specs.declared.reply.Reply.TheVariants as reply
@@ -14,11 +16,20 @@ use Rattle.zr_script.specs.declared.reply.AuditLine.{AuditLine}
 use Rattle.zr_script.specs.declared.reply.MapLine.{MapLine}
 use Rattle.zr_model.specs.Objects.{Object, Objects, blank, with_bytes, reads_lost, changes_lost, has_lost, object_sum}
 use Rattle.zr_model.specs.State.{InService, PoolState, with_objects}
-use Rattle.zr_moves.specs.Answers.{of_object, with_devs, with_saved}
+use Rattle.zr_moves.specs.Answers.{leave_at, of_object, with_devs, with_saved}
 use Rattle.zr_change.specs.declared.ranges.Edit.{Edit}
 use Rattle.zr_held.specs.Steps.{IsObjectOf}
 use Rattle.zr_lines.specs.Reads.{IsReadOf}
-use Rattle.zr_pool.specs.Plain.{IsMissing, IsBeyond, IsThere, IsObjectCause, IsPlainOn, IsPlainOf}
+use Rattle.zr_base.specs.declared.space.Policy.{Policy}
+use Rattle.zr_shelf.specs.Counts.{Counts}
+use Rattle.zr_shelf.specs.Moments.{World}
+use Rattle.zr_sync.specs.declared.open.OpenPool.{OpenPool}
+use Rattle.zr_removal.specs.Steps.{StepsOn}
+use Rattle.zr_removal.specs.declared.evacuate.Evacuated.{Evacuated}
+use Rattle.zr_removal.specs.declared.evacuate.Evacuated.TheVariants.{Copied, Gone, Cancelled}
+use Rattle.zr_pool.specs.Behind.{is_copy}
+use Rattle.zr_pool.specs.Plain.{IsBeyond, IsDone, IsMissing, IsObjectCause, IsPlainOf, IsPlainOn, IsThere, is_untold_behind}
+use Rattle.zr_pool.specs.Replies.{condense_reply, evac_reply}
 
 pub plain_refusal : (objects : Objects) (command : Command) (r : Refusal) → (r ≡ refusal.NoSuchObject → IsMissing objects command) → (r ≡ refusal.OutOfRange → IsBeyond objects command) → (r ≡ refusal.ObjectExists → IsThere objects command)
     → IsObjectCause objects command r
@@ -80,6 +91,11 @@ module _ (Holds : PoolState → Type 0) (p : PoolState) where
       let q = with_devs p (p.devs ++ InService dev ∷ []) in
       subst (λ (k : Command). IsPlainOf Holds p k reply.Done) (sym is) (record { after = q; holds = h; step = (refl, refl) })
 
+  pub removed_as : (command : Command) (dev : List ℕ) → command ≡ cmd.Remove dev → Holds (with_devs p (list_map (leave_at dev) p.devs)) → IsPlainOf Holds p command reply.Done
+  removed_as command dev is h =
+      let q = with_devs p (list_map (leave_at dev) p.devs) in
+      subst (λ (k : Command). IsPlainOf Holds p k reply.Done) (sym is) (record { after = q; holds = h; step = (refl, refl) })
+
   pub listed_as : (command : Command) (lines : List ListLine) → command ≡ cmd.List → Holds p → IsPlainOf Holds p command (reply.List lines)
   listed_as command lines is h = subst (λ (k : Command). IsPlainOf Holds p k (reply.List lines)) (sym is) (record { after = p; holds = h; step = (refl, refl) })
 
@@ -115,3 +131,32 @@ module _ (Holds : PoolState → Type 0) (p : PoolState) where
   stepped_as command units false is some h =
       let lt = some refl in
       subst (λ (k : Command). IsPlainOf Holds p k (reply.Freed units)) (sym is) (record { after = p; holds = h; step = ((omega (arith, lt), refl), refl) })
+
+-- ---- replies to steps of a removal
+
+-- a step that copies leaves the objects; of one that does not nothing is told
+pub evac_acts : (policy : Policy) (sizes : List ℕ) (told : Type 0) (c1 c2 : Counts) (w1 w2 : World) (x y : OpenPool) (Holds : PoolState → Type 0) (p : PoolState) (done : Evacuated) → StepsOn policy sizes told c1 c2 w1 w2 x y done
+    → (y.space.parts.ckpt ≡ x.space.parts.ckpt → (n : ℕ) → done ≡ Copied n → Holds p) → IsPlainOf Holds p cmd.StepEvac (evac_reply done)
+evac_acts policy sizes told c1 c2 w1 w2 x y Holds p (Copied n) steps holds =
+    let plan = steps.plans.plan in
+    let some = plan.some in
+    let few = plan.few in
+    let units = steps.units in
+    record { after = p; holds = holds steps.makes.elsewhere.ckpt n refl; step = ((omega (arith, some, units), omega (arith, few, units), refl), refl) }
+evac_acts policy sizes told c1 c2 w1 w2 x y Holds p (Gone index) steps holds = tt
+evac_acts policy sizes told c1 c2 w1 w2 x y Holds p (Cancelled index) steps holds = tt
+
+pub evac_shows : (P : Type 0) (done : Evacuated) → ((n : ℕ) → done ≡ Copied n → P) → is_untold_behind cmd.StepEvac (evac_reply done) ≡ false → P
+evac_shows P (Copied n) shows off = shows n refl
+evac_shows P (Gone index) shows off = absurd (let no_way : true ≡ false = off in cc)
+evac_shows P (Cancelled index) shows off = absurd (let no_way : true ≡ false = off in cc)
+
+pub evac_copies : (P : Type 0) (done : Evacuated) → ((n : ℕ) → done ≡ Copied n → P) → is_copy cmd.StepEvac (evac_reply done) ≡ true → P
+evac_copies P (Copied n) copies on = copies n refl
+evac_copies P (Gone index) copies on = absurd (let no_way : false ≡ true = on in cc)
+evac_copies P (Cancelled index) copies on = absurd (let no_way : false ≡ true = on in cc)
+
+pub condense_done : (done : Condensed) → IsDone (condense_reply done)
+condense_done (condensed.Kept entries) = tt
+condense_done condensed.Done = tt
+condense_done condensed.Nothing = tt

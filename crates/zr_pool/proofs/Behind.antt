@@ -8,12 +8,13 @@ use Rattle.zr_base.specs.declared.space.DevState.{DevState}
 use Rattle.zr_base.specs.declared.space.DevState.TheVariants.{On, Leaving, Gone}
 use Rattle.zr_command.specs.Meanings.{disks_of}
 use Rattle.zr_last.specs.Last.{KeepsLast, ShowsLast}
-use Rattle.zr_last.specs.Ends.{ComesCommitted, EndsCommitted}
-use Rattle.zr_lines.specs.Stops.{OpensNoUnit, StaysInOneGroup, WritesInOneGroup, WritesReset}
+use Rattle.zr_sync.specs.Ends.{ComesCommitted, EndsCommitted}
+use Rattle.zr_lines.specs.Stops.{OpensNoUnit, StaysInOneGroup, WritesInOneGroup, WritesOneReset, WritesReset}
 use Rattle.zr_model.specs.Objects.{Objects}
 use Rattle.zr_model.specs.Runs.{point}
 use Rattle.zr_model.specs.State.{PoolState, ShelfPart, Empty, Refused, Is}
 use Rattle.zr_open.specs.Flushed.{FlushesOnly}
+use Rattle.zr_open.specs.Left.{IsLeftCommitted}
 use Rattle.zr_rules.specs.Equation.{devices_in}
 use Rattle.zr_rules.specs.Places.{is_gone, is_leaving, is_on, part_of}
 use Rattle.zr_script.specs.declared.command.Command.{Command}
@@ -23,26 +24,26 @@ use Rattle.zr_script.specs.declared.reply.Reply.TheVariants as reply
 use Rattle.zr_shelf.proofs.Runs.{joined, still, weaker}
 use Rattle.zr_shelf.specs.Disks.{Stand}
 use Rattle.zr_shelf.specs.Moments.{IsStill, Throughout, World}
-use Rattle.zr_space.specs.Paths.{AreInService}
-use Rattle.zr_stops.proofs.Behind.{behind_shows, commit_behind, commit_shows, line_behind, line_shows, made_behind, opened_behind, shown_behind, stop_shows}
+use Rattle.zr_open.specs.There.{AreThere}
+use Rattle.zr_stops.proofs.Behind.{behind_shows, commit_behind, commit_shows, line_behind, line_shows, left_behind, made_behind, shown_behind, stop_shows}
 use Rattle.zr_stops.proofs.Within.{left_by, same_behind}
-use Rattle.zr_stops.specs.Behind.{AreSameDisks, IsJustOpened, ShowsOnly, StandsBehind}
+use Rattle.zr_stops.specs.Behind.{AreSameDisks, ShowsOnly, StandsBehind}
 use Rattle.zr_stops.specs.Either.{ShowsEither}
 use Rattle.zr_sync.specs.Pools.{IsOpen}
 use Rattle.zr_sync.specs.States.{HoldsState}
-use Rattle.zr_sync.specs.Writes.{WorksOnDisks}
+use Rattle.zr_sync.specs.Writes.{WorksOnDisks, WritesIntoFree}
 use Rattle.zr_sync.specs.declared.fault.Fault.{Fault}
 use Rattle.zr_sync.specs.declared.fault.Fault.TheVariants.{No, Stops}
 use Rattle.zr_sync.specs.declared.open.OpenPool.{OpenPool}
 use Rattle.zr_pool.proofs.Closed.{StandsAs, closed_behind, closed_shows, flushes_keep, still_closed}
-use Rattle.zr_pool.proofs.Groups.{acknowledged_commits, commits_in_group, making_stops, not_resetting, opens_no_commit, opens_no_reset}
+use Rattle.zr_pool.proofs.Groups.{acknowledged_commits, commits_in_group, copy_no_commit, copy_no_reset, making_stops, not_resetting, opens_no_commit, opens_no_reset, resets_told}
 use Rattle.zr_pool.proofs.Outside.{keeps_outside}
 use Rattle.zr_pool.proofs.Resets.{behind_last, reset_behind}
 use Rattle.zr_pool.proofs.Turning.{left_of}
-use Rattle.zr_pool.specs.Behind.{ComesFrom, HasReset, IsBehindTurn, LeavesEither, LeavesOnly, StaysTold, is_acknowledged, is_commit, is_create, is_in_group, is_known, is_making, is_refusal, is_resetting, leaves_told, may_stop, resets_once, serve_all, serves}
+use Rattle.zr_pool.specs.Behind.{ComesFrom, HasReset, IsBehindTurn, LeavesEither, LeavesOnly, StaysTold, is_acknowledged, is_commit, is_copy, is_create, is_import, is_in_group, is_known, is_making, is_refusal, is_resetting, leaves_told, may_stop, resets_in_place, all_there, are_there}
 use Rattle.zr_pool.specs.Behind.ComesFrom.{kept, committed, changed, made, found}
 use Rattle.zr_pool.specs.Ends.{answer_of, is_closing}
-use Rattle.zr_pool.specs.Plain.{IsDone}
+use Rattle.zr_pool.specs.Plain.{IsDone, is_untold_behind}
 use Rattle.zr_pool.specs.Pools.{DeviceState, IsBehind, IsClosedBehind, IsPartOf, stand_of}
 use Rattle.zr_pool.specs.Turns.{IsClosedAnswer, IsTurn, IsWithin, is_on_objects, is_opener, is_table}
 
@@ -52,27 +53,23 @@ no_way e = absurd cc
 none_some : {A P : Type 0} (a : A) → None ≡ Some a → P
 none_some a e = absurd cc
 
--- ---- devices in service
+-- ---- devices that are there
 
-served : (s : DevState) → is_on s ≡ true → s ≡ On
-served On on = refl
-served Leaving on = no_way on
-served Gone on = no_way on
+first_there : (a b : Bool) → (not a && b) ≡ true → a ≡ false
+first_there true b is = no_way is
+first_there false b is = refl
 
-both_serve : (a b : Bool) → (if a then b else false) ≡ true → (a ≡ true) × (b ≡ true)
-both_serve true b is = (refl, is)
-both_serve false b is = no_way is
+rest_there : (a b : Bool) → (not a && b) ≡ true → b ≡ true
+rest_there true b is = no_way is
+rest_there false b is = is
 
-row_serves : (parts : List DevPart) → serve_all parts ≡ true → (d : ℕ) → (part_of parts d).row.state ≡ On
-row_serves [] all d = refl
-row_serves (p ∷ parts) all zero = served p.row.state (both_serve (is_on p.row.state) (serve_all parts) all).0
-row_serves (p ∷ parts) all (suc d) = row_serves parts (both_serve (is_on p.row.state) (serve_all parts) all).1 d
+rows_there : (parts : List DevPart) → all_there parts ≡ true → (d : ℕ) → is_gone (part_of parts d).row.state ≡ false
+rows_there [] all d = refl
+rows_there (p ∷ parts) all zero = first_there (is_gone p.row.state) (all_there parts) all
+rows_there (p ∷ parts) all (suc d) = rows_there parts (rest_there (is_gone p.row.state) (all_there parts) all) d
 
-in_service : (pool : OpenPool) → serves (Some pool) ≡ true → AreInService (devices_in pool.space)
-in_service pool all = record {
-  there = λ d. ap is_gone (row_serves pool.space.parts.devs all d);
-  stays = λ d. ap is_leaving (row_serves pool.space.parts.devs all d);
-}
+devices_there : (pool : OpenPool) → are_there (Some pool) ≡ true → AreThere (devices_in pool.space)
+devices_there pool all d = rows_there pool.space.parts.devs all d
 
 -- ---- a stand and its disks
 
@@ -96,6 +93,13 @@ first_of a b s shows image left paths p is = inl (shows image left paths p is)
 
 second_of : (a b : Objects) (s : Stand) → ShowsOnly b s → ShowsEither a b s
 second_of a b s shows image left paths p is = inr (shows image left paths p is)
+
+both_told : (a b : Objects) (s : Stand) → ShowsEither b b s → ShowsEither a b s
+both_told a b s shows image left paths p is = inr (one (shows image left paths p is))
+  where
+    one : (p.objects ≡ b) ⊎ (p.objects ≡ b) → p.objects ≡ b
+    one (inl same) = same
+    one (inr same) = same
 
 -- ---- a line in its group
 
@@ -128,10 +132,10 @@ module _ (sizes : List ℕ) (objects told : Objects) (x : OpenPool) (old : World
       })
 
   one_group_behind : (y : OpenPool) (new : World) → StaysInOneGroup sizes told x y old new → Committed y new
-  one_group_behind y new (inl stays) = record { all = objects; which = inl refl; behind = line_behind sizes objects x old h y new stays.written stays.space stays.root.table stays.root.last stays.root.guid }
+  one_group_behind y new (inl stays) = record { all = objects; which = inl refl; behind = line_behind sizes objects x old h y new stays.written stays.space.writable stays.root.table stays.root.last stays.root.guid }
   one_group_behind y new (inr more) =
       let b = commit_behind sizes objects x old h lawful false told more.start more.next more.commits in
-      record { all = told; which = inr refl; behind = line_behind sizes told more.next more.start b y new more.stays.written more.stays.space more.stays.root.table more.stays.root.last more.stays.root.guid }
+      record { all = told; which = inr refl; behind = line_behind sizes told more.next more.start b y new more.stays.written more.stays.space.writable more.stays.root.table more.stays.root.last more.stays.root.guid }
 
   told_still : (y : OpenPool) (new : World) → StaysTold sizes told x y old new → Committed y new
   told_still y new (inl stays) = one_group_behind y new stays
@@ -145,10 +149,20 @@ module _ (sizes : List ℕ) (objects told : Objects) (x : OpenPool) (old : World
       joined (ShowsEither objects told) old more.start new (commit_shows sizes objects x old h lawful false told more.start more.next more.commits)
       (weaker (ShowsOnly told) (ShowsEither objects told) more.start new (second_of objects told) (line_shows sizes told more.next more.start b new more.written))
 
-  -- a line that ends with a reset: the pool is changed before anything is written
+  -- a reset: the pool is changed before anything is written
+  one_reset_shows : (new : World) → WritesOneReset sizes told x old new → Throughout (ShowsEither objects told) old new
+  one_reset_shows new (inl nothing) = weaker (λ s. s ≡ old.now) (ShowsEither objects told) old new (λ s same. subst (ShowsEither objects told) (sym same) (first_of objects told old.now (behind_shows sizes objects x old.now h))) nothing.since
+  one_reset_shows new (inr (other, ready, opens, commits)) = stop_shows sizes objects other old (still_behind other old (still old old refl) opens) ready true told new commits
+
+-- a line that ends with a reset, at once or behind the commit of the group
+module _ (sizes : List ℕ) (objects told : Objects) (x : OpenPool) (old : World) (h : StandsBehind sizes objects x old.now) (lawful : IsOpen sizes x) where
   reset_shows : (new : World) → WritesReset sizes told x old new → Throughout (ShowsEither objects told) old new
-  reset_shows new (inl nothing) = weaker (λ s. s ≡ old.now) (ShowsEither objects told) old new (λ s same. subst (ShowsEither objects told) (sym same) (first_of objects told old.now (behind_shows sizes objects x old.now h))) nothing.since
-  reset_shows new (inr (other, ready, opens, commits)) = stop_shows sizes objects other old (still_behind other old (still old old refl) opens) ready true told new commits
+  reset_shows new (inl once) = one_reset_shows sizes objects told x old h lawful new once
+  reset_shows new (inr (inl commits)) = stop_shows sizes objects x old h lawful false told new commits
+  reset_shows new (inr (inr more)) =
+      let b = commit_behind sizes objects x old h lawful false told more.start more.next more.commits in
+      joined (ShowsEither objects told) old more.start new (commit_shows sizes objects x old h lawful false told more.start more.next more.commits)
+      (weaker (ShowsEither told told) (ShowsEither objects told) more.start new (both_told objects told) (one_reset_shows sizes told told more.next more.start b more.commits.pool new more.resets))
 
 -- ---- what is told behind a line
 
@@ -159,33 +173,33 @@ module _ (new : World) (before : DeviceState) (command : Command) (part : ShelfP
     pub turn : IsBehindTurn before command answer part pool behind
 
   -- nothing is told
-  untold : (pool : Option OpenPool) (answer : Reply) → (before.account ≡ None → is_create command ≡ true → serves pool ≡ true → ⊥) → (before.account ≡ None → command ≡ cmd.Import → serves pool ≡ true → (p : PoolState) → part ≡ Is p → ⊥) → ((p : PoolState) → before.told.shelf ≡ Is p → is_some before.behind ≡ true → leaves_told before.account answer command ≡ true → ⊥)
-      → ((p : PoolState) → before.told.shelf ≡ Is p → is_known before ≡ true → is_resetting command ≡ true → is_refusal answer ≡ false → serves pool ≡ true → ⊥) → ((p : PoolState) → before.told.shelf ≡ Is p → is_known before ≡ true → is_acknowledged answer command ≡ true → ⊥) → Behinds pool answer
+  untold : (pool : Option OpenPool) (answer : Reply) → (before.account ≡ None → is_create command ≡ true → are_there pool ≡ true → ⊥) → (before.account ≡ None → is_import command ≡ true → are_there pool ≡ true → (p : PoolState) → part ≡ Is p → ⊥) → ((p : PoolState) → before.told.shelf ≡ Is p → is_some before.behind ≡ true → leaves_told before.account answer command ≡ true → ⊥)
+      → ((p : PoolState) → before.told.shelf ≡ Is p → is_known before ≡ true → is_resetting command ≡ true → is_refusal answer ≡ false → are_there pool ≡ true → ⊥) → ((p : PoolState) → before.told.shelf ≡ Is p → is_known before ≡ true → is_acknowledged answer command ≡ true → ⊥) → Behinds pool answer
   untold pool answer makes opens keeps resets commits = record {
     behind = None;
     stands = tt;
     turn = record {
       from = λ objects is. none_some objects is;
-      makes = λ none create done serve. absurd (makes none create serve);
-      opens = λ none import done serve p told. absurd (opens none import serve p told);
+      makes = λ none create done there. absurd (makes none create there);
+      opens = λ none import done there p told. absurd (opens none import there p told);
       keeps = λ p told some leaves. absurd (keeps p told some leaves);
-      resets = λ p told known on done serve. absurd (resets p told known on done serve);
+      resets = λ p told known on done there. absurd (resets p told known on done there);
       commits = λ p told known acknowledged. absurd (commits p told known acknowledged);
     };
   }
 
   -- these are
-  told_behind : (pool : Option OpenPool) (answer : Reply) (p : PoolState) (all : Objects) → (before.account ≡ None → is_create command ≡ true → answer ≡ reply.Done → ⊥) → (before.account ≡ None → command ≡ cmd.Import → answer ≡ reply.Done → ⊥) → before.told.shelf ≡ Is p → ComesFrom before command answer part all
+  told_behind : (pool : Option OpenPool) (answer : Reply) (p : PoolState) (all : Objects) → (before.account ≡ None → is_create command ≡ true → answer ≡ reply.Done → ⊥) → (before.account ≡ None → is_import command ≡ true → answer ≡ reply.Done → ⊥) → before.told.shelf ≡ Is p → ComesFrom before command answer part all
       → IsBehind pool (disks_of new.now) all → (is_resetting command ≡ true → is_refusal answer ≡ false → all ≡ p.objects) → (is_acknowledged answer command ≡ true → all ≡ p.objects) → Behinds pool answer
   told_behind pool answer p all not_made not_opened told comes stands reset_all committed_all = record {
     behind = Some all;
     stands = stands;
     turn = record {
       from = λ objects is. let same : all ≡ objects = cc in subst (ComesFrom before command answer part) same comes;
-      makes = λ none create done serve. absurd (not_made none create done);
-      opens = λ none import done serve q told_q. absurd (not_opened none import done);
+      makes = λ none create done there. absurd (not_made none create done);
+      opens = λ none import done there q told_q. absurd (not_opened none import done);
       keeps = λ q told_q some leaves. refl;
-      resets = λ q told_q known on done serve. let same : p ≡ q = (let both = sym told ∙ told_q in cc) in ap Some (reset_all on done ∙ ap (λ (r : PoolState). r.objects) same);
+      resets = λ q told_q known on done there. let same : p ≡ q = (let both = sym told ∙ told_q in cc) in ap Some (reset_all on done ∙ ap (λ (r : PoolState). r.objects) same);
       commits = λ q told_q known acknowledged. let same : p ≡ q = (let both = sym told ∙ told_q in cc) in ap Some (committed_all acknowledged ∙ ap (λ (r : PoolState). r.objects) same);
     };
   }
@@ -198,6 +212,14 @@ or_second : (a b : Bool) → b ≡ true → (a || b) ≡ true
 or_second true b is = refl
 or_second false b is = is
 
+or_either : (a b : Bool) → a ≡ true → (a || b) ≡ true
+or_either true b is = refl
+or_either false b is = no_way is
+
+or_neither : (a b : Bool) → a ≡ false → b ≡ false → (a || b) ≡ false
+or_neither true b off none = no_way (sym off)
+or_neither false b off none = none
+
 no_refusal : (answer : Reply) → IsDone answer → is_refusal answer ≡ false
 no_refusal (reply.No r) done = absurd done
 no_refusal answer done = refl
@@ -207,10 +229,10 @@ closing_export cmd.Export answer is = refl
 closing_export command answer is = no_way is
 
 known_some : (state : DeviceState) → is_some state.behind ≡ true → is_known state ≡ true
-known_some state some = ap (λ (b : Bool). if b then true else state.shown && serves state.account) some
+known_some state some = ap (λ (b : Bool). if b then true else state.shown && are_there state.account) some
 
-known_shown : (state : DeviceState) → state.behind ≡ None → is_known state ≡ true → (state.shown ≡ true) × (serves state.account ≡ true)
-known_shown state none known = both state.shown (serves state.account) (sym (ap (λ (o : Option Objects). if is_some o then true else state.shown && serves state.account) none) ∙ known)
+known_shown : (state : DeviceState) → state.behind ≡ None → is_known state ≡ true → (state.shown ≡ true) × (are_there state.account ≡ true)
+known_shown state none known = both state.shown (are_there state.account) (sym (ap (λ (o : Option Objects). if is_some o then true else state.shown && are_there state.account) none) ∙ known)
   where
     both : (a b : Bool) → (a && b) ≡ true → (a ≡ true) × (b ≡ true)
     both true true is = (refl, refl)
@@ -233,21 +255,24 @@ module _ (old new : World) (before : DeviceState) (command : Command) (x y : Ope
   is_open : before.account ≡ None → ⊥
   is_open none = let both = sym none ∙ account in absurd cc
 
-  not_made : (pool : Option OpenPool) → before.account ≡ None → is_create command ≡ true → serves pool ≡ true → ⊥
-  not_made pool none create serve = is_open none
+  not_made : (pool : Option OpenPool) → before.account ≡ None → is_create command ≡ true → are_there pool ≡ true → ⊥
+  not_made pool none create there = is_open none
 
-  not_opened : (s : ShelfPart) (pool : Option OpenPool) → before.account ≡ None → command ≡ cmd.Import → serves pool ≡ true → (p : PoolState) → s ≡ Is p → ⊥
-  not_opened s pool none import serve p told = is_open none
+  not_opened : (s : ShelfPart) (pool : Option OpenPool) → before.account ≡ None → is_import command ≡ true → are_there pool ≡ true → (p : PoolState) → s ≡ Is p → ⊥
+  not_opened s pool none import there p told = is_open none
 
   group_leaves : (answer : Reply) → is_in_group command ≡ true → leaves_told before.account answer command ≡ true
-  group_leaves answer group = subst (λ (o : Option OpenPool). leaves_told o answer command ≡ true) (sym account) (or_second (is_refusal answer) (is_in_group command) group)
+  group_leaves answer group = subst (λ (o : Option OpenPool). leaves_told o answer command ≡ true) (sym account) (or_second (is_refusal answer) (is_in_group command || is_copy command answer) (or_either (is_in_group command) (is_copy command answer) group))
 
   refused_leaves : (n : Refusal) → leaves_told before.account (reply.No n) command ≡ true
   refused_leaves n = subst (λ (o : Option OpenPool). leaves_told o (reply.No n) command ≡ true) (sym account) refl
 
-  -- what is done leaves it told only in the group
-  done_leaves : (answer : Reply) → IsDone answer → leaves_told before.account answer command ≡ true → is_in_group command ≡ true
-  done_leaves answer done leaves = or_first (is_refusal answer) (is_in_group command) (no_refusal answer done) (subst (λ (o : Option OpenPool). leaves_told o answer command ≡ true) account leaves)
+  copy_leaves : (answer : Reply) → is_copy command answer ≡ true → leaves_told before.account answer command ≡ true
+  copy_leaves answer copy = subst (λ (o : Option OpenPool). leaves_told o answer command ≡ true) (sym account) (or_second (is_refusal answer) (is_in_group command || is_copy command answer) (or_second (is_in_group command) (is_copy command answer) copy))
+
+  -- what is done leaves it told only in the group, or by a copy
+  done_leaves : (answer : Reply) → IsDone answer → leaves_told before.account answer command ≡ true → (is_in_group command || is_copy command answer) ≡ true
+  done_leaves answer done leaves = or_first (is_refusal answer) (is_in_group command || is_copy command answer) (no_refusal answer done) (subst (λ (o : Option OpenPool). leaves_told o answer command ≡ true) account leaves)
 
   -- what is told is held
   held : (p : PoolState) → before.told.shelf ≡ Is p → HoldsState (Unit {0}) old.now.seen x p
@@ -265,7 +290,7 @@ module _ (old new : World) (before : DeviceState) (command : Command) (x y : Ope
       by_last None is =
           let both = known_shown before is known in
           let last = was_shown both.0 in
-          shown_behind sizes false last.root x y p.objects old new lawful last.from sized_old last.newest (in_service x (sym (ap serves account) ∙ both.1)) ends
+          shown_behind sizes false last.root x y p.objects old new lawful last.from sized_old last.newest (devices_there x (sym (ap are_there account) ∙ both.1)) ends
 
   -- the disks show the last root before a commit of what is told
   known_last : is_known before ≡ true → ShowsLast old.now.seen x
@@ -281,7 +306,7 @@ module _ (old new : World) (before : DeviceState) (command : Command) (x y : Ope
     line_told answer p told leaves no_reset no_commit stays = by_last before.behind refl
       where
         by_last : (o : Option Objects) → before.behind ≡ o → Behinds new before command now_told (Some y) answer
-        by_last None is = untold new before command now_told (Some y) answer (not_made (Some y)) (not_opened now_told (Some y)) (λ q told_q some left. no_way (sym (ap (λ (o : Option Objects). is_some o) is) ∙ some)) (λ q told_q known on done serve. no_reset on done) (λ q told_q known acknowledged. no_commit acknowledged)
+        by_last None is = untold new before command now_told (Some y) answer (not_made (Some y)) (not_opened now_told (Some y)) (λ q told_q some left. no_way (sym (ap (λ (o : Option Objects). is_some o) is) ∙ some)) (λ q told_q known on done there. no_reset on done) (λ q told_q known acknowledged. no_commit acknowledged)
         by_last (Some objects) is =
             let c = told_still sizes objects p.objects x old (stood objects is) lawful y new stays in
             told_behind new before command now_told (Some y) answer p c.all (λ none create done. is_open none) (λ none import done. is_open none) told
@@ -291,48 +316,68 @@ module _ (old new : World) (before : DeviceState) (command : Command) (x y : Ope
             ])
             (to_disks sizes c.all y new.now sized_new c.behind) (λ on done. absurd (no_reset on done)) (λ acknowledged. absurd (no_commit acknowledged))
 
+    -- a step that copies
+    copied_told : (answer : Reply) (p : PoolState) → before.told.shelf ≡ Is p → is_copy command answer ≡ true → WritesIntoFree x old new → OpensNoUnit x y → Behinds new before command now_told (Some y) answer
+    copied_told answer p told copy wrote opens = by_last before.behind refl
+      where
+        by_last : (o : Option Objects) → before.behind ≡ o → Behinds new before command now_told (Some y) answer
+        by_last None is =
+            untold new before command now_told (Some y) answer (not_made (Some y)) (not_opened now_told (Some y)) (λ q told_q some left. no_way (sym (ap (λ (o : Option Objects). is_some o) is) ∙ some)) (λ q told_q known on done there. copy_no_reset command answer copy on)
+            (λ q told_q known acknowledged. copy_no_commit command answer copy acknowledged)
+        by_last (Some objects) is =
+            told_behind new before command now_told (Some y) answer p objects (λ none create done. is_open none) (λ none import done. is_open none) told (kept p told (copy_leaves answer copy) is)
+            (to_disks sizes objects y new.now sized_new (line_behind sizes objects x old (stood objects is) y new wrote opens.units opens.root.table opens.root.last opens.root.guid)) (λ on done. absurd (copy_no_reset command answer copy on))
+            (λ acknowledged. absurd (copy_no_commit command answer copy acknowledged))
+
     -- a `sync`, or an `export`, behind which the pool is closed
     commit_told : (pool : Option OpenPool) (answer : Reply) (p : PoolState) → before.told.shelf ≡ Is p → leaves_told before.account answer command ≡ true → (is_resetting command ≡ true → ⊥) → EndsCommitted sizes false x y p.objects old new → (StandsBehind sizes p.objects y new.now → IsBehind pool (disks_of new.now) p.objects) → Behinds new before command now_told pool answer
     commit_told pool answer p told leaves no_reset ends to = by_known (is_known before) refl
       where
         by_known : (b : Bool) → is_known before ≡ b → Behinds new before command now_told pool answer
         by_known true known = told_behind new before command now_told pool answer p p.objects (λ none create done. is_open none) (λ none import done. is_open none) told (committed leaves (p, told, refl)) (to (commit_stands p known ends)) (λ on done. refl) (λ acknowledged. refl)
-        by_known false known = untold new before command now_told pool answer (not_made pool) (not_opened now_told pool) (λ q told_q some left. no_way (sym known ∙ known_some before some)) (λ q told_q knows on done serve. no_reset on) (λ q told_q knows acknowledged. no_way (sym known ∙ knows))
+        by_known false known = untold new before command now_told pool answer (not_made pool) (not_opened now_told pool) (λ q told_q some left. no_way (sym known ∙ known_some before some)) (λ q told_q knows on done there. no_reset on) (λ q told_q knows acknowledged. no_way (sym known ∙ knows))
 
-    pub open_behinds : (r : Result (Option Reply) Fault) → IfOk r (λ answered. IfSome answered IsDone) → OnOk r (IsOpen sizes y) → (is_resetting command ≡ true → OnOk r (KeepsLast old new x y)) → (is_resetting command ≡ true → (p : PoolState) → HoldsState (Unit {0}) old.now.seen x p → OnOk r (HasReset y new.now p.objects)) → (is_in_group command ≡ true → (p : PoolState) → HoldsState (Unit {0}) old.now.seen x p → OnOk r (StaysTold sizes p.objects x y old new))
-        → ((p : PoolState) → HoldsState (Unit {0}) old.now.seen x p → (n : Refusal) → r ≡ Err (No n) → StaysInOneGroup sizes p.objects x y old new)
+    pub open_behinds : (r : Result (Option Reply) Fault) → IfOk r (λ answered. IfSome answered IsDone) → OnOk r (IsOpen sizes y) → IfOk r (λ answered. IfSome answered (λ answer. is_untold_behind command answer ≡ false → KeepsLast old new x y)) → (is_resetting command ≡ true → (p : PoolState) → HoldsState (Unit {0}) old.now.seen x p → OnOk r (HasReset y new.now p.objects)) → (is_in_group command ≡ true → (p : PoolState) → HoldsState (Unit {0}) old.now.seen x p → OnOk r (StaysTold sizes p.objects x y old new))
+        → ((p : PoolState) → HoldsState (Unit {0}) old.now.seen x p → (n : Refusal) → r ≡ Err (No n) → StaysInOneGroup sizes p.objects x y old new) → IfOk r (λ answered. IfSome answered (λ answer. is_copy command answer ≡ true → WritesIntoFree x old new × OpensNoUnit x y))
         → (is_commit command ≡ true → (p : PoolState) → HoldsState (Unit {0}) old.now.seen x p → OnOk r (EndsCommitted sizes false x y p.objects old new))
         → IfOk (answer_of r) (λ answered. IfSome answered (λ answer. Behinds new before command now_told (left_of (is_closing command r) y) answer))
-    open_behinds (Ok None) done ready keeps resets one one_no commits = tt
-    open_behinds (Ok (Some answer)) done ready keeps resets one one_no commits = by_closing (is_closing command (Ok (Some answer))) refl
+    open_behinds (Ok None) done ready keeps resets one one_no copied commits = tt
+    open_behinds (Ok (Some answer)) done ready keeps resets one one_no copied commits = by_closing (is_closing command (Ok (Some answer))) refl
       where
-        untold_off : is_in_group command ≡ false → ((p : PoolState) → before.told.shelf ≡ Is p → is_known before ≡ true → is_resetting command ≡ true → serves (Some y) ≡ true → ⊥) → Behinds new before command now_told (Some y) answer
-        untold_off off none =
-            untold new before command now_told (Some y) answer (not_made (Some y)) (not_opened now_told (Some y)) (λ p told some leaves. no_way (sym off ∙ done_leaves answer done leaves)) (λ p told known on is_done serve. none p told known on serve)
+        untold_off : is_in_group command ≡ false → is_copy command answer ≡ false → ((p : PoolState) → before.told.shelf ≡ Is p → is_known before ≡ true → is_resetting command ≡ true → are_there (Some y) ≡ true → ⊥) → Behinds new before command now_told (Some y) answer
+        untold_off off no_copy none =
+            untold new before command now_told (Some y) answer (not_made (Some y)) (not_opened now_told (Some y)) (λ p told some leaves. no_way (sym (or_neither (is_in_group command) (is_copy command answer) off no_copy) ∙ done_leaves answer done leaves)) (λ p told known on is_done there. none p told known on there)
             (λ p told known acknowledged. no_way (sym off ∙ commits_in_group command (acknowledged_commits answer command acknowledged)))
 
-        -- a line that ended with a reset
-        reset_told : is_in_group command ≡ false → is_resetting command ≡ true → (p : PoolState) → before.told.shelf ≡ Is p → is_known before ≡ true → serves (Some y) ≡ true → Behinds new before command now_told (Some y) answer
-        reset_told off on p told known serve =
-            told_behind new before command now_told (Some y) answer p p.objects (λ none create is_done. is_open none) (λ none import is_done. is_open none) told (changed on (no_refusal answer done) (p, told, refl))
-            (to_disks sizes p.objects y new.now sized_new (reset_behind sizes p.objects y new.now (keeps on (known_last known)) ready sized_new (resets on p (held p told)) (in_service y serve))) (λ also is_done. refl) (λ acknowledged. refl)
+        resets_no_copy : is_resetting command ≡ true → is_copy command answer ≡ false
+        resets_no_copy on = by_copy (is_copy command answer) refl
+          where
+            by_copy : (b : Bool) → is_copy command answer ≡ b → is_copy command answer ≡ false
+            by_copy true copy = absurd (copy_no_reset command answer copy on)
+            by_copy false none = none
 
-        reset_known : is_in_group command ≡ false → is_resetting command ≡ true → (p : PoolState) → before.told.shelf ≡ Is p → (a b : Bool) → is_known before ≡ a → serves (Some y) ≡ b → Behinds new before command now_told (Some y) answer
-        reset_known off on p told true true known serve = reset_told off on p told known serve
-        reset_known off on p told false b known serve = untold_off off (λ q told_q knows also serves_all. no_way (sym known ∙ knows))
-        reset_known off on p told true false known out = untold_off off (λ q told_q knows also serves_all. no_way (sym out ∙ serves_all))
+        -- a line that ended with a reset
+        reset_told : is_in_group command ≡ false → is_resetting command ≡ true → (p : PoolState) → before.told.shelf ≡ Is p → is_known before ≡ true → are_there (Some y) ≡ true → Behinds new before command now_told (Some y) answer
+        reset_told off on p told known there =
+            told_behind new before command now_told (Some y) answer p p.objects (λ none create is_done. is_open none) (λ none import is_done. is_open none) told (changed on (no_refusal answer done) (p, told, refl))
+            (to_disks sizes p.objects y new.now sized_new (reset_behind sizes p.objects y new.now (keeps (resets_told command answer on) (known_last known)) ready sized_new (resets on p (held p told)) (devices_there y there))) (λ also is_done. refl) (λ acknowledged. refl)
+
+        reset_known : is_in_group command ≡ false → is_resetting command ≡ true → (p : PoolState) → before.told.shelf ≡ Is p → (a b : Bool) → is_known before ≡ a → are_there (Some y) ≡ b → Behinds new before command now_told (Some y) answer
+        reset_known off on p told true true known there = reset_told off on p told known there
+        reset_known off on p told false b known there = untold_off off (resets_no_copy on) (λ q told_q knows also there_all. no_way (sym known ∙ knows))
+        reset_known off on p told true false known out = untold_off off (resets_no_copy on) (λ q told_q knows also there_all. no_way (sym out ∙ there_all))
 
         reset_part : is_in_group command ≡ false → is_resetting command ≡ true → (s : ShelfPart) → before.told.shelf ≡ s → Behinds new before command now_told (Some y) answer
-        reset_part off on (Is p) told = reset_known off on p told (is_known before) (serves (Some y)) refl refl
-        reset_part off on Empty told = untold_off off (λ p is known also serve. let both = sym told ∙ is in absurd cc)
-        reset_part off on (Refused r) told = untold_off off (λ p is known also serve. let both = sym told ∙ is in absurd cc)
+        reset_part off on (Is p) told = reset_known off on p told (is_known before) (are_there (Some y)) refl refl
+        reset_part off on Empty told = untold_off off (resets_no_copy on) (λ p is known also there. let both = sym told ∙ is in absurd cc)
+        reset_part off on (Refused r) told = untold_off off (resets_no_copy on) (λ p is known also there. let both = sym told ∙ is in absurd cc)
 
-        by_reset : (b : Bool) → is_resetting command ≡ b → is_in_group command ≡ false → Behinds new before command now_told (Some y) answer
-        by_reset true on off = reset_part off on before.told.shelf refl
-        by_reset false not_on off = untold_off off (λ p told known on serve. no_way (sym not_on ∙ on))
+        by_reset : (b : Bool) → is_resetting command ≡ b → is_in_group command ≡ false → is_copy command answer ≡ false → Behinds new before command now_told (Some y) answer
+        by_reset true on off no_copy = reset_part off on before.told.shelf refl
+        by_reset false not_on off no_copy = untold_off off no_copy (λ p told known on there. no_way (sym not_on ∙ on))
 
         untold_part : (pool : Option OpenPool) → ((p : PoolState) → before.told.shelf ≡ Is p → ⊥) → Behinds new before command now_told pool answer
-        untold_part pool none = untold new before command now_told pool answer (not_made pool) (not_opened now_told pool) (λ p told some leaves. none p told) (λ p told known on is_done serve. none p told) (λ p told known acknowledged. none p told)
+        untold_part pool none = untold new before command now_told pool answer (not_made pool) (not_opened now_told pool) (λ p told some leaves. none p told) (λ p told known on is_done there. none p told) (λ p told known acknowledged. none p told)
 
         by_commit : (b : Bool) → is_commit command ≡ b → is_in_group command ≡ true → (p : PoolState) → before.told.shelf ≡ Is p → Behinds new before command now_told (Some y) answer
         by_commit true ends group p told = commit_told (Some y) answer p told (group_leaves answer group) (λ on. not_resetting command on group) (commits ends p (held p told)) (to_disks sizes p.objects y new.now sized_new)
@@ -343,9 +388,18 @@ module _ (old new : World) (before : DeviceState) (command : Command) (x y : Ope
         by_part Empty told group = untold_part (Some y) (λ p is. let both = sym told ∙ is in absurd cc)
         by_part (Refused r) told group = untold_part (Some y) (λ p is. let both = sym told ∙ is in absurd cc)
 
+        copy_part : (s : ShelfPart) → before.told.shelf ≡ s → is_copy command answer ≡ true → Behinds new before command now_told (Some y) answer
+        copy_part (Is p) told copy = let c = copied copy in copied_told answer p told copy c.0 c.1
+        copy_part Empty told copy = untold_part (Some y) (λ p is. let both = sym told ∙ is in absurd cc)
+        copy_part (Refused r) told copy = untold_part (Some y) (λ p is. let both = sym told ∙ is in absurd cc)
+
+        by_copy : (b : Bool) → is_copy command answer ≡ b → is_in_group command ≡ false → Behinds new before command now_told (Some y) answer
+        by_copy true copy off = copy_part before.told.shelf refl copy
+        by_copy false no_copy off = by_reset (is_resetting command) refl off no_copy
+
         by_group : (b : Bool) → is_in_group command ≡ b → Behinds new before command now_told (Some y) answer
         by_group true group = by_part before.told.shelf refl group
-        by_group false off = by_reset (is_resetting command) refl off
+        by_group false off = by_copy (is_copy command answer) refl off
 
         by_export : command ≡ cmd.Export → (s : ShelfPart) → before.told.shelf ≡ s → Behinds new before command now_told None answer
         by_export exports (Is p) told =
@@ -358,16 +412,16 @@ module _ (old new : World) (before : DeviceState) (command : Command) (x y : Ope
         by_closing : (b : Bool) → is_closing command (Ok (Some answer)) ≡ b → Behinds new before command now_told (left_of b y) answer
         by_closing true is = by_export (closing_export command answer is) before.told.shelf refl
         by_closing false is = by_group (is_in_group command) refl
-    open_behinds (Err (No n)) done ready keeps resets one one_no commits = by_part before.told.shelf refl
+    open_behinds (Err (No n)) done ready keeps resets one one_no copied commits = by_part before.told.shelf refl
       where
         untold_no : ((p : PoolState) → before.told.shelf ≡ Is p → ⊥) → Behinds new before command now_told (Some y) (reply.No n)
-        untold_no none = untold new before command now_told (Some y) (reply.No n) (not_made (Some y)) (not_opened now_told (Some y)) (λ p told some leaves. none p told) (λ p told known on is_done serve. no_way (sym is_done)) (λ p told known acknowledged. no_way acknowledged)
+        untold_no none = untold new before command now_told (Some y) (reply.No n) (not_made (Some y)) (not_opened now_told (Some y)) (λ p told some leaves. none p told) (λ p told known on is_done there. no_way (sym is_done)) (λ p told known acknowledged. no_way acknowledged)
 
         by_part : (s : ShelfPart) → before.told.shelf ≡ s → Behinds new before command now_told (Some y) (reply.No n)
         by_part (Is p) told = line_told (reply.No n) p told (refused_leaves n) (λ on is_done. no_way (sym is_done)) (λ acknowledged. no_way acknowledged) (inl (one_no p (held p told) n refl))
         by_part Empty told = untold_no (λ p is. let both = sym told ∙ is in absurd cc)
         by_part (Refused r) told = untold_no (λ p is. let both = sym told ∙ is in absurd cc)
-    open_behinds (Err (Stops s)) done ready keeps resets one one_no commits = tt
+    open_behinds (Err (Stops s)) done ready keeps resets one one_no copied commits = tt
 
   -- ---- the moments of a line
 
@@ -378,7 +432,7 @@ module _ (old new : World) (before : DeviceState) (command : Command) (x y : Ope
   at_table s h = subst (λ (o : Option OpenPool). IfSome o (λ pool. is_table command ≡ true → s.seen ≡ old.now.seen)) (sym account) h
 
   pub open_within : (is_table command ≡ true → IsStill old new) → WorksOnDisks old new → (is_in_group command ≡ true → (p : PoolState) → HoldsState (Unit {0}) old.now.seen x p → WritesInOneGroup sizes p.objects x old new)
-      → (resets_once command ≡ true → (p : PoolState) → HoldsState (Unit {0}) old.now.seen x p → WritesReset sizes p.objects x old new) → Throughout Within old new
+      → (resets_in_place command ≡ true → (p : PoolState) → HoldsState (Unit {0}) old.now.seen x p → WritesReset sizes p.objects x old new) → Throughout Within old new
   open_within nothing_done works writes resets = by_table (is_table command) refl
     where
       -- what was committed shows all the time
@@ -404,13 +458,13 @@ module _ (old new : World) (before : DeviceState) (command : Command) (x y : Ope
       by_part (Some objects) Empty is told off shown = nothing off (λ all q also told_q on. let both = sym told ∙ told_q in absurd cc)
       by_part (Some objects) (Refused r) is told off shown = nothing off (λ all q also told_q on. let both = sym told ∙ told_q in absurd cc)
 
-      by_reset : (b : Bool) → resets_once command ≡ b → is_in_group command ≡ false → is_table command ≡ false → Throughout Within old new
+      by_reset : (b : Bool) → resets_in_place command ≡ b → is_in_group command ≡ false → is_table command ≡ false → Throughout Within old new
       by_reset true once out off = by_part before.behind before.told.shelf refl refl off (λ objects is p told. reset_shows sizes objects p.objects x old (stood objects is) lawful new (resets once p (held p told)))
-      by_reset false none out off = nothing off (λ objects q is told may. no_way (sym none ∙ or_first (is_in_group command) (resets_once command) out may))
+      by_reset false none out off = nothing off (λ objects q is told may. no_way (sym none ∙ or_first (is_in_group command) (resets_in_place command) out may))
 
       by_group : (b : Bool) → is_in_group command ≡ b → is_table command ≡ false → Throughout Within old new
       by_group true group off = by_part before.behind before.told.shelf refl refl off (λ objects is p told. writes_show sizes objects p.objects x old (stood objects is) lawful new (writes group p (held p told)))
-      by_group false out off = by_reset (resets_once command) refl out off
+      by_group false out off = by_reset (resets_in_place command) refl out off
 
       by_table : (b : Bool) → is_table command ≡ b → Throughout Within old new
       by_table true on =
@@ -425,12 +479,10 @@ module _ (old new : World) (before : DeviceState) (command : Command) (x y : Ope
 
 -- ---- where none is open
 
-no_import : (command : Command) → is_create command ≡ true → command ≡ cmd.Import → ⊥
-no_import command create import = no_way (subst (λ (c : Command). is_create c ≡ true) import create)
-
-which_import : (command : Command) → (command ≡ cmd.Import) ⊎ (command ≡ cmd.Import → ⊥)
-which_import cmd.Import = inl refl
-which_import command = inr (λ is. cc)
+no_import : (command : Command) → is_create command ≡ true → is_import command ≡ true → ⊥
+no_import (cmd.Create name guid devs) create import = no_way import
+no_import (cmd.CreateOld name guid devs) create import = no_way import
+no_import command create import = no_way create
 
 module _ (old new : World) (before : DeviceState) (command : Command) (account : before.account ≡ None) (was : IfSome before.behind (IsBehind None (disks_of old.now))) where
   closed_at : (objects : Objects) → before.behind ≡ Some objects → IsClosedBehind (disks_of old.now) objects
@@ -448,75 +500,76 @@ module _ (old new : World) (before : DeviceState) (command : Command) (account :
 
   module _ (now_told : ShelfPart) where
     module _ (opens : is_opener command ≡ true) where
-      -- nothing is told behind a line that makes no pool of devices in service, and imports none
-      closed_untold : (pool : Option OpenPool) → (is_create command ≡ true → serves pool ≡ true → ⊥) → (command ≡ cmd.Import → serves pool ≡ true → (p : PoolState) → now_told ≡ Is p → ⊥) → Behinds new before command now_told pool reply.Done
+      -- nothing is told behind a line that makes no pool, and opens none of which no device is gone
+      closed_untold : (pool : Option OpenPool) → (is_create command ≡ true → are_there pool ≡ true → ⊥) → (is_import command ≡ true → are_there pool ≡ true → (p : PoolState) → now_told ≡ Is p → ⊥) → Behinds new before command now_told pool reply.Done
       closed_untold pool makes imports =
-          untold new before command now_told pool reply.Done (λ none create serve. makes create serve) (λ none import serve p told. imports import serve p told) (λ p told some leaves. none_left leaves) (λ p told known on done serve. opens_no_reset command opens on) (λ p told known acknowledged. opens_no_commit command opens acknowledged)
+          untold new before command now_told pool reply.Done (λ none create there. makes create there) (λ none import there p told. imports import there p told) (λ p told some leaves. none_left leaves) (λ p told known on done there. opens_no_reset command opens on) (λ p told known acknowledged. opens_no_commit command opens acknowledged)
 
-      was_made : (sizes : List ℕ) (y : OpenPool) → is_create command ≡ true → serves (Some y) ≡ true → ComesCommitted sizes y map.empty new → ShowsLast new.now.seen y → map length new.now.seen ≡ sizes → Behinds new before command now_told (Some y) reply.Done
-      was_made sizes y create serve comes shows sized = record {
+      was_made : (sizes : List ℕ) (y : OpenPool) → is_create command ≡ true → are_there (Some y) ≡ true → ComesCommitted sizes y map.empty new → ShowsLast new.now.seen y → map length new.now.seen ≡ sizes → Behinds new before command now_told (Some y) reply.Done
+      was_made sizes y create there comes shows sized = record {
         behind = Some map.empty;
-        stands = to_disks sizes map.empty y new.now sized (made_behind sizes y map.empty new comes shows sized (in_service y serve));
+        stands = to_disks sizes map.empty y new.now sized (made_behind sizes y map.empty new comes shows sized (devices_there y there));
         turn = record {
           from = λ objects is. made create refl (let same : map.empty ≡ objects = cc in sym same);
-          makes = λ none also done serves_all. refl;
-          opens = λ none import done serves_all p told. absurd (no_import command create import);
+          makes = λ none also done there_all. refl;
+          opens = λ none import done there_all p told. absurd (no_import command create import);
           keeps = λ p told some leaves. absurd (none_left leaves);
-          resets = λ p told known on done serves_all. absurd (opens_no_reset command opens on);
+          resets = λ p told known on done there_all. absurd (opens_no_reset command opens on);
           commits = λ p told known acknowledged. absurd (opens_no_commit command opens acknowledged);
         };
       }
 
-      -- a pool that was imported is as it was found
-      was_found : (sizes : List ℕ) (tells : Type 0) → tells → (y : OpenPool) → command ≡ cmd.Import → serves (Some y) ≡ true → IsJustOpened sizes tells new.now y → map length new.now.seen ≡ sizes → (p : PoolState) → now_told ≡ Is p → HoldsState (Unit {0}) new.now.seen y p
+      -- a pool that was opened is as it was found
+      was_found : (sizes : List ℕ) (y : OpenPool) → is_import command ≡ true → are_there (Some y) ≡ true → IsOpen sizes y → ShowsLast new.now.seen y → IsLeftCommitted new.now y → map length new.now.seen ≡ sizes → (p : PoolState) → now_told ≡ Is p → HoldsState (Unit {0}) new.now.seen y p
           → Behinds new before command now_told (Some y) reply.Done
-      was_found sizes tells is_told y import serve opened sized p told held = record {
+      was_found sizes y import there ready shows leaves sized p told held = record {
         behind = Some p.objects;
-        stands = to_disks sizes p.objects y new.now sized (opened_behind sizes tells is_told p.objects y new.now opened held.objects (in_service y serve));
+        stands = (let on = devices_there y there in to_disks sizes p.objects y new.now sized (left_behind sizes p.objects y new.now ready sized shows (leaves on) held.objects on));
         turn = record {
           from = λ objects is. found import refl (p, told, let same : p.objects ≡ objects = cc in same);
-          makes = λ none create done serves_all. absurd (no_import command create import);
-          opens = λ none also done serves_all q told_q. let same : p ≡ q = (let both = sym told ∙ told_q in cc) in ap (λ (r : PoolState). Some r.objects) same;
-          keeps = λ q told_q some leaves. absurd (none_left leaves);
-          resets = λ q told_q known on done serves_all. absurd (opens_no_reset command opens on);
+          makes = λ none create done there_all. absurd (no_import command create import);
+          opens = λ none also done there_all q told_q. let same : p ≡ q = (let both = sym told ∙ told_q in cc) in ap (λ (r : PoolState). Some r.objects) same;
+          keeps = λ q told_q some leaves_it. absurd (none_left leaves_it);
+          resets = λ q told_q known on done there_all. absurd (opens_no_reset command opens on);
           commits = λ q told_q known acknowledged. absurd (opens_no_commit command opens acknowledged);
         };
       }
 
-      module _ (sizes : List ℕ) (tells : Type 0) (is_told : tells) (sized : map length new.now.seen ≡ sizes) where
+      module _ (sizes : List ℕ) (sized : map length new.now.seen ≡ sizes) where
         -- a pool that was made
-        by_serve : (y : OpenPool) (b : Bool) → serves (Some y) ≡ b → is_create command ≡ true → ComesCommitted sizes y map.empty new → ShowsLast new.now.seen y → Behinds new before command now_told (Some y) reply.Done
-        by_serve y true serve create comes shows = was_made sizes y create serve comes shows sized
-        by_serve y false out create comes shows = closed_untold (Some y) (λ also serve. no_way (sym out ∙ serve)) (λ import serve p told. no_way (sym out ∙ serve))
+        by_there : (y : OpenPool) (b : Bool) → are_there (Some y) ≡ b → is_create command ≡ true → ComesCommitted sizes y map.empty new → ShowsLast new.now.seen y → Behinds new before command now_told (Some y) reply.Done
+        by_there y true there create comes shows = was_made sizes y create there comes shows sized
+        by_there y false out create comes shows = closed_untold (Some y) (λ also there. no_way (sym out ∙ there)) (λ import there p told. no_way (sym out ∙ there))
 
-        -- one that was imported
-        by_part : (y : OpenPool) (s : ShelfPart) → now_told ≡ s → IsPartOf new.now.seen y s → command ≡ cmd.Import → serves (Some y) ≡ true → IsJustOpened sizes tells new.now y → Behinds new before command now_told (Some y) reply.Done
-        by_part y (Is p) told held import serve opened = was_found sizes tells is_told y import serve opened sized p told held
-        by_part y Empty told held import serve opened = closed_untold (Some y) (λ create also. no_import command create import) (λ also serve_all p is. let both = sym told ∙ is in cc)
-        by_part y (Refused r) told held import serve opened = absurd held
+        -- one that was opened
+        module _ (y : OpenPool) (ready : IsOpen sizes y) (shows : ShowsLast new.now.seen y) where
+          by_part : (s : ShelfPart) → now_told ≡ s → IsPartOf new.now.seen y s → is_import command ≡ true → are_there (Some y) ≡ true → IsLeftCommitted new.now y → Behinds new before command now_told (Some y) reply.Done
+          by_part (Is p) told held import there leaves = was_found sizes y import there ready shows leaves sized p told held
+          by_part Empty told held import there leaves = closed_untold (Some y) (λ create also. no_import command create import) (λ also there_all p is. let both = sym told ∙ is in cc)
+          by_part (Refused r) told held import there leaves = absurd held
 
-        by_all : (y : OpenPool) (b : Bool) → serves (Some y) ≡ b → IsPartOf new.now.seen y now_told → command ≡ cmd.Import → IsJustOpened sizes tells new.now y → Behinds new before command now_told (Some y) reply.Done
-        by_all y true serve held import opened = by_part y now_told refl held import serve opened
-        by_all y false out held import opened = closed_untold (Some y) (λ create serve. no_way (sym out ∙ serve)) (λ also serve p told. no_way (sym out ∙ serve))
+          by_all : (b : Bool) → are_there (Some y) ≡ b → IsPartOf new.now.seen y now_told → is_import command ≡ true → IsLeftCommitted new.now y → Behinds new before command now_told (Some y) reply.Done
+          by_all true there held import leaves = by_part now_told refl held import there leaves
+          by_all false out held import leaves = closed_untold (Some y) (λ create there. no_way (sym out ∙ there)) (λ also there p told. no_way (sym out ∙ there))
 
-        -- by what the line is
-        by_import : (y : OpenPool) → is_create command ≡ false → (command ≡ cmd.Import) ⊎ (command ≡ cmd.Import → ⊥) → (command ≡ cmd.Import → IsJustOpened sizes tells new.now y) → IsPartOf new.now.seen y now_told → Behinds new before command now_told (Some y) reply.Done
-        by_import y other (inl import) opened held = by_all y (serves (Some y)) refl held import (opened import)
-        by_import y other (inr not_import) opened held = closed_untold (Some y) (λ create serve. no_way (sym other ∙ create)) (λ import serve p told. not_import import)
+          -- by what the line is
+          by_import : (b : Bool) → is_import command ≡ b → is_create command ≡ false → (is_import command ≡ true → IsLeftCommitted new.now y) → IsPartOf new.now.seen y now_told → Behinds new before command now_told (Some y) reply.Done
+          by_import true import other leaves held = by_all (are_there (Some y)) refl held import (leaves import)
+          by_import false not_import other leaves held = closed_untold (Some y) (λ create there. no_way (sym other ∙ create)) (λ import there p told. no_way (sym not_import ∙ import))
 
-        by_create : (y : OpenPool) (b : Bool) → is_create command ≡ b → (is_create command ≡ true → ComesCommitted sizes y map.empty new) → (command ≡ cmd.Import → IsJustOpened sizes tells new.now y) → ShowsLast new.now.seen y → IsPartOf new.now.seen y now_told → Behinds new before command now_told (Some y) reply.Done
-        by_create y true create comes opened shows held = by_serve y (serves (Some y)) refl create (comes create) shows
-        by_create y false other comes opened shows held = by_import y other (which_import command) opened held
+          by_create : (b : Bool) → is_create command ≡ b → (is_create command ≡ true → ComesCommitted sizes y map.empty new) → (is_import command ≡ true → IsLeftCommitted new.now y) → IsPartOf new.now.seen y now_told → Behinds new before command now_told (Some y) reply.Done
+          by_create true create comes leaves held = by_there y (are_there (Some y)) refl create (comes create) shows
+          by_create false other comes leaves held = by_import (is_import command) refl other leaves held
 
-        by_pool : (o : Option OpenPool) → (is_create command ≡ true → IfSome o (λ y. ComesCommitted sizes y map.empty new)) → (command ≡ cmd.Import → IfSome o (IsJustOpened sizes tells new.now)) → IfSome o (ShowsLast new.now.seen) → IfSome o (λ y. IsPartOf new.now.seen y now_told)
+        by_pool : (o : Option OpenPool) → IfSome o (IsOpen sizes) → (is_create command ≡ true → IfSome o (λ y. ComesCommitted sizes y map.empty new)) → (is_import command ≡ true → IfSome o (IsLeftCommitted new.now)) → IfSome o (ShowsLast new.now.seen) → IfSome o (λ y. IsPartOf new.now.seen y now_told)
             → Behinds new before command now_told o reply.Done
-        by_pool None comes opened shows held = closed_untold None (λ create serve. no_way serve) (λ import serve p told. no_way serve)
-        by_pool (Some y) comes opened shows held = by_create y (is_create command) refl comes opened shows held
+        by_pool None ready comes leaves shows held = closed_untold None (λ create there. no_way there) (λ import there p told. no_way there)
+        by_pool (Some y) ready comes leaves shows held = by_create y ready shows (is_create command) refl comes leaves held
 
     -- a refusal that writes nothing leaves what is told
     module _ (n : Refusal) (flushes : is_making command ≡ false → FlushesOnly old new) where
       untold_no : ((p : PoolState) → before.told.shelf ≡ Is p → is_some before.behind ≡ true → leaves_told before.account (reply.No n) command ≡ true → ⊥) → Behinds new before command now_told None (reply.No n)
-      untold_no none = untold new before command now_told None (reply.No n) (λ also create serve. no_way serve) (λ also import serve p told. no_way serve) none (λ p told known on done serve. no_way serve) (λ p told known acknowledged. no_way acknowledged)
+      untold_no none = untold new before command now_told None (reply.No n) (λ also create there. no_way there) (λ also import there p told. no_way there) none (λ p told known on done there. no_way there) (λ p told known acknowledged. no_way acknowledged)
 
       refused_part : (objects : Objects) → before.behind ≡ Some objects → is_making command ≡ false → (s : ShelfPart) → before.told.shelf ≡ s → Behinds new before command now_told None (reply.No n)
       refused_part objects is off (Is p) told =
@@ -533,14 +586,14 @@ module _ (old new : World) (before : DeviceState) (command : Command) (account :
       refused_making true making = untold_no (λ p told some leaves. no_way (sym (ap not making) ∙ left_closed n leaves))
       refused_making false off = refused_last before.behind refl off
 
-    pub closed_behinds : (sizes : List ℕ) (tells : Type 0) → tells → (pool : Option OpenPool) → (is_create command ≡ true → IfSome pool (λ y. ComesCommitted sizes y map.empty new)) → (command ≡ cmd.Import → IfSome pool (IsJustOpened sizes tells new.now)) → IfSome pool (ShowsLast new.now.seen) → map length new.now.seen ≡ sizes
+    pub closed_behinds : (sizes : List ℕ) (pool : Option OpenPool) → IfSome pool (IsOpen sizes) → (is_create command ≡ true → IfSome pool (λ y. ComesCommitted sizes y map.empty new)) → (is_import command ≡ true → IfSome pool (IsLeftCommitted new.now)) → IfSome pool (ShowsLast new.now.seen) → map length new.now.seen ≡ sizes
         → IfSome pool (λ y. IsPartOf new.now.seen y now_told) → (is_making command ≡ false → FlushesOnly old new) → (r : Result (Option Reply) Fault) → IfOk r (λ answered. IfSome answered (λ answer. IsTurn false command answer (is_some pool))) → IfOk r (λ answered. IfSome answered (λ answer. answer ≡ reply.Done)) → OnErr r (pool ≡ None)
         → IfOk (answer_of r) (λ answered. IfSome answered (λ answer. Behinds new before command now_told pool answer))
-    closed_behinds sizes tells is_told pool comes opened shows sized held flushes (Ok None) turn done closed = tt
-    closed_behinds sizes tells is_told pool comes opened shows sized held flushes (Ok (Some answer)) turn done closed =
-        subst (λ (a : Reply). Behinds new before command now_told pool a) (sym done) (by_pool (subst (IsClosedAnswer command) done turn.0) sizes tells is_told sized pool comes opened shows held)
-    closed_behinds sizes tells is_told pool comes opened shows sized held flushes (Err (No n)) turn done closed = subst (λ (o : Option OpenPool). Behinds new before command now_told o (reply.No n)) (sym closed) (refused_making n flushes (is_making command) refl)
-    closed_behinds sizes tells is_told pool comes opened shows sized held flushes (Err (Stops s)) turn done closed = tt
+    closed_behinds sizes pool ready comes leaves shows sized held flushes (Ok None) turn done closed = tt
+    closed_behinds sizes pool ready comes leaves shows sized held flushes (Ok (Some answer)) turn done closed =
+        subst (λ (a : Reply). Behinds new before command now_told pool a) (sym done) (by_pool (subst (IsClosedAnswer command) done turn.0) sizes sized pool ready comes leaves shows held)
+    closed_behinds sizes pool ready comes leaves shows sized held flushes (Err (No n)) turn done closed = subst (λ (o : Option OpenPool). Behinds new before command now_told o (reply.No n)) (sym closed) (refused_making n flushes (is_making command) refl)
+    closed_behinds sizes pool ready comes leaves shows sized held flushes (Err (Stops s)) turn done closed = tt
 
   -- ---- the moments of a line
 

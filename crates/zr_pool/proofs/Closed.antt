@@ -2,7 +2,7 @@
 use Rattle.std.proofs.Common.{◌≡◌, ℕ, Bool, List, [], length, map, refl, sym, ◌∙◌, ap, subst}
 use Rattle.zr_command.specs.Meanings.{Disks, disks_of}
 use Rattle.zr_last.proofs.Ending.{commit_rests}
-use Rattle.zr_last.specs.Ends.{EndsCommitted}
+use Rattle.zr_sync.specs.Ends.{EndsCommitted}
 use Rattle.zr_model.specs.Objects.{Objects}
 use Rattle.zr_open.specs.Flushed.{FlushesOnly}
 use Rattle.zr_shelf.proofs.Doings.{kept_throughout}

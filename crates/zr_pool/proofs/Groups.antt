@@ -1,12 +1,11 @@
 -- Which lines work in the group that is open, and which end it.
 use Rattle.std.proofs.Common.{◌≡◌, ◌⊎◌, inl, inr, List, length, take, ℕ, ◌==◌, Bool, true, false, refl, sym, subst, ap}
 use Rattle.std.specs.Prelude.{MatchBool, if◌then◌else◌}
-use Rattle.zr_base.specs.declared.space.CkptPart.{CkptPart}
 use Rattle.zr_base.specs.declared.space.CkptPart.TheVariants.{Clear}
 use Rattle.zr_base.specs.declared.space.Extent.{Extent}
 use Rattle.zr_last.specs.Last.{KeepsRoot}
 use Rattle.zr_lines.proofs.Stopping.{in_group_itself}
-use Rattle.zr_last.specs.Ends.{EndsCommitted}
+use Rattle.zr_sync.specs.Ends.{EndsCommitted}
 use Rattle.zr_lines.specs.Stops.{OpensNoUnit, StaysInGroup, StaysInOneGroup}
 use Rattle.zr_model.specs.Objects.{Objects}
 use Rattle.zr_rules.specs.Roles.{Role, discarded}
@@ -20,12 +19,13 @@ use Rattle.zr_script.specs.declared.reply.Reply.TheVariants as reply
 use Rattle.zr_shelf.proofs.Doings.{writes_still}
 use Rattle.zr_shelf.proofs.Runs.{still}
 use Rattle.zr_shelf.specs.Moments.{IsStill, World}
+use Rattle.zr_sync.proofs.SavedRoots.{ckpt_role}
 use Rattle.zr_sync.specs.declared.open.OpenPool.{OpenPool}
 use Rattle.zr_vdev.proofs.Follows.{others_itself}
 use Rattle.zr_vdev.specs.Stores.{IsWriteInto, KeepsOthers, is_open_role}
 use Rattle.zr_vdev.specs.declared.kind.Kind.TheVariants.{Block}
-use Rattle.zr_pool.specs.Behind.{is_acknowledged, is_commit, is_in_group, is_making, is_resetting, may_stop, resets_once}
-use Rattle.zr_pool.specs.Plain.{is_of_removal}
+use Rattle.zr_pool.specs.Behind.{is_acknowledged, is_commit, is_copy, is_in_group, is_making, is_resetting, may_stop, resets_in_place}
+use Rattle.zr_pool.specs.Plain.{is_of_removal, is_untold_behind}
 use Rattle.zr_pool.specs.Turns.{is_on_objects, is_on_pool, is_opener, is_table}
 
 pub no_way : {P : Type 0} → false ≡ true → P
@@ -75,48 +75,65 @@ not_resetting (cmd.Add dev) on group = no_way group
 not_resetting cmd.Checkpoint on group = no_way group
 not_resetting cmd.Discard on group = no_way group
 not_resetting cmd.Upgrade on group = no_way group
+not_resetting (cmd.Remove dev) on group = no_way group
 not_resetting command on group = no_way on
 
-pub resets_on_pool : (command : Command) → is_resetting command ≡ true → is_on_pool command ≡ true
-resets_on_pool (cmd.Add dev) on = refl
-resets_on_pool cmd.Checkpoint on = refl
-resets_on_pool cmd.Discard on = refl
-resets_on_pool cmd.Upgrade on = refl
-resets_on_pool command on = no_way on
+pub resets_told : (command : Command) (answer : Reply) → is_resetting command ≡ true → is_untold_behind command answer ≡ false
+resets_told (cmd.Add dev) answer on = refl
+resets_told cmd.Checkpoint answer on = refl
+resets_told cmd.Discard answer on = refl
+resets_told cmd.Upgrade answer on = refl
+resets_told (cmd.Remove dev) answer on = refl
+resets_told command answer on = no_way on
 
-pub resets_no_removal : (command : Command) → is_resetting command ≡ true → is_of_removal command ≡ false
-resets_no_removal (cmd.Add dev) on = refl
-resets_no_removal cmd.Checkpoint on = refl
-resets_no_removal cmd.Discard on = refl
-resets_no_removal cmd.Upgrade on = refl
-resets_no_removal command on = no_way on
+pub in_place_on_pool : (command : Command) → resets_in_place command ≡ true → is_on_pool command ≡ true
+in_place_on_pool cmd.Checkpoint on = refl
+in_place_on_pool cmd.Discard on = refl
+in_place_on_pool cmd.Upgrade on = refl
+in_place_on_pool command on = no_way on
 
-pub once_resets : (command : Command) → resets_once command ≡ true → is_resetting command ≡ true
-once_resets cmd.Discard on = refl
-once_resets cmd.Upgrade on = refl
-once_resets command on = no_way on
+pub in_place_resets : (command : Command) → resets_in_place command ≡ true → is_resetting command ≡ true
+in_place_resets cmd.Checkpoint on = refl
+in_place_resets cmd.Discard on = refl
+in_place_resets cmd.Upgrade on = refl
+in_place_resets command on = no_way on
 
 -- it is none of these
-pub resets_elsewhere : (command : Command) → is_resetting command ≡ true → (is_on_objects command ≡ true) ⊎ ((is_table command ≡ true) ⊎ (is_of_removal command ≡ true)) → ⊥
+pub resets_elsewhere : (command : Command) → is_resetting command ≡ true → (is_on_objects command ≡ true) ⊎ (is_table command ≡ true) → ⊥
 resets_elsewhere (cmd.Add dev) on (inl is) = no_way is
-resets_elsewhere (cmd.Add dev) on (inr (inl is)) = no_way is
-resets_elsewhere (cmd.Add dev) on (inr (inr is)) = no_way is
+resets_elsewhere (cmd.Add dev) on (inr is) = no_way is
 resets_elsewhere cmd.Checkpoint on (inl is) = no_way is
-resets_elsewhere cmd.Checkpoint on (inr (inl is)) = no_way is
-resets_elsewhere cmd.Checkpoint on (inr (inr is)) = no_way is
+resets_elsewhere cmd.Checkpoint on (inr is) = no_way is
 resets_elsewhere cmd.Discard on (inl is) = no_way is
-resets_elsewhere cmd.Discard on (inr (inl is)) = no_way is
-resets_elsewhere cmd.Discard on (inr (inr is)) = no_way is
+resets_elsewhere cmd.Discard on (inr is) = no_way is
 resets_elsewhere cmd.Upgrade on (inl is) = no_way is
-resets_elsewhere cmd.Upgrade on (inr (inl is)) = no_way is
-resets_elsewhere cmd.Upgrade on (inr (inr is)) = no_way is
+resets_elsewhere cmd.Upgrade on (inr is) = no_way is
+resets_elsewhere (cmd.Remove dev) on (inl is) = no_way is
+resets_elsewhere (cmd.Remove dev) on (inr is) = no_way is
 resets_elsewhere command on which = no_way on
+
+-- nor is one that leaves the devices as they are a line of a removal
+pub in_place_elsewhere : (command : Command) → resets_in_place command ≡ true → is_of_removal command ≡ true → ⊥
+in_place_elsewhere cmd.Checkpoint on is = no_way is
+in_place_elsewhere cmd.Discard on is = no_way is
+in_place_elsewhere cmd.Upgrade on is = no_way is
+in_place_elsewhere command on is = no_way on
+
+-- each of them is on a whole pool, or of a removal
+pub resets_somewhere : (command : Command) → is_resetting command ≡ true → is_on_pool command ≡ false → is_of_removal command ≡ false → ⊥
+resets_somewhere (cmd.Add dev) on pool removal = no_way (sym pool)
+resets_somewhere cmd.Checkpoint on pool removal = no_way (sym pool)
+resets_somewhere cmd.Discard on pool removal = no_way (sym pool)
+resets_somewhere cmd.Upgrade on pool removal = no_way (sym pool)
+resets_somewhere (cmd.Remove dev) on pool removal = no_way (sym removal)
+resets_somewhere command on pool removal = no_way on
 
 pub opens_no_reset : (command : Command) → is_opener command ≡ true → is_resetting command ≡ true → ⊥
 opens_no_reset (cmd.Add dev) opens on = no_way opens
 opens_no_reset cmd.Checkpoint opens on = no_way opens
 opens_no_reset cmd.Discard opens on = no_way opens
 opens_no_reset cmd.Upgrade opens on = no_way opens
+opens_no_reset (cmd.Remove dev) opens on = no_way opens
 opens_no_reset command opens on = no_way on
 
 pub acknowledged_commits : (answer : Reply) (command : Command) → is_acknowledged answer command ≡ true → is_commit command ≡ true
@@ -168,10 +185,6 @@ open_before false r is = is
 open_before true Kept is = no_way is
 open_before true r is = is
 
-ckpt_role : (s : Space) (c : CkptPart) (d u : ℕ) → role_at (with_ckpt s c) d u ≡ role_at s d u
-unfolding role_at
-ckpt_role s c d u = refl
-
 discards_open : (old new : Space) (es : List (ℕ × Extent)) (b : Bool) → MatchBool b (new ≡ with_ckpt old Clear) (Discards old new es) → (d u : ℕ) → is_open_role (role_at new d u) ≡ true → is_open_role (role_at old d u) ≡ true
 discards_open old new es true same d u is = subst (λ (r : Role). is_open_role r ≡ true) (ckpt_role old Clear d u) (subst (λ (s : Space). is_open_role (role_at s d u) ≡ true) same is)
 discards_open old new es false h d u is = open_before (is_among es d u) (role_at old d u) (subst (λ (r : Role). is_open_role r ≡ true) (h.roles d u) is)
@@ -197,3 +210,18 @@ table_stays x y before now same still = record {
   space = subst (λ s. KeepsOthers Block x.space s) (sym (ap (λ (p : OpenPool). p.space) same)) (others_itself Block x.space);
   root = record { last = ap (λ (p : OpenPool). p.last) same; guid = ap (λ (p : OpenPool). p.guid) same; table = ap (λ (p : OpenPool). p.table) same };
 }
+
+-- ---- a step that copies
+
+pub copy_step : (command : Command) (answer : Reply) → is_copy command answer ≡ true → command ≡ cmd.StepEvac
+copy_step cmd.StepEvac answer is = refl
+copy_step command answer is = no_way is
+
+pub copy_no_reset : (command : Command) (answer : Reply) → is_copy command answer ≡ true → is_resetting command ≡ true → ⊥
+copy_no_reset cmd.StepEvac answer copy on = no_way on
+copy_no_reset command answer copy on = no_way copy
+
+pub copy_no_commit : (command : Command) (answer : Reply) → is_copy command answer ≡ true → is_acknowledged answer command ≡ true → ⊥
+copy_no_commit cmd.StepEvac (reply.Copied units) copy is = no_way is
+copy_no_commit cmd.StepEvac answer copy is = no_way copy
+copy_no_commit command answer copy is = no_way copy

@@ -10,7 +10,6 @@ pub mod Tellings
 pub mod Leavings
 pub mod Blaming
 pub mod Groups
-pub mod Imported
 pub mod Closed
 pub mod Resets
 pub mod Behind

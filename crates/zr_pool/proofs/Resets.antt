@@ -1,19 +1,15 @@
 -- A pool behind a line that ended with a reset, and the root that is the newest before it.
-use Rattle.std.proofs.Common.{◌≡◌, ℕ, List, length, map, Option, subst}
-use Rattle.std.specs.Prelude.{IfSome}
-use Rattle.zr_label.specs.declared.root.Uber.{Uber}
+use Rattle.std.proofs.Common.{◌≡◌, ℕ, List, length, map}
 use Rattle.zr_last.specs.Last.{ShowsLast}
 use Rattle.zr_model.specs.Objects.{Objects}
 use Rattle.zr_rules.specs.Equation.{devices_in}
 use Rattle.zr_shelf.specs.Disks.{Stand}
-use Rattle.zr_space.specs.Paths.{AreInService}
-use Rattle.zr_stops.proofs.Behind.{begins_behind}
+use Rattle.zr_open.specs.There.{AreThere}
+use Rattle.zr_stops.proofs.Behind.{left_behind}
 use Rattle.zr_stops.proofs.Committing.{within_from}
-use Rattle.zr_stops.proofs.Directories.{own_directory}
 use Rattle.zr_stops.proofs.Ending.{newest_same}
 use Rattle.zr_stops.proofs.Images.{newest_kept, within_clear}
 use Rattle.zr_stops.specs.Behind.{StandsBehind}
-use Rattle.zr_sync.specs.Heads.{HasHead, HasSafeHead}
 use Rattle.zr_sync.specs.Pools.{IsOpen}
 use Rattle.zr_sync.specs.declared.open.OpenPool.{OpenPool}
 use Rattle.zr_pool.specs.Behind.{HasReset}
@@ -27,18 +23,5 @@ behind_last sizes objects pool now h = record {
 }
 
 -- what a reset leaves begins a group
-pub reset_behind : (sizes : List ℕ) (objects : Objects) (pool : OpenPool) (now : Stand) → ShowsLast now.seen pool → IsOpen sizes pool → map length now.seen ≡ sizes → HasReset pool now objects → AreInService (devices_in pool.space) → StandsBehind sizes objects pool now
-reset_behind sizes objects pool now shows ready sized reset on =
-    begins_behind sizes shows.root pool objects now
-    (record {
-      ready = ready;
-      empty = reset.leaves.empty;
-      settled = reset.leaves.settled;
-      rest = reset.leaves.rest;
-      sized = sized;
-      newest = shows.newest;
-      head = own_directory now.seen pool shows.root.root shows.root.len (subst (λ (o : Option Uber). IfSome o (λ (u : Uber). HasHead now.seen pool u.root u.len)) shows.from.last reset.leaves.head);
-      safe = subst (λ (o : Option Uber). IfSome o (λ (u : Uber). HasSafeHead now.seen pool u.root u.len)) shows.from.last reset.leaves.safe;
-      objects = reset.holds;
-    })
-    shows.from on
+pub reset_behind : (sizes : List ℕ) (objects : Objects) (pool : OpenPool) (now : Stand) → ShowsLast now.seen pool → IsOpen sizes pool → map length now.seen ≡ sizes → HasReset pool now objects → AreThere (devices_in pool.space) → StandsBehind sizes objects pool now
+reset_behind sizes objects pool now shows ready sized reset on = left_behind sizes objects pool now ready sized shows reset.leaves reset.holds on

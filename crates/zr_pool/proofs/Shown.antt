@@ -21,7 +21,7 @@ use Rattle.zr_sync.specs.declared.fault.Fault.{Fault}
 use Rattle.zr_sync.specs.declared.fault.Fault.TheVariants.{No, Stops}
 use Rattle.zr_sync.specs.declared.open.OpenPool.{OpenPool}
 use Rattle.zr_pool.specs.Ends.{answer_of, is_closing}
-use Rattle.zr_pool.specs.Plain.{IsDone, IsObjectsTurn, IsRejoined, is_of_removal, shelf_of}
+use Rattle.zr_pool.specs.Plain.{IsDone, IsObjectsTurn, IsRejoined, is_untold_behind, shelf_of}
 use Rattle.zr_pool.specs.Pools.{AreLeft, AreShown, DeviceState, IsAtRest, IsPartOf, IsStateOf}
 use Rattle.zr_pool.specs.Turns.{IsOpenAnswer, IsTurn, is_shown}
 use Rattle.zr_pool.proofs.Turning.{left_of}
@@ -64,9 +64,9 @@ not_true : (b : Bool) → not b ≡ true → b ≡ false
 not_true true is = false_true is
 not_true false is = refl
 
-shown_before : (shown : Bool) (command : Command) (answer : Reply) → IsDone answer → is_shown true shown command answer ≡ true → (shown ≡ true) × (is_of_removal command ≡ false)
+shown_before : (shown : Bool) (command : Command) (answer : Reply) → IsDone answer → is_shown true shown command answer ≡ true → (shown ≡ true) × (is_untold_behind command answer ≡ false)
 shown_before shown command (reply.No r) done is = absurd done
-shown_before shown command answer done is = let both = both_true shown (not (is_of_removal command)) is in (both.0, not_true (is_of_removal command) both.1)
+shown_before shown command answer done is = let both = both_true shown (not (is_untold_behind command answer)) is in (both.0, not_true (is_untold_behind command answer) both.1)
 
 -- the pool is open still, but behind an export
 closed_or_not : (command : Command) (answer : Reply) (y : OpenPool) (disks : List (List ℕ)) (part : ShelfPart) → IsOpenAnswer command answer → ShowsLast disks y → (command ≡ cmd.Export → answer ≡ reply.Done → AreShown None disks part)
@@ -92,7 +92,7 @@ module _ (old new : Stand) (before : DeviceState) (command : Command) (x y : Ope
   in_open : (answer : Reply) (after : State) → Takes old new before command None answer after → IsTurn true command answer after.is_open × IsObjectsTurn true before.told.shelf (shelf_of old) before.told command answer after
   in_open answer after t = subst (λ (b : Bool). IsTurn b command answer after.is_open × IsObjectsTurn b before.told.shelf (shelf_of old) before.told command answer after) stood.is_open t
 
-  pub open_lasts : (r : Result (Option Reply) Fault) → IfOk r (λ found. IfSome found IsDone) → IfOk r (λ found. IfSome found (IsOpenAnswer command)) → (is_of_removal command ≡ false → OnOk r (ShowsLast old.seen x → ShowsLast new.seen y))
+  pub open_lasts : (r : Result (Option Reply) Fault) → IfOk r (λ found. IfSome found IsDone) → IfOk r (λ found. IfSome found (IsOpenAnswer command)) → IfOk r (λ found. IfSome found (λ answer. is_untold_behind command answer ≡ false → ShowsLast old.seen x → ShowsLast new.seen y))
       → ((n : Refusal) → r ≡ Err (No n) → ShowsLast old.seen x → ShowsLast new.seen y) → (command ≡ cmd.Export → (p : PoolState) → HoldsState (Unit {0}) old.seen x p → OnOk r (IsAtRest new.seen y p)) → OnOk r (IsOpen s2 y)
       → IfOk (answer_of r) (λ found. IfSome found (λ answer. Lasts old new before command (left_of (is_closing command r) y) answer))
   open_lasts (Ok None) done a kept kept_no rest lawful = tt
@@ -130,7 +130,7 @@ module _ (old new : Stand) (before : DeviceState) (command : Command) (pool : Op
 
   -- what is found has the objects that were left
   found_again : (left found : ShelfPart) (p : PoolState) → AreShown None old.seen left → Shows old.paths old.seen p → found ≡ Is p → IsRejoined left found
-  found_again (Is q) found p left shows is = subst (λ (part : ShelfPart). IsRejoined (Is q) part) (sym is) (λ serve. left_found old.paths old.seen (map length old.seen) left.pool q.objects p left.lawful left.leaves shows serve)
+  found_again (Is q) found p left shows is = subst (λ (part : ShelfPart). IsRejoined (Is q) part) (sym is) (λ there. left_found old.paths old.seen (map length old.seen) left.pool q.objects p left.lawful left.leaves shows there)
   found_again Empty found p left shows is = tt
   found_again (Refused r) found p left shows is = tt
 

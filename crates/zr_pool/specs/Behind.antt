@@ -3,11 +3,11 @@ use Rattle.std.specs.Prelude.{◌≡◌, ◌⊎◌, ℕ, Bool, true, false, not,
 use Rattle.std.specs.FinMap as map
 use Rattle.zr_base.specs.declared.space.DevPart.{DevPart}
 use Rattle.zr_command.specs.Meanings.{Disks}
-use Rattle.zr_last.specs.Ends.{LeavesCommitted}
+use Rattle.zr_sync.specs.Ends.{LeavesCommitted}
 use Rattle.zr_lines.specs.Stops.{OpensNoUnit, StaysInOneGroup}
 use Rattle.zr_model.specs.Objects.{Objects}
 use Rattle.zr_model.specs.State.{PoolState, ShelfPart, Is}
-use Rattle.zr_rules.specs.Places.{is_on}
+use Rattle.zr_rules.specs.Places.{is_gone}
 use Rattle.zr_script.specs.declared.command.Command.{Command}
 use Rattle.zr_script.specs.declared.command.Command.TheVariants as cmd
 use Rattle.zr_script.specs.declared.reply.Reply.{Reply}
@@ -51,6 +51,7 @@ is_resetting (cmd.Add dev) = true
 is_resetting cmd.Checkpoint = true
 is_resetting cmd.Discard = true
 is_resetting cmd.Upgrade = true
+is_resetting (cmd.Remove dev) = true
 is_resetting _ = false
 
 -- The line ended with a commit of a pool that holds these objects.
@@ -58,15 +59,16 @@ pub record HasReset (pool : OpenPool) (now : Stand) (objects : Objects) : Type 0
   pub leaves : LeavesCommitted pool now
   pub holds : HoldsObjects (Unit {0}) now.seen pool objects
 
--- of those the ones that end with one commit
-abbrev pub resets_once : Command → Bool
-resets_once cmd.Discard = true
-resets_once cmd.Upgrade = true
-resets_once _ = false
+-- of those the ones that leave the devices as they are
+abbrev pub resets_in_place : Command → Bool
+resets_in_place cmd.Checkpoint = true
+resets_in_place cmd.Discard = true
+resets_in_place cmd.Upgrade = true
+resets_in_place _ = false
 
 -- What a crash shows is told at each moment of the line.
 abbrev pub may_stop : Command → Bool
-may_stop command = is_in_group command || resets_once command
+may_stop command = is_in_group command || resets_in_place command
 
 -- The line stayed in one group: it did nothing to the disks, or wrote units of the group that is open, or of the next one behind a commit of that.
 abbrev pub StaysTold : List ℕ → Objects → OpenPool → OpenPool → World → World → Type 0
@@ -80,18 +82,18 @@ LeavesOnly objects disks = ShowsOnly objects (stand_of disks)
 abbrev pub LeavesEither : Objects → Objects → Disks → Type 0
 LeavesEither before after disks = ShowsEither before after (stand_of disks)
 
--- all devices are in service
-abbrev pub serve_all : List DevPart → Bool
-serve_all [] = true
-serve_all (p ∷ parts) = if is_on p.row.state then serve_all parts else false
+-- no device is gone
+abbrev pub all_there : List DevPart → Bool
+all_there [] = true
+all_there (p ∷ parts) = not (is_gone p.row.state) && all_there parts
 
-abbrev pub serves : Option OpenPool → Bool
-serves None = false
-serves (Some pool) = serve_all pool.space.parts.devs
+abbrev pub are_there : Option OpenPool → Bool
+are_there None = false
+are_there (Some pool) = all_there pool.space.parts.devs
 
--- A commit will be known: the last one is, or the disks are told to show the last root, and all devices are in service.
+-- A commit will be known: the last one is, or the disks are told to show the last root, and no device is gone.
 abbrev pub is_known : DeviceState → Bool
-is_known state = if is_some state.behind then true else state.shown && serves state.account
+is_known state = if is_some state.behind then true else state.shown && are_there state.account
 
 -- the lines that make a pool
 abbrev pub is_create : Command → Bool
@@ -107,6 +109,13 @@ is_making cmd.ImportRewind = true
 is_making (cmd.ImportTxg txg) = true
 is_making _ = false
 
+-- the lines that open a pool which is there, as it is or by going back
+abbrev pub is_import : Command → Bool
+is_import cmd.Import = true
+is_import cmd.ImportRewind = true
+is_import (cmd.ImportTxg txg) = true
+is_import _ = false
+
 abbrev pub is_refusal : Reply → Bool
 is_refusal (reply.No r) = true
 is_refusal answer = false
@@ -117,9 +126,14 @@ is_acknowledged (reply.Synced txg) cmd.Sync = true
 is_acknowledged reply.Done cmd.Export = true
 is_acknowledged answer command = false
 
--- The line leaves it told which objects were committed last: it works in the group that is open, or is refused, and writes nothing where no pool is open.
+-- the answer tells of units of a device that is leaving that were copied, into units that were free
+abbrev pub is_copy : Command → Reply → Bool
+is_copy cmd.StepEvac (reply.Copied units) = true
+is_copy command answer = false
+
+-- The line leaves it told which objects were committed last: it works in the group that is open, copies units, or is refused, and writes nothing where no pool is open.
 abbrev pub leaves_told : Option OpenPool → Reply → Command → Bool
-leaves_told (Some pool) answer command = is_refusal answer || is_in_group command
+leaves_told (Some pool) answer command = is_refusal answer || (is_in_group command || is_copy command answer)
 leaves_told None answer command = is_refusal answer && not (is_making command)
 
 -- the pool that is told has these objects
@@ -136,19 +150,19 @@ pub data ComesFrom (old : DeviceState) (command : Command) (answer : Reply) (tol
   changed : is_resetting command ≡ true → is_refusal answer ≡ false → TellsOf old.told.shelf objects → ComesFrom old command answer told objects
   -- a pool was made, which has none,
   made : is_create command ≡ true → answer ≡ reply.Done → objects ≡ map.empty → ComesFrom old command answer told objects
-  -- or one was imported, and they are those that are told behind it.
-  found : command ≡ cmd.Import → answer ≡ reply.Done → TellsOf told objects → ComesFrom old command answer told objects
+  -- or one was opened, and they are those that are told behind it.
+  found : is_import command ≡ true → answer ≡ reply.Done → TellsOf told objects → ComesFrom old command answer told objects
 
 -- Which objects are told to be committed last, behind a line that was answered, and that left this told of the objects and this account.
 pub record IsBehindTurn (old : DeviceState) (command : Command) (answer : Reply) (told : ShelfPart) (account : Option OpenPool) (behind : Option Objects) : Type 0 where
   pub from : (objects : Objects) → behind ≡ Some objects → ComesFrom old command answer told objects
-  -- of a pool that is made, of devices in service, they are told
-  pub makes : old.account ≡ None → is_create command ≡ true → answer ≡ reply.Done → serves account ≡ true → behind ≡ Some map.empty
-  -- of a pool that is imported, of devices in service, they are those that are told behind it
-  pub opens : old.account ≡ None → command ≡ cmd.Import → answer ≡ reply.Done → serves account ≡ true → (p : PoolState) → told ≡ Is p → behind ≡ Some p.objects
+  -- of a pool that is made they are told
+  pub makes : old.account ≡ None → is_create command ≡ true → answer ≡ reply.Done → are_there account ≡ true → behind ≡ Some map.empty
+  -- of a pool that is opened, of which no device is gone, they are those that are told behind it
+  pub opens : old.account ≡ None → is_import command ≡ true → answer ≡ reply.Done → are_there account ≡ true → (p : PoolState) → told ≡ Is p → behind ≡ Some p.objects
   -- a line that leaves them told does so
   pub keeps : (p : PoolState) → old.told.shelf ≡ Is p → is_some old.behind ≡ true → leaves_told old.account answer command ≡ true → is_some behind ≡ true
-  -- behind one that ended with a reset they are those that were told before it, while all devices are in service
-  pub resets : (p : PoolState) → old.told.shelf ≡ Is p → is_known old ≡ true → is_resetting command ≡ true → is_refusal answer ≡ false → serves account ≡ true → behind ≡ Some p.objects
+  -- behind one that ended with a reset they are those that were told before it, while no device is gone
+  pub resets : (p : PoolState) → old.told.shelf ≡ Is p → is_known old ≡ true → is_resetting command ≡ true → is_refusal answer ≡ false → are_there account ≡ true → behind ≡ Some p.objects
   -- behind a `sync` and an `export` they are those that were told before it
   pub commits : (p : PoolState) → old.told.shelf ≡ Is p → is_known old ≡ true → is_acknowledged answer command ≡ true → behind ≡ Some p.objects

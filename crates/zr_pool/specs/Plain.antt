@@ -11,7 +11,8 @@ use Rattle.zr_model.specs.Objects.{Objects}
 use Rattle.zr_model.specs.State.{State, PoolState, Saved, ShelfPart, Empty, Refused, Is, IsOpened, no_pool, no_work, created}
 use Rattle.zr_model.specs.Runs.{Shelf}
 use Rattle.zr_shelf.specs.Disks.{Stand}
-use Rattle.zr_open.specs.Shown.{IsInService, Shows, ShowsGroup}
+use Rattle.zr_open.specs.Shown.{Shows, ShowsGroup}
+use Rattle.zr_open.specs.There.{IsStillThere}
 use Rattle.zr_open.specs.Rewound.{ShowsNoSaved}
 use Rattle.zr_open.specs.Groups.{ShowsNotKept}
 use Rattle.zr_moves.specs.Answers.{Acts, needs_lost, rewound}
@@ -96,7 +97,7 @@ pub record IsUntold (s : State) : Type 0 where
   pub is_open : s.is_open ≡ true
   pub shelf : s.shelf ≡ Empty
 
--- a step of a removal, or of condensing a mapping: what the objects are behind it is not told yet
+-- a removal begins, or a step of it, or of condensing a mapping
 abbrev pub is_of_removal : Command → Bool
 is_of_removal (cmd.Remove dev) = true
 is_of_removal cmd.Cancel = true
@@ -104,11 +105,19 @@ is_of_removal cmd.StepEvac = true
 is_of_removal cmd.StepCondense = true
 is_of_removal command = false
 
--- What a line makes of the objects of an open pool: an export closes it, behind a step of a removal nothing is told of them, and all else that is done is a step of plain objects.
+-- What the objects are behind the line is not told yet: a removal was given up, a device is gone, or a mapping was condensed.
+abbrev pub is_untold_behind : Command → Reply → Bool
+is_untold_behind cmd.Cancel answer = true
+is_untold_behind cmd.StepEvac (reply.Copied units) = false
+is_untold_behind cmd.StepEvac answer = true
+is_untold_behind cmd.StepCondense answer = true
+is_untold_behind command answer = false
+
+-- What a line makes of the objects of an open pool: an export closes it, behind some steps of a removal nothing is told of them, and all else that is done is a step of plain objects.
 abbrev pub IsPlainTurn : PoolState → Command → Reply → State → Type 0
 IsPlainTurn p command (reply.No r) new = IsOpened p new × IsPlainRefusal p command r
 IsPlainTurn p cmd.Export reply.Done new = new ≡ exported p
-IsPlainTurn p command answer new = MatchBool (is_of_removal command) (IsUntold new) ((q : PoolState) × IsStep p command answer q × IsOpened q new)
+IsPlainTurn p command answer new = MatchBool (is_untold_behind command answer) (IsUntold new) ((q : PoolState) × IsStep p command answer q × IsOpened q new)
 
 -- where nothing is told of the objects, nothing is until the pool is opened anew
 abbrev pub IsUntoldTurn : Command → Reply → State → Type 0
@@ -126,9 +135,9 @@ IsOpeningTurn shelf old cmd.ImportRewind reply.Done new = (p : PoolState) × (sa
 IsOpeningTurn shelf old (cmd.ImportTxg txg) reply.Done new = (p : PoolState) × ShowsGroup shelf.paths shelf.disks txg p × IsOpened p new
 IsOpeningTurn shelf old command answer new = new ≡ old
 
--- What is found has the objects that were left, where all of its devices are in service.
+-- What is found has the objects that were left, where none of its devices is removed.
 abbrev pub IsRejoined : ShelfPart → ShelfPart → Type 0
-IsRejoined (Is left) (Is p) = All IsInService p.devs → p.objects ≡ left.objects
+IsRejoined (Is left) (Is p) = All IsStillThere p.devs → p.objects ≡ left.objects
 IsRejoined left found = Unit {0}
 
 -- what a line makes of the objects; a state that is open has a pool, or nothing is told of it
@@ -149,10 +158,10 @@ abbrev pub IsDone : Reply → Type 0
 IsDone (reply.No r) = ⊥
 IsDone answer = Unit {0}
 
--- so was each line but an export, behind which no pool is open to hold them, and a step of a removal, which was done
+-- so was each line but an export, behind which no pool is open to hold them, and a step of a removal behind which they are not told, which was done
 abbrev pub IsPlainOf : (PoolState → Type 0) → PoolState → Command → Reply → Type 0
 IsPlainOf Holds p cmd.Export reply.Done = Unit {0}
-IsPlainOf Holds p command answer = MatchBool (is_of_removal command) (IsDone answer) (IsPlainOn Holds p command answer)
+IsPlainOf Holds p command answer = MatchBool (is_untold_behind command answer) (IsDone answer) (IsPlainOn Holds p command answer)
 
 -- a pool that was made is a new one, one that was imported is what the disks showed, and one that went back to its checkpoint is what this had saved
 abbrev pub IsMade : Shelf → (PoolState → Type 0) → Command → Type 0

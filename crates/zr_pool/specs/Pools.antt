@@ -72,14 +72,14 @@ AreShown None disks part = Unit {0}
 abbrev pub stand_of : Disks → Stand
 stand_of disks = record { paths = []; makes = []; durable = disks.durable; writes = disks.writes; seen = disks.seen; left = []; sent = [] }
 
--- A pool was closed behind a commit of these objects, when all its devices were in service, and nothing is pending.
+-- A pool was closed behind a commit of these objects, when none of its devices was gone, and nothing is pending.
 pub record IsClosedBehind (disks : Disks) (objects : Objects) : Type 0 where
   pub pool : OpenPool
   pub behind : StandsBehind (map length disks.seen) objects pool (stand_of disks)
   pub durable : disks.durable ≡ disks.seen
   pub writes : disks.writes ≡ []
 
--- The pool that is open is in the group behind a commit of these objects, when all its devices were in service, or one was closed behind it.
+-- The pool that is open is in the group behind a commit of these objects, when none of its devices was gone, or one was closed behind it.
 abbrev pub IsBehind : Option OpenPool → Disks → Objects → Type 0
 IsBehind (Some pool) disks objects = StandsBehind (map length disks.seen) objects pool (stand_of disks)
 IsBehind None disks objects = IsClosedBehind disks objects

@@ -19,7 +19,7 @@ use Rattle.zr_sync.specs.Pools.{IsOpen}
 use Rattle.zr_sync.specs.declared.open.OpenPool.{OpenPool}
 use Rattle.zr_pool.specs.Accounts.{Turns, Begins, BeginsNone}
 use Rattle.zr_pool.specs.Behind.{IsBehindTurn, LeavesEither, LeavesOnly, is_making, may_stop}
-use Rattle.zr_pool.specs.Plain.{IsObjectsTurn, IsRejoined, is_of_removal}
+use Rattle.zr_pool.specs.Plain.{IsObjectsTurn, IsRejoined, is_of_removal, is_untold_behind}
 use Rattle.zr_pool.specs.Pools.{DeviceState, no_device_state}
 use Rattle.zr_pool.specs.Replies.{TellsFault}
 
@@ -109,11 +109,11 @@ IsRemoveRefusal refusal.OnlyDevice = Unit {0}
 IsRemoveRefusal (refusal.NoRoom needed free) = free < needed
 IsRemoveRefusal r = ⊥
 
--- Whether the disks are told to show the pool behind a line, by whether one was open before it, and they were told so then: they show one that is made or opened, and so they do behind each line but a step of a
--- removal. A refusal leaves that.
+-- Whether the disks are told to show the pool behind a line, by whether one was open before it, and they were told so then: they show one that is made or opened, and so they do behind each line but those steps of a
+-- removal behind which the objects are not told. A refusal leaves that.
 abbrev pub is_shown : Bool → Bool → Command → Reply → Bool
 is_shown is_open shown command (reply.No r) = shown
-is_shown true shown command answer = shown && not (is_of_removal command)
+is_shown true shown command answer = shown && not (is_untold_behind command answer)
 is_shown false shown command answer = true
 
 -- what a line to an open pool may be refused for

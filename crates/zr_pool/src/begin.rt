@@ -3,19 +3,19 @@ ghost use Rattle.std.specs.FinMap as map;
 ghost use Rattle.std.specs.Prelude.{◌≡◌, ◌≤◌, ℕ, List, true, false, IfOk, IfSome, IfNone, IsErrOf, length};
 ghost use Rattle.zr_base.specs.Counts.{HasRisen};
 ghost use Rattle.zr_base.specs.declared.refusal.Refusal.{Refusal};
-ghost use Rattle.zr_last.specs.Ends.{ComesCommitted};
+ghost use Rattle.zr_sync.specs.Ends.{ComesCommitted};
 ghost use Rattle.zr_last.specs.Last.{ShowsLast};
 ghost use Rattle.zr_script.specs.Grammar.{IsLine};
 ghost use Rattle.zr_script.specs.declared.command.Command.TheVariants.{Import};
 ghost use Rattle.zr_shelf.specs.Counts.{NoneFell};
-ghost use Rattle.zr_stops.specs.Behind.{IsJustOpened};
+ghost use Rattle.zr_open.specs.Left.{IsLeftCommitted};
 ghost use Rattle.zr_sync.specs.Pools.{IsOpen};
 ghost use Rattle.zr_sync.specs.Writes.{WorksOnDisks};
 ghost use Rattle.zr_sync.specs.declared.fault.Fault.TheVariants.{No, Stops};
 ghost use Rattle.zr_sync.specs.declared.stop.Stop.TheVariants.{DiskFault};
 ghost use Rattle.zr_sync.specs.States.{HoldsState};
 ghost use Rattle.zr_open.specs.Flushed.{FlushesOnly};
-ghost use Rattle.zr_pool.specs.Behind.{is_create, is_making};
+ghost use Rattle.zr_pool.specs.Behind.{is_create, is_import, is_making};
 ghost use Rattle.zr_pool.specs.Plain.{IsMade, IsOpeningCause, shelf_of};
 ghost use Rattle.zr_pool.specs.Accounts.{Begins, BeginsNone};
 ghost use Rattle.zr_pool.specs.Turns.{IsServed, IsClosedRefusal, is_opener};
@@ -61,7 +61,7 @@ pub fn begin<S: Shelf>(
     ensures begins_no { S.tells shelf.old → (r : Refusal) → IsErrOf result (No r) → BeginsNone paths.now (S.sizes shelf.old) (S.world shelf.old).now.seen command.now r }
     ensures last { S.tells shelf.old → IfOk result (λ found. IfSome found (ShowsLast (S.world shelf.new).now.seen)) }
     ensures ends { S.tells shelf.old → is_create command.now ≡ true → IfOk result (λ found. IfSome found (λ pool. ComesCommitted (S.sizes shelf.new) pool map.empty (S.world shelf.new))) }
-    ensures imported { S.tells shelf.old → command.now ≡ Import → IfOk result (λ found. IfSome found (IsJustOpened (S.sizes shelf.new) (S.tells shelf.old) (S.world shelf.new).now)) }
+    ensures leaves { S.tells shelf.old → is_import command.now ≡ true → IfOk result (λ found. IfSome found (IsLeftCommitted (S.world shelf.new).now)) }
     ensures flushes { S.tells shelf.old → is_making command.now ≡ false → FlushesOnly (S.world shelf.old) (S.world shelf.new) }
     ensures untouched { S.tells shelf.old → (r : Refusal) → IsErrOf result (No r) → (S.world shelf.new).now.seen ≡ (S.world shelf.old).now.seen }
     ensures opens { IfOk result (λ found. IfSome found (λ pool. is_opener command.now ≡ true)) }

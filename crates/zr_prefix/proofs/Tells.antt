@@ -6,7 +6,7 @@ use Rattle.zr_model.specs.Objects.{Objects}
 use Rattle.zr_model.specs.Runs.{Shelf}
 use Rattle.zr_model.specs.State.{State, PoolState, ShelfPart, Empty, Refused, Is, created}
 use Rattle.zr_moves.specs.Answers.{Acts}
-use Rattle.zr_pool.specs.Behind.{TellsOf, is_acknowledged, is_create, is_in_group, is_known, is_making, is_refusal, is_resetting, leaves_told, serves}
+use Rattle.zr_pool.specs.Behind.{TellsOf, is_acknowledged, is_copy, is_create, is_in_group, is_known, is_making, is_refusal, is_resetting, leaves_told, are_there}
 use Rattle.zr_pool.specs.Plain.{IsObjectsTurn, IsPlainTurn}
 use Rattle.zr_pool.specs.Pools.{DeviceState}
 use Rattle.zr_pool.specs.Turns.{IsTurn}
@@ -53,6 +53,11 @@ reset_done cmd.Upgrade reply.Done false after on done turn = no_way turn.0
 reset_done cmd.Upgrade (reply.No r) is_open after on done turn = no_way (sym done)
 reset_done cmd.Upgrade answer true after on done turn = absurd turn.0
 reset_done cmd.Upgrade answer false after on done turn = absurd turn.0
+reset_done (cmd.Remove dev) reply.Done true after on done turn = (refl, refl)
+reset_done (cmd.Remove dev) reply.Done false after on done turn = no_way turn.0
+reset_done (cmd.Remove dev) (reply.No r) is_open after on done turn = no_way (sym done)
+reset_done (cmd.Remove dev) answer true after on done turn = absurd turn.0
+reset_done (cmd.Remove dev) answer false after on done turn = absurd turn.0
 reset_done command answer is_open after on done turn = no_way on
 
 -- it leaves the objects
@@ -61,6 +66,7 @@ reset_step (cmd.Add dev) p q on acts = ap (λ (r : PoolState). r.objects) acts
 reset_step cmd.Checkpoint p q on acts = ap (λ (r : PoolState). r.objects) acts
 reset_step cmd.Discard p q on acts = ap (λ (r : PoolState). r.objects) acts
 reset_step cmd.Upgrade p q on acts = ap (λ (r : PoolState). r.objects) acts
+reset_step (cmd.Remove dev) p q on acts = ap (λ (r : PoolState). r.objects) acts
 reset_step command p q on acts = no_way on
 
 reset_plain : (command : Command) (p : PoolState) (new : State) → is_resetting command ≡ true → IsPlainTurn p command reply.Done new → TellsOf new.shelf p.objects
@@ -68,6 +74,7 @@ reset_plain (cmd.Add dev) p new on (q, step, opened) = (q, opened.shelf, reset_s
 reset_plain cmd.Checkpoint p new on (q, step, opened) = (q, opened.shelf, reset_step cmd.Checkpoint p q on step.0)
 reset_plain cmd.Discard p new on (q, step, opened) = (q, opened.shelf, reset_step cmd.Discard p q on step.0)
 reset_plain cmd.Upgrade p new on (q, step, opened) = (q, opened.shelf, reset_step cmd.Upgrade p q on step.0)
+reset_plain (cmd.Remove dev) p new on (q, step, opened) = (q, opened.shelf, reset_step (cmd.Remove dev) p q on step.0)
 reset_plain command p new on turn = no_way on
 
 reset_part : (command : Command) (part : ShelfPart) (shelf : Shelf) (old new : State) (q : PoolState) → part ≡ Is q → is_resetting command ≡ true → IsObjectsTurn true part shelf old command reply.Done new → TellsOf new.shelf q.objects
@@ -93,14 +100,15 @@ first : (a b : Bool) → (a && b) ≡ true → a ≡ true
 first true b is = refl
 first false b is = no_way is
 
-either : (a b : Bool) → (a || b) ≡ true → (b ≡ true) ⊎ (a ≡ true)
-either true b is = inr refl
-either false b is = inl is
+one_of : (a b c : Bool) → (a || (b || c)) ≡ true → (b ≡ true) ⊎ ((c ≡ true) ⊎ (a ≡ true))
+one_of true b c is = inr (inr refl)
+one_of false true c is = inl refl
+one_of false false c is = inr (inl is)
 
--- a line that leaves it told which objects were committed last works in the group, or is refused
-pub leaves_small : (account : Option OpenPool) (answer : Reply) (command : Command) → leaves_told account answer command ≡ true → (is_in_group command ≡ true) ⊎ (is_refusal answer ≡ true)
-leaves_small (Some pool) answer command leaves = either (is_refusal answer) (is_in_group command) leaves
-leaves_small None answer command leaves = inr (first (is_refusal answer) (not (is_making command)) leaves)
+-- a line that leaves it told which objects were committed last works in the group, copies units, or is refused
+pub leaves_small : (account : Option OpenPool) (answer : Reply) (command : Command) → leaves_told account answer command ≡ true → (is_in_group command ≡ true) ⊎ ((is_copy command answer ≡ true) ⊎ (is_refusal answer ≡ true))
+leaves_small (Some pool) answer command leaves = one_of (is_refusal answer) (is_in_group command) (is_copy command answer) leaves
+leaves_small None answer command leaves = inr (inr (first (is_refusal answer) (not (is_making command)) leaves))
 
 pub known_behind : (state : DeviceState) (objects : Objects) → state.behind ≡ Some objects → is_known state ≡ true
-known_behind state objects is = ap (λ (o : Option Objects). if is_some o then true else state.shown && serves state.account) is
+known_behind state objects is = ap (λ (o : Option Objects). if is_some o then true else state.shown && are_there state.account) is

@@ -4,3 +4,5 @@ pub mod Turned
 pub mod Condensed
 pub mod Copied
 pub mod Ending
+pub mod Alike
+pub mod Outgoing

@@ -6,14 +6,22 @@ ghost use Rattle.std.specs.Prelude.{◌≡◌, ◌<◌, ◌⊎◌, ℕ, List, tr
 ghost use Rattle.zr_base.specs.Counts.{HasRisen};
 ghost use Rattle.zr_base.specs.declared.refusal.Refusal.{Refusal};
 ghost use Rattle.zr_rules.specs.Places.{is_gone, is_leaving, state_of_dev};
+ghost use Rattle.zr_rules.specs.Space.{role_at};
 ghost use Rattle.zr_shelf.specs.Counts.{NoneFell};
 ghost use Rattle.zr_space.specs.Plans.{IsCopied};
-ghost use Rattle.zr_vdev.specs.Copies.{CopiesUnits};
+ghost use Rattle.zr_last.specs.Last.{KeepsLast};
+ghost use Rattle.zr_model.specs.Objects.{Objects};
+ghost use Rattle.zr_shelf.specs.Doings.{WritesOnly};
+ghost use Rattle.zr_sync.specs.Objects.{HoldsObjects};
+ghost use Rattle.zr_vdev.specs.Caches.{AreRead};
+ghost use Rattle.zr_vdev.specs.Copies.{CopiesUnits, IsWriteIntoFree};
+ghost use Rattle.zr_vdev.specs.Stores.{is_open_role};
+ghost use Rattle.zr_removal.specs.declared.evacuate.Evacuated.TheVariants as evacuated;
 ghost use Rattle.zr_vdev.specs.declared.copy.Copied.TheVariants as copied;
 ghost use Rattle.zr_shelf.specs.Moments.{World};
 ghost use Rattle.zr_sync.specs.Commits.{EndsGroup, IsNextRoot, IsShownFrom};
 ghost use Rattle.zr_sync.specs.Pools.{IsOpen, IsSamePool};
-ghost use Rattle.zr_sync.specs.Writes.{WorksOnDisks};
+ghost use Rattle.zr_sync.specs.Writes.{WorksOnDisks, WritesIntoFree};
 ghost use Rattle.zr_sync.specs.declared.fault.Fault.TheVariants.{No, Stops};
 ghost use Rattle.zr_sync.specs.declared.stop.Stop.TheVariants.{DiskFault};
 ghost use Rattle.zr_removal.specs.Refusals.{HasRemoval, IsStepRefusal};
@@ -140,6 +148,8 @@ fn copy_next<S: Shelf>(
     ensures fault { IfOk result (λ c. c ≡ copied.Fault → HasRisen (S.counts shelf.old).disk (S.counts shelf.new).disk) }
     ensures same { IfOk result (λ c. (c ≡ copied.Nothing) ⊎ (c ≡ copied.Fault) → pool.new.space ≡ pool.old.space) }
     ensures rest { pool.new ≡ record pool.old { space = pool.new.space; cache = pool.new.cache } }
+    ensures written { S.tells shelf.old → WritesOnly (IsWriteIntoFree pool.old.table.slots pool.old.space) (S.world shelf.old) (S.world shelf.new) }
+    ensures read { S.tells shelf.old → AreRead (S.world shelf.old).now.seen pool.old.table.slots pool.old.space pool.old.cache → AreRead (S.world shelf.new).now.seen pool.old.table.slots pool.new.space pool.new.cache }
 {
     if pool.space.sizes().uncopied > pool.space.free_units() {
         return Err(NoMemory);
@@ -215,7 +225,8 @@ fn finish_removal<S: Shelf>(
 }
 
 /// Makes a step of the removal that goes on: copies the next units, at most 256, or ends the removal where none is left.
-/// A copy costs one read and one write, and an end costs a commit, and a walk over the mapping and its marks.
+/// A copy costs one read and one write, and an end costs a commit, and a walk over the mapping and its marks. Behind a copy the
+/// pool holds the objects that it held.
 ///
 /// For now want of memory is also the answer where fewer units are free than are left to copy: the room that is asked for
 /// when a removal begins rules that out, and no law says so yet.
@@ -234,6 +245,11 @@ pub fn step_evac<S: Shelf>(
     ensures pool { OnOk result (IsOpen (S.sizes shelf.new) pool.new) }
     ensures leaving { OnOk result (HasRemoval pool.old.space) }
     ensures steps { IfOk result (StepsOn pick.now.policy (S.sizes shelf.old) (S.tells shelf.old) (S.counts shelf.old) (S.counts shelf.new) (S.world shelf.old) (S.world shelf.new) pool.old pool.new) }
+    ensures rest { IfOk result (λ done. (n : ℕ) → done ≡ evacuated.Copied n → pool.new ≡ record pool.old { space = pool.new.space; cache = pool.new.cache }) }
+    ensures written { S.tells shelf.old → IfOk result (λ done. (n : ℕ) → done ≡ evacuated.Copied n → WritesIntoFree pool.old (S.world shelf.old) (S.world shelf.new)) }
+    ensures opens { IfOk result (λ done. (n : ℕ) → done ≡ evacuated.Copied n → (d u : ℕ) → is_open_role (role_at pool.new.space d u) ≡ true → is_open_role (role_at pool.old.space d u) ≡ true) }
+    ensures shown { S.tells shelf.old → IfOk result (λ done. (n : ℕ) → done ≡ evacuated.Copied n → KeepsLast (S.world shelf.old) (S.world shelf.new) pool.old pool.new) }
+    ensures objects { (objects : Objects) → HoldsObjects (S.tells shelf.old) (S.world shelf.old).now.seen pool.old objects → IfOk result (λ done. (n : ℕ) → done ≡ evacuated.Copied n → HoldsObjects (S.tells shelf.new) (S.world shelf.new).now.seen pool.new objects) }
     ensures refused { (r : Refusal) → IsErrOf result (No r) → IsStepRefusal pool.old.space r }
     ensures unchanged { (r : Refusal) → IsErrOf result (No r) → pool.new ≡ pool.old }
     ensures untouched { (r : Refusal) → IsErrOf result (No r) → S.world shelf.new ≡ S.world shelf.old }

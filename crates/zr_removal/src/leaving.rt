@@ -7,8 +7,12 @@ ghost use Rattle.zr_base.specs.Counts.{HasRisen};
 ghost use Rattle.zr_base.specs.declared.refusal.Refusal.{Refusal};
 ghost use Rattle.zr_base.specs.declared.space.CkptPart.TheVariants.{Clear};
 ghost use Rattle.zr_base.specs.declared.space.DevState.TheVariants.{On};
+ghost use Rattle.zr_last.specs.Last.{KeepsLast};
+ghost use Rattle.zr_model.specs.Objects.{Objects};
 ghost use Rattle.zr_rules.specs.Places.{state_of_dev};
 ghost use Rattle.zr_shelf.specs.Counts.{NoneFell};
+ghost use Rattle.zr_sync.specs.Ends.{LeavesCommitted};
+ghost use Rattle.zr_sync.specs.Objects.{HoldsObjects};
 ghost use Rattle.zr_sync.specs.Pools.{IsOpen};
 ghost use Rattle.zr_sync.specs.Writes.{WorksOnDisks};
 ghost use Rattle.zr_sync.specs.declared.fault.Fault.TheVariants.{No, Stops};
@@ -84,7 +88,8 @@ fn leave(pool: &mut OpenPool, dev: u32) -> Result<(), NoMemory>
 }
 
 /// Takes a device in service out of it, so that what it holds can be copied elsewhere, where there is room for what the
-/// commits to come may write beside it. It goes over the held extents of the device, and writes all metadata anew.
+/// commits to come may write beside it. The pool holds the objects that it held: the device is read as before. It goes over the
+/// held extents of the device, and writes all metadata anew.
 pub fn remove<S: Shelf>(
     alloc: Global,
     pool: &mut OpenPool,
@@ -106,6 +111,10 @@ pub fn remove<S: Shelf>(
     ensures other { OnOk result (HasOther pool.old.space dev) }
     ensures enough { OnOk result (removal_needs pool.old dev ≤ free_beside pool.old.space dev) }
     ensures begins { OnOk result (BeginsRemoval (S.sizes shelf.old) (S.tells shelf.old) (S.world shelf.new) pool.old pool.new dev) }
+    ensures ckpt { OnOk result (pool.new.space.parts.ckpt ≡ pool.old.space.parts.ckpt) }
+    ensures shown { S.tells shelf.old → OnOk result (KeepsLast (S.world shelf.old) (S.world shelf.new) pool.old pool.new) }
+    ensures ends { (objects : Objects) → HoldsObjects (S.tells shelf.old) (S.world shelf.old).now.seen pool.old objects → OnOk result (LeavesCommitted pool.new (S.world shelf.new).now) }
+    ensures objects { (objects : Objects) → HoldsObjects (S.tells shelf.old) (S.world shelf.old).now.seen pool.old objects → OnOk result (HoldsObjects (S.tells shelf.new) (S.world shelf.new).now.seen pool.new objects) }
     ensures refused { (r : Refusal) → IsErrOf result (No r) → IsRemoveRefusal pool.old dev r }
     ensures unchanged { (r : Refusal) → IsErrOf result (No r) → pool.new ≡ pool.old }
     ensures untouched { (r : Refusal) → IsErrOf result (No r) → S.world shelf.new ≡ S.world shelf.old }

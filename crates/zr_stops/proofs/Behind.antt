@@ -6,43 +6,43 @@ use Rattle.zr_label.specs.declared.root.Uber.{Uber}
 use Rattle.zr_model.specs.Objects.{Objects}
 use Rattle.zr_newest.specs.Newest.{IsNewestOn}
 use Rattle.zr_rules.specs.Equation.{devices_in}
+use Rattle.zr_rules.specs.Space.{role_at}
 use Rattle.zr_shelf.proofs.Doings.{added_throughout}
 use Rattle.zr_shelf.proofs.Runs.{weaker}
 use Rattle.zr_shelf.specs.Disks.{Stand}
 use Rattle.zr_shelf.specs.Moments.{Throughout, World}
-use Rattle.zr_space.specs.Paths.{AreInService}
+use Rattle.zr_open.specs.There.{AreThere}
 use Rattle.zr_sync.specs.Commits.{IsNextRoot, IsShownFrom}
 use Rattle.zr_sync.specs.Leads.{CommitsObjects}
 use Rattle.zr_sync.specs.Objects.{HoldsObjects}
 use Rattle.zr_sync.specs.Pools.{IsAfter, IsOpen}
 use Rattle.zr_sync.specs.Writes.{WritesIntoFree}
 use Rattle.zr_sync.specs.declared.open.OpenPool.{OpenPool}
-use Rattle.zr_vdev.specs.Stores.{KeepsOthers}
-use Rattle.zr_vdev.specs.declared.kind.Kind.TheVariants.{Block}
-use Rattle.zr_stops.proofs.Committing.{done_either, next_of, open_only, service_same, stops_either, within_from}
+use Rattle.zr_vdev.specs.Stores.{is_open_role}
+use Rattle.zr_stops.proofs.Committing.{done_either, next_of, open_only, there_same, stops_either, within_from}
 use Rattle.zr_stops.proofs.Ending.{ends_committed, leaves_committed, newest_same}
 use Rattle.zr_stops.proofs.Images.{Allowed, IsPending, KeepsClear, newest_kept, pending_leaves, pending_step, within_clear, within_pending}
-use Rattle.zr_stops.proofs.Opened.{opened_committed, opened_from}
 use Rattle.zr_stops.proofs.Within.{begins_within, line_within, within_writes}
-use Rattle.zr_stops.specs.Behind.{IsJustOpened, ShowsOnly, StandsBehind}
+use Rattle.zr_stops.specs.Behind.{ShowsOnly, StandsBehind}
 use Rattle.zr_stops.specs.Either.{ShowsEither}
-use Rattle.zr_last.specs.Ends.{ComesCommitted, EndsCommitted}
+use Rattle.zr_sync.specs.Ends.{ComesCommitted, EndsCommitted, LeavesCommitted}
+use Rattle.zr_sync.specs.Heads.{HasDirectory, HasSafeHead}
 use Rattle.zr_last.specs.Last.{ShowsLast}
 use Rattle.zr_stops.specs.Last.{IsCommitted}
 
-pub begins_behind : (sizes : List ℕ) (u : Uber) (pool : OpenPool) (objects : Objects) (now : Stand) → IsCommitted sizes now u pool objects → GoesOnFrom u pool → AreInService (devices_in pool.space) → StandsBehind sizes objects pool now
+pub begins_behind : (sizes : List ℕ) (u : Uber) (pool : OpenPool) (objects : Objects) (now : Stand) → IsCommitted sizes now u pool objects → GoesOnFrom u pool → AreThere (devices_in pool.space) → StandsBehind sizes objects pool now
 begins_behind sizes u pool objects now was from on = record { first = pool; root = u; begin = now; committed = was; from = from; on = on; within = begins_within sizes u pool objects now was }
 
 module _ (sizes : List ℕ) (objects : Objects) (old : OpenPool) (start : World) (h : StandsBehind sizes objects old start.now) where
-  pub line_behind : (new : OpenPool) (now : World) → WritesIntoFree old start now → KeepsOthers Block old.space new.space → new.table ≡ old.table → new.last ≡ old.last → new.guid ≡ old.guid → StandsBehind sizes objects new now.now
-  line_behind new now wrote keeps table last guid = record {
+  pub line_behind : (new : OpenPool) (now : World) → WritesIntoFree old start now → ((d u : ℕ) → is_open_role (role_at new.space d u) ≡ true → is_open_role (role_at old.space d u) ≡ true) → new.table ≡ old.table → new.last ≡ old.last → new.guid ≡ old.guid → StandsBehind sizes objects new now.now
+  line_behind new now wrote opens table last guid = record {
     first = h.first;
     root = h.root;
     begin = h.begin;
     committed = h.committed;
     from = h.from;
     on = h.on;
-    within = line_within h.first h.begin old new start now h.within wrote keeps table last guid;
+    within = line_within h.first h.begin old new start now h.within wrote opens table last guid;
   }
 
   -- what a crash leaves while a line writes
@@ -77,7 +77,7 @@ module _ (sizes : List ℕ) (objects : Objects) (old : OpenPool) (start : World)
       table = ends.same.table ∙ h.within.table
 
       pub commit_behind : StandsBehind sizes after new now.now
-      commit_behind = begins_behind sizes then_committed.0 new after now.now then_committed.2 then_committed.1 (service_same sizes h.first new h.committed.ready ends.pool table h.on)
+      commit_behind = begins_behind sizes then_committed.0 new after now.now then_committed.2 then_committed.1 (there_same sizes h.first new h.committed.ready ends.pool table h.on)
 
       pub commit_shows : Throughout (ShowsEither objects after) start now
       commit_shows =
@@ -92,17 +92,31 @@ pub behind_shows : (sizes : List ℕ) (objects : Objects) (pool : OpenPool) (now
 behind_shows sizes objects pool now h = open_only sizes h.root h.first objects h.begin h.committed h.from h.on now (pending_leaves sizes h.root h.first objects h.begin h.committed now (within_pending sizes h.root h.first objects h.begin h.committed pool now h.within))
 
 -- the first commit of which it is known
-pub shown_behind : (sizes : List ℕ) (reset : Bool) (last : Uber) (old new : OpenPool) (objects : Objects) (before now : World) → IsOpen sizes old → GoesOnFrom last old → map length before.now.seen ≡ sizes → IsNewestOn before.now.seen last old.table.slots → AreInService (devices_in old.space)
+pub shown_behind : (sizes : List ℕ) (reset : Bool) (last : Uber) (old new : OpenPool) (objects : Objects) (before now : World) → IsOpen sizes old → GoesOnFrom last old → map length before.now.seen ≡ sizes → IsNewestOn before.now.seen last old.table.slots → AreThere (devices_in old.space)
     → EndsCommitted sizes reset old new objects before now → StandsBehind sizes objects new now.now
 shown_behind sizes reset last old new objects before now ready from sized was on ends =
     let c = leaves_committed sizes reset last old new objects before now ready from sized was ends in
-    begins_behind sizes c.0 new objects now.now c.2 c.1 (service_same sizes old new ready ends.pool ends.same.table on)
+    begins_behind sizes c.0 new objects now.now c.2 c.1 (there_same sizes old new ready ends.pool ends.same.table on)
 
 -- the first commit of all, after which the disks show its root
-pub made_behind : (sizes : List ℕ) (pool : OpenPool) (objects : Objects) (now : World) → ComesCommitted sizes pool objects now → ShowsLast now.now.seen pool → map length now.now.seen ≡ sizes → AreInService (devices_in pool.space) → StandsBehind sizes objects pool now.now
+pub made_behind : (sizes : List ℕ) (pool : OpenPool) (objects : Objects) (now : World) → ComesCommitted sizes pool objects now → ShowsLast now.now.seen pool → map length now.now.seen ≡ sizes → AreThere (devices_in pool.space) → StandsBehind sizes objects pool now.now
 made_behind sizes pool objects now comes shows sized on =
     begins_behind sizes shows.root pool objects now.now (ends_committed sizes true comes.blank pool objects comes.before now comes.commits shows sized) shows.from on
 
--- a pool that was just opened
-pub opened_behind : (sizes : List ℕ) (tells : Type 0) → tells → (objects : Objects) (pool : OpenPool) (now : Stand) → IsJustOpened sizes tells now pool → HoldsObjects (Unit {0}) now.seen pool objects → AreInService (devices_in pool.space) → StandsBehind sizes objects pool now
-opened_behind sizes tells told objects pool now h holds on = begins_behind sizes h.root pool objects now (opened_committed sizes tells told now pool objects h holds on) (opened_from sizes tells told now pool objects h holds on) on
+-- a pool that stands as a commit left it, on disks that show its last root
+pub left_behind : (sizes : List ℕ) (objects : Objects) (pool : OpenPool) (now : Stand) → IsOpen sizes pool → map length now.seen ≡ sizes → ShowsLast now.seen pool → LeavesCommitted pool now → HoldsObjects (Unit {0}) now.seen pool objects → AreThere (devices_in pool.space)
+    → StandsBehind sizes objects pool now
+left_behind sizes objects pool now ready sized shows leaves holds on =
+    begins_behind sizes shows.root pool objects now
+    (record {
+      ready = ready;
+      empty = leaves.empty;
+      settled = leaves.settled;
+      rest = leaves.rest;
+      sized = sized;
+      newest = shows.newest;
+      head = subst (λ (o : Option Uber). IfSome o (λ (u : Uber). HasDirectory now.seen pool u.root u.len)) shows.from.last leaves.head;
+      safe = subst (λ (o : Option Uber). IfSome o (λ (u : Uber). HasSafeHead now.seen pool u.root u.len)) shows.from.last leaves.safe;
+      objects = holds;
+    })
+    shows.from on

@@ -30,14 +30,14 @@ use Rattle.zr_open.proofs.Left.{objects_meant}
 use Rattle.zr_open.specs.Shown.{Shows}
 use Rattle.zr_root.specs.Streams.{HasBytes}
 use Rattle.zr_rules.specs.Equation.{devices_in}
-use Rattle.zr_rules.specs.Places.{is_gone, is_leaving, no_part, part_of}
+use Rattle.zr_rules.specs.Places.{is_gone, no_part, part_of}
 use Rattle.zr_shelf.proofs.Doings.{added_throughout}
 use Rattle.zr_shelf.proofs.Runs.{joined, stays, weaker}
 use Rattle.zr_shelf.specs.Disks.{Stand}
 use Rattle.zr_shelf.specs.Moments.{IsStill, Throughout, World}
 use Rattle.zr_slots.specs.Phases.{IsPublished, IsPublishedInPart}
 use Rattle.zr_slots.specs.Tables.{IsSlotInBoth}
-use Rattle.zr_space.specs.Paths.{AreInService}
+use Rattle.zr_open.specs.There.{AreThere}
 use Rattle.zr_store.specs.Store.{Stored}
 use Rattle.zr_sync.proofs.Holding.{below_labels, published_bytes}
 use Rattle.zr_sync.proofs.Rings.{address_keeps, uber_long}
@@ -49,7 +49,8 @@ use Rattle.zr_sync.specs.declared.open.OpenPool.{OpenPool}
 use Rattle.zr_sync.specs.declared.open.Table.{Table}
 use Rattle.zr_vdev.specs.Runs.{view_of}
 use Rattle.zr_view.specs.Views.{View, address_bytes}
-use Rattle.zr_stops.proofs.Directories.{own_directory, shown_objects}
+use Rattle.zr_stops.proofs.Directories.{shown_objects}
+use Rattle.zr_sync.proofs.Ending.{own_directory}
 use Rattle.zr_stops.proofs.Images.{Allowed, IsPending, KeepsClear, group_leaves, last_kept, newest_kept, pending_leaves, pending_step, seen_step, within_clear, within_pending}
 use Rattle.zr_stops.proofs.Putting.{IsPutting, almost_throughout, begun_throughout, putting_throughout, torn, units_kept}
 use Rattle.zr_stops.proofs.Torn.{torn_shows}
@@ -57,7 +58,8 @@ use Rattle.zr_stops.proofs.Within.{group_within, within_writes}
 use Rattle.zr_stops.specs.Behind.{StandsInGroup, ShowsOnly}
 use Rattle.zr_stops.specs.Either.{CommitsGroup, ShowsEither}
 use Rattle.zr_stops.specs.Groups.{IsInGroup}
-use Rattle.zr_stops.specs.Last.{HasDirectory, HasLast, IsCommitted, LeavesLast}
+use Rattle.zr_sync.specs.Heads.{HasDirectory}
+use Rattle.zr_stops.specs.Last.{HasLast, IsCommitted, LeavesLast}
 use Rattle.zr_stops.specs.Torn.{ShowsOneOf}
 
 -- ---- images on which each address reads the same
@@ -81,7 +83,7 @@ module _ (pool : OpenPool) (a b : List (List ℕ)) (same : (x : Dva) → address
   head_kept : (root : Ptr) (len : ℕ) → HasDirectory a pool root len → HasDirectory b pool root len
   head_kept root len has = record { head = has.head; lawful = has.lawful; same = has.same; stands = λ t is. subst (λ (s : Stored). HasBytes s t (head_bytes has.head)) (sym store_kept) (has.stands t is) }
 
--- ---- devices in service
+-- ---- devices that are there
 
 -- a pool with the same table has them too
 row_same : (sizes : List ℕ) (x y : OpenPool) → IsOpen sizes x → IsOpen sizes y → y.table ≡ x.table → (d : ℕ) → (part_of y.space.parts.devs d).row ≡ (part_of x.space.parts.devs d).row
@@ -95,15 +97,12 @@ row_same sizes x y o q table d = elim (cases_lt d x.table.count) [
     count : y.table.count ≡ x.table.count
     count = ap (λ (t : Table). t.count) table
 
-pub service_same : (sizes : List ℕ) (x y : OpenPool) → IsOpen sizes x → IsOpen sizes y → y.table ≡ x.table → AreInService (devices_in x.space) → AreInService (devices_in y.space)
-service_same sizes x y o q table on = record {
-  there = λ d. ap (λ (r : DevRow). is_gone r.state) (row_same sizes x y o q table d) ∙ on.there d;
-  stays = λ d. ap (λ (r : DevRow). is_leaving r.state) (row_same sizes x y o q table d) ∙ on.stays d;
-}
+pub there_same : (sizes : List ℕ) (x y : OpenPool) → IsOpen sizes x → IsOpen sizes y → y.table ≡ x.table → AreThere (devices_in x.space) → AreThere (devices_in y.space)
+there_same sizes x y o q table on d = ap (λ (r : DevRow). is_gone r.state) (row_same sizes x y o q table d) ∙ on d
 
 -- ---- what leaves the last root shows its objects
 
-module _ (sizes : List ℕ) (last : Uber) (first : OpenPool) (before : Objects) (begin : Stand) (was : IsCommitted sizes begin last first before) (from : GoesOnFrom last first) (on : AreInService (devices_in first.space)) where
+module _ (sizes : List ℕ) (last : Uber) (first : OpenPool) (before : Objects) (begin : Stand) (was : IsCommitted sizes begin last first before) (from : GoesOnFrom last first) (on : AreThere (devices_in first.space)) where
   pub open_only : (stand : Stand) → LeavesLast last first before stand → ShowsOnly before stand
   open_only stand keeps image left paths p shows =
       let has = keeps image left.leaves in
@@ -115,7 +114,7 @@ module _ (sizes : List ℕ) (last : Uber) (first : OpenPool) (before : Objects) 
 
 -- ---- a group, and the root behind it
 
-module _ (sizes : List ℕ) (last : Uber) (first old : OpenPool) (before after : Objects) (begin : Stand) (start mid : World) (was : IsCommitted sizes begin last first before) (from : GoesOnFrom last first) (on : AreInService (devices_in first.space))
+module _ (sizes : List ℕ) (last : Uber) (first old : OpenPool) (before after : Objects) (begin : Stand) (start mid : World) (was : IsCommitted sizes begin last first before) (from : GoesOnFrom last first) (on : AreThere (devices_in first.space))
     (group : StandsInGroup first begin old start.now) (ready : IsOpen sizes old) (blocks : WritesIntoFree old start mid) where
   wrote : WritesIntoFree first start mid
   wrote = within_writes first begin old old start mid group blocks
@@ -195,7 +194,7 @@ module _ (sizes : List ℕ) (last : Uber) (first old : OpenPool) (before after :
             subst (λ (t : Table). HasSlots (slots_of u shows.seen) t.slots) (sym table) (subst (λ (w : Uber). HasSlots (slots_of w shows.seen) first.table.slots) same (one.slots shows.seen shows.shown shows.root.uber shows.current)) in
             let kept = head_kept next mid.now.seen image (address_kept next next_ready) u.root u.len head in
             one_meaning (store_of (view_of image next.table.slots next.space)) next.dir p.objects after
-            (shown_objects paths image sizes u next p next_ready (service_same sizes first next was.ready next_ready table on) to kept shows same slots)
+            (shown_objects paths image sizes u next p next_ready (there_same sizes first next was.ready next_ready table on) to kept shows same slots)
             (objects_kept next mid.now.seen image (address_kept next next_ready) after objects)
 
         either : (p.objects ≡ before) ⊎ (p.objects ≡ after)
@@ -219,12 +218,12 @@ module _ (sizes : List ℕ) (last : Uber) (first old : OpenPool) (before after :
 -- ---- a commit that succeeded
 
 -- from where its lines began
-early_either : (sizes : List ℕ) (last : Uber) (first old : OpenPool) (before after : Objects) (begin start : World) → IsCommitted sizes begin.now last first before → GoesOnFrom last first → AreInService (devices_in first.space) → IsInGroup first begin old start
+early_either : (sizes : List ℕ) (last : Uber) (first old : OpenPool) (before after : Objects) (begin start : World) → IsCommitted sizes begin.now last first before → GoesOnFrom last first → AreThere (devices_in first.space) → IsInGroup first begin old start
     → Throughout (ShowsEither before after) begin start
 early_either sizes last first old before after begin start was from on group =
     weaker (LeavesLast last first before) (ShowsEither before after) begin start (open_either sizes last first before begin.now was from on after) (group_leaves sizes last first before begin start was group.written)
 
-module _ (sizes : List ℕ) (last u : Uber) (first old new : OpenPool) (before after : Objects) (begin : Stand) (start mid now : World) (was : IsCommitted sizes begin last first before) (from : GoesOnFrom last first) (on : AreInService (devices_in first.space))
+module _ (sizes : List ℕ) (last u : Uber) (first old new : OpenPool) (before after : Objects) (begin : Stand) (start mid now : World) (was : IsCommitted sizes begin last first before) (from : GoesOnFrom last first) (on : AreThere (devices_in first.space))
     (group : StandsInGroup first begin old start.now) (ready : IsOpen sizes old) (wrote : WritesIntoFree old start mid) (shown : IsShownFrom sizes old u mid now) (lawful : IsUber u) (is_next : IsNextOf last u) (done : IsCommitted sizes now.now u new after) (to : GoesOnFrom u new) (table : new.table ≡ first.table) where
   read_same : (x : Dva) → address_bytes (view_of mid.now.seen new.table.slots new.space) x ≡ address_bytes (view_of now.now.seen new.table.slots new.space) x
   read_same x = sym (published_bytes sizes shown.both shown.all u (Ok tt) mid now new done.ready lawful shown.published x)
@@ -259,7 +258,7 @@ next_of sizes reset last u old ready from next = record {
   rows = next.rows ∙ from.rows;
 }
 
-module _ (sizes : List ℕ) (reset : Bool) (last : Uber) (first old : OpenPool) (before after : Objects) (begin : Stand) (start now : World) (was : IsCommitted sizes begin last first before) (from : GoesOnFrom last first) (on : AreInService (devices_in first.space))
+module _ (sizes : List ℕ) (reset : Bool) (last : Uber) (first old : OpenPool) (before after : Objects) (begin : Stand) (start now : World) (was : IsCommitted sizes begin last first before) (from : GoesOnFrom last first) (on : AreThere (devices_in first.space))
     (group : StandsInGroup first begin old start.now) (ready : IsOpen sizes old) where
   module _ (mid : World) (blocks : WritesIntoFree old start mid) (u : Uber) (lawful : IsUber u) (next_root : IsNextRoot old reset u) (leads : LeadsTo sizes mid.now.seen old u after) where
     is : IsNextOf last u
@@ -288,7 +287,7 @@ module _ (sizes : List ℕ) (reset : Bool) (last : Uber) (first old : OpenPool) 
   stops_either (mid, blocks, inl unmoved) = still_either sizes last first old before after begin start mid was from on group ready blocks now unmoved
   stops_either (mid, blocks, inr (u, lawful, next_root, leads, published)) = root_either mid blocks u lawful next_root leads published
 
-pub stopped_either : (sizes : List ℕ) (reset : Bool) (last : Uber) (first old : OpenPool) (before after : Objects) (begin start now : World) → IsCommitted sizes begin.now last first before → GoesOnFrom last first → AreInService (devices_in first.space)
+pub stopped_either : (sizes : List ℕ) (reset : Bool) (last : Uber) (first old : OpenPool) (before after : Objects) (begin start now : World) → IsCommitted sizes begin.now last first before → GoesOnFrom last first → AreThere (devices_in first.space)
     → IsInGroup first begin old start → IsOpen sizes old → CommitsObjects sizes old reset after start now → Throughout (ShowsEither before after) begin now
 stopped_either sizes reset last first old before after begin start now was from on group ready commits =
     joined (ShowsEither before after) begin start now (early_either sizes last first old before after begin start was from on group)

@@ -17,28 +17,24 @@ use Rattle.zr_shelf.specs.Disks.{Stand}
 use Rattle.zr_shelf.specs.Moments.{Throughout, World}
 use Rattle.zr_slots.specs.Tables.{IsSlotInBoth}
 use Rattle.zr_sync.proofs.Rings.{uber_long}
+use Rattle.zr_last.proofs.Ending.{some_last}
 use Rattle.zr_sync.specs.Commits.{IsNextRoot, IsShownFrom}
 use Rattle.zr_sync.specs.Heads.{HasHead, HasSafeHead}
 use Rattle.zr_sync.specs.Pools.{IsAfter, IsOpen}
 use Rattle.zr_sync.specs.Writes.{WritesIntoFree}
 use Rattle.zr_sync.specs.declared.open.OpenPool.{OpenPool}
 use Rattle.zr_sync.specs.declared.open.Table.{Table}
-use Rattle.zr_stops.proofs.Committing.{commit_either, next_of, service_same, within_from}
-use Rattle.zr_stops.proofs.Directories.{own_directory}
+use Rattle.zr_stops.proofs.Committing.{commit_either, next_of, there_same, within_from}
+use Rattle.zr_sync.proofs.Ending.{own_directory}
 use Rattle.zr_stops.proofs.Images.{group_reads, group_sizes}
 use Rattle.zr_stops.proofs.Putting.{base_end}
 use Rattle.zr_stops.proofs.Within.{group_within}
 use Rattle.zr_stops.specs.Either.{ShowsEither}
-use Rattle.zr_last.specs.Ends.{EndsCommitted}
+use Rattle.zr_sync.specs.Ends.{EndsCommitted}
 use Rattle.zr_stops.specs.Follows.{Commit, FollowOn, IsNextCommit, ShowsAmong, Stood, last_of}
 use Rattle.zr_stops.specs.Last.{IsCommitted}
 
 -- ---- a commit
-
--- there is a last root behind it
-some_last : (o : Option Uber) (txg : ℕ) → IsAfter o txg → 1 < txg → (u : Uber) × (o ≡ Some u)
-some_last None txg after more = absurd (omega (arith, after, more))
-some_last (Some u) txg after more = (u, refl)
 
 -- the newest root is so for a pool with the same devices
 pub newest_same : (disks : List (List ℕ)) (u : Uber) (x y : OpenPool) → y.table ≡ x.table → IsNewestOn disks u x.table.slots → IsNewestOn disks u y.table.slots
@@ -151,7 +147,7 @@ module _ (sizes : List ℕ) (a b : Commit) (stood : Stood sizes a) (next : IsNex
   table = next.ends.same.table ∙ next.group.table
 
   stands_next : Stood sizes b
-  stands_next = record { committed = then_committed; from = then_from; on = service_same sizes a.pool b.pool c.ready then_committed.ready table stood.on }
+  stands_next = record { committed = then_committed; from = then_from; on = there_same sizes a.pool b.pool c.ready then_committed.ready table stood.on }
 
   shows_next : Throughout (ShowsEither a.objects b.objects) a.now b.now
   shows_next =

@@ -30,7 +30,7 @@ use Rattle.zr_shelf.specs.Doings.{Adds}
 use Rattle.zr_shelf.specs.Doings.Adds.{added_none, added}
 use Rattle.zr_shelf.specs.Moments.{Throughout, World}
 use Rattle.zr_store.proofs.Meeting.{at_each}
-use Rattle.zr_sync.specs.Heads.{IsInMetadata}
+use Rattle.zr_sync.specs.Heads.{HasDirectory, IsInMetadata}
 use Rattle.zr_sync.specs.Objects.{account_of}
 use Rattle.zr_sync.specs.Writes.{WritesIntoFree}
 use Rattle.zr_sync.specs.declared.open.OpenPool.{OpenPool}
@@ -42,7 +42,7 @@ use Rattle.zr_vdev.specs.declared.kind.Kind.TheVariants.{Block}
 use Rattle.zr_view.specs.Runs.{bytes_from}
 use Rattle.zr_view.specs.Views.{View, address_bytes, slot_of}
 use Rattle.zr_stops.specs.Behind.{StandsInGroup}
-use Rattle.zr_stops.specs.Last.{HasDirectory, HasLast, IsCommitted, IsSettled, LeavesLast}
+use Rattle.zr_stops.specs.Last.{HasLast, IsCommitted, IsSettled, LeavesLast}
 
 -- ---- roles
 

@@ -6,5 +6,4 @@ pub mod Torn
 pub mod Putting
 pub mod Committing
 pub mod Ending
-pub mod Opened
 pub mod Behind

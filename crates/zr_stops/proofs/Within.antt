@@ -1,10 +1,11 @@
 -- What the lines of a group do to how the disks stand.
-use Rattle.std.proofs.Common.{◌≡◌, ℕ, ◌<◌, List, [], length, Option, refl, sym, ◌∙◌, ap, subst}
+use Rattle.std.proofs.Common.{◌≡◌, ℕ, ◌<◌, true, List, [], length, Option, refl, sym, ◌∙◌, ap, subst}
 use Rattle.std.specs.List.{AllByRecursion}
 use Rattle.zr_image.specs.Honest.{IsLeft, IsMark}
 use Rattle.zr_label.specs.Geometry.{label_block_at, ring_slot_at}
 use Rattle.zr_label.specs.declared.root.Uber.{Uber}
 use Rattle.zr_model.specs.Objects.{Objects}
+use Rattle.zr_rules.specs.Space.{role_at}
 use Rattle.zr_shelf.proofs.Doings.{added_throughout}
 use Rattle.zr_shelf.specs.Disks.{IsSameOutside, PendingWrite, Stand, disk}
 use Rattle.zr_shelf.specs.Doings.{Adds}
@@ -14,7 +15,7 @@ use Rattle.zr_shelf.specs.Publish.{IsHonestBlock}
 use Rattle.zr_sync.specs.Writes.{WritesIntoFree}
 use Rattle.zr_sync.specs.declared.open.OpenPool.{OpenPool}
 use Rattle.zr_vdev.proofs.Follows.{widen}
-use Rattle.zr_vdev.specs.Stores.{IsWriteInto, KeepsOthers}
+use Rattle.zr_vdev.specs.Stores.{IsWriteInto, is_open_role}
 use Rattle.zr_vdev.specs.declared.kind.Kind.TheVariants.{Block}
 use Rattle.zr_stops.specs.Behind.{AreSameDisks, StandsInGroup, StandsBehind}
 use Rattle.zr_stops.specs.Groups.{IsInGroup}
@@ -61,14 +62,14 @@ module _ (first : OpenPool) (begin : Stand) where
     pub within_writes : WritesIntoFree old before now → WritesIntoFree first before now
     within_writes wrote = widen (IsWriteInto Block old.table.slots old.space) May into_first before now wrote
 
-    pub line_within : WritesIntoFree old before now → KeepsOthers Block old.space new.space → new.table ≡ old.table → new.last ≡ old.last → new.guid ≡ old.guid → StandsInGroup first begin new now.now
-    line_within wrote keeps table last guid =
+    pub line_within : WritesIntoFree old before now → ((d u : ℕ) → is_open_role (role_at new.space d u) ≡ true → is_open_role (role_at old.space d u) ≡ true) → new.table ≡ old.table → new.last ≡ old.last → new.guid ≡ old.guid → StandsInGroup first begin new now.now
+    line_within wrote opens table last guid =
         let there = (added_throughout IsThere May there_step before now (within_writes wrote) (record { durable = group.durable; writes = group.writes; seen = group.seen })).1 in
         record {
           table = table ∙ group.table;
           last = last ∙ group.last;
           guid = guid ∙ group.guid;
-          open_units = λ d u is. group.open_units d u (keeps.writable d u is);
+          open_units = λ d u is. group.open_units d u (opens d u is);
           durable = there.durable;
           writes = there.writes;
           seen = there.seen;

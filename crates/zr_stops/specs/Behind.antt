@@ -1,23 +1,17 @@
 -- How the disks stand within a group, and behind which commit. Between two lines the input and the output change too, so this is said of the disks alone.
-use Rattle.std.specs.Prelude.{◌≡◌, ℕ, List, length, map, true}
+use Rattle.std.specs.Prelude.{◌≡◌, ℕ, List, true}
 use Rattle.std.specs.List.{AllByRecursion}
 use Rattle.zr_current.specs.Current.{GoesOnFrom}
-use Rattle.zr_image.specs.Current.{ShowsAll, slots_of}
 use Rattle.zr_image.specs.Honest.{IsLeft}
-use Rattle.zr_label.specs.declared.root.Seen.{Seen}
 use Rattle.zr_label.specs.declared.root.Uber.{Uber}
-use Rattle.zr_last.specs.Last.{ShowsLast}
 use Rattle.zr_model.specs.Objects.{Objects}
 use Rattle.zr_model.specs.State.{PoolState}
-use Rattle.zr_open.specs.Opened.{IsFresh}
-use Rattle.zr_open.specs.Roots.{IsOfRoot}
 use Rattle.zr_open.specs.Shown.{Shows}
 use Rattle.zr_rules.specs.Equation.{devices_in}
 use Rattle.zr_rules.specs.Space.{role_at}
-use Rattle.zr_shelf.specs.Disks.{IsAtRest, IsSameOutside, Stand}
-use Rattle.zr_space.specs.Paths.{AreInService}
+use Rattle.zr_shelf.specs.Disks.{IsSameOutside, Stand}
+use Rattle.zr_open.specs.There.{AreThere}
 use Rattle.zr_stops.specs.Last.{IsCommitted}
-use Rattle.zr_sync.specs.Pools.{IsOpen}
 use Rattle.zr_sync.specs.declared.open.OpenPool.{OpenPool}
 use Rattle.zr_vdev.specs.Stores.{IsWriteInto, is_open_role}
 use Rattle.zr_vdev.specs.declared.kind.Kind.TheVariants.{Block}
@@ -33,27 +27,15 @@ pub record StandsInGroup (first : OpenPool) (begin : Stand) (pool : OpenPool) (n
   pub writes : AllByRecursion (IsWriteInto Block first.table.slots first.space) now.writes
   pub seen : IsSameOutside now.writes begin.seen now.seen
 
--- The pool is in the group behind a commit of these objects, when all its devices were in service.
+-- The pool is in the group behind a commit of these objects, when none of its devices was gone.
 pub record StandsBehind (sizes : List ℕ) (objects : Objects) (pool : OpenPool) (now : Stand) : Type 0 where
   pub first : OpenPool
   pub root : Uber
   pub begin : Stand
   pub committed : IsCommitted sizes begin root first objects
   pub from : GoesOnFrom root first
-  pub on : AreInService (devices_in first.space)
+  pub on : AreThere (devices_in first.space)
   pub within : StandsInGroup first begin pool now
-
--- The pool was just opened by the current root that the slots show, with what stands of it on the disks, and nothing is pending.
-pub record IsJustOpened (sizes : List ℕ) (tells : Type 0) (stand : Stand) (pool : OpenPool) : Type 0 where
-  pub ready : IsOpen sizes pool
-  pub sized : map length stand.seen ≡ sizes
-  pub rest : IsAtRest stand
-  pub root : Uber
-  pub fresh : IsFresh root pool
-  pub seen : List Seen
-  pub shown : ShowsAll stand.seen seen
-  pub of_root : IsOfRoot tells stand.seen (slots_of root seen) root pool
-  pub last : ShowsLast stand.seen pool
 
 -- the disks stand the same, whatever the input and the output are
 pub record AreSameDisks (a b : Stand) : Type 0 where

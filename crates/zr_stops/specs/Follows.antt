@@ -9,8 +9,8 @@ use Rattle.zr_open.specs.Shown.{Shows}
 use Rattle.zr_rules.specs.Equation.{devices_in}
 use Rattle.zr_shelf.specs.Disks.{Stand}
 use Rattle.zr_shelf.specs.Moments.{World}
-use Rattle.zr_space.specs.Paths.{AreInService}
-use Rattle.zr_last.specs.Ends.{EndsCommitted}
+use Rattle.zr_open.specs.There.{AreThere}
+use Rattle.zr_sync.specs.Ends.{EndsCommitted}
 use Rattle.zr_stops.specs.Groups.{IsInGroup}
 use Rattle.zr_stops.specs.Last.{IsCommitted}
 use Rattle.zr_sync.specs.Pools.{IsOpen}
@@ -23,11 +23,11 @@ pub record Commit : Type 0 where
   pub pool : OpenPool
   pub objects : Objects
 
--- the pool stood committed then, and all its devices were in service
+-- the pool stood committed then, and none of its devices was gone
 pub record Stood (sizes : List ℕ) (c : Commit) : Type 0 where
   pub committed : IsCommitted sizes c.now.now c.root c.pool c.objects
   pub from : GoesOnFrom c.root c.pool
-  pub on : AreInService (devices_in c.pool.space)
+  pub on : AreThere (devices_in c.pool.space)
 
 -- the lines of one group came behind the one commit, and then the other
 pub record IsNextCommit (sizes : List ℕ) (a b : Commit) : Type 0 where

@@ -1,18 +1,13 @@
 -- The last root of an open pool, on the disks and on what a crash may leave of them.
-use Rattle.std.specs.Prelude.{◌≡◌, ℕ, List, [], length, map, take}
-use Rattle.zr_bptr.specs.declared.Ptr.{Ptr}
-use Rattle.zr_bptr.specs.declared.Tree.{Tree}
+use Rattle.std.specs.Prelude.{◌≡◌, ℕ, List, [], length, map}
 use Rattle.zr_image.specs.Reading.{store_of}
 use Rattle.zr_image.specs.StateOf.{AreObjects}
 use Rattle.zr_label.specs.declared.root.Uber.{Uber}
-use Rattle.zr_meta.specs.Heads.{IsHead, head_bytes}
-use Rattle.zr_meta.specs.declared.Head.{Head}
 use Rattle.zr_model.specs.Objects.{Objects}
 use Rattle.zr_newest.specs.Newest.{IsNewestOn}
-use Rattle.zr_root.specs.Streams.{HasBytes, IsTreeFor}
 use Rattle.zr_rules.specs.Space.{Space, nothing_opened, opened_of}
 use Rattle.zr_shelf.specs.Disks.{IsAtRest, MayLeave, Stand}
-use Rattle.zr_sync.specs.Heads.{HasSafeHead}
+use Rattle.zr_sync.specs.Heads.{HasDirectory, HasSafeHead}
 use Rattle.zr_sync.specs.Objects.{HoldsObjects}
 use Rattle.zr_sync.specs.Pools.{IsOpen}
 use Rattle.zr_sync.specs.declared.open.OpenPool.{OpenPool}
@@ -21,13 +16,6 @@ use Rattle.zr_vdev.specs.Runs.{view_of}
 -- no unit is the open group's own
 abbrev pub IsSettled : Space → Type 0
 IsSettled s = (d : ℕ) → opened_of s d ≡ nothing_opened
-
--- The disks have a head with the pool's directory at this root, under the pool's table. It need not be the one that the pool would write: a head of the first form tells of no late sets.
-pub record HasDirectory (disks : List (List ℕ)) (pool : OpenPool) (root : Ptr) (len : ℕ) : Type 0 where
-  pub head : Head
-  pub lawful : IsHead (take pool.table.count pool.table.rows) head
-  pub same : head.dir ≡ pool.dir
-  pub stands : (t : Tree) → IsTreeFor len root t → HasBytes (store_of (view_of disks pool.table.slots pool.space)) t (head_bytes head)
 
 -- The pool stands as its last root has it: nothing has changed since and nothing is pending. That root is the newest of the pool on the disks, which have its directory, at a head in units of
 -- metadata, and its objects.

@@ -8,7 +8,7 @@ ghost use Rattle.zr_current.specs.Current.{GoesOnFrom};
 ghost use Rattle.zr_newest.specs.Newest.{IsNewestOn};
 ghost use Rattle.zr_rules.specs.Equation.{devices_in};
 ghost use Rattle.zr_shelf.specs.Moments.{Throughout, World};
-ghost use Rattle.zr_space.specs.Paths.{AreInService};
+ghost use Rattle.zr_open.specs.There.{AreThere};
 ghost use Rattle.zr_sync.specs.Leads.{CommitsObjects};
 ghost use Rattle.zr_sync.specs.Pools.{IsOpen};
 ghost use Rattle.zr_sync.specs.Writes.{WritesIntoFree};
@@ -16,7 +16,7 @@ ghost use Rattle.zr_sync.specs.declared.open.OpenPool.{OpenPool};
 ghost use Rattle.zr_stops.specs.Either.{CommitsGroup, ShowsEither};
 ghost use Rattle.zr_vdev.specs.Stores.{KeepsOthers};
 ghost use Rattle.zr_vdev.specs.declared.kind.Kind.TheVariants.{Block};
-ghost use Rattle.zr_last.specs.Ends.{EndsCommitted};
+ghost use Rattle.zr_sync.specs.Ends.{EndsCommitted};
 ghost use Rattle.zr_stops.specs.Follows.{Commit, FollowOn, ShowsAmong, Stood, last_of};
 ghost use Rattle.zr_stops.specs.Groups.{IsInGroup};
 ghost use Rattle.zr_stops.specs.Last.{HasLast, IsCommitted, LeavesLast};
@@ -38,9 +38,9 @@ pub fn a_group_leaves_the_last_root()
     ensures { (sizes : List ℕ) (u : Uber) (pool : OpenPool) (objects : Objects) (before now : World) → IsCommitted sizes before.now u pool objects → WritesIntoFree pool before now → Throughout (LeavesLast u pool objects) before now }
 {}
 
-/// Whatever pool an image shows that has the last root of a pool of devices in service, its objects are those of that root.
+/// Whatever pool an image shows that has the last root of a pool of which no device is gone, its objects are those of that root.
 pub fn the_last_root_is_shown()
-    ensures { (paths image : List (List ℕ)) (sizes : List ℕ) (u : Uber) (pool : OpenPool) (objects : Objects) (p : PoolState) → IsOpen sizes pool → AreInService (devices_in pool.space) → GoesOnFrom u pool
+    ensures { (paths image : List (List ℕ)) (sizes : List ℕ) (u : Uber) (pool : OpenPool) (objects : Objects) (p : PoolState) → IsOpen sizes pool → AreThere (devices_in pool.space) → GoesOnFrom u pool
         → HasLast image u pool objects → Shows paths image p → p.objects ≡ objects }
 {}
 
@@ -69,6 +69,6 @@ pub fn groups_follow()
 /// where the group begins, whatever pool an honest crash shows has the objects from before the group, or those that the commit
 /// was of.
 pub fn a_stopped_commit_leaves_one_of_two_states()
-    ensures { (sizes : List ℕ) (reset : Bool) (last : Uber) (first old : OpenPool) (before after : Objects) (begin start now : World) → IsCommitted sizes begin.now last first before → GoesOnFrom last first → AreInService (devices_in first.space)
+    ensures { (sizes : List ℕ) (reset : Bool) (last : Uber) (first old : OpenPool) (before after : Objects) (begin start now : World) → IsCommitted sizes begin.now last first before → GoesOnFrom last first → AreThere (devices_in first.space)
         → IsInGroup first begin old start → IsOpen sizes old → CommitsObjects sizes old reset after start now → Throughout (ShowsEither before after) begin now }
 {}

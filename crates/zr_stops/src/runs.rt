@@ -1,5 +1,5 @@
 //! Lines of a group, and the commit that ends it, by how the disks stand before each of them.
-ghost use Rattle.std.specs.Prelude.{◌≡◌, ℕ, Bool, List, map, length};
+ghost use Rattle.std.specs.Prelude.{◌≡◌, ℕ, Bool, true, List, map, length};
 ghost use Rattle.zr_current.specs.Current.{GoesOnFrom};
 ghost use Rattle.zr_newest.specs.Newest.{IsNewestOn};
 ghost use Rattle.zr_label.specs.declared.root.Uber.{Uber};
@@ -7,10 +7,10 @@ ghost use Rattle.zr_model.specs.Objects.{Objects};
 ghost use Rattle.zr_rules.specs.Equation.{devices_in};
 ghost use Rattle.zr_shelf.specs.Disks.{Stand};
 ghost use Rattle.zr_shelf.specs.Moments.{Throughout, World};
-ghost use Rattle.zr_space.specs.Paths.{AreInService};
-ghost use Rattle.zr_stops.specs.Behind.{AreSameDisks, IsJustOpened, ShowsOnly, StandsBehind};
+ghost use Rattle.zr_open.specs.There.{AreThere};
+ghost use Rattle.zr_stops.specs.Behind.{AreSameDisks, ShowsOnly, StandsBehind};
 ghost use Rattle.zr_stops.specs.Either.{ShowsEither};
-ghost use Rattle.zr_last.specs.Ends.{ComesCommitted, EndsCommitted};
+ghost use Rattle.zr_sync.specs.Ends.{ComesCommitted, EndsCommitted, LeavesCommitted};
 ghost use Rattle.zr_last.specs.Last.{ShowsLast};
 ghost use Rattle.zr_stops.specs.Last.{IsCommitted};
 ghost use Rattle.zr_sync.specs.Leads.{CommitsObjects};
@@ -18,32 +18,33 @@ ghost use Rattle.zr_sync.specs.Objects.{HoldsObjects};
 ghost use Rattle.zr_sync.specs.Pools.{IsOpen};
 ghost use Rattle.zr_sync.specs.Writes.{WritesIntoFree};
 ghost use Rattle.zr_sync.specs.declared.open.OpenPool.{OpenPool};
-ghost use Rattle.zr_vdev.specs.Stores.{KeepsOthers};
-ghost use Rattle.zr_vdev.specs.declared.kind.Kind.TheVariants.{Block};
+ghost use Rattle.zr_rules.specs.Space.{role_at};
+ghost use Rattle.zr_vdev.specs.Stores.{is_open_role};
 
-/// Behind a commit of a pool of devices in service a group begins: where it left the pool committed, and where the root before it
+/// Behind a commit of a pool of which no device is gone a group begins: where it left the pool committed, and where the root before it
 /// was the newest, or that of a pool that was made. Then whatever an honest crash shows are the objects of the commit. What is taken of the input, and what is
 /// sent, does not matter.
 pub fn a_commit_begins_a_group()
-    ensures stood { (sizes : List ℕ) (u : Uber) (pool : OpenPool) (objects : Objects) (now : Stand) → IsCommitted sizes now u pool objects → GoesOnFrom u pool → AreInService (devices_in pool.space) → StandsBehind sizes objects pool now }
+    ensures stood { (sizes : List ℕ) (u : Uber) (pool : OpenPool) (objects : Objects) (now : Stand) → IsCommitted sizes now u pool objects → GoesOnFrom u pool → AreThere (devices_in pool.space) → StandsBehind sizes objects pool now }
     ensures shown { (sizes : List ℕ) (reset : Bool) (last : Uber) (old new : OpenPool) (objects : Objects) (before now : World) → IsOpen sizes old → GoesOnFrom last old → map length before.now.seen ≡ sizes → IsNewestOn before.now.seen last old.table.slots
-        → AreInService (devices_in old.space) → EndsCommitted sizes reset old new objects before now → StandsBehind sizes objects new now.now }
-    ensures made { (sizes : List ℕ) (pool : OpenPool) (objects : Objects) (now : World) → ComesCommitted sizes pool objects now → ShowsLast now.now.seen pool → map length now.now.seen ≡ sizes → AreInService (devices_in pool.space) → StandsBehind sizes objects pool now.now }
+        → AreThere (devices_in old.space) → EndsCommitted sizes reset old new objects before now → StandsBehind sizes objects new now.now }
+    ensures made { (sizes : List ℕ) (pool : OpenPool) (objects : Objects) (now : World) → ComesCommitted sizes pool objects now → ShowsLast now.now.seen pool → map length now.now.seen ≡ sizes → AreThere (devices_in pool.space) → StandsBehind sizes objects pool now.now }
     ensures shows { (sizes : List ℕ) (objects : Objects) (pool : OpenPool) (now : Stand) → StandsBehind sizes objects pool now → ShowsOnly objects now }
     ensures disks { (sizes : List ℕ) (objects : Objects) (pool : OpenPool) (a b : Stand) → AreSameDisks a b → StandsBehind sizes objects pool a → StandsBehind sizes objects pool b }
 {}
 
-/// A pool that was just opened begins a group too, as a commit of what its root has: where the disks are at rest and all devices are
-/// in service, whatever an honest crash shows are the objects that it holds.
-pub fn an_opened_pool_begins_a_group()
-    ensures { (sizes : List ℕ) (objects : Objects) (pool : OpenPool) (now : Stand) → IsJustOpened sizes (Unit {0}) now pool → HoldsObjects (Unit {0}) now.seen pool objects → AreInService (devices_in pool.space) → StandsBehind sizes objects pool now }
+/// A pool that stands as a commit left it begins a group too, where the disks show its last root and no device is gone:
+/// whatever an honest crash shows are the objects that it holds. So does one that was just opened.
+pub fn a_pool_that_was_left_begins_a_group()
+    ensures { (sizes : List ℕ) (objects : Objects) (pool : OpenPool) (now : Stand) → IsOpen sizes pool → map length now.seen ≡ sizes → ShowsLast now.seen pool → LeavesCommitted pool now → HoldsObjects (Unit {0}) now.seen pool objects → AreThere (devices_in pool.space)
+        → StandsBehind sizes objects pool now }
 {}
 
-/// A line that writes blocks alone stays in its group, and whatever an honest crash shows at each moment of it are the objects
-/// that were committed last.
+/// A line that writes into free units, behind which no others may be written, stays in its group, and whatever an honest crash
+/// shows at each moment of it are the objects that were committed last.
 pub fn a_line_stays_in_its_group()
-    ensures stands { (sizes : List ℕ) (objects : Objects) (old new : OpenPool) (before now : World) → StandsBehind sizes objects old before.now → WritesIntoFree old before now → KeepsOthers Block old.space new.space
-        → new.table ≡ old.table → new.last ≡ old.last → new.guid ≡ old.guid → StandsBehind sizes objects new now.now }
+    ensures stands { (sizes : List ℕ) (objects : Objects) (old new : OpenPool) (before now : World) → StandsBehind sizes objects old before.now → WritesIntoFree old before now
+        → ((d u : ℕ) → is_open_role (role_at new.space d u) ≡ true → is_open_role (role_at old.space d u) ≡ true) → new.table ≡ old.table → new.last ≡ old.last → new.guid ≡ old.guid → StandsBehind sizes objects new now.now }
     ensures shows { (sizes : List ℕ) (objects : Objects) (old : OpenPool) (before now : World) → StandsBehind sizes objects old before.now → WritesIntoFree old before now → Throughout (ShowsOnly objects) before now }
 {}
 

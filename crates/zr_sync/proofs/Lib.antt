@@ -19,3 +19,4 @@ pub mod Moving
 pub mod SetsFrom
 pub mod Safe
 pub mod Leading
+pub mod Ending

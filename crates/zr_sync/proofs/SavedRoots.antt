@@ -133,7 +133,7 @@ held_live txg old new h = record {
   live = λ d u live. ap is_live_role (h.roles d u) ∙ (saved_live (role_at old d u) ∙ live);
 }
 
-ckpt_role : (s : Space) (c : CkptPart) (d u : ℕ) → role_at (with_ckpt s c) d u ≡ role_at s d u
+pub ckpt_role : (s : Space) (c : CkptPart) (d u : ℕ) → role_at (with_ckpt s c) d u ≡ role_at s d u
 unfolding role_at
 ckpt_role s c d u = refl
 

@@ -13,6 +13,7 @@ use Rattle.zr_shelf.specs.Moments.{IsStill, World}
 use Rattle.zr_vdev.specs.Stores.{KeepsOthers}
 use Rattle.zr_vdev.specs.declared.kind.Kind.TheVariants.{Meta}
 use Rattle.zr_sync.specs.Commits.{EndsGroup, IsNextRoot, IsShownFrom}
+use Rattle.zr_sync.specs.Ends.{EndsCommitted}
 use Rattle.zr_sync.specs.Leads.{CommitsObjects}
 use Rattle.zr_sync.specs.Pools.{IsOpen}
 use Rattle.zr_sync.specs.Writes.{WritesIntoFree}
@@ -114,3 +115,17 @@ pub record CommitsWithout (sizes : List ℕ) (before now : World) (old new : Ope
 -- A checkpoint is given up, wherever that stops: nothing was done, or the pool without a saved root was being committed with these objects, by a reset.
 abbrev pub GivesUpInPart : List ℕ → Objects → OpenPool → World → World → Type 0
 GivesUpInPart sizes objects old before now = IsStill before now ⊎ ((dropped : OpenPool) × IsOpen sizes dropped × DropsRoot old dropped × CommitsObjects sizes dropped true objects before now)
+
+-- The group was committed with these objects, and the pool that saves the root of that was being committed with them.
+pub record TakesBehind (sizes : List ℕ) (objects : Objects) (old : OpenPool) (before now : World) : Type 0 where
+  pub ended : OpenPool
+  pub mid : World
+  pub first : EndsCommitted sizes false old ended objects before mid
+  pub held : OpenPool
+  pub ready : IsOpen sizes held
+  pub saves : SavesRoot ended held
+  pub second : CommitsObjects sizes held true objects mid now
+
+-- Wherever the taking of a checkpoint stops: in the first commit, or in the second one.
+abbrev pub TakesInPart : List ℕ → Objects → OpenPool → World → World → Type 0
+TakesInPart sizes objects old before now = CommitsObjects sizes old false objects before now ⊎ TakesBehind sizes objects old before now

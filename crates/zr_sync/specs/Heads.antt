@@ -67,6 +67,13 @@ pub record StandsHead (table : List DevRow) (view : View) (h : Head) (root : Ptr
 abbrev pub HasHead : List (List ℕ) → OpenPool → Ptr → ℕ → Type 0
 HasHead disks pool root len = StandsHead (take pool.table.count pool.table.rows) (view_of disks pool.table.slots pool.space) (head_of pool) root len
 
+-- The disks have a head with the pool's directory at this root, under the pool's table. It need not be the one that the pool would write: a head of the first form tells of no late sets.
+pub record HasDirectory (disks : List (List ℕ)) (pool : OpenPool) (root : Ptr) (len : ℕ) : Type 0 where
+  pub head : Head
+  pub lawful : IsHead (take pool.table.count pool.table.rows) head
+  pub same : head.dir ≡ pool.dir
+  pub stands : (t : Tree) → IsTreeFor len root t → HasBytes (store_of (view_of disks pool.table.slots pool.space)) t (head_bytes head)
+
 -- each unit to which the address leads has metadata
 abbrev pub IsInMetadata : Space → Dva → Type 0
 IsInMetadata s a = (d u : ℕ) → leads_to (devices_in s) a d u ≡ true → is_meta_role (role_at s d u) ≡ true

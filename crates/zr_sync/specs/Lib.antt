@@ -12,3 +12,4 @@ pub mod Streams
 pub mod Anew
 pub mod Mappings
 pub mod Leads
+pub mod Ends

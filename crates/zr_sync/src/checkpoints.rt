@@ -12,7 +12,7 @@ ghost use Rattle.zr_model.specs.Objects.{Objects};
 ghost use Rattle.zr_rules.specs.Places.{is_leaving, state_of_dev};
 ghost use Rattle.zr_rules.specs.Steps.{DiscardsSome};
 ghost use Rattle.zr_shelf.specs.Counts.{NoneFell};
-ghost use Rattle.zr_sync.specs.Checkpoints.{CommitsTwice, CommitsWithout, DropsRoot, GivesSavedMeta, GivesUpCheckpoint, GivesUpInPart, SavesRoot, TakesCheckpoint, no_streams};
+ghost use Rattle.zr_sync.specs.Checkpoints.{CommitsTwice, CommitsWithout, DropsRoot, GivesSavedMeta, GivesUpCheckpoint, GivesUpInPart, SavesRoot, TakesCheckpoint, TakesInPart, no_streams};
 ghost use Rattle.zr_sync.specs.Heads.{HasHead, HasSafeHead, IsSeen};
 ghost use Rattle.zr_sync.specs.Objects.{HoldsObjects};
 ghost use Rattle.zr_sync.specs.Pools.{IsOpen, IsSameIdentity};
@@ -124,6 +124,7 @@ pub fn checkpoint<S: Shelf, P: Place>(
     ensures held { OnOk result (pool.new.space.parts.ckpt ≡ Held pool.old.group.txg) }
     ensures takes { OnOk result (TakesCheckpoint (S.sizes shelf.old) (S.tells shelf.old) (S.world shelf.new) pool.old pool.new) }
     ensures commits { S.tells shelf.old → OnOk result (CommitsTwice (S.sizes shelf.old) (S.world shelf.old) (S.world shelf.new) pool.old pool.new) }
+    ensures leads { (objects : Objects) → HoldsObjects (S.tells shelf.old) (S.world shelf.old).now.seen pool.old objects → TakesInPart (S.sizes shelf.old) objects pool.old (S.world shelf.old) (S.world shelf.new) }
     ensures stands { IsSeen (S.tells shelf.old) (S.world shelf.old).now.seen pool.old → OnOk result (IfSome pool.new.last (λ u. HasHead (S.world shelf.new).now.seen pool.new u.root u.len)) }
     ensures safe { IsSeen (S.tells shelf.old) (S.world shelf.old).now.seen pool.old → OnOk result (IfSome pool.new.last (λ u. HasSafeHead (S.world shelf.new).now.seen pool.new u.root u.len)) }
     ensures seen { IsSeen (S.tells shelf.old) (S.world shelf.old).now.seen pool.old → OnOk result (IsSeen (S.tells shelf.new) (S.world shelf.new).now.seen pool.new) }

@@ -11,8 +11,8 @@ use Rattle.zr_sync.proofs.Disks.{works_more, works_still}
 use Rattle.zr_create.proofs.Checking.{new_disks}
 use Rattle.zr_create.specs.Refusals.{ChecksNew}
 use Rattle.zr_slots.specs.Checks.{AreNamed}
-use Rattle.zr_last.proofs.Ending.{ends_by}
-use Rattle.zr_last.specs.Ends.{EndsCommitted}
+use Rattle.zr_sync.proofs.Ending.{ends_by}
+use Rattle.zr_sync.specs.Ends.{EndsCommitted}
 use Rattle.zr_create.proofs.Going.{with_some}
 use Rattle.zr_create.proofs.Lasting.{new_last}
 use Rattle.zr_create.proofs.Nothing.{new_serve, none_held}

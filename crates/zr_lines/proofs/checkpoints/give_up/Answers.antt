@@ -22,7 +22,7 @@ returns-clause-ends g c = λ objects h.
 -- ---- wherever it stops
 
 pub returns-in_err-demand_to_give-clause-stops : goal.returns-in_err-demand_to_give-clause-stops
-returns-in_err-demand_to_give-clause-stops g c = λ objects h. inl (still (g.S.Shelf.world c.args.shelf.now) (g.S.Shelf.world c.args.shelf.now) refl)
+returns-in_err-demand_to_give-clause-stops g c = λ objects h. inl (inl (still (g.S.Shelf.world c.args.shelf.now) (g.S.Shelf.world c.args.shelf.now) refl))
 
 pub returns-in_err-give_up_checkpoint-clause-stops : goal.returns-in_err-give_up_checkpoint-clause-stops
 returns-in_err-give_up_checkpoint-clause-stops g c = λ objects h. given_up (g.S.Shelf.sizes c.args.shelf.now) objects c.args.pool.now (g.S.Shelf.world c.args.shelf.now) (g.S.Shelf.world c.give_up_checkpoint.new.shelf) (c.give_up_checkpoint.ensures.leads objects h)

@@ -8,7 +8,7 @@ use Rattle.zr_lines.proofs.Locating.{behind_commit, absent_here, far_here, means
 use Rattle.zr_lines.proofs.Places.{takes_all}
 use Rattle.zr_lines.proofs.Pools.{same_by, works_by}
 use Rattle.zr_last.proofs.Lasting.{blocks_last, commit_last}
-use Rattle.zr_last.proofs.Ending.{ends_by}
+use Rattle.zr_sync.proofs.Ending.{ends_by}
 use Rattle.zr_lines.proofs.Stopping.{answered_writes, commits_before, in_group_by, next_group, one_group_before}
 use Rattle.zr_lines.proofs.edits.mean.Goals as goal
 

@@ -55,7 +55,7 @@ returns-clause-ends g c = λ objects h.
 -- ---- wherever it stops
 
 pub returns-in_err-demand_old-clause-stops : goal.returns-in_err-demand_old-clause-stops
-returns-in_err-demand_old-clause-stops g c = λ objects h. inl (still (g.S.Shelf.world c.args.shelf.now) (g.S.Shelf.world c.args.shelf.now) refl)
+returns-in_err-demand_old-clause-stops g c = λ objects h. inl (inl (still (g.S.Shelf.world c.args.shelf.now) (g.S.Shelf.world c.args.shelf.now) refl))
 
 pub returns-in_err-commit_anew-clause-stops : goal.returns-in_err-commit_anew-clause-stops
 returns-in_err-commit_anew-clause-stops g c = λ objects h.

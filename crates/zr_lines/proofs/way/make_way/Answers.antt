@@ -1,6 +1,6 @@
 use Rattle.std.proofs.Common.{false, inl, inr}
 use Rattle.zr_last.proofs.Lasting.{commit_last}
-use Rattle.zr_last.proofs.Ending.{ends_by}
+use Rattle.zr_sync.proofs.Ending.{ends_by}
 use Rattle.zr_lines.proofs.Stopping.{answered_writes, in_group_itself, next_group}
 use Rattle.zr_lines.proofs.way.make_way.Goals as goal
 

@@ -1,12 +1,16 @@
-use Rattle.std.proofs.Common.{rules, ◌≡◌, inr, ℕ, ◌+◌, ◌<◌, List, [], Ok, Err, Some, sym, ◌∙◌, ap, subst, arith}
+use Rattle.std.proofs.Common.{rules, ◌≡◌, refl, inr, ℕ, ◌+◌, ◌<◌, List, [], Option, Ok, Err, Some, sym, ◌∙◌, ap, subst, arith}
 use Rattle.std.specs.Prelude.{IfOk}
 use Rattle.zr_base.specs.declared.refusal.Refusal.{Refusal}
 use Rattle.zr_image.specs.Current.{FindsCurrent}
 use Rattle.zr_label.specs.declared.root.Seen.{Seen}
+use Rattle.zr_scan.specs.declared.error.ScanErr.{ScanErr}
+use Rattle.zr_scan.specs.declared.error.ScanErr.TheVariants as scan
 use Rattle.zr_shelf.specs.Disks.{Stand}
 use Rattle.zr_shelf.proofs.Runs.{still_trans}
 use Rattle.zr_slots.specs.Kept.{KeepsGroup}
-use Rattle.zr_sync.specs.declared.fault.Fault.TheVariants.{No}
+use Rattle.zr_sync.specs.Stops.{stop_of_scan}
+use Rattle.zr_sync.specs.declared.fault.Fault.TheVariants.{No, Stops}
+use Rattle.zr_sync.specs.declared.stop.Stop.TheVariants.{DiskFault, NoMemory}
 use Rattle.zr_sync.proofs.Disks.{works_more, works_still}
 use Rattle.zr_sync.proofs.Pools.{risen_later}
 use Rattle.zr_roots.specs.Devices.{HasItsDisks}
@@ -14,6 +18,8 @@ use Rattle.zr_open.specs.Groups.{HoldsGroup, HoldsRoot, IsBack}
 use Rattle.zr_open.specs.Looked.{IsLookedAt, WasLookedAt}
 use Rattle.zr_open.specs.Opened.{IsFresh}
 use Rattle.zr_open.specs.Rewound.{rewound}
+use Rattle.zr_open.specs.Roots.{meta_of}
+use Rattle.zr_roots.specs.Standing.{Stands}
 use Rattle.zr_slots.specs.declared.pool.Found.{Found}
 use Rattle.zr_open.proofs.Looking.{looked_moved}
 use Rattle.zr_open.proofs.Backing.{back_now, back_then, group_refused, held_now, held_then, if_ok, now_refused, place_disks, place_slots, reset_refused, then_refused}
@@ -21,7 +27,9 @@ use Rattle.zr_image.specs.Current.{ShowsAll, slots_of}
 use Rattle.zr_last.specs.Last.{ShowsLast}
 use Rattle.zr_sync.specs.Commits.{IsShownFrom}
 use Rattle.zr_sync.specs.Pools.{IsOpen}
+use Rattle.zr_open.proofs.Flushing.{flushes_read, flushes_work}
 use Rattle.zr_open.proofs.Lasting.{published_if, scanned_last}
+use Rattle.zr_open.proofs.Resting.{leaves_there}
 use Rattle.zr_open.proofs.Slots.{same_refusal}
 use Rattle.zr_open.proofs.groups.go_back.Goals as goal
 
@@ -57,9 +65,17 @@ returns-in_err-root-clause-refused g c = λ r is.
     inr (group_refused (g.S.Shelf.tells c.args.shelf.now) (g.S.Shelf.world c.args.shelf.now).now.seen (g.S.Shelf.sizes c.args.shelf.now) c.in_ok-seen.field-0 c.in_ok-seen.ensures.scanned c.args.txg c.as_slice.result.now r c.as_slice.ensures
     (subst (λ (x : Refusal). KeepsGroup c.as_slice.result.now c.in_ok-seen.field-0.found.root c.args.txg (Err x)) same c.in_err-root.ensures.keeps))
 
+pub returns-in_err-settle-clause-disks : goal.returns-in_err-settle-clause-disks
+returns-in_err-settle-clause-disks g c = λ t.
+    works_more (g.S.Shelf.world c.args.shelf.now) (g.S.Shelf.world c.look_at.new.shelf) (g.S.Shelf.world c.settle.new.shelf)
+    (works_still _ _ (still_trans (g.S.Shelf.world c.args.shelf.now) (g.S.Shelf.world c.scan.new.shelf) (g.S.Shelf.world c.look_at.new.shelf) (c.in_ok-seen.ensures.still t) (c.in_ok-now.ensures.still (c.in_ok-seen.ensures.told t))))
+    (flushes_work (g.S.Shelf.world c.look_at.new.shelf) (g.S.Shelf.world c.settle.new.shelf) (c.settle.ensures.flushes (c.in_ok-now.ensures.told (c.in_ok-seen.ensures.told t))))
+
 pub returns-then-txg-found-clause-disks : goal.returns-then-txg-found-clause-disks
 returns-then-txg-found-clause-disks g c = λ t.
-    works_still _ _ (still_trans (g.S.Shelf.world c.args.shelf.now) (g.S.Shelf.world c.scan.new.shelf) (g.S.Shelf.world c.look_at.new.shelf) (c.in_ok-seen.ensures.still t) (c.in_ok-now.ensures.still (c.in_ok-seen.ensures.told t)))
+    works_more (g.S.Shelf.world c.args.shelf.now) (g.S.Shelf.world c.look_at.new.shelf) (g.S.Shelf.world c.settle.new.shelf)
+    (works_still _ _ (still_trans (g.S.Shelf.world c.args.shelf.now) (g.S.Shelf.world c.scan.new.shelf) (g.S.Shelf.world c.look_at.new.shelf) (c.in_ok-seen.ensures.still t) (c.in_ok-now.ensures.still (c.in_ok-seen.ensures.told t))))
+    (flushes_work (g.S.Shelf.world c.look_at.new.shelf) (g.S.Shelf.world c.settle.new.shelf) (c.settle.ensures.flushes (c.in_ok-now.ensures.told (c.in_ok-seen.ensures.told t))))
 
 -- ---- the group of the current root
 
@@ -78,8 +94,8 @@ pub returns-then-txg-found-clause-objects : goal.returns-then-txg-found-clause-o
 returns-then-txg-found-clause-objects g c = λ t.
     let w = g.S.Shelf.world c.args.shelf.now in
     let disks = w.now.seen in
-    let later = g.S.Shelf.tells c.look_at.new.shelf in
-    let after = (g.S.Shelf.world c.look_at.new.shelf).now.seen in
+    let later = g.S.Shelf.tells c.settle.new.shelf in
+    let after = (g.S.Shelf.world c.settle.new.shelf).now.seen in
     let s = c.in_ok-seen.field-0 in
     let first = c.in_ok-seen.ensures in
     let second = c.in_ok-now.ensures in
@@ -87,10 +103,12 @@ returns-then-txg-found-clause-objects g c = λ t.
     let own = subst (λ (ns : List ℕ). IsLookedAt ns (g.S.Shelf.tells c.scan.new.shelf) (g.S.Shelf.world c.scan.new.shelf).now.seen c.in_ok-now.now) first.sizes second.looked in
     let found = second.found in
     let there = looked_moved (g.S.Shelf.tells c.scan.new.shelf) later (g.S.Shelf.world c.scan.new.shelf).now.seen disks (λ x. first.told t) (λ x. ap (λ (stand : Stand). stand.seen) (first.still t).now) (g.S.Shelf.sizes c.args.shelf.now) c.in_ok-now.now own in
-    let seen_same : after ≡ disks = ap (λ (stand : Stand). stand.seen) ((second.still (first.told t)).now ∙ (first.still t).now) in
+    let told = second.told (first.told t) in
+    let flushed = flushes_read (g.S.Shelf.world c.look_at.new.shelf) (g.S.Shelf.world c.settle.new.shelf) (c.settle.ensures.flushes told) in
+    let seen_same : after ≡ disks = flushed.seen ∙ ap (λ (stand : Stand). stand.seen) ((second.still (first.told t)).now ∙ (first.still t).now) in
     let sound = g.S.Shelf.sound c.args.shelf.now t in
     subst (λ (ds : List (List ℕ)). HoldsGroup w.now.paths disks c.args.txg later ds c.in_ok-now.now.pool) (sym seen_same)
-    (held_now (g.S.Shelf.tells c.args.shelf.now) t w.now.paths disks (g.S.Shelf.sizes c.args.shelf.now) sound.sized s first.scanned c.args.txg c.in_ok-root.root kept.0 kept.1 c.if-txg-found.true later (second.told (first.told t)) c.in_ok-now.now found there)
+    (held_now (g.S.Shelf.tells c.args.shelf.now) t w.now.paths disks (g.S.Shelf.sizes c.args.shelf.now) sound.sized s first.scanned c.args.txg c.in_ok-root.root kept.0 kept.1 c.if-txg-found.true later (c.settle.ensures.told told) c.in_ok-now.now found there)
 
 -- ---- a lower group
 
@@ -203,6 +221,21 @@ returns-clause-fault g c = λ is.
     (risen_later (counts c.scan.new.shelf).disk (counts c.look_at.new.shelf).disk last c.in_ok-now.ensures.none_fell.disk
     (risen_later (counts c.look_at.new.shelf).disk (counts c.look_at-2.new.shelf).disk last c.in_ok-then.ensures.none_fell.disk (c.reset.ensures.fault is)))
 
+failed_scan : (err : ScanErr) → stop_of_scan err ≡ DiskFault → err ≡ scan.Failed
+failed_scan scan.Failed is = refl
+failed_scan scan.NoMemory is = absurd (let other : NoMemory ≡ DiskFault = is in cc)
+
+pub returns-in_err-settle-clause-fault : goal.returns-in_err-settle-clause-fault
+returns-in_err-settle-clause-fault g c = λ is.
+    let counts = g.S.Shelf.counts in
+    let told = c.in_err-settle.field-0.0 in
+    let e : c.from_residual-in_err-settle.result ≡ Err (Stops (stop_of_scan told)) = search rules in
+    let both = sym e ∙ is in
+    let same : stop_of_scan told ≡ DiskFault = cc in
+    let last = (counts c.settle.new.shelf).disk in
+    risen_later (counts c.args.shelf.now).disk (counts c.scan.new.shelf).disk last c.in_ok-seen.ensures.none_fell.disk
+    (risen_later (counts c.scan.new.shelf).disk (counts c.look_at.new.shelf).disk last c.in_ok-now.ensures.none_fell.disk (c.in_err-settle.ensures.failed (ap Err (failed_scan told same))))
+
 -- ---- the last root
 
 pub returns-then-txg-found-clause-last : goal.returns-then-txg-found-clause-last
@@ -211,8 +244,9 @@ returns-then-txg-found-clause-last g c = λ t.
     let first = c.in_ok-seen.ensures in
     let second = c.in_ok-now.ensures in
     let l = c.in_ok-now.now in
-    let same = (second.still (first.told t)).now ∙ (first.still t).now in
-    subst (λ (stand : Stand). ShowsLast stand.seen l.pool) (sym same)
+    let same = ap (λ (stand : Stand). stand.seen) ((second.still (first.told t)).now ∙ (first.still t).now) in
+    let flushed = flushes_read (g.S.Shelf.world c.look_at.new.shelf) (g.S.Shelf.world c.settle.new.shelf) (c.settle.ensures.flushes (second.told (first.told t))) in
+    subst (λ (seen : List (List ℕ)). ShowsLast seen l.pool) (sym (flushed.seen ∙ same))
     (scanned_last (g.S.Shelf.sizes shelf) (g.S.Shelf.tells shelf) t (g.S.Shelf.world shelf).now.seen c.in_ok-seen.field-0 l first.scanned second.found second.looked.fresh second.looked.same)
 
 pub returns-clause-last : goal.returns-clause-last
@@ -270,3 +304,31 @@ returns-clause-untouched g c = λ t r is.
     (still_trans (g.S.Shelf.world c.args.shelf.now) (g.S.Shelf.world c.look_at.new.shelf) (g.S.Shelf.world c.look_at-2.new.shelf)
     (still_trans (g.S.Shelf.world c.args.shelf.now) (g.S.Shelf.world c.scan.new.shelf) (g.S.Shelf.world c.look_at.new.shelf) (first.still t) (second.still (first.told t))) (third.still (second.told (first.told t))))
     (c.reset.ensures.untouched (third.told (second.told (first.told t))) r is)
+
+-- ---- what it leaves
+
+pub returns-then-txg-found-clause-leaves : goal.returns-then-txg-found-clause-leaves
+returns-then-txg-found-clause-leaves g c = λ t on.
+    let first = c.in_ok-seen.ensures in
+    let second = c.in_ok-now.ensures in
+    let told = second.told (first.told t) in
+    let l = c.in_ok-now.now in
+    let u = l.found.root in
+    let disks = (g.S.Shelf.world c.scan.new.shelf).now.seen in
+    let h = second.looked in
+    let flushed = flushes_read (g.S.Shelf.world c.look_at.new.shelf) (g.S.Shelf.world c.settle.new.shelf) (c.settle.ensures.flushes told) in
+    let stands = subst (λ (slots : List (Option ℕ)). Stands disks slots u l.root) (sym h.same) (h.stands (first.told t)) in
+    leaves_there disks (g.S.Shelf.sizes c.scan.new.shelf) u l.pool l.root (meta_of l.saved) h.uber h.ready h.fresh h.head h.parts stands on (g.S.Shelf.world c.settle.new.shelf).now
+    (flushed.seen ∙ ap (λ (stand : Stand). stand.seen) (second.still (first.told t)).now) (c.in_ok-settle.ensures.rests told)
+
+pub returns-clause-leaves : goal.returns-clause-leaves
+returns-clause-leaves g c = λ t.
+    let tells3 = g.S.Shelf.tells c.look_at.new.shelf in
+    let disks3 = (g.S.Shelf.world c.look_at.new.shelf).now.seen in
+    let disks4 = (g.S.Shelf.world c.look_at-2.new.shelf).now.seen in
+    let l = c.in_ok-then.then in
+    let third = c.in_ok-then.ensures in
+    let told3 = c.in_ok-now.ensures.told (c.in_ok-seen.ensures.told t) in
+    let same : disks4 ≡ disks3 = ap (λ (stand : Stand). stand.seen) (third.still told3).now in
+    let there = looked_moved tells3 (Unit {0}) disks3 disks4 (λ x. told3) (λ x. sym same) (g.S.Shelf.sizes c.look_at.new.shelf) l third.looked in
+    c.reset.ensures.leaves (third.told told3) (subst (λ (ns : List ℕ). IsLookedAt ns (Unit {0}) disks4 l) (sym third.sizes) there)

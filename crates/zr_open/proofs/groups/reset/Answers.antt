@@ -1,4 +1,4 @@
-use Rattle.std.proofs.Common.{rules, ◌≡◌, ◌+◌, ℕ, List, [], Err, refl, sym, ◌∙◌, ap, subst, arith}
+use Rattle.std.proofs.Common.{rules, ◌≡◌, ◌+◌, ◌≤◌, ℕ, List, [], Err, refl, sym, ◌∙◌, ap, subst, arith}
 use Rattle.zr_base.specs.declared.space.Dva.{Dva}
 use Rattle.zr_import.specs.declared.roots.Root.{Root}
 use Rattle.zr_label.specs.Blocks.{IsUber}
@@ -6,12 +6,14 @@ use Rattle.zr_label.specs.declared.root.Uber.{Uber}
 use Rattle.zr_sync.specs.Pools.{IsOpen}
 use Rattle.zr_sync.specs.declared.fault.Fault.TheVariants.{No}
 use Rattle.zr_open.specs.Opened.{IsFresh, MayRefuse}
+use Rattle.zr_open.specs.Rewound.{rewound}
 use Rattle.zr_open.specs.Roots.{HasParts, meta_of}
 use Rattle.zr_meta.specs.Heads.{IsSaved}
 use Rattle.zr_sync.specs.Pools.{saved_block}
 use Rattle.zr_open.proofs.Beside.{has_saved, lawful_saved}
-use Rattle.zr_open.proofs.Grouping.{as_reset, same_disks_of}
+use Rattle.zr_open.proofs.Grouping.{as_reset, back, same_disks_of, stands_back}
 use Rattle.zr_open.proofs.Looking.{looked_moved}
+use Rattle.zr_open.proofs.Resting.{leaves_shown}
 use Rattle.zr_open.proofs.groups.reset.Goals as goal
 
 pub returns-in_err-pool-clause-refused : goal.returns-in_err-pool-clause-refused
@@ -70,3 +72,25 @@ pub open-requires-clause-saved : goal.open-requires-clause-saved
 open-requires-clause-saved g c = λ told.
     subst (λ (r : Root). IsSaved r.head.ckpt (saved_block c.in_ok-checkpoint.checkpoint)) (sym c.in_ok-reset.ensures)
     (subst (IsSaved c.args.then.now.root.head.ckpt) (sym c.in_ok-checkpoint.ensures.block) c.requires.looked.head.saved)
+
+-- ---- what it leaves
+
+pub returns-clause-leaves : goal.returns-clause-leaves
+returns-clause-leaves g c = λ t h on.
+    let sizes = g.S.Shelf.sizes c.args.shelf.now in
+    let disks = (g.S.Shelf.world c.args.shelf.now).now.seen in
+    let l = c.args.then.now in
+    let u = l.found.root in
+    let own = c.in_ok-pool.ensures in
+    let pool = c.in_ok-pool.pool in
+    let next = c.rewound.ensures.is in
+    let txg = c.args.current.now.txg + 1 in
+    let sound = g.S.Shelf.sound c.args.shelf.now t in
+    let ready = own.open sizes (same_disks_of sizes l.found.slots c.rewound.result u (ap (λ (x : Uber). x.rows) next) (ap (λ (x : Uber). x.count) next) h.mounted) in
+    let fresh = subst (λ (x : Uber). IsFresh x pool) next own.fresh in
+    let parts = subst (λ (r : Root). HasParts r (meta_of l.saved) pool) c.in_ok-reset.ensures (subst (λ (meta : List Dva). HasParts c.reset.new.self meta pool) c.saved_meta.ensures own.parts) in
+    let le : u.txg ≤ txg = (let below = c.requires.below in omega (arith, below)) in
+    let is = subst IsUber next c.rewound.ensures.lawful in
+    let there = stands_back (Unit {0}) tt disks sizes sound.sized l h txg le pool is ready fresh parts own.slots in
+    leaves_shown disks sizes (rewound u txg) pool (back (Unit {0}) tt disks sizes sound.sized l h txg le pool is ready fresh parts own.slots) (meta_of l.saved) is ready fresh h.head parts there on c.args.current.now c.rewound.result
+    (g.S.Shelf.world c.args.shelf.now) (g.S.Shelf.world c.show.new.shelf) refl c.rewound.ensures.lawful (c.in_ok-show.ensures.shown t)

@@ -15,6 +15,7 @@ use Rattle.zr_open.proofs.Beside.{beside_moved}
 use Rattle.zr_open.proofs.Flushing.{flushes_read, flushes_still, rests_still}
 use Rattle.zr_open.proofs.Lasting.{looked_last}
 use Rattle.zr_open.proofs.Looking.{IsRefusedOn, refusal_moved, whole_moved}
+use Rattle.zr_open.proofs.Resting.{leaves_there}
 use Rattle.zr_open.proofs.Showing.{shows_state, shows_saved}
 use Rattle.zr_open.proofs.Views.{stands_same}
 use Rattle.zr_open.proofs.imports.import.Goals as goal
@@ -118,3 +119,22 @@ returns-clause-last g c = λ t.
     let told = c.settle.ensures.told t in
     let still = c.look.ensures.still told in
     subst (λ (s : Stand). ShowsLast s.seen l.pool) (sym still.now) (looked_last (g.S.Shelf.sizes mid) (g.S.Shelf.tells mid) told (g.S.Shelf.world mid).now.seen l c.in_ok-looked.ensures.looked)
+
+-- ---- what it leaves
+
+pub returns-clause-leaves : goal.returns-clause-leaves
+returns-clause-leaves g c = λ t on.
+    let old = c.args.shelf.now in
+    let mid = c.settle.new.shelf in
+    let new = c.look.new.shelf in
+    let tells = g.S.Shelf.tells old in
+    let disks = (g.S.Shelf.world old).now.seen in
+    let read = flushes_read (g.S.Shelf.world old) (g.S.Shelf.world mid) (c.settle.ensures.flushes t) in
+    let still = c.look.ensures.still (c.settle.ensures.told t) in
+    let l = c.in_ok-looked.looked in
+    let h = whole_moved (g.S.Shelf.tells mid) tells (g.S.Shelf.world mid).now.seen disks c.settle.ensures.told (λ s. (flushes_read (g.S.Shelf.world old) (g.S.Shelf.world mid) (c.settle.ensures.flushes s)).seen) (g.S.Shelf.sizes old) l
+    (subst (λ (ns : List ℕ). IsLooked ns (g.S.Shelf.tells mid) (g.S.Shelf.world mid).now.seen l) c.settle.ensures.sizes c.in_ok-looked.ensures.looked) in
+    let u = l.found.root in
+    let stands = subst (λ (slots : List (Option ℕ)). Stands disks slots u l.root) (sym h.at.same) (h.at.stands t) in
+    leaves_there disks (g.S.Shelf.sizes old) u l.pool l.root (meta_of l.saved) h.at.uber h.at.ready h.at.fresh h.at.head h.at.parts stands on (g.S.Shelf.world new).now (ap (λ (s : Stand). s.seen) still.now ∙ read.seen)
+    (rests_still (g.S.Shelf.world mid) (g.S.Shelf.world new) (c.in_ok-settle.ensures.rests t) still)

@@ -35,7 +35,8 @@ use Rattle.zr_label.specs.declared.root.Seen.{Seen}
 use Rattle.zr_newest.specs.Newest.{HasOwnDevices}
 use Rattle.zr_open.proofs.Beside.{head_at, no_block, saved_disks, saved_moved}
 use Rattle.zr_open.proofs.Lasting.{published_last, saved_at, saved_own}
-use Rattle.zr_open.proofs.Rewinding.{rewound_disks, saved_are, saved_held, saved_objects}
+use Rattle.zr_open.proofs.Resting.{leaves_shown}
+use Rattle.zr_open.proofs.Rewinding.{back, rewound_disks, saved_are, saved_held, saved_objects, stands}
 use Rattle.zr_open.proofs.Showing.{ShowsSaved, saved_with, shows_it, state}
 use Rattle.zr_open.proofs.Views.{store_same}
 use Rattle.zr_open.proofs.rewinds.rewind.Goals as goal
@@ -326,3 +327,34 @@ returns-clause-last g c = λ t.
     let devices = subst (λ (x : Uber). HasSlots (slots_of x seen) c.own_slots.result) (sym c.rewound-root.ensures.is) (saved_at u s.uber l.found.slots c.own_slots.result (u.txg + 1) seen h.slots own) in
     let later : u.txg < next.txg = let group = ap (λ (x : Uber). x.txg) c.rewound-root.ensures.is in omega (arith, group) in
     published_last (g.S.Shelf.sizes c.look.new.shelf) seen u next c.own_slots.result read now (g.S.Shelf.sound c.look.new.shelf told).sized shown h.finds.finds later devices pool ready c.in_ok-pool.ensures.fresh c.in_ok-pool.ensures.slots (c.in_ok-show.ensures.shown told)
+
+-- ---- what it leaves
+
+pub returns-clause-leaves : goal.returns-clause-leaves
+returns-clause-leaves g c = λ t on.
+    let sizes = g.S.Shelf.sizes c.args.shelf.now in
+    let tells = g.S.Shelf.tells c.args.shelf.now in
+    let disks = (g.S.Shelf.world c.args.shelf.now).now.seen in
+    let l = c.in_ok-looked.looked in
+    let s = c.in-Some.saved in
+    let h = c.in_ok-looked.ensures.looked in
+    let b = back_is sizes tells disks l s h (sym c.into_saved.ensures ∙ c.in-Some.is) in
+    let u = l.found.root in
+    let txg = u.txg + 1 in
+    let pool = c.in_ok-pool.pool in
+    let own = c.in_ok-pool.ensures in
+    let next = c.rewound-root.result in
+    let slots = l.found.slots in
+    let read = g.S.Shelf.world c.look.new.shelf in
+    let now = g.S.Shelf.world c.show.new.shelf in
+    let told = c.in_ok-looked.ensures.told t in
+    let still = c.in_ok-looked.ensures.still t in
+    let sound = g.S.Shelf.sound c.args.shelf.now t in
+    let ready = own.open sizes (place_disks sizes slots c.own_slots.result s.uber next txg c.rewound-root.ensures.is c.own_slots.ensures.own b.disks_are) in
+    let cut = subst (IsCut s.uber slots) (sym own.slots) (own_cut slots c.own_slots.result s.uber next txg c.rewound-root.ensures.is c.own_slots.ensures.own) in
+    let is = subst IsUber c.rewound-root.ensures.is c.rewound-root.ensures.lawful in
+    let fresh = subst (λ (x : Uber). IsFresh x pool) c.rewound-root.ensures.is own.fresh in
+    let parts = subst (λ (r : Root). HasParts r [] pool) c.in_ok-reset.ensures own.parts in
+    let there = stands tells t disks sizes sound.sized slots u l.root b.block s txg pool b.saved b.past cut is ready fresh parts in
+    leaves_shown disks sizes (rewound s.uber txg) pool (back tells t disks sizes sound.sized slots u l.root b.block s txg pool b.saved b.past cut is ready fresh parts) [] is ready fresh b.saved.head parts there on u next read now (ap (λ (st : Stand). st.seen) still.now) c.rewound-root.ensures.lawful
+    (subst (λ (ns : List ℕ). IsShownFrom ns (record pool { last = Some u }) next read now) c.in_ok-looked.ensures.sizes (c.in_ok-show.ensures.shown told))

@@ -7,10 +7,9 @@ use Rattle.zr_base.specs.declared.refusal.Refusal.{Refusal}
 use Rattle.zr_sync.specs.declared.fault.Fault.TheVariants.{No}
 use Rattle.zr_open.proofs.Refusing.{back_refusal, looked_refusal, not_kept_shown, rewind_refusal}
 use Rattle.zr_pool.specs.Accounts.{Begins, BeginsNone}
-use Rattle.zr_pool.specs.Behind.{is_create}
+use Rattle.zr_pool.specs.Behind.{is_create, is_import}
 use Rattle.zr_pool.specs.Plain.{IsMade, IsOpeningCause, shelf_of}
 use Rattle.zr_pool.specs.Turns.{IsClosedRefusal}
-use Rattle.zr_pool.proofs.Imported.{just_opened}
 use Rattle.zr_pool.proofs.Leavings.{in_the_way, is_new, not_begun}
 use Rattle.zr_pool.proofs.Refused.{fault_same, group_cause, rewind_cause}
 use Rattle.zr_shelf.specs.Disks.{Stand}
@@ -262,23 +261,19 @@ returns-in_ok-rewind-in-ImportRewind-clause-ends g c = λ told create. absurd (l
 pub returns-in_ok-go_back-in-ImportTxg-clause-ends : goal.returns-in_ok-go_back-in-ImportTxg-clause-ends
 returns-in_ok-go_back-in-ImportTxg-clause-ends g c = λ told create. absurd (let e = sym (subst (λ (command : Command). is_create command ≡ true) c.in-ImportTxg.is create) in cc)
 
--- ---- a pool that was just opened
+-- ---- a pool that was opened stands as a commit left it
 
-pub returns-in_ok-made-in-Create-clause-imported : goal.returns-in_ok-made-in-Create-clause-imported
-returns-in_ok-made-in-Create-clause-imported g c = λ told import. absurd (let both = sym c.in-Create.is ∙ import in cc)
+pub returns-in_ok-made-in-Create-clause-leaves : goal.returns-in_ok-made-in-Create-clause-leaves
+returns-in_ok-made-in-Create-clause-leaves g c = λ told opens. absurd (let e = sym (subst (λ (command : Command). is_import command ≡ true) c.in-Create.is opens) in cc)
 
-pub returns-in_ok-made-in-CreateOld-clause-imported : goal.returns-in_ok-made-in-CreateOld-clause-imported
-returns-in_ok-made-in-CreateOld-clause-imported g c = λ told import. absurd (let both = sym c.in-CreateOld.is ∙ import in cc)
+pub returns-in_ok-made-in-CreateOld-clause-leaves : goal.returns-in_ok-made-in-CreateOld-clause-leaves
+returns-in_ok-made-in-CreateOld-clause-leaves g c = λ told opens. absurd (let e = sym (subst (λ (command : Command). is_import command ≡ true) c.in-CreateOld.is opens) in cc)
 
-pub returns-in_ok-import-in-Import-clause-imported : goal.returns-in_ok-import-in-Import-clause-imported
-returns-in_ok-import-in-Import-clause-imported g c = λ told import.
-    let old = c.args.shelf.now in
-    let new = c.import.new.shelf in
-    let e = c.in_ok-import-in-Import.ensures in
-    just_opened (g.S.Shelf.sizes old) (g.S.Shelf.sizes new) (g.S.Shelf.tells old) told (g.S.Shelf.world old).now.seen (g.S.Shelf.world new).now c.in_ok-import-in-Import.field-0 e.pool (g.S.Shelf.sound new (c.import.ensures.told told)).sized (e.rests told) (c.import.ensures.reads told) e.fresh e.opened (e.last told)
+pub returns-in_ok-import-in-Import-clause-leaves : goal.returns-in_ok-import-in-Import-clause-leaves
+returns-in_ok-import-in-Import-clause-leaves g c = λ told opens. c.in_ok-import-in-Import.ensures.leaves told
 
-pub returns-in_ok-rewind-in-ImportRewind-clause-imported : goal.returns-in_ok-rewind-in-ImportRewind-clause-imported
-returns-in_ok-rewind-in-ImportRewind-clause-imported g c = λ told import. absurd (let both = sym c.in-ImportRewind.is ∙ import in cc)
+pub returns-in_ok-rewind-in-ImportRewind-clause-leaves : goal.returns-in_ok-rewind-in-ImportRewind-clause-leaves
+returns-in_ok-rewind-in-ImportRewind-clause-leaves g c = λ told opens. c.in_ok-rewind-in-ImportRewind.ensures.leaves told
 
-pub returns-in_ok-go_back-in-ImportTxg-clause-imported : goal.returns-in_ok-go_back-in-ImportTxg-clause-imported
-returns-in_ok-go_back-in-ImportTxg-clause-imported g c = λ told import. absurd (let both = sym c.in-ImportTxg.is ∙ import in cc)
+pub returns-in_ok-go_back-in-ImportTxg-clause-leaves : goal.returns-in_ok-go_back-in-ImportTxg-clause-leaves
+returns-in_ok-go_back-in-ImportTxg-clause-leaves g c = λ told opens. c.in_ok-go_back-in-ImportTxg.ensures.leaves told

@@ -4,7 +4,7 @@ use Rattle.zr_script.specs.declared.command.Command.{Command}
 use Rattle.zr_script.specs.declared.command.Command.TheVariants as cmd
 use Rattle.zr_sync.proofs.Leading.{untold}
 use Rattle.zr_sync.specs.States.{HoldsState}
-use Rattle.zr_last.proofs.Ending.{ends_by}
+use Rattle.zr_sync.proofs.Ending.{ends_by}
 use Rattle.zr_pool.specs.Plain.{IsPlainRefusal, IsPlainOf}
 use Rattle.zr_script.specs.declared.reply.Reply.{Reply}
 use Rattle.zr_script.specs.declared.reply.Reply.TheVariants as reply
@@ -473,6 +473,12 @@ returns-in_ok-upgrade-in-Upgrade-clause-resets g c = λ on p h.
     record { leaves = done.ends p.objects h.objects; holds = untold (g.S.Shelf.tells new) (g.S.Shelf.world new).now.seen c.upgrade.new.pool p.objects (done.objects p.objects h.objects) }
 
 -- ---- wherever such a line stops
+
+pub returns-in_ok-take-in-Checkpoint-clause-stops_reset : goal.returns-in_ok-take-in-Checkpoint-clause-stops_reset
+returns-in_ok-take-in-Checkpoint-clause-stops_reset g c = λ on p h. c.take.ensures.stops p.objects h.objects
+
+pub returns-in_err-take-in-Checkpoint-clause-stops_reset : goal.returns-in_err-take-in-Checkpoint-clause-stops_reset
+returns-in_err-take-in-Checkpoint-clause-stops_reset g c = λ on p h. c.take.ensures.stops p.objects h.objects
 
 pub returns-in_ok-give_up-in-Discard-clause-stops_reset : goal.returns-in_ok-give_up-in-Discard-clause-stops_reset
 returns-in_ok-give_up-in-Discard-clause-stops_reset g c = λ on p h. c.give_up.ensures.stops p.objects h.objects

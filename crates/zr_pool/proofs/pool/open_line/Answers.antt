@@ -1,16 +1,18 @@
-use Rattle.std.proofs.Common.{◌∙◌, inl, inr, ap, refl, sym, Err}
+use Rattle.std.proofs.Common.{◌≡◌, true, ◌∙◌, inl, inr, ap, refl, subst, sym, Err}
 use Rattle.std.proofs.lemmas.Result.{err_from_is_err_and}
 use Rattle.zr_shelf.proofs.Doings.{writes_still}
 use Rattle.zr_shelf.specs.Moments.{World}
 use Rattle.zr_sync.specs.declared.open.OpenPool.{OpenPool}
+use Rattle.zr_script.specs.declared.command.Command.{Command}
 use Rattle.zr_vdev.specs.Stores.{IsWriteInto}
 use Rattle.zr_vdev.specs.declared.kind.Kind.TheVariants.{Block}
 use Rattle.zr_lines.proofs.Stopping.{in_group_itself}
-use Rattle.zr_pool.proofs.Groups.{commit_alone, commits_in_group, none_of_them, not_of_removal, not_opener, no_way, once_resets, opens_no_reset, pool_commits, refused_stays, resets_elsewhere, resets_on_pool, same_world}
+use Rattle.zr_pool.proofs.Groups.{commit_alone, commits_in_group, copy_step, in_place_elsewhere, in_place_on_pool, in_place_resets, none_of_them, not_of_removal, not_opener, no_way, opens_no_reset, pool_commits, refused_stays, resets_elsewhere, resets_somewhere, same_world}
 use Rattle.zr_pool.proofs.Leavings.{opener_refused}
 use Rattle.zr_pool.proofs.Refused.{fault_same}
 use Rattle.zr_pool.proofs.Shown.{same_root, still_last}
 use Rattle.zr_pool.proofs.Staying.{same_state, stays_still}
+use Rattle.zr_pool.specs.Turns.{is_on_objects, is_on_pool, is_table}
 use Rattle.zr_pool.proofs.pool.open_line.Goals as goal
 
 pub returns-in_err-object_line-clause-stays : goal.returns-in_err-object_line-clause-stays
@@ -197,40 +199,48 @@ returns-then-is_on_pool-clause-writes g c = λ group p h. elim (pool_commits c.a
   | inr step ↦ inl (writes_still (IsWriteInto Block c.args.pool.now.table.slots c.args.pool.now.space) (g.S.Shelf.world c.args.shelf.now) (g.S.Shelf.world c.pool_line.new.shelf) (c.pool_line.ensures.still step))
 ]
 
--- ---- a line that ends with a reset is one on a whole pool
+-- ---- a line that ends with a reset is one on a whole pool, or of a removal
 
 pub returns-then-is_on_objects-clause-resets : goal.returns-then-is_on_objects-clause-resets
 returns-then-is_on_objects-clause-resets g c = λ on p h. absurd (resets_elsewhere c.args.command.now on (inl (sym c.is_on_objects.ensures ∙ c.if-is_on_objects.true)))
 
 pub returns-then-is_table-clause-resets : goal.returns-then-is_table-clause-resets
-returns-then-is_table-clause-resets g c = λ on p h. absurd (resets_elsewhere c.args.command.now on (inr (inl (sym c.is_table.ensures ∙ c.if-is_table.true))))
-
-pub returns-then-is_of_removal-clause-resets : goal.returns-then-is_of_removal-clause-resets
-returns-then-is_of_removal-clause-resets g c = λ on p h. absurd (resets_elsewhere c.args.command.now on (inr (inr (sym c.is_of_removal.ensures ∙ c.if-is_of_removal.true))))
+returns-then-is_table-clause-resets g c = λ on p h. absurd (resets_elsewhere c.args.command.now on (inr (sym c.is_table.ensures ∙ c.if-is_table.true)))
 
 pub returns-clause-resets : goal.returns-clause-resets
-returns-clause-resets g c = λ on p h. no_way (sym (sym c.is_on_pool.ensures ∙ c.if-is_on_pool.false) ∙ resets_on_pool c.args.command.now on)
+returns-clause-resets g c = λ on p h. absurd (resets_somewhere c.args.command.now on (sym c.is_on_pool.ensures ∙ c.if-is_on_pool.false) (sym c.is_of_removal.ensures ∙ c.if-is_of_removal.false))
 
 pub returns-then-is_on_objects-clause-stops_reset : goal.returns-then-is_on_objects-clause-stops_reset
-returns-then-is_on_objects-clause-stops_reset g c = λ on p h. absurd (resets_elsewhere c.args.command.now (once_resets c.args.command.now on) (inl (sym c.is_on_objects.ensures ∙ c.if-is_on_objects.true)))
+returns-then-is_on_objects-clause-stops_reset g c = λ on p h. absurd (resets_elsewhere c.args.command.now (in_place_resets c.args.command.now on) (inl (sym c.is_on_objects.ensures ∙ c.if-is_on_objects.true)))
 
 pub returns-in_err-object_line-clause-stops_reset : goal.returns-in_err-object_line-clause-stops_reset
-returns-in_err-object_line-clause-stops_reset g c = λ on p h. absurd (resets_elsewhere c.args.command.now (once_resets c.args.command.now on) (inl (sym c.is_on_objects.ensures ∙ c.if-is_on_objects.true)))
+returns-in_err-object_line-clause-stops_reset g c = λ on p h. absurd (resets_elsewhere c.args.command.now (in_place_resets c.args.command.now on) (inl (sym c.is_on_objects.ensures ∙ c.if-is_on_objects.true)))
 
 pub returns-then-is_table-clause-stops_reset : goal.returns-then-is_table-clause-stops_reset
-returns-then-is_table-clause-stops_reset g c = λ on p h. absurd (resets_elsewhere c.args.command.now (once_resets c.args.command.now on) (inr (inl (sym c.is_table.ensures ∙ c.if-is_table.true))))
+returns-then-is_table-clause-stops_reset g c = λ on p h. absurd (resets_elsewhere c.args.command.now (in_place_resets c.args.command.now on) (inr (sym c.is_table.ensures ∙ c.if-is_table.true)))
 
 pub returns-in_err-table_line-clause-stops_reset : goal.returns-in_err-table_line-clause-stops_reset
-returns-in_err-table_line-clause-stops_reset g c = λ on p h. absurd (resets_elsewhere c.args.command.now (once_resets c.args.command.now on) (inr (inl (sym c.is_table.ensures ∙ c.if-is_table.true))))
+returns-in_err-table_line-clause-stops_reset g c = λ on p h. absurd (resets_elsewhere c.args.command.now (in_place_resets c.args.command.now on) (inr (sym c.is_table.ensures ∙ c.if-is_table.true)))
 
 pub returns-then-is_of_removal-clause-stops_reset : goal.returns-then-is_of_removal-clause-stops_reset
-returns-then-is_of_removal-clause-stops_reset g c = λ on p h. absurd (resets_elsewhere c.args.command.now (once_resets c.args.command.now on) (inr (inr (sym c.is_of_removal.ensures ∙ c.if-is_of_removal.true))))
+returns-then-is_of_removal-clause-stops_reset g c = λ on p h. absurd (in_place_elsewhere c.args.command.now on (sym c.is_of_removal.ensures ∙ c.if-is_of_removal.true))
 
 pub returns-in_err-removal_line-clause-stops_reset : goal.returns-in_err-removal_line-clause-stops_reset
-returns-in_err-removal_line-clause-stops_reset g c = λ on p h. absurd (resets_elsewhere c.args.command.now (once_resets c.args.command.now on) (inr (inr (sym c.is_of_removal.ensures ∙ c.if-is_of_removal.true))))
+returns-in_err-removal_line-clause-stops_reset g c = λ on p h. absurd (in_place_elsewhere c.args.command.now on (sym c.is_of_removal.ensures ∙ c.if-is_of_removal.true))
 
 pub returns-then-is_opener-clause-stops_reset : goal.returns-then-is_opener-clause-stops_reset
-returns-then-is_opener-clause-stops_reset g c = λ on p h. absurd (opens_no_reset c.args.command.now (sym c.is_opener.ensures ∙ c.if-is_opener.true) (once_resets c.args.command.now on))
+returns-then-is_opener-clause-stops_reset g c = λ on p h. absurd (opens_no_reset c.args.command.now (sym c.is_opener.ensures ∙ c.if-is_opener.true) (in_place_resets c.args.command.now on))
 
 pub returns-clause-stops_reset : goal.returns-clause-stops_reset
-returns-clause-stops_reset g c = λ on p h. no_way (sym (sym c.is_on_pool.ensures ∙ c.if-is_on_pool.false) ∙ resets_on_pool c.args.command.now (once_resets c.args.command.now on))
+returns-clause-stops_reset g c = λ on p h. no_way (sym (sym c.is_on_pool.ensures ∙ c.if-is_on_pool.false) ∙ in_place_on_pool c.args.command.now on)
+
+-- ---- what copies is a step of a removal
+
+pub returns-then-is_on_objects-clause-copies : goal.returns-then-is_on_objects-clause-copies
+returns-then-is_on_objects-clause-copies g c = λ told copy. no_way (subst (λ (k : Command). is_on_objects k ≡ true) (copy_step _ _ copy) (sym c.is_on_objects.ensures ∙ c.if-is_on_objects.true))
+
+pub returns-then-is_table-clause-copies : goal.returns-then-is_table-clause-copies
+returns-then-is_table-clause-copies g c = λ told copy. no_way (subst (λ (k : Command). is_table k ≡ true) (copy_step _ _ copy) (sym c.is_table.ensures ∙ c.if-is_table.true))
+
+pub returns-then-is_on_pool-clause-copies : goal.returns-then-is_on_pool-clause-copies
+returns-then-is_on_pool-clause-copies g c = λ told copy. no_way (subst (λ (k : Command). is_on_pool k ≡ true) (copy_step _ _ copy) (sym c.is_on_pool.ensures ∙ c.if-is_on_pool.true))

@@ -1,14 +1,26 @@
-use Rattle.std.proofs.Common.{◌∙◌, inr, Err, refl, ap, sym, subst}
+use Rattle.std.proofs.Common.{◌≡◌, ◌∙◌, inr, true, false, map, Err, refl, ap, sym, subst}
 use Rattle.std.proofs.lemmas.Result.{err_from_is_err_and}
 use Rattle.zr_base.specs.declared.refusal.Refusal.{Refusal}
+use Rattle.zr_moves.specs.Answers.{leave_at, with_devs}
 use Rattle.zr_removal.specs.Refusals.{IsRemoveRefusal}
 use Rattle.zr_script.specs.declared.command.Command.{Command}
 use Rattle.zr_script.specs.declared.command.Command.TheVariants as cmd
 use Rattle.zr_script.specs.declared.reply.Reply.{Reply}
 use Rattle.zr_script.specs.declared.reply.Reply.TheVariants as reply
 use Rattle.zr_pool.specs.Accounts.{IsRemovable, IsRemovalCause, Refuses, TakesAway, Turns}
+use Rattle.zr_sync.proofs.Leading.{untold}
+use Rattle.zr_sync.specs.States.{HoldsState}
+use Rattle.zr_last.specs.Last.{KeepsRoot}
+use Rattle.zr_lines.specs.Stops.{OpensNoUnit}
+use Rattle.zr_sync.specs.Writes.{WritesIntoFree}
+use Rattle.zr_sync.specs.declared.open.OpenPool.{OpenPool}
+use Rattle.zr_pool.specs.Behind.{is_copy, is_resetting}
+use Rattle.zr_pool.specs.Plain.{IsDone, IsPlainOf, is_untold_behind}
 use Rattle.zr_pool.specs.Replies.{TellsFault}
+use Rattle.zr_pool.proofs.Acting.{condense_done, evac_acts, evac_copies, evac_shows, removed_as}
 use Rattle.zr_pool.proofs.Blaming.{step_blames}
+use Rattle.zr_pool.proofs.Groups.{no_way}
+use Rattle.zr_pool.proofs.Staying.{same_state}
 use Rattle.zr_pool.proofs.Leavings.{back_told, begins_told, condense_turn, evac_turn, evacuates_told, refusal_same, removal_more}
 use Rattle.zr_pool.proofs.Refused.{fault_same}
 use Rattle.zr_pool.proofs.removals.removal_line.Goals as goal
@@ -156,3 +168,92 @@ returns-in_ok-step_evac-in-StepEvac-clause-blamed g c = λ tells.
 
 pub returns-in_ok-step_condense-in-StepCondense-clause-blamed : goal.returns-in_ok-step_condense-in-StepCondense-clause-blamed
 returns-in_ok-step_condense-in-StepCondense-clause-blamed g c = λ tells. absurd (subst (λ (command : Command). TellsFault command c.condense_reply.result) c.in-StepCondense.is tells)
+
+-- ---- the objects
+
+pub returns-in_ok-remove-in-Remove-clause-acts : goal.returns-in_ok-remove-in-Remove-clause-acts
+returns-in_ok-remove-in-Remove-clause-acts g c = λ p h.
+    let new = c.remove.new.shelf in
+    let done = c.in_ok-remove-in-Remove.ensures in
+    let dev = c.in-Remove.dev in
+    let q = with_devs p (map (leave_at dev) p.devs) in
+    removed_as (HoldsState (g.S.Shelf.tells new) (g.S.Shelf.world new).now.seen c.remove.new.pool) p c.args.command.now dev c.in-Remove.is
+    (same_state (g.S.Shelf.tells new) (g.S.Shelf.world new).now.seen c.args.pool.now c.remove.new.pool p q h.checkpoint done.ckpt refl refl (done.objects p.objects h.objects))
+
+pub returns-in_ok-cancel-in-Cancel-clause-acts : goal.returns-in_ok-cancel-in-Cancel-clause-acts
+returns-in_ok-cancel-in-Cancel-clause-acts g c = λ p h.
+    let new = c.cancel.new.shelf in
+    subst (λ (command : Command). IsPlainOf (HoldsState (g.S.Shelf.tells new) (g.S.Shelf.world new).now.seen c.cancel.new.pool) p command (reply.Cancelled c.in_ok-cancel-in-Cancel.field-0)) (sym c.in-Cancel.is) tt
+
+pub returns-in_ok-step_evac-in-StepEvac-clause-acts : goal.returns-in_ok-step_evac-in-StepEvac-clause-acts
+returns-in_ok-step_evac-in-StepEvac-clause-acts g c = λ p h.
+    let shelf = c.args.shelf.now in
+    let new = c.step_evac.new.shelf in
+    let x = c.args.pool.now in
+    let y = c.step_evac.new.pool in
+    let Holds = HoldsState (g.S.Shelf.tells new) (g.S.Shelf.world new).now.seen y in
+    let done = c.in_ok-step_evac-in-StepEvac.field-0 in
+    let step = c.in_ok-step_evac-in-StepEvac.ensures in
+    subst (λ (command : Command). IsPlainOf Holds p command c.evac_reply.result) (sym c.in-StepEvac.is)
+    (subst (λ (answer : Reply). IsPlainOf Holds p cmd.StepEvac answer) (sym c.evac_reply.ensures)
+    (evac_acts c.args.pick.now.policy (g.S.Shelf.sizes shelf) (g.S.Shelf.tells shelf) (g.S.Shelf.counts shelf) (g.S.Shelf.counts new) (g.S.Shelf.world shelf) (g.S.Shelf.world new) x y Holds p done step.steps
+    (λ ckpt n is. same_state (g.S.Shelf.tells new) (g.S.Shelf.world new).now.seen x y p p h.checkpoint ckpt refl refl (step.objects p.objects h.objects n is))))
+
+pub returns-in_ok-step_condense-in-StepCondense-clause-acts : goal.returns-in_ok-step_condense-in-StepCondense-clause-acts
+returns-in_ok-step_condense-in-StepCondense-clause-acts g c = λ p h.
+    let shelf = c.args.shelf.now in
+    subst (λ (command : Command). IsPlainOf (HoldsState (g.S.Shelf.tells shelf) (g.S.Shelf.world shelf).now.seen c.step_condense.new.pool) p command c.condense_reply.result) (sym c.in-StepCondense.is)
+    (subst IsDone (sym c.condense_reply.ensures) (condense_done c.in_ok-step_condense-in-StepCondense.field-0))
+
+-- ---- what the disks show
+
+pub returns-in_ok-remove-in-Remove-clause-shown : goal.returns-in_ok-remove-in-Remove-clause-shown
+returns-in_ok-remove-in-Remove-clause-shown g c = λ told off. c.in_ok-remove-in-Remove.ensures.shown told
+
+pub returns-in_ok-cancel-in-Cancel-clause-shown : goal.returns-in_ok-cancel-in-Cancel-clause-shown
+returns-in_ok-cancel-in-Cancel-clause-shown g c = λ told off. no_way (sym (subst (λ (command : Command). is_untold_behind command (reply.Cancelled c.in_ok-cancel-in-Cancel.field-0) ≡ false) c.in-Cancel.is off))
+
+pub returns-in_ok-step_evac-in-StepEvac-clause-shown : goal.returns-in_ok-step_evac-in-StepEvac-clause-shown
+returns-in_ok-step_evac-in-StepEvac-clause-shown g c = λ told off.
+    evac_shows _ c.in_ok-step_evac-in-StepEvac.field-0 (c.in_ok-step_evac-in-StepEvac.ensures.shown told)
+    (subst (λ (answer : Reply). is_untold_behind cmd.StepEvac answer ≡ false) c.evac_reply.ensures (subst (λ (command : Command). is_untold_behind command c.evac_reply.result ≡ false) c.in-StepEvac.is off))
+
+pub returns-in_ok-step_condense-in-StepCondense-clause-shown : goal.returns-in_ok-step_condense-in-StepCondense-clause-shown
+returns-in_ok-step_condense-in-StepCondense-clause-shown g c = λ told off. no_way (sym (subst (λ (command : Command). is_untold_behind command c.condense_reply.result ≡ false) c.in-StepCondense.is off))
+
+pub returns-in_ok-remove-in-Remove-clause-resets : goal.returns-in_ok-remove-in-Remove-clause-resets
+returns-in_ok-remove-in-Remove-clause-resets g c = λ on p h.
+    let new = c.remove.new.shelf in
+    let done = c.in_ok-remove-in-Remove.ensures in
+    record { leaves = done.ends p.objects h.objects; holds = untold (g.S.Shelf.tells new) (g.S.Shelf.world new).now.seen c.remove.new.pool p.objects (done.objects p.objects h.objects) }
+
+pub returns-in_ok-cancel-in-Cancel-clause-resets : goal.returns-in_ok-cancel-in-Cancel-clause-resets
+returns-in_ok-cancel-in-Cancel-clause-resets g c = λ on p h. no_way (subst (λ (command : Command). is_resetting command ≡ true) c.in-Cancel.is on)
+
+pub returns-in_ok-step_evac-in-StepEvac-clause-resets : goal.returns-in_ok-step_evac-in-StepEvac-clause-resets
+returns-in_ok-step_evac-in-StepEvac-clause-resets g c = λ on p h. no_way (subst (λ (command : Command). is_resetting command ≡ true) c.in-StepEvac.is on)
+
+pub returns-in_ok-step_condense-in-StepCondense-clause-resets : goal.returns-in_ok-step_condense-in-StepCondense-clause-resets
+returns-in_ok-step_condense-in-StepCondense-clause-resets g c = λ on p h. no_way (subst (λ (command : Command). is_resetting command ≡ true) c.in-StepCondense.is on)
+
+-- ---- a step that copies
+
+pub returns-in_ok-remove-in-Remove-clause-copies : goal.returns-in_ok-remove-in-Remove-clause-copies
+returns-in_ok-remove-in-Remove-clause-copies g c = λ told on. no_way (subst (λ (command : Command). is_copy command reply.Done ≡ true) c.in-Remove.is on)
+
+pub returns-in_ok-cancel-in-Cancel-clause-copies : goal.returns-in_ok-cancel-in-Cancel-clause-copies
+returns-in_ok-cancel-in-Cancel-clause-copies g c = λ told on. no_way (subst (λ (command : Command). is_copy command (reply.Cancelled c.in_ok-cancel-in-Cancel.field-0) ≡ true) c.in-Cancel.is on)
+
+pub returns-in_ok-step_evac-in-StepEvac-clause-copies : goal.returns-in_ok-step_evac-in-StepEvac-clause-copies
+returns-in_ok-step_evac-in-StepEvac-clause-copies g c = λ told on.
+    let step = c.in_ok-step_evac-in-StepEvac.ensures in
+    let x = c.args.pool.now in
+    let y = c.step_evac.new.pool in
+    evac_copies (WritesIntoFree x (g.S.Shelf.world c.args.shelf.now) (g.S.Shelf.world c.step_evac.new.shelf) × OpensNoUnit x y) c.in_ok-step_evac-in-StepEvac.field-0
+    (λ n is. let rest = step.rest n is in
+    let root : KeepsRoot x y = record { last = ap (λ (p : OpenPool). p.last) rest; guid = ap (λ (p : OpenPool). p.guid) rest; table = ap (λ (p : OpenPool). p.table) rest } in
+    (step.written told n is, record { root = root; units = step.opens n is }))
+    (subst (λ (answer : Reply). is_copy cmd.StepEvac answer ≡ true) c.evac_reply.ensures (subst (λ (command : Command). is_copy command c.evac_reply.result ≡ true) c.in-StepEvac.is on))
+
+pub returns-in_ok-step_condense-in-StepCondense-clause-copies : goal.returns-in_ok-step_condense-in-StepCondense-clause-copies
+returns-in_ok-step_condense-in-StepCondense-clause-copies g c = λ told on. no_way (subst (λ (command : Command). is_copy command c.condense_reply.result ≡ true) c.in-StepCondense.is on)

@@ -3,6 +3,7 @@ use Rattle.zr_rules.specs.Places.{is_leaving, state_of_dev}
 use Rattle.zr_rules.specs.Space.{Space}
 use Rattle.zr_sync.proofs.Disks.{works_more}
 use Rattle.zr_removal.proofs.Ending.{cancels_before, ends_before}
+use Rattle.zr_removal.proofs.Outgoing.{copies_open, into_free, last_copied, objects_copied}
 use Rattle.zr_removal.proofs.evacuate.step_evac.Goals as goal
 
 pub returns-in_err-finish_removal-in-Nothing-clause-disks : goal.returns-in_err-finish_removal-in-Nothing-clause-disks
@@ -52,3 +53,32 @@ returns-in_ok-cancel_removal-in-Fault-clause-steps g c =
       cancels = cancels_before (g.S.Shelf.sizes c.copy_next.new.shelf) (g.S.Shelf.sizes c.args.shelf.now) (g.S.Shelf.tells c.args.shelf.now) (g.S.Shelf.tells c.copy_next.new.shelf) (g.S.Shelf.world c.cancel_removal.new.shelf) tried c.cancel_removal.new.pool d
           c.copy_next.ensures.sizes c.copy_next.ensures.told c.in_ok-cancel_removal-in-Fault.ensures.cancels;
     }
+
+-- ---- what a copy leaves
+
+pub returns-in-Units-clause-objects : goal.returns-in-Units-clause-objects
+returns-in-Units-clause-objects g c = λ objects h n is.
+    let x = c.args.pool.now in
+    let y = c.copy_next.new.pool in
+    let old = c.args.shelf.now in
+    let new = c.copy_next.new.shelf in
+    let told = h.held.told in
+    objects_copied c.args.pick.now.policy x y (g.S.Shelf.tells old) (g.S.Shelf.tells old) (g.S.Shelf.tells new) (g.S.Shelf.world old) (g.S.Shelf.world new) c.in-Units.units objects c.requires.pool.mounted.apart (c.in_ok-units.ensures.units c.in-Units.units c.in-Units.is)
+    (c.copy_next.ensures.written told) (c.copy_next.ensures.read told) c.copy_next.ensures.rest (c.copy_next.ensures.told told) h
+
+pub returns-in-Units-clause-shown : goal.returns-in-Units-clause-shown
+returns-in-Units-clause-shown g c = λ told n is.
+    let old = c.args.shelf.now in
+    last_copied (g.S.Shelf.sizes old) c.args.pool.now c.copy_next.new.pool (g.S.Shelf.world old) (g.S.Shelf.world c.copy_next.new.shelf) c.requires.pool (g.S.Shelf.sound old told).sized (c.copy_next.ensures.written told) c.copy_next.ensures.rest
+
+pub returns-in-Units-clause-rest : goal.returns-in-Units-clause-rest
+returns-in-Units-clause-rest g c = λ n is. c.copy_next.ensures.rest
+
+pub returns-in-Units-clause-written : goal.returns-in-Units-clause-written
+returns-in-Units-clause-written g c = λ told n is. into_free c.args.pool.now.table.slots c.args.pool.now.space (g.S.Shelf.world c.args.shelf.now) (g.S.Shelf.world c.copy_next.new.shelf) (c.copy_next.ensures.written told)
+
+pub returns-in-Units-clause-opens : goal.returns-in-Units-clause-opens
+returns-in-Units-clause-opens g c = λ n is d u.
+    let x = c.args.pool.now in
+    let old = c.args.shelf.now in
+    copies_open c.args.pick.now.policy x.table.slots (g.S.Shelf.tells old) (g.S.Shelf.world old) (g.S.Shelf.world c.copy_next.new.shelf) x.space c.copy_next.new.pool.space c.in-Units.units (c.in_ok-units.ensures.units c.in-Units.units c.in-Units.is) d u

@@ -1,3 +1,7 @@
+use Rattle.std.proofs.Common.{◌∙◌}
+use Rattle.zr_last.proofs.Ending.{leaves_by}
+use Rattle.zr_sync.specs.Heads.{IsSeen}
+use Rattle.zr_removal.proofs.Outgoing.{objects_out, out_last}
 use Rattle.zr_removal.proofs.leaving.remove.Goals as goal
 
 pub commit_moving-requires : goal.commit_moving-requires
@@ -12,3 +16,32 @@ returns-clause-begins g c = record {
   resets = c.in_ok-commit_moving.ensures.ends;
   shown = c.in_ok-commit_moving.ensures.shown;
 }
+
+pub returns-clause-ckpt : goal.returns-clause-ckpt
+returns-clause-ckpt g c = c.in_ok-commit_moving.ensures.same.ckpt ∙ c.in_ok-leave.ensures.leaves.leaves.elsewhere.ckpt
+
+pub returns-clause-objects : goal.returns-clause-objects
+returns-clause-objects g c = λ objects h.
+    let old = c.args.shelf.now in
+    c.in_ok-commit_moving.ensures.stays objects (objects_out c.args.pool.now c.leave.new.pool c.args.dev c.in_ok-leave.ensures.leaves c.requires.on (g.S.Shelf.tells old) (g.S.Shelf.world old).now.seen objects h)
+
+pub returns-clause-ends : goal.returns-clause-ends
+returns-clause-ends g c = λ objects h.
+    let old = c.args.shelf.now in
+    let new = c.commit_moving.new.shelf in
+    let sizes = g.S.Shelf.sizes old in
+    let left = c.leave.new.pool in
+    let done = c.in_ok-commit_moving.ensures in
+    let held = objects_out c.args.pool.now left c.args.dev c.in_ok-leave.ensures.leaves c.requires.on (g.S.Shelf.tells old) (g.S.Shelf.world old).now.seen objects h in
+    let seen : IsSeen (g.S.Shelf.tells old) (g.S.Shelf.world old).now.seen left = record { told = held.held.told; read = held.held.read } in
+    leaves_by sizes (g.S.Shelf.sizes new) left c.commit_moving.new.pool (g.S.Shelf.world old) (g.S.Shelf.world new) (c.in_ok-leave.ensures.pool sizes c.requires.pool) done.pool done.txg (done.written held.held.told) done.ends.ended.opened done.empty (done.stands seen) (done.safe seen)
+
+pub returns-clause-shown : goal.returns-clause-shown
+returns-clause-shown g c = λ told h.
+    let old = c.args.shelf.now in
+    let new = c.commit_moving.new.shelf in
+    let sizes = g.S.Shelf.sizes old in
+    let left = c.leave.new.pool in
+    let done = c.in_ok-commit_moving.ensures in
+    out_last sizes (g.S.Shelf.sizes new) c.args.pool.now left c.commit_moving.new.pool c.args.dev (g.S.Shelf.world old) (g.S.Shelf.world new) c.in_ok-leave.ensures.leaves c.requires.on c.requires.known c.requires.pool (c.in_ok-leave.ensures.pool sizes c.requires.pool) done.pool (g.S.Shelf.sound old told).sized
+    done.txg done.last (done.written told) done.same h

@@ -1,4 +1,4 @@
-use Rattle.std.proofs.Common.{ℕ, List, Option, true, false, ◌∙◌, ap, subst, arith}
+use Rattle.std.proofs.Common.{ℕ, List, Option, true, false, inl, inr, ◌∙◌, ap, subst, arith}
 use Rattle.std.specs.Prelude.{IfSome}
 use Rattle.zr_base.specs.declared.space.CkptPart.TheVariants.{Held}
 use Rattle.zr_base.specs.declared.space.DevRow.{DevRow}
@@ -7,9 +7,11 @@ use Rattle.zr_rules.specs.Places.{is_leaving}
 use Rattle.zr_shelf.specs.Moments.{World}
 use Rattle.zr_sync.specs.Checkpoints.{CommitsOn}
 use Rattle.zr_sync.specs.Commits.{IsNextRoot, IsShownFrom}
+use Rattle.zr_sync.specs.Leads.{CommitsObjects}
 use Rattle.zr_sync.specs.Pools.{IsOpen}
 use Rattle.zr_sync.specs.declared.open.OpenPool.{OpenPool}
 use Rattle.zr_sync.proofs.Disks.{works_more}
+use Rattle.zr_sync.proofs.Ending.{ends_by}
 use Rattle.zr_sync.proofs.Groups.{ends_row}
 use Rattle.zr_sync.proofs.SavedRoots.{saves_seen, saves_objects, saves_same}
 use Rattle.zr_sync.proofs.checkpoints.checkpoint.Goals as goal
@@ -125,3 +127,51 @@ returns-clause-commits g c = λ t.
       saves = c.in_ok-save_root.ensures.saves;
       second = subst (λ (n : List ℕ). CommitsOn n true (g.S.Shelf.world mid) (g.S.Shelf.world new) held c.commit_anew.new.pool) c.commit.ensures.sizes again;
     }
+
+-- ---- wherever it stops
+
+pub returns-in_err-commit-clause-leads : goal.returns-in_err-commit-clause-leads
+returns-in_err-commit-clause-leads g c = λ objects h. inl (c.commit.ensures.leads objects h)
+
+pub returns-in_err-save_root-clause-leads : goal.returns-in_err-save_root-clause-leads
+returns-in_err-save_root-clause-leads g c = λ objects h. inl (c.commit.ensures.leads objects h)
+
+pub returns-in_err-commit_anew-clause-leads : goal.returns-in_err-commit_anew-clause-leads
+returns-in_err-commit_anew-clause-leads g c = λ objects h.
+    let old = c.args.shelf.now in
+    let mid = c.commit.new.shelf in
+    let new = c.commit_anew.new.shelf in
+    let held = c.save_root.new.pool in
+    let done = c.in_ok-commit.ensures in
+    let saves = c.in_ok-save_root.ensures.saves in
+    let behind = done.stays objects h in
+    let kept = saves_objects c.commit.new.pool held saves (g.S.Shelf.sizes mid) (g.S.Shelf.counts mid) (g.S.Shelf.tells mid) (g.S.Shelf.world mid) objects done.pool behind in
+    inr (record {
+      ended = c.commit.new.pool;
+      mid = g.S.Shelf.world mid;
+      first = ends_by c.commit.ensures.sizes done.pool done.same done.last done.txg done.written done.ends done.empty done.stands done.safe h behind;
+      held = held;
+      ready = c.in_ok-save_root.ensures.pool (g.S.Shelf.sizes old) (subst (λ (n : List ℕ). IsOpen n c.commit.new.pool) c.commit.ensures.sizes done.pool);
+      saves = saves;
+      second = subst (λ (n : List ℕ). CommitsObjects n held true objects (g.S.Shelf.world mid) (g.S.Shelf.world new)) c.commit.ensures.sizes (c.commit_anew.ensures.leads objects kept);
+    })
+
+pub returns-clause-leads : goal.returns-clause-leads
+returns-clause-leads g c = λ objects h.
+    let old = c.args.shelf.now in
+    let mid = c.commit.new.shelf in
+    let new = c.commit_anew.new.shelf in
+    let held = c.save_root.new.pool in
+    let done = c.in_ok-commit.ensures in
+    let saves = c.in_ok-save_root.ensures.saves in
+    let behind = done.stays objects h in
+    let kept = saves_objects c.commit.new.pool held saves (g.S.Shelf.sizes mid) (g.S.Shelf.counts mid) (g.S.Shelf.tells mid) (g.S.Shelf.world mid) objects done.pool behind in
+    inr (record {
+      ended = c.commit.new.pool;
+      mid = g.S.Shelf.world mid;
+      first = ends_by c.commit.ensures.sizes done.pool done.same done.last done.txg done.written done.ends done.empty done.stands done.safe h behind;
+      held = held;
+      ready = c.in_ok-save_root.ensures.pool (g.S.Shelf.sizes old) (subst (λ (n : List ℕ). IsOpen n c.commit.new.pool) c.commit.ensures.sizes done.pool);
+      saves = saves;
+      second = subst (λ (n : List ℕ). CommitsObjects n held true objects (g.S.Shelf.world mid) (g.S.Shelf.world new)) c.commit.ensures.sizes (c.commit_anew.ensures.leads objects kept);
+    })

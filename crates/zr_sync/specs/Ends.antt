@@ -5,7 +5,7 @@ use Rattle.zr_rules.specs.Space.{nothing_opened, opened_of}
 use Rattle.zr_shelf.specs.Disks.{IsAtRest, Stand}
 use Rattle.zr_shelf.specs.Moments.{World}
 use Rattle.zr_sync.specs.Commits.{EndsGroup, IsNextRoot, IsShownFrom}
-use Rattle.zr_sync.specs.Heads.{HasHead, HasSafeHead}
+use Rattle.zr_sync.specs.Heads.{HasDirectory, HasHead, HasSafeHead}
 use Rattle.zr_sync.specs.Objects.{HoldsObjects}
 use Rattle.zr_sync.specs.Pools.{IsOpen, IsSamePool}
 use Rattle.zr_sync.specs.Writes.{WritesIntoFree}
@@ -31,10 +31,10 @@ pub record ComesCommitted (sizes : List ℕ) (pool : OpenPool) (objects : Object
   pub before : World
   pub commits : EndsCommitted sizes true blank pool objects before now
 
--- What a line leaves that ends with a commit: the pool's group is empty, no unit is the group's own, and nothing is pending. Its last root leads to its head, in units of metadata.
+-- What a line leaves that ends with a commit: the pool's group is empty, no unit is the group's own, and nothing is pending. Its last root leads to its directory, by a head in units of metadata.
 pub record LeavesCommitted (pool : OpenPool) (now : Stand) : Type 0 where
   pub empty : pool.group.objects ≡ []
   pub settled : (d : ℕ) → opened_of pool.space d ≡ nothing_opened
   pub rest : IsAtRest now
-  pub head : IfSome pool.last (λ u. HasHead now.seen pool u.root u.len)
+  pub head : IfSome pool.last (λ u. HasDirectory now.seen pool u.root u.len)
   pub safe : IfSome pool.last (λ u. HasSafeHead now.seen pool u.root u.len)

@@ -1,0 +1,344 @@
+-- A device that leaves the service, or of which units are copied, is read as before: the disks hold the same objects, and show the last root.
+use Rattle.std.proofs.Common.{◌≡◌, ◌≢◌, inl, inr, ℕ, ◌+◌, ◌<◌, ◌≤◌, Bool, true, false, List, [], ◌∷◌, map, length, Option, Some, None, refl, sym, ◌∙◌, ap, subst, arith}
+use Rattle.std.specs.Prelude.{IfSome, ◌&&◌, ◌==◌, if◌then◌else◌, nat_lt, slice_index, slice_index_or, slice_set}
+use Rattle.std.specs.List.{position, range_with_len}
+use Rattle.std.proofs.Math.Path.{fun_ext}
+use Rattle.std.proofs.lemmas.Bool.{cases_eq}
+use Rattle.std.proofs.lemmas.Bool.Decides.{nat_tests}
+use Rattle.std.proofs.lemmas.List.{get_or-set_same, get_or-set_other}
+use Rattle.zr_base.specs.Extents.{has_unit}
+use Rattle.zr_base.specs.declared.space.DevRow.{DevRow}
+use Rattle.zr_base.specs.declared.space.DevState.{DevState}
+use Rattle.zr_base.specs.declared.space.DevState.TheVariants.{Gone, Leaving, On}
+use Rattle.zr_base.specs.declared.space.Dva.{Dva}
+use Rattle.zr_base.specs.declared.space.Entry.{Entry}
+use Rattle.zr_base.specs.declared.space.Extent.{Extent}
+use Rattle.zr_base.specs.declared.space.Policy.{Policy}
+use Rattle.zr_cache.specs.declared.table.Cache.{Cache}
+use Rattle.zr_image.specs.Current.{is_device, row_at, slot_of_device, slots_of}
+use Rattle.zr_label.specs.Blocks.{no_row}
+use Rattle.zr_label.specs.declared.root.Label.{Label}
+use Rattle.zr_label.specs.declared.root.Seen.{Seen}
+use Rattle.zr_label.specs.declared.root.Uber.{Uber}
+use Rattle.zr_last.proofs.Lasting.{commit_places, units_last}
+use Rattle.zr_last.specs.Last.{KeepsLast, ShowsLast}
+use Rattle.zr_model.specs.Objects.{Objects}
+use Rattle.zr_newest.proofs.Newest.{above_newest}
+use Rattle.zr_newest.specs.Newest.{AreAt, IsAbove}
+use Rattle.zr_rules.specs.Devices.{Devices, state_at}
+use Rattle.zr_rules.specs.Equation.{Spends, devices_in, fresh_in, ways_in}
+use Rattle.zr_rules.specs.Mappings.{entry_at}
+use Rattle.zr_rules.specs.Places.{count_below, in_address, is_fresh, is_gone, is_leaving, part_of, state_of_dev}
+use Rattle.zr_rules.specs.Resolve.{leads_to}
+use Rattle.zr_rules.specs.Roles.{Role, is_live_role}
+use Rattle.zr_rules.specs.Roles.Role.{Free, FreshCopy}
+use Rattle.zr_rules.specs.Space.{Space, role_at}
+use Rattle.zr_rules.specs.Steps.{IsSameElsewhere}
+use Rattle.zr_shelf.specs.Disks.{PendingWrite}
+use Rattle.zr_shelf.specs.Doings.{WritesOnly}
+use Rattle.zr_shelf.specs.Moments.{World}
+use Rattle.zr_space.specs.Live.{IsFreeable}
+use Rattle.zr_space.specs.Plans.{IsPlan, MakesCopy}
+use Rattle.zr_space.specs.declared.copy.Plan.{Plan}
+use Rattle.zr_store.specs.Store.{Now, Stored, Swaps}
+use Rattle.zr_sync.proofs.Stays.{objects_stay}
+use Rattle.zr_sync.specs.Commits.{IsNextRoot, IsShownFrom}
+use Rattle.zr_sync.specs.Objects.{HoldsObjects}
+use Rattle.zr_sync.specs.Pools.{IsAfter, IsOpen, IsSamePool}
+use Rattle.zr_sync.specs.Writes.{WritesIntoFree}
+use Rattle.zr_sync.specs.declared.open.OpenPool.{OpenPool}
+use Rattle.zr_sync.specs.declared.open.Table.{Table}
+use Rattle.zr_vdev.proofs.Follows.{widen}
+use Rattle.zr_vdev.proofs.Frames.{run_stays}
+use Rattle.zr_vdev.proofs.Held.{address_same, one_unit}
+use Rattle.zr_vdev.proofs.Moves.{held_again}
+use Rattle.zr_vdev.specs.Caches.{AreRead}
+use Rattle.zr_vdev.specs.Copies.{CopiesUnits, IsWriteIntoFree}
+use Rattle.zr_vdev.specs.Runs.{view_of}
+use Rattle.zr_vdev.specs.Stores.{HoldsBlocks, IsWriteInto, addresses_of, is_open_role, may_write}
+use Rattle.zr_vdev.specs.declared.kind.Kind.TheVariants.{Block, Meta}
+use Rattle.zr_view.specs.Views.{address_bytes, slot_of}
+use Rattle.zr_removal.specs.Turns.{LeavesPool}
+use Rattle.zr_removal.proofs.Alike.{bytes_same, hits_same, is_resolved_same, leads_same, live_same, unit_same, ways_same}
+
+-- One device turns, and is there before and behind it: what is in use by blocks stays so, and nothing more is marked.
+pub record TurnsOne (s t : Space) (d : ℕ) : Type 0 where
+  pub was : is_gone (state_of_dev s.parts.devs d) ≡ false
+  pub is : is_gone (state_of_dev t.parts.devs d) ≡ false
+  pub units : (part_of t.parts.devs d).row.units ≡ (part_of s.parts.devs d).row.units
+  pub fresh : (u : ℕ) → is_fresh s.parts.devs d u ≡ false → is_fresh t.parts.devs d u ≡ false
+  pub live : (e u : ℕ) → is_live_role (role_at s e u) ≡ true → is_live_role (role_at t e u) ≡ true
+  pub elsewhere : IsSameElsewhere s t d
+
+module _ (s t : Space) (d : ℕ) (h : TurnsOne s t d) where
+  abbrev es : Devices
+  es = devices_in t
+
+  abbrev ds : Devices
+  ds = devices_in s
+
+  -- ---- the devices
+
+  count : es.count ≡ ds.count
+  count = h.elsewhere.devices
+
+  gone_same : (e : ℕ) → is_gone (state_at es e) ≡ is_gone (state_at ds e)
+  gone_same e = elim (cases_eq e d) [
+    | inl here ↦ subst (λ (k : ℕ). is_gone (state_at es k) ≡ is_gone (state_at ds k)) (sym here) (h.is ∙ sym h.was)
+    | inr other ↦ ap (λ (r : DevRow). is_gone r.state) (h.elsewhere.others e other).row
+  ]
+
+  size_same : (e : ℕ) → (es.row e).units ≡ (ds.row e).units
+  size_same e = elim (cases_eq e d) [
+    | inl here ↦ subst (λ (k : ℕ). (es.row k).units ≡ (ds.row k).units) (sym here) h.units
+    | inr other ↦ ap (λ (r : DevRow). r.units) (h.elsewhere.others e other).row
+  ]
+
+  -- one that is gone is another
+  other_gone : (e : ℕ) → is_gone (state_at ds e) ≡ true → e ≢ d
+  other_gone e gone here = let no_way : false ≡ true = sym h.was ∙ subst (λ (k : ℕ). is_gone (state_at ds k) ≡ true) here gone in absurd cc
+
+  maps_same : (e : ℕ) → is_gone (state_at ds e) ≡ true → es.entries e ≡ ds.entries e
+  maps_same e gone = (h.elsewhere.others e (other_gone e gone)).entries
+
+  -- ---- what may be given back
+
+  fresh_no : (e u : ℕ) → is_fresh s.parts.devs e u ≡ false → is_fresh t.parts.devs e u ≡ false
+  fresh_no e u none = elim (cases_eq e d) [
+    | inl here ↦ subst (λ (k : ℕ). is_fresh t.parts.devs k u ≡ false) (sym here) (h.fresh u (subst (λ (k : ℕ). is_fresh s.parts.devs k u ≡ false) here none))
+    | inr other ↦ h.elsewhere.fresh e u other ∙ none
+  ]
+
+  -- the entry of a device that is gone
+  entry_same : (list : List Dva) (e i : ℕ) → e ≢ d
+      → slice_index (part_of s.parts.devs e).counts i + fresh_in (part_of s.parts.devs e) (entry_at (part_of s.parts.devs e).entries i) + ways_in ds list e (entry_at (part_of s.parts.devs e).entries i) ≤ (entry_at (part_of s.parts.devs e).entries i).len
+      → slice_index (part_of t.parts.devs e).counts i + fresh_in (part_of t.parts.devs e) (entry_at (part_of t.parts.devs e).entries i) + ways_in es list e (entry_at (part_of t.parts.devs e).entries i) ≤ (entry_at (part_of t.parts.devs e).entries i).len
+  entry_same list e i other most =
+      let part = h.elsewhere.others e other in
+      let old = part_of s.parts.devs e in
+      let new = part_of t.parts.devs e in
+      let entry : entry_at new.entries i ≡ entry_at old.entries i = ap (λ (them : List Entry). entry_at them i) part.entries in
+      let counts : slice_index new.counts i ≡ slice_index old.counts i = ap (λ (ns : List ℕ). slice_index ns i) part.counts in
+      let at = entry_at old.entries i in
+      let fresh : fresh_in new at ≡ fresh_in old at = ap (λ (test : ℕ → Bool). count_below at.len (λ k. test (at.src + k))) (fun_ext (λ (u : ℕ). h.elsewhere.fresh e u other)) in
+      let ways : ways_in es list e at ≡ ways_in ds list e at = ap (λ (hits : ℕ → ℕ). count_below at.len (λ k. nat_lt 0 (hits (at.src + k)))) (fun_ext (λ (u : ℕ). ways_same es ds count gone_same size_same maps_same list e u)) in
+      subst (λ (it : Entry). slice_index new.counts i + fresh_in new it + ways_in es list e it ≤ it.len) (sym entry) (omega (arith, counts, fresh, ways, most))
+
+  spends_turned : (list : List Dva) → Spends s list → Spends t list
+  spends_turned list sp = record {
+    passed = λ e u some. fresh_no e u (sp.passed e u (let same = ways_same es ds count gone_same size_same maps_same list e u in omega (arith, same, some)));
+    entries = λ e i gone lt.
+        let was = sym (gone_same e) ∙ gone in
+        let other = other_gone e was in
+        entry_same list e i other (sp.entries e i was (let same = ap (λ (them : List Entry). length them) (h.elsewhere.others e other).entries in omega (arith, same, lt)));
+  }
+
+  freeable_turned : (a : Dva) → IsFreeable s a → IsFreeable t a
+  freeable_turned a is = record {
+    known = (let known = is.known in let many = count in omega (arith, known, many));
+    some = is.some;
+    resolves = is_resolved_same es ds count gone_same size_same maps_same a ∙ is.resolves;
+    once = λ e u. (let most = is.once e u in let same = hits_same es ds count gone_same size_same maps_same a e u in omega (arith, most, same));
+    used = λ e u leads. h.live e u (is.used e u (sym (leads_same es ds count gone_same size_same maps_same a e u) ∙ leads));
+    spends = spends_turned (a ∷ []) is.spends;
+  }
+
+  -- ---- what the disks hold
+
+  pub reads_turned : (disks : List (List ℕ)) (slots : List (Option ℕ)) (c : Cache) → AreRead disks slots s c → AreRead disks slots t c
+  reads_turned disks slots c read e among =
+      let was = read e among in
+      let at = e.0.pointer.at in
+      record {
+        runs_of = record {
+          resolves = is_resolved_same es ds count gone_same size_same maps_same at ∙ was.runs_of.resolves;
+          follow = was.runs_of.follow;
+          targets = λ k lt. was.runs_of.targets k lt ∙ sym (unit_same es ds count gone_same size_same maps_same at.dev (at.start + k));
+        };
+        same = was.same ∙ sym (bytes_same es ds count gone_same size_same maps_same disks slots at);
+      }
+
+  -- what is in use has its bytes, on these disks as on those
+  pub blocks_turned : (slots : List (Option ℕ)) (t1 t2 : Type 0) (before now : List (List ℕ)) (c k : Cache) (st : Stored) → t2 → AreRead now slots t k → ((a : Dva) → IsFreeable s a → address_bytes (view_of now slots s) a ≡ address_bytes (view_of before slots s) a)
+      → HoldsBlocks Block slots t1 before s None c st → Now (HoldsBlocks Block slots t2 now t None k) (λ n. Swaps st n [] [])
+  blocks_turned slots t1 t2 before now c k st told read bytes held =
+      held_again Block slots t1 t2 before now s t None c k st told read
+      (λ a is. record { used = freeable_turned a is.used; whole = tt })
+      (λ a is. bytes_same es ds count gone_same size_same maps_same now slots a ∙ bytes a is.used)
+      (λ e u. (let most = held.once e u in let same = live_same es ds count gone_same size_same maps_same (addresses_of st.pointers) e u in omega (arith, most, same)))
+      (spends_turned (addresses_of st.pointers) held.back)
+      held
+
+-- ---- a device leaves the service
+
+leaves_one : (x y : OpenPool) (d : ℕ) → LeavesPool x y d → state_of_dev x.space.parts.devs d ≡ On → TurnsOne x.space y.space d
+leaves_one x y d h on = record {
+  was = ap (λ (s : DevState). is_gone s) on;
+  is = ap (λ (r : DevRow). is_gone r.state) h.leaves.row_is;
+  units = ap (λ (r : DevRow). r.units) h.leaves.row_is;
+  fresh = λ u none. ap (λ (list : List Extent). has_unit list u) h.leaves.fresh;
+  live = λ e u is. ap (λ (r : Role). is_live_role r) (h.leaves.roles e u) ∙ is;
+  elsewhere = h.leaves.elsewhere;
+}
+
+pub objects_out : (x y : OpenPool) (d : ℕ) → LeavesPool x y d → state_of_dev x.space.parts.devs d ≡ On → (t : Type 0) (disks : List (List ℕ)) (objects : Objects) → HoldsObjects t disks x objects → HoldsObjects t disks y objects
+objects_out x y d h on t disks objects holds =
+    let one = leaves_one x y d h on in
+    let slots = x.table.slots in
+    let again = blocks_turned x.space y.space d one slots t t disks disks x.cache x.cache holds.stored holds.held.told (reads_turned x.space y.space d one disks slots x.cache holds.held.read) (λ a is. refl) holds.held in
+    objects_stay x y objects (ap (λ (p : OpenPool). p.dir) h.rest) (ap (λ (p : OpenPool). p.group) h.rest) holds
+    (subst (λ (these : List (Option ℕ)). Now (HoldsBlocks Block these t disks y.space None y.cache) (λ n. Swaps holds.stored n [] [])) (sym (ap (λ (w : Table). w.slots) h.table))
+    (subst (λ (k : Cache). Now (HoldsBlocks Block slots t disks y.space None k) (λ n. Swaps holds.stored n [] [])) (sym (ap (λ (p : OpenPool). p.cache) h.rest)) again))
+
+-- ---- units of it are copied
+
+there_leaving : (s : DevState) → is_leaving s ≡ true → is_gone s ≡ false
+there_leaving On is = absurd (let no_way : false ≡ true = is in cc)
+there_leaving Leaving is = refl
+there_leaving Gone is = absurd (let no_way : false ≡ true = is in cc)
+
+live_else : (b : Bool) (r : Role) → is_live_role r ≡ true → (b ≡ true → r ≡ Free) → is_live_role (if b then FreshCopy else r) ≡ true
+live_else true r is free = absurd (let no_way : false ≡ true = sym (ap (λ (q : Role). is_live_role q) (free refl)) ∙ is in cc)
+live_else false r is free = is
+
+plan_free : (old : Space) (d : ℕ) (p : Plan) → IsPlan old d p → (e u : ℕ) → in_address p.to e u ≡ true → role_at old e u ≡ Free
+plan_free old d p plan e u inside =
+    let dev : e ≡ p.to.dev = grind (arith, nat_tests, inside) in
+    let here : in_address p.to p.to.dev u ≡ true = subst (λ (k : ℕ). in_address p.to k u ≡ true) dev inside in
+    subst (λ (k : ℕ). role_at old k u ≡ Free) (sym dev) (plan.free u here)
+
+copies_one : (old new : Space) (d : ℕ) (p : Plan) → IsPlan old d p → MakesCopy old new d p → TurnsOne old new d
+copies_one old new d p plan m = record {
+  was = there_leaving (state_of_dev old.parts.devs d) plan.leaving;
+  is = ap (λ (r : DevRow). is_gone r.state) m.row_is ∙ there_leaving (state_of_dev old.parts.devs d) plan.leaving;
+  units = ap (λ (r : DevRow). r.units) m.row_is;
+  fresh = λ u none. ap (λ (list : List Extent). has_unit list u) m.fresh ∙ none;
+  live = λ e u is.
+      ap (λ (r : Role). is_live_role r) (m.roles e u)
+      ∙ live_else (in_address p.to e u) (role_at old e u) is (plan_free old d p plan e u);
+  elsewhere = m.elsewhere;
+}
+
+-- no unit may be written behind it that might not before
+opened_else : (b : Bool) (r : Role) → (b ≡ true → r ≡ Free) → is_open_role (if b then FreshCopy else r) ≡ true → is_open_role r ≡ true
+opened_else true r free is = ap is_open_role (free refl)
+opened_else false r free is = is
+
+pub copies_open : (policy : Policy) (slots : List (Option ℕ)) (told : Type 0) (before now : World) (old new : Space) (n : ℕ) → CopiesUnits policy slots told before now old new n → (e u : ℕ) → is_open_role (role_at new e u) ≡ true → is_open_role (role_at old e u) ≡ true
+copies_open policy slots told before now old new n copies e u is =
+    opened_else (in_address copies.plan.to e u) (role_at old e u) (plan_free old copies.dev copies.plan copies.plans.plan e u) (sym (ap (λ (r : Role). is_open_role r) (copies.makes.roles e u)) ∙ is)
+
+-- what is in use is not free, so a write into free units leaves its bytes
+free_writes : (slots : List (Option ℕ)) (s : Space) (before now : World) (a : Dva) → ((d e slot : ℕ) → slot_of slots d ≡ Some slot → slot_of slots e ≡ Some slot → d ≡ e) → WritesOnly (IsWriteIntoFree slots s) before now → IsFreeable s a
+    → address_bytes (view_of now.now.seen slots s) a ≡ address_bytes (view_of before.now.seen slots s) a
+free_writes slots s before now a apart wrote is =
+    address_same slots (devices_in s) before.now.seen now.now.seen a (λ d u led. run_stays Meta slots s (one_unit d u) (omega arith) (barred d u led) apart before now wrote)
+  where
+    live_barred : (r : Role) → is_live_role r ≡ true → may_write Meta r ≡ false
+    live_barred r live = grind (arith, nat_tests, live)
+
+    barred : (d u : ℕ) → leads_to (devices_in s) a d u ≡ true → (e v : ℕ) → in_address (one_unit d u) e v ≡ true → may_write Meta (role_at s e v) ≡ false
+    barred d u led e v inside =
+        let dev : e ≡ d = grind (arith, nat_tests, inside) in
+        let unit : v ≡ u = grind (arith, nat_tests, inside) in
+        ap (λ (y : ℕ). may_write Meta (role_at s y v)) dev ∙ (ap (λ (w : ℕ). may_write Meta (role_at s d w)) unit ∙ live_barred (role_at s d u) (is.used d u led))
+
+-- so the disks hold the same objects behind a copy
+pub objects_copied : (policy : Policy) (x y : OpenPool) (t0 t1 t2 : Type 0) (before now : World) (n : ℕ) (objects : Objects) → ((d e slot : ℕ) → slot_of x.table.slots d ≡ Some slot → slot_of x.table.slots e ≡ Some slot → d ≡ e)
+    → CopiesUnits policy x.table.slots t0 before now x.space y.space n → WritesOnly (IsWriteIntoFree x.table.slots x.space) before now → (AreRead before.now.seen x.table.slots x.space x.cache → AreRead now.now.seen x.table.slots y.space y.cache)
+    → y ≡ record x { space = y.space; cache = y.cache } → t2 → HoldsObjects t1 before.now.seen x objects → HoldsObjects t2 now.now.seen y objects
+objects_copied policy x y t0 t1 t2 before now n objects apart copies wrote read rest told holds =
+    let slots = x.table.slots in
+    let one = copies_one x.space y.space copies.dev copies.plan copies.plans.plan copies.makes in
+    let again = blocks_turned x.space y.space copies.dev one slots t1 t2 before.now.seen now.now.seen x.cache y.cache holds.stored told (read holds.held.read) (λ a is. free_writes slots x.space before now a apart wrote is) holds.held in
+    objects_stay x y objects (ap (λ (p : OpenPool). p.dir) rest) (ap (λ (p : OpenPool). p.group) rest) holds
+    (subst (λ (w : Table). Now (HoldsBlocks Block w.slots t2 now.now.seen y.space None y.cache) (λ m. Swaps holds.stored m [] [])) (sym (ap (λ (p : OpenPool). p.table) rest)) again)
+
+-- nothing is written but what a block may have
+module _ (slots : List (Option ℕ)) (s : Space) (before now : World) where
+  free_open : (r : Role) → may_write Meta r ≡ true → may_write Block r ≡ true
+  free_open r is = grind (arith, nat_tests, is)
+
+  wider : (w : PendingWrite) → IsWriteIntoFree slots s w → IsWriteInto Block slots s w
+  wider w h = record { at = h.at; is = h.is; some = h.some; open_units = λ u inside. free_open (role_at s h.at.dev u) (h.open_units u inside) }
+
+  pub into_free : WritesOnly (IsWriteIntoFree slots s) before now → WritesOnly (IsWriteInto Block slots s) before now
+  into_free wrote = widen (IsWriteIntoFree slots s) (IsWriteInto Block slots s) wider before now wrote
+
+-- and they show the last root
+pub last_copied : (sizes : List ℕ) (x y : OpenPool) (before now : World) → IsOpen sizes x → map length before.now.seen ≡ sizes → WritesOnly (IsWriteIntoFree x.table.slots x.space) before now → y ≡ record x { space = y.space; cache = y.cache } → KeepsLast before now x y
+last_copied sizes x y before now ready sized wrote rest =
+    units_last sizes x y before now ready sized (into_free x.table.slots x.space before now wrote)
+    (record { last = ap (λ (p : OpenPool). p.last) rest; guid = ap (λ (p : OpenPool). p.guid) rest; table = ap (λ (p : OpenPool). p.table) rest })
+
+-- ---- the slots of a root's devices
+
+module _ (u v : Uber) (seen : List Seen) (guid : u.guid ≡ v.guid) (count : u.count ≡ v.count) (gone : (e : ℕ) → is_gone (row_at u e).state ≡ is_gone (row_at v e).state) (added : (e : ℕ) → (row_at u e).added ≡ (row_at v e).added) (units : (e : ℕ) → (row_at u e).units ≡ (row_at v e).units) where
+  named_same : (e : ℕ) (l : Option Label) → is_device u e l ≡ is_device v e l
+  named_same e None = refl
+  named_same e (Some l) =
+      ap (λ (n : ℕ). l.guid == n && (l.index == e && (l.added == (row_at u e).added && l.units == (row_at u e).units))) guid
+      ∙ (ap (λ (n : ℕ). l.guid == v.guid && (l.index == e && (l.added == n && l.units == (row_at u e).units))) (added e)
+      ∙ ap (λ (n : ℕ). l.guid == v.guid && (l.index == e && (l.added == (row_at v e).added && l.units == n))) (units e))
+
+  slot_same : (e : ℕ) → slot_of_device u seen e ≡ slot_of_device v seen e
+  slot_same e =
+      ap (λ (b : Bool). if b then None else position (λ (s : Seen). is_device u e s.label) seen) (gone e)
+      ∙ ap (λ (test : Seen → Bool). if is_gone (row_at v e).state then None else position test seen) (fun_ext (λ (s : Seen). named_same e s.label))
+
+  pub slots_alike : slots_of u seen ≡ slots_of v seen
+  slots_alike = ap (λ (n : ℕ). map (slot_of_device u seen) (range_with_len 0 n)) count ∙ ap (λ (f : ℕ → Option ℕ). map f (range_with_len 0 v.count)) (fun_ext slot_same)
+
+-- ---- the last root
+
+-- A commit behind which the device is leaving shows its root, where the last one was the newest: each device has the slot that it had.
+module _ (sizes behind : List ℕ) (x y z : OpenPool) (d : ℕ) (before now : World) (left : LeavesPool x y d) (on : state_of_dev x.space.parts.devs d ≡ On) (known : d < x.table.count) (was : IsOpen sizes x) (ready : IsOpen sizes y) (later : IsOpen behind z) (sized : map length before.now.seen ≡ sizes)
+    (txg : z.group.txg ≡ y.group.txg + 1) (next : IfSome z.last (IsNextRoot y true)) (wrote : IfSome z.last (λ u. (mid : World) × WritesIntoFree y before mid × IsShownFrom sizes y u mid now)) (same : IsSamePool y z) (h : ShowsLast before.now.seen x) where
+  abbrev root : Uber
+  root = h.root
+
+  abbrev old_row : DevRow
+  old_row = slice_index_or x.table.rows d no_row
+
+  module _ (u : Uber) (is : IsNextRoot y true u) where
+    guid_is : u.guid ≡ root.guid
+    guid_is = is.guid ∙ (ap (λ (p : OpenPool). p.guid) left.rest ∙ h.from.guid)
+
+    count_is : u.count ≡ root.count
+    count_is = is.count ∙ (ap (λ (t : Table). t.count) left.table ∙ h.from.count)
+
+    rows_are : u.rows ≡ slice_set x.table.rows d (record old_row { state = Leaving })
+    rows_are = is.rows ∙ ap (λ (t : Table). t.rows) left.table
+
+    inside : d < length x.table.rows
+    inside = let lt = known in let size = was.table.size in let few = was.few in omega (arith, lt, size, few)
+
+    here : row_at u d ≡ record (row_at root d) { state = Leaving }
+    here = ap (λ (rs : List DevRow). slice_index_or rs d no_row) rows_are ∙ (get_or-set_same x.table.rows d (record old_row { state = Leaving }) no_row inside ∙ ap (λ (rs : List DevRow). record (slice_index_or rs d no_row) { state = Leaving }) h.from.rows)
+
+    elsewhere : (e : ℕ) → e ≢ d → row_at u e ≡ row_at root e
+    elsewhere e other = ap (λ (rs : List DevRow). slice_index_or rs e no_row) rows_are ∙ (get_or-set_other x.table.rows d e (record old_row { state = Leaving }) no_row other ∙ ap (λ (rs : List DevRow). slice_index_or rs e no_row) h.from.rows)
+
+    served : (row_at root d).state ≡ On
+    served = ap (λ (rs : List DevRow). (slice_index_or rs d no_row).state) (sym h.from.rows) ∙ (sym (ap (λ (r : DevRow). r.state) (was.rows d known)) ∙ on)
+
+    field_same : {A : Type 0} (f : DevRow → A) → f (record (row_at root d) { state = Leaving }) ≡ f (row_at root d) → (e : ℕ) → f (row_at u e) ≡ f (row_at root e)
+    field_same f one e = elim (cases_eq e d) [
+      | inl at ↦ subst (λ (k : ℕ). f (row_at u k) ≡ f (row_at root k)) (sym at) (ap f here ∙ one)
+      | inr other ↦ ap f (elsewhere e other)
+    ]
+
+    places : (seen : List Seen) → AreAt x.table.slots root seen → AreAt y.table.slots u seen
+    places seen are e =
+        ap (λ (t : Table). slot_of t.slots e) left.table
+        ∙ (are e
+        ∙ ap (λ (slots : List (Option ℕ)). slot_of slots e)
+        (sym (slots_alike u root seen guid_is count_is (field_same (λ (r : DevRow). is_gone r.state) (sym (ap (λ (s : DevState). is_gone s) served))) (field_same (λ (r : DevRow). r.added) refl) (field_same (λ (r : DevRow). r.units) refl))))
+
+    above : IsAbove before.now.seen u
+    above =
+        above_newest before.now.seen root u x.table.slots h.newest guid_is
+        (let group = is.txg in let txgs = ap (λ (p : OpenPool). p.group.txg) left.rest in let after = (subst (λ (o : Option Uber). IsAfter o x.group.txg) h.from.last was.after).1 in omega (arith, group, txgs, after))
+
+  pub out_last : ShowsLast now.now.seen z
+  out_last = commit_places sizes behind y z true before now ready later sized txg next wrote same.guid same.table above h.newest.seen h.newest.labels (λ u is. places u is h.newest.seen h.newest.devices)
