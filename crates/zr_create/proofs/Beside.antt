@@ -1,5 +1,5 @@
 -- What is written to a slot that has no device leaves the bytes of each address.
-use Rattle.std.proofs.Common.{◌≡◌, ◌≢◌, ◌∙◌, inl, inr, ℕ, List, [], ◌∷◌, Option, None, Some, Result, Ok, Err, refl, sym, ap}
+use Rattle.std.proofs.Common.{◌≡◌, ◌≢◌, ◌∙◌, inl, inr, ℕ, zero, suc, ◌-◌, List, [], ◌∷◌, Option, None, Some, Result, Ok, Err, refl, sym, ap}
 use Rattle.std.specs.Prelude.{Contains}
 use Rattle.std.specs.List.{flat_map}
 use Rattle.std.proofs.Math.Path.{fun_ext}
@@ -10,13 +10,13 @@ use Rattle.zr_label.specs.declared.root.Label.{Label}
 use Rattle.zr_rules.specs.Devices.{Devices}
 use Rattle.zr_rules.specs.Places.{Place}
 use Rattle.zr_rules.specs.Resolve.{resolved_units}
-use Rattle.zr_scan.specs.Puts.{puts, label_places, ring_places}
+use Rattle.zr_scan.specs.Puts.{puts, label_place, ring_places}
 use Rattle.zr_scan.specs.declared.error.ScanErr.{ScanErr}
 use Rattle.zr_scan.proofs.Putting.{rest_same}
 use Rattle.zr_shelf.specs.Disks.{Stand, IsUntouched, disk, part}
 use Rattle.zr_shelf.specs.Doings.{WritesOnly}
 use Rattle.zr_shelf.specs.Moments.{World}
-use Rattle.zr_slots.specs.Phases.{IsFlushed, IsRingPut, IsLabelPut, Prepares}
+use Rattle.zr_slots.specs.Phases.{IsFlushed, IsRingPut, IsLabelPut, Prepares, PutsLast, SettlesLabel}
 use Rattle.zr_view.specs.Views.{slot_of, unit_bytes, place_bytes, address_bytes}
 use Rattle.zr_create.proofs.Taken.{IsFree}
 
@@ -36,8 +36,8 @@ puts_beside slot places bytes a b writes other at n ne = (rest_same (puts slot p
 rings_beside : (size slot : ℕ) (a b : World) → WritesOnly (IsRingPut size slot) a b → KeepsOtherDisks slot a.now.seen b.now.seen
 rings_beside size slot a b writes = puts_beside slot (ring_places size) (padding 131072) a b writes
 
-labels_beside : (size slot : ℕ) (l : Label) (a b : World) → WritesOnly (IsLabelPut size slot l) a b → KeepsOtherDisks slot a.now.seen b.now.seen
-labels_beside size slot l a b writes = puts_beside slot (label_places size) (label_block l) a b writes
+label_beside : (size slot n : ℕ) (l : Label) (a b : World) → WritesOnly (IsLabelPut size slot n l) a b → KeepsOtherDisks slot a.now.seen b.now.seen
+label_beside size slot n l a b writes = puts_beside slot (label_place size n) (label_block l) a b writes
 
 flush_beside : (slot : ℕ) (a b : World) → IsFlushed a b → KeepsOtherDisks slot a.now.seen b.now.seen
 flush_beside slot a b flush other at n ne = ap (λ (s : Stand). part (disk s.seen other) at n) flush.step
@@ -45,16 +45,24 @@ flush_beside slot a b flush other at n ne = ap (λ (s : Stand). part (disk s.see
 more_beside : (slot : ℕ) (a b c : List (List ℕ)) → KeepsOtherDisks slot a b → KeepsOtherDisks slot b c → KeepsOtherDisks slot a c
 more_beside slot a b c p q other at n ne = q other at n ne ∙ p other at n ne
 
+-- as many label blocks as were put
+settled_beside : (size slot n : ℕ) (l : Label) (a b : World) → SettlesLabel size slot n l (Ok tt) a b → KeepsOtherDisks slot a.now.seen b.now.seen
+settled_beside size slot n l a b (put, wrote, flush, stands) = more_beside slot a.now.seen put.now.seen b.now.seen (label_beside size slot n l a put wrote) (flush_beside slot put b flush)
+
+last_beside : (size slot k : ℕ) (l : Label) (a b : World) → PutsLast size slot k l a b → KeepsOtherDisks slot a.now.seen b.now.seen
+last_beside size slot zero l a b is = λ other at n ne. ap (λ (w : World). part (disk w.now.seen other) at n) is
+last_beside size slot (suc k) l a b (mid, last, step) = more_beside slot a.now.seen mid.now.seen b.now.seen (last_beside size slot k l a mid last) (settled_beside size slot (3 - k) l mid b step)
+
 -- a slot that is prepared leaves all other disks
 pub prepared_beside : (size slot : ℕ) (l : Label) (r : Result (Unit {0}) ScanErr) (a b : World) → Prepares size slot l r a b → KeepsOtherDisks slot a.now.seen b.now.seen
 prepared_beside size slot l (Ok done) a b p =
     more_beside slot a.now.seen p.cleared.now.seen b.now.seen (rings_beside size slot a p.cleared p.rings)
-    (more_beside slot p.cleared.now.seen p.first.now.seen b.now.seen (flush_beside slot p.cleared p.first p.between)
-    (more_beside slot p.first.now.seen p.labelled.now.seen b.now.seen (labels_beside size slot l p.first p.labelled p.labels) (flush_beside slot p.labelled b p.behind)))
+    (more_beside slot p.cleared.now.seen p.first.now.seen b.now.seen (flush_beside slot p.cleared p.first p.between) (last_beside size slot 4 l p.first b p.labels))
 prepared_beside size slot l (Err e) a b (inl p) = rings_beside size slot a b p
 prepared_beside size slot l (Err e) a b (inr p) =
     more_beside slot a.now.seen p.cleared.now.seen b.now.seen (rings_beside size slot a p.cleared p.rings)
-    (more_beside slot p.cleared.now.seen p.first.now.seen b.now.seen (flush_beside slot p.cleared p.first p.between) (labels_beside size slot l p.first b p.labels))
+    (more_beside slot p.cleared.now.seen p.first.now.seen b.now.seen (flush_beside slot p.cleared p.first p.between)
+    (more_beside slot p.first.now.seen p.mid.now.seen b.now.seen (last_beside size slot p.k l p.first p.mid p.last) (label_beside size slot (3 - p.k) l p.mid b p.labels)))
 
 -- ---- addresses
 

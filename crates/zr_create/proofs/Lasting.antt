@@ -1,7 +1,7 @@
 -- The disks show the last root of a new pool, and of one that has a device more.
 use Rattle.std.proofs.Common.{◌≡◌, ◌≢◌, inl, inr, ℕ, ◌+◌, ◌<◌, ◌≤◌, Bool, true, false, List, get_or, length, map, Option, None, Some, Result, Ok, Err, refl, sym, ◌∙◌, ap, subst, arith}
 use Rattle.std.specs.Prelude.{Contains, IfSome, IsSomeAnd, slice_index, slice_set}
-use Rattle.std.proofs.lemmas.List.{get_or_default}
+use Rattle.std.proofs.lemmas.List.{get_or_default, length-map}
 use Rattle.zr_base.specs.declared.space.DevRow.{DevRow}
 use Rattle.zr_image.specs.Current.{IsInUse, IsShownAt, ShowsAll, seen_at}
 use Rattle.zr_label.specs.declared.root.Label.{Label}
@@ -31,6 +31,7 @@ use Rattle.zr_create.specs.Labelled.{LabelsSlots}
 use Rattle.zr_create.specs.Refusals.{ChecksNew, ChecksNext}
 use Rattle.zr_create.proofs.Labelled.{devices_labelled}
 use Rattle.zr_create.proofs.Taken.{IsFree}
+use Rattle.zr_current.specs.Current.{GoesOnFrom}
 
 not_refused : {P A R : Type 0} {a : A} (r : R) → Ok a ≡ Err r → P
 not_refused r e = absurd cc
@@ -69,6 +70,38 @@ next_few sizes tells disks pool slot checks = elim checks.checks [
   ]
 ]
 
+-- a root behind the last one of a pool, with a device more
+pub next_joins : (sizes : List ℕ) (disks : List (List ℕ)) (root v : Uber) (b c : OpenPool) (slot units : ℕ) → IsOpen sizes b → GoesOnFrom root b → b.table.count < 32 → IsFree b.table.slots slot → TakesOn slot units b c
+    → ((other : ℕ) (m : Label) → other ≢ slot → other < length disks → IsFirstLabel (length (disk disks other)) (disk disks other) m → m.guid ≡ b.guid → m.index ≡ b.table.count → m.added ≡ b.group.txg → ⊥)
+    → IsNextRoot c true v → JoinsDevice disks root v b.table.slots c.table.slots slot (next_label b units)
+next_joins sizes disks root v b c slot units ready_b from few free took alone is =
+    let size = ready_b.table.size in
+    let long = ready_b.slots in
+    let count_is : b.table.count ≡ root.count = from.count in
+    let n = count_is in
+    let rows_long = ap (λ (rs : List DevRow). length rs) from.rows in
+    let slots_are : slice_set b.table.slots root.count (Some slot) ≡ c.table.slots = ap (λ (k : ℕ). slice_set b.table.slots k (Some slot)) (sym count_is) ∙ sym (ap (λ (t : Table). t.slots) took.table) in
+    let rows_are : v.rows ≡ slice_set root.rows root.count (new_row units b.group.txg) =
+    is.rows
+    ∙ (ap (λ (t : Table). t.rows) took.table
+    ∙ (ap (λ (k : ℕ). slice_set b.table.rows k (new_row units b.group.txg)) count_is ∙ ap (λ (rs : List DevRow). slice_set rs root.count (new_row units b.group.txg)) from.rows)) in
+    subst (λ (ss : List (Option ℕ)). JoinsDevice disks root v b.table.slots ss slot (next_label b units)) slots_are
+    (joins_next disks root v b.table.slots slot (next_label b units) (new_row units b.group.txg) (is.guid ∙ (took.guid ∙ from.guid)) (is.count ∙ (ap (λ (t : Table). t.count) took.table ∙ ap (λ (k : ℕ). k + 1) count_is)) rows_are (omega (arith, size, few, n, rows_long))
+    (omega (arith, long, few, n)) refl from.guid count_is refl refl free alone)
+
+-- a slot that there is has a disk
+pub slot_known : (sizes behind : List ℕ) (disks : List (List ℕ)) (slot : ℕ) → behind ≡ sizes → map length disks ≡ behind → slot < length sizes → slot < length disks
+slot_known sizes behind disks slot same sized lt = subst (λ (n : ℕ). slot < n) (sym (ap (λ (ns : List ℕ). length ns) (sized ∙ same)) ∙ length-map disks length) lt
+
+-- nor has one behind a commit
+pub still_alone : (s1 s2 : List ℕ) (a b : OpenPool) (w1 w2 : World) (slot : ℕ) → IsOpen s1 a → IsOpen s2 b → map length w1.now.seen ≡ s1 → b.group.txg ≡ a.group.txg + 1 → IfSome b.last (IsNextRoot a false) → IfSome b.last (λ u. (mid : World) × WritesIntoFree a w1 mid × IsShownFrom s1 a u mid w2) → b.guid ≡ a.guid → b.table ≡ a.table
+    → ((other : ℕ) (m : Label) → other ≢ slot → other < length w1.now.seen → IsFirstLabel (length (disk w1.now.seen other)) (disk w1.now.seen other) m → m.guid ≡ a.guid → m.index ≡ a.table.count → m.added ≡ a.group.txg + 1 → ⊥)
+    → (other : ℕ) (m : Label) → other ≢ slot → other < length w2.now.seen → IsFirstLabel (length (disk w2.now.seen other)) (disk w2.now.seen other) m → m.guid ≡ b.guid → m.index ≡ b.table.count → m.added ≡ b.group.txg → ⊥
+still_alone s1 s2 a b w1 w2 slot ready_a ready_b sized_a txg_b next_b wrote_b guid_b table_b alone other m differ lt first guid index added =
+    let keeps = commit_labels s1 s2 a b false w1 w2 ready_a ready_b sized_a txg_b next_b wrote_b guid_b table_b in
+    let long = keeps.count in
+    alone other m differ (omega (arith, lt, long)) (first_back w1.now.seen w2.now.seen other (keeps.sizes other) (λ n small. keeps.labels other n small) m first) (guid ∙ guid_b) (index ∙ ap (λ (t : Table). t.count) table_b) (added ∙ txg_b)
+
 -- A commit of what was open, a slot that is prepared for the next device, and a commit with it.
 module _ (w1 w2 w3 w4 : World) (s1 s2 s3 s4 : List ℕ) (a b c d : OpenPool) (slot units : ℕ) (ready_a : IsOpen s1 a) (ready_b : IsOpen s2 b) (sized_a : map length w1.now.seen ≡ s1) (txg_b : b.group.txg ≡ a.group.txg + 1) (next_b : IfSome b.last (IsNextRoot a false))
     (wrote_b : IfSome b.last (λ u. (mid : World) × WritesIntoFree a w1 mid × IsShownFrom s1 a u mid w2)) (guid_b : b.guid ≡ a.guid) (table_b : b.table ≡ a.table)
@@ -93,25 +126,10 @@ module _ (w1 w2 w3 w4 : World) (s1 s2 s3 s4 : List ℕ) (a b c d : OpenPool) (sl
 
   -- the labels of other slots stood there before
   alone_still : (other : ℕ) (m : Label) → other ≢ slot → other < length w2.now.seen → IsFirstLabel (length (disk w2.now.seen other)) (disk w2.now.seen other) m → m.guid ≡ label.guid → m.index ≡ label.index → m.added ≡ label.added → ⊥
-  alone_still other m differ lt first guid index added =
-      let keeps = commit_labels s1 s2 a b false w1 w2 ready_a ready_b sized_a txg_b next_b wrote_b guid_b table_b in
-      let long = keeps.count in
-      alone other m differ (omega (arith, lt, long)) (first_back w1.now.seen w2.now.seen other (keeps.sizes other) (λ n small. keeps.labels other n small) m first) (guid ∙ guid_b) (index ∙ ap (λ (t : Table). t.count) table_b) (added ∙ txg_b)
+  alone_still = still_alone s1 s2 a b w1 w2 slot ready_a ready_b sized_a txg_b next_b wrote_b guid_b table_b alone
 
   joins : (v : Uber) → IsNextRoot c true v → JoinsDevice w2.now.seen root v b.table.slots c.table.slots slot label
-  joins v is =
-      let size = ready_b.table.size in
-      let long = ready_b.slots in
-      let n = count_is in
-      let rows_long = ap (λ (rs : List DevRow). length rs) shows_b.from.rows in
-      let slots_are : slice_set b.table.slots root.count (Some slot) ≡ c.table.slots = ap (λ (k : ℕ). slice_set b.table.slots k (Some slot)) (sym count_is) ∙ sym (ap (λ (t : Table). t.slots) took.table) in
-      let rows_are : v.rows ≡ slice_set root.rows root.count (new_row units b.group.txg) =
-      is.rows
-      ∙ (ap (λ (t : Table). t.rows) took.table
-      ∙ (ap (λ (k : ℕ). slice_set b.table.rows k (new_row units b.group.txg)) count_is ∙ ap (λ (rs : List DevRow). slice_set rs root.count (new_row units b.group.txg)) shows_b.from.rows)) in
-      subst (λ (ss : List (Option ℕ)). JoinsDevice w2.now.seen root v b.table.slots ss slot label) slots_are
-      (joins_next w2.now.seen root v b.table.slots slot label (new_row units b.group.txg) (is.guid ∙ (took.guid ∙ shows_b.from.guid)) (is.count ∙ (ap (λ (t : Table). t.count) took.table ∙ ap (λ (k : ℕ). k + 1) count_is)) rows_are (omega (arith, size, few, n, rows_long))
-      (omega (arith, long, few, n)) refl shows_b.from.guid count_is refl refl free alone_still)
+  joins v is = next_joins s2 w2.now.seen root v b c slot units ready_b shows_b.from few free took alone_still is
 
   pub grown_last : ShowsLast w4.now.seen d
   grown_last =

@@ -24,7 +24,7 @@ opened : (b : Bool) (n units : ℕ) → cond b (Some n) None ≡ Some units → 
 opened true n units is = (refl, cc)
 opened false n units is = absurd cc
 
-any_version : (size version : ℕ) → (version ≡ 1) ⊎ (version ≡ 2) → is_disk_size version size ≡ true → is_disk_size 2 size ≡ true
+pub any_version : (size version : ℕ) → (version ≡ 1) ⊎ (version ≡ 2) → is_disk_size version size ≡ true → is_disk_size 2 size ≡ true
 any_version size version (inl one) is = let of1 : is_disk_size 1 size ≡ true = subst (λ v. is_disk_size v size ≡ true) one is in grind (arith, nat_tests, of1)
 any_version size version (inr two) is = subst (λ v. is_disk_size v size ≡ true) two is
 

@@ -3,3 +3,4 @@ pub mod Blank
 pub mod Devices
 pub mod Refusals
 pub mod Labelled
+pub mod Adding

@@ -12,6 +12,7 @@ ghost use Rattle.zr_sync.specs.Pools.{IsOpen};
 ghost use Rattle.zr_sync.specs.Writes.{WorksOnDisks};
 ghost use Rattle.zr_sync.specs.declared.fault.Fault.TheVariants.{No, Stops};
 ghost use Rattle.zr_sync.specs.declared.stop.Stop.TheVariants.{DiskFault};
+ghost use Rattle.zr_create.specs.Adding.{AddsInPart};
 ghost use Rattle.zr_create.specs.Blank.{IsResetAt, NothingWaits};
 ghost use Rattle.zr_create.specs.Devices.{Grows};
 ghost use Rattle.zr_create.specs.Refusals.{ChecksNext};
@@ -92,6 +93,7 @@ pub fn add<S: Shelf, P: Place>(
     ensures shown { S.tells shelf.old → OnOk result (KeepsLast (S.world shelf.old) (S.world shelf.new) pool.old pool.new) }
     ensures ends { (objects : Objects) → HoldsObjects (S.tells shelf.old) (S.world shelf.old).now.seen pool.old objects → OnOk result (LeavesCommitted pool.new (S.world shelf.new).now) }
     ensures objects { (objects : Objects) → HoldsObjects (S.tells shelf.old) (S.world shelf.old).now.seen pool.old objects → OnOk result (HoldsObjects (S.tells shelf.new) (S.world shelf.new).now.seen pool.new objects) }
+    ensures stops { (objects : Objects) → HoldsObjects (S.tells shelf.old) (S.world shelf.old).now.seen pool.old objects → AddsInPart (S.sizes shelf.old) objects slot pool.old (S.world shelf.old) (S.world shelf.new) }
     ensures refused { (r : Refusal) → IsErrOf result (No r) → ChecksNext (S.sizes shelf.old) (S.tells shelf.old) (S.world shelf.old).now.seen pool.old slot (Err r) }
     ensures allowed { OnOk result (ChecksNext (S.sizes shelf.old) (S.tells shelf.old) (S.world shelf.old).now.seen pool.old slot (Ok tt)) }
     ensures untouched { S.tells shelf.old → (r : Refusal) → IsErrOf result (No r) → IsStill (S.world shelf.old) (S.world shelf.new) }

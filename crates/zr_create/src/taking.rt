@@ -1,10 +1,10 @@
 //! Taking slots on as devices of the open group.
 //!
 //! A slot loses its old roots before it gets a label, and the pool has the device only once its labels are durable.
-ghost use Rattle.std.specs.Prelude.{◌≡◌, ◌≢◌, ◌<◌, ◌≤◌, ◌⊎◌, ◌+◌, ℕ, All, Option, Some, IsErrOf, OnOk, length, slice_index};
+ghost use Rattle.std.specs.Prelude.{◌≡◌, ◌≢◌, ◌<◌, ◌≤◌, ◌⊎◌, ◌+◌, ℕ, All, Option, Some, IsErrOf, IsTrue, OnOk, length, slice_index};
 ghost use Rattle.zr_base.specs.Counts.{HasRisen};
 ghost use Rattle.zr_label.specs.Blocks.{IsLabel, IsName};
-ghost use Rattle.zr_label.specs.Geometry.{units_of_size};
+ghost use Rattle.zr_label.specs.Geometry.{is_disk_size, units_of_size};
 ghost use Rattle.zr_model.specs.Objects.{Objects};
 ghost use Rattle.zr_newest.specs.Newest.{PreparesSlot};
 ghost use Rattle.zr_shelf.specs.Counts.{NoneFell};
@@ -15,6 +15,7 @@ ghost use Rattle.zr_sync.specs.Pools.{AreStreams, IsPool, IsOpen};
 ghost use Rattle.zr_sync.specs.Writes.{WorksOnDisks};
 ghost use Rattle.zr_sync.specs.declared.stop.Stop.TheVariants.{DiskFault};
 ghost use Rattle.zr_view.specs.Views.{slot_of};
+ghost use Rattle.zr_create.specs.Adding.{PreparesNext};
 ghost use Rattle.zr_create.specs.Blank.{IsBlank};
 ghost use Rattle.zr_create.specs.Devices.{TakesOn, HasDevicesIn, HaveDisks, KeepsRest, next_label, with_device};
 ghost use Rattle.zr_create.specs.Labelled.{LabelsSlots};
@@ -93,6 +94,9 @@ pub fn take_on<S: Shelf>(
     ensures disks { S.tells shelf.old → WorksOnDisks (S.world shelf.old) (S.world shelf.new) }
     ensures fault { IsErrOf result DiskFault → HasRisen (S.counts shelf.old).disk (S.counts shelf.new).disk }
     ensures prepared { S.tells shelf.old → OnOk result (IsPrepared (slice_index (S.sizes shelf.old) slot) slot (next_label pool.old units) (S.world shelf.old) (S.world shelf.new)) }
+    ensures prepares { S.tells shelf.old → PreparesNext (S.sizes shelf.old) slot units pool.old (S.world shelf.old) (S.world shelf.new) }
+    ensures label { IsLabel (next_label pool.old units) }
+    ensures disk { IsTrue (is_disk_size 2 (slice_index (S.sizes shelf.old) slot)) }
     ensures labelled { S.tells shelf.old → OnOk result (PreparesSlot (S.world shelf.old).now.seen (S.world shelf.new).now.seen slot (next_label pool.old units)) }
     ensures pool { OnOk result (IsOpen (S.sizes shelf.new) pool.new) }
     ensures taken { OnOk result (TakesOn slot units pool.old pool.new) }

@@ -1,13 +1,15 @@
 -- The disks show the last root of a pool, behind each of its steps.
 use Rattle.std.proofs.Common.{◌≡◌, ℕ, ◌+◌, Bool, List, Option, Some, None, Ok, length, map, refl, sym, ◌∙◌, ap, subst, arith}
-use Rattle.std.specs.Prelude.{IfSome}
+use Rattle.std.specs.Prelude.{IfSome, slice_index_or}
+use Rattle.zr_base.specs.declared.space.DevRow.{DevRow}
 use Rattle.zr_image.specs.Current.{FindsCurrent, ShowsAll, slots_of}
-use Rattle.zr_label.specs.Blocks.{IsUber}
+use Rattle.zr_label.specs.Blocks.{IsUber, no_row}
 use Rattle.zr_label.specs.declared.root.Seen.{Seen}
 use Rattle.zr_label.specs.declared.root.Uber.{Uber}
 use Rattle.zr_newest.proofs.Kept.{labels_more, labels_on, root_kept}
 use Rattle.zr_newest.proofs.Newest.{above_newest, current_newest, devices_stay, newest_still, published_newest}
-use Rattle.zr_newest.specs.Newest.{AreAt, HaveLabels, IsAbove, IsNewestOn, KeepsLabels}
+use Rattle.zr_newest.specs.Newest.{AreAt, HaveLabels, HasSameDevices, IsAbove, IsNewestOn, IsOneDevice, KeepsLabels}
+use Rattle.zr_rules.specs.Places.{is_gone}
 use Rattle.zr_shelf.specs.Counts.{Counts}
 use Rattle.zr_shelf.specs.Moments.{World}
 use Rattle.zr_sync.specs.Commits.{IsNextRoot, IsShownFrom}
@@ -18,10 +20,35 @@ use Rattle.zr_sync.specs.declared.open.Table.{Table}
 use Rattle.zr_current.specs.Current.{GoesOnFrom, HasSlots}
 use Rattle.zr_last.proofs.Commits.{root_put, root_stands}
 use Rattle.zr_last.proofs.Units.{rings_kept, sized_now}
-use Rattle.zr_last.specs.Last.{KeepsLast, KeepsRoot, ShowsLast}
+use Rattle.zr_last.specs.Last.{KeepsDevices, KeepsLast, KeepsRoot, ShowsLast}
 
 pub found_last : (disks : List (List ℕ)) (seen : List Seen) (u : Uber) (pool : OpenPool) → ShowsAll disks seen → FindsCurrent seen (Ok u) → GoesOnFrom u pool → HasSlots (slots_of u seen) pool.table.slots → ShowsLast disks pool
 found_last disks seen u pool shown finds from slots = record { root = u; from = from; newest = current_newest disks seen u pool.table.slots shown finds slots }
+
+-- a pool with the same root and the same table has its devices where they were
+pub same_devices : (old new : OpenPool) → KeepsRoot old new → KeepsDevices old new
+same_devices old new same = record {
+  last = same.last;
+  guid = same.guid;
+  count = ap (λ (t : Table). t.count) same.table;
+  slots = ap (λ (t : Table). t.slots) same.table;
+  rows = λ d. row_same old.table new.table same.table d;
+}
+  where
+    row_same : (t u : Table) → u ≡ t → (d : ℕ) → IsOneDevice (slice_index_or t.rows d no_row) (slice_index_or u.rows d no_row)
+    row_same t u is d = record {
+      added = ap (λ (x : Table). (slice_index_or x.rows d no_row).added) is;
+      units = ap (λ (x : Table). (slice_index_or x.rows d no_row).units) is;
+      gone = ap (λ (x : Table). is_gone (slice_index_or x.rows d no_row).state) is;
+    }
+
+-- the next root of a pool with the same devices has those of the root from which it goes on
+pub follows_devices : (reset : Bool) (last u : Uber) (first old : OpenPool) → GoesOnFrom last first → KeepsDevices first old → IsNextRoot old reset u → HasSameDevices last u
+follows_devices reset last u first old from keeps next = record {
+  guid = next.guid ∙ (keeps.guid ∙ from.guid);
+  count = next.count ∙ (keeps.count ∙ from.count);
+  rows = λ d. subst (λ (rs : List DevRow). IsOneDevice (slice_index_or rs d no_row) (slice_index_or u.rows d no_row)) from.rows (subst (λ (rs : List DevRow). IsOneDevice (slice_index_or first.table.rows d no_row) (slice_index_or rs d no_row)) (sym next.rows) (keeps.rows d));
+}
 
 -- a pool with the same root and the same devices
 pub same_last : (disks : List (List ℕ)) (old new : OpenPool) → KeepsRoot old new → ShowsLast disks old → ShowsLast disks new

@@ -1,8 +1,9 @@
 -- The last root of an open pool, on the disks.
-use Rattle.std.specs.Prelude.{◌≡◌, ℕ, List}
+use Rattle.std.specs.Prelude.{◌≡◌, ℕ, List, slice_index_or}
 use Rattle.zr_current.specs.Current.{GoesOnFrom}
+use Rattle.zr_label.specs.Blocks.{no_row}
 use Rattle.zr_label.specs.declared.root.Uber.{Uber}
-use Rattle.zr_newest.specs.Newest.{IsNewestOn}
+use Rattle.zr_newest.specs.Newest.{IsNewestOn, IsOneDevice}
 use Rattle.zr_shelf.specs.Moments.{World}
 use Rattle.zr_sync.specs.declared.open.OpenPool.{OpenPool}
 
@@ -21,3 +22,11 @@ pub record KeepsRoot (old new : OpenPool) : Type 0 where
   pub last : new.last ≡ old.last
   pub guid : new.guid ≡ old.guid
   pub table : new.table ≡ old.table
+
+-- The pool goes on from the root from which it went on, and each device is in the slot in which it was: no more has changed than whether one is leaving.
+pub record KeepsDevices (old new : OpenPool) : Type 0 where
+  pub last : new.last ≡ old.last
+  pub guid : new.guid ≡ old.guid
+  pub count : new.table.count ≡ old.table.count
+  pub slots : new.table.slots ≡ old.table.slots
+  pub rows : (d : ℕ) → IsOneDevice (slice_index_or old.table.rows d no_row) (slice_index_or new.table.rows d no_row)

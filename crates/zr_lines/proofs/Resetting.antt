@@ -1,6 +1,7 @@
 -- What a line that ends with a reset wrote, wherever it stopped.
 use Rattle.std.proofs.Common.{◌≡◌, ◌⊎◌, inl, inr, ℕ, Bool, true, false, List, refl, sym, ◌∙◌, ap, subst}
 use Rattle.zr_base.specs.declared.space.CkptPart.TheVariants.{Discarding}
+use Rattle.zr_last.proofs.Lasting.{same_devices}
 use Rattle.zr_last.specs.Last.{KeepsRoot}
 use Rattle.zr_model.specs.Objects.{Objects}
 use Rattle.zr_rules.specs.Roles.{Role, saved}
@@ -15,8 +16,11 @@ use Rattle.zr_sync.specs.Pools.{IsOpen}
 use Rattle.zr_sync.specs.declared.open.OpenPool.{OpenPool}
 use Rattle.zr_vdev.specs.Stores.{is_open_role}
 use Rattle.zr_lines.proofs.Versions.{version_role}
-use Rattle.zr_lines.specs.Stops.{OpensNoUnit, WritesReset}
+use Rattle.zr_lines.specs.Stops.{OpensNoUnit, StaysInPlace, WritesReset}
 use Rattle.zr_lines.specs.Upgrades.{renewed}
+
+in_place : (old new : OpenPool) → OpensNoUnit old new → StaysInPlace old new
+in_place old new opens = record { devices = same_devices old new opens.root; units = opens.units }
 
 -- ---- a checkpoint is given up
 
@@ -36,7 +40,7 @@ dropped_opens old new h = record {
 
 pub given_up : (sizes : List ℕ) (objects : Objects) (old : OpenPool) (before now : World) → GivesUpInPart sizes objects old before now → WritesReset sizes objects old before now
 given_up sizes objects old before now (inl nothing) = inl (inl nothing)
-given_up sizes objects old before now (inr (dropped, ready, drops, commits)) = inl (inr (dropped, ready, dropped_opens old dropped drops, commits))
+given_up sizes objects old before now (inr (dropped, ready, drops, commits)) = inl (inr (dropped, ready, in_place old dropped (dropped_opens old dropped drops), commits))
 
 -- ---- a checkpoint is taken
 
@@ -53,7 +57,7 @@ held_opens old new h = record {
 
 pub taken : (sizes : List ℕ) (objects : Objects) (old : OpenPool) (before now : World) → TakesInPart sizes objects old before now → WritesReset sizes objects old before now
 taken sizes objects old before now (inl commits) = inr (inl commits)
-taken sizes objects old before now (inr more) = inr (inr (record { next = more.ended; start = more.mid; commits = more.first; resets = inr (more.held, more.ready, held_opens more.ended more.held more.saves, more.second) }))
+taken sizes objects old before now (inr more) = inr (inr (record { next = more.ended; start = more.mid; commits = more.first; resets = inr (more.held, more.ready, in_place more.ended more.held (held_opens more.ended more.held more.saves), more.second) }))
 
 -- ---- a pool becomes one of the second version
 
@@ -64,4 +68,4 @@ renewed_opens old = record {
 }
 
 pub upgraded : (sizes : List ℕ) (objects : Objects) (old changed : OpenPool) (before now : World) → changed ≡ renewed old → IsOpen sizes changed → CommitsObjects sizes changed true objects before now → WritesReset sizes objects old before now
-upgraded sizes objects old changed before now is ready commits = inl (inr (changed, ready, subst (OpensNoUnit old) (sym is) (renewed_opens old), commits))
+upgraded sizes objects old changed before now is ready commits = inl (inr (changed, ready, in_place old changed (subst (OpensNoUnit old) (sym is) (renewed_opens old)), commits))

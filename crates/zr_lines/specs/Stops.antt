@@ -1,6 +1,6 @@
 -- What a line leaves for a crash: it works in one group, or ends one by a reset.
 use Rattle.std.specs.Prelude.{◌≡◌, ◌⊎◌, ℕ, true, false, List}
-use Rattle.zr_last.specs.Last.{KeepsRoot}
+use Rattle.zr_last.specs.Last.{KeepsDevices, KeepsRoot}
 use Rattle.zr_sync.specs.Ends.{EndsCommitted}
 use Rattle.zr_model.specs.Objects.{Objects}
 use Rattle.zr_rules.specs.Space.{role_at}
@@ -45,9 +45,14 @@ pub record OpensNoUnit (old new : OpenPool) : Type 0 where
   pub root : KeepsRoot old new
   pub units : (d u : ℕ) → is_open_role (role_at new.space d u) ≡ true → is_open_role (role_at old.space d u) ≡ true
 
+-- Each device is where it was, behind the same root, and no unit may be written that might not before.
+pub record StaysInPlace (old new : OpenPool) : Type 0 where
+  pub devices : KeepsDevices old new
+  pub units : (d u : ℕ) → is_open_role (role_at new.space d u) ≡ true → is_open_role (role_at old.space d u) ≡ true
+
 -- What a reset wrote, wherever it stopped: nothing, or the pool was changed, and its group was being committed with these objects.
 abbrev pub WritesOneReset : List ℕ → Objects → OpenPool → World → World → Type 0
-WritesOneReset sizes objects old before now = IsStill before now ⊎ ((changed : OpenPool) × IsOpen sizes changed × OpensNoUnit old changed × CommitsObjects sizes changed true objects before now)
+WritesOneReset sizes objects old before now = IsStill before now ⊎ ((changed : OpenPool) × IsOpen sizes changed × StaysInPlace old changed × CommitsObjects sizes changed true objects before now)
 
 -- the open group was committed with these objects, and a reset followed
 pub record WritesResetBehind (sizes : List ℕ) (objects : Objects) (old : OpenPool) (before now : World) : Type 0 where

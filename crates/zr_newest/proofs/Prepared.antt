@@ -100,6 +100,30 @@ position_own q xs k y lt passes others =
 
 -- ---- devices
 
+-- what was seen, but for the label of one slot, if it shows one now
+abbrev pub with_shown : List Seen → ℕ → Option Label → List Seen
+with_shown seen slot o = slice_set seen slot (record { label = o; ubers = []; newer = None })
+
+-- a device that the label does not name stays in its slot
+module _ (seen : List Seen) (slot : ℕ) (o : Option Label) (known : slot < length seen) (u : Uber) (slots : List (Option ℕ)) (devices : AreAt slots u seen) (free : (d : ℕ) → slot_of slots d ≢ Some slot) (apart : (d : ℕ) → d < u.count → is_device u d o ≡ false) where
+  device_stays : (d : ℕ) → d < u.count → slot_of_device u (with_shown seen slot o) d ≡ slot_of_device u seen d
+  device_stays d lt = by_state (is_gone (row_at u d).state) refl
+    where
+      by_state : (gone : Bool) → is_gone (row_at u d).state ≡ gone → slot_of_device u (with_shown seen slot o) d ≡ slot_of_device u seen d
+      by_state true gone =
+          ap (λ (b : Bool). if b then None else position (λ (s : Seen). is_device u d s.label) (with_shown seen slot o)) gone ∙ sym (ap (λ (b : Bool). if b then None else position (λ (s : Seen). is_device u d s.label) seen) gone)
+      by_state false there =
+          let same = position_stays (λ (s : Seen). is_device u d s.label) seen slot (record { label = o; ubers = []; newer = None }) known (apart d lt)
+          (λ at. free d (devices d ∙ (listed u seen d lt ∙ (ap (λ (b : Bool). if b then None else position (λ (s : Seen). is_device u d s.label) seen) there ∙ at)))) in
+          ap (λ (p : Option ℕ). if is_gone (row_at u d).state then None else p) same
+
+  pub devices_beside : AreAt slots u (with_shown seen slot o)
+  devices_beside d =
+      ⊎_elim
+      (λ (lt : d < u.count). devices d ∙ (listed u seen d lt ∙ (sym (device_stays d lt) ∙ sym (listed u (with_shown seen slot o) d lt))))
+      (λ (ge : u.count ≤ d). devices d ∙ (past_device u seen d ge ∙ sym (past_device u (with_shown seen slot o) d ge)))
+      (cases_lt d u.count)
+
 module _ (before after : List (List ℕ)) (slot : ℕ) (l : Label) (prepares : PreparesSlot before after slot l) (seen : List Seen) (labels : HaveLabels before seen) where
   abbrev behind : List Seen
   behind = with_label seen slot l
@@ -107,24 +131,8 @@ module _ (before after : List (List ℕ)) (slot : ℕ) (l : Label) (prepares : P
   known : slot < length seen
   known = let lt = prepares.known in let n = labels.count in omega (arith, lt, n)
 
-  -- a device that the label does not name stays in its slot
-  module _ (u : Uber) (slots : List (Option ℕ)) (devices : AreAt slots u seen) (free : (d : ℕ) → slot_of slots d ≢ Some slot) (apart : (d : ℕ) → d < u.count → is_device u d (Some l) ≡ false) where
-    device_stays : (d : ℕ) → d < u.count → slot_of_device u behind d ≡ slot_of_device u seen d
-    device_stays d lt = by_state (is_gone (row_at u d).state) refl
-      where
-        by_state : (gone : Bool) → is_gone (row_at u d).state ≡ gone → slot_of_device u behind d ≡ slot_of_device u seen d
-        by_state true gone = ap (λ (b : Bool). if b then None else position (λ (s : Seen). is_device u d s.label) behind) gone ∙ sym (ap (λ (b : Bool). if b then None else position (λ (s : Seen). is_device u d s.label) seen) gone)
-        by_state false there =
-            let same = position_stays (λ (s : Seen). is_device u d s.label) seen slot (record { label = Some l; ubers = []; newer = None }) known (apart d lt)
-            (λ at. free d (devices d ∙ (listed u seen d lt ∙ (ap (λ (b : Bool). if b then None else position (λ (s : Seen). is_device u d s.label) seen) there ∙ at)))) in
-            ap (λ (o : Option ℕ). if is_gone (row_at u d).state then None else o) same
-
-    pub devices_with : AreAt slots u behind
-    devices_with d =
-        ⊎_elim
-        (λ (lt : d < u.count). devices d ∙ (listed u seen d lt ∙ (sym (device_stays d lt) ∙ sym (listed u behind d lt))))
-        (λ (ge : u.count ≤ d). devices d ∙ (past_device u seen d ge ∙ sym (past_device u behind d ge)))
-        (cases_lt d u.count)
+  pub devices_with : (u : Uber) (slots : List (Option ℕ)) → AreAt slots u seen → ((d : ℕ) → slot_of slots d ≢ Some slot) → ((d : ℕ) → d < u.count → is_device u d (Some l) ≡ false) → AreAt slots u behind
+  devices_with u slots devices free apart = devices_beside seen slot (Some l) known u slots devices free apart
 
   -- the next device has the slot
   module _ (u next : Uber) (slots mine : List (Option ℕ)) (devices : AreAt slots u seen) (joins : JoinsDevice before u next slots mine slot l) where
@@ -153,7 +161,7 @@ module _ (before after : List (List ℕ)) (slot : ℕ) (l : Label) (prepares : P
           | inr other ↦
               joins.others d other
               ∙ ⊎_elim
-              (λ (lt : d < u.count). devices d ∙ (listed u seen d lt ∙ (sym (device_stays u slots devices joins.free joins.apart d lt) ∙ (sym (same_place d lt) ∙ sym (listed next behind d (omega (arith, lt, count)))))))
+              (λ (lt : d < u.count). devices d ∙ (listed u seen d lt ∙ (sym (device_stays seen slot (Some l) known u slots devices joins.free joins.apart d lt) ∙ (sym (same_place d lt) ∙ sym (listed next behind d (omega (arith, lt, count)))))))
               (λ (ge : u.count ≤ d). devices d ∙ (past_device u seen d ge ∙ sym (past_device next behind d (omega (arith, ge, other, count)))))
               (cases_lt d u.count)
         ]

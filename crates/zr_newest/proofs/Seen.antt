@@ -17,7 +17,7 @@ use Rattle.zr_scan.proofs.Fresh.{same_label}
 use Rattle.zr_scan.specs.Scan.{AreRoots, IsRootFor, Shows, ShowsLabel}
 use Rattle.zr_shelf.specs.Disks.{disk}
 use Rattle.zr_view.specs.Views.{slot_of}
-use Rattle.zr_newest.specs.Newest.{HaveLabels, ShowsRoot}
+use Rattle.zr_newest.specs.Newest.{HasSameDevices, HaveLabels, IsOneDevice, ShowsRoot}
 
 pub long_seen : (disks : List (List ℕ)) (seen : List Seen) → ShowsAll disks seen → length seen ≡ length disks
 long_seen [] [] shows = refl
@@ -122,6 +122,25 @@ module _ (u next : Uber) (d : ℕ) (guid : next.guid ≡ u.guid) (row : row_at n
   place_by_row seen =
       ap (λ (r : DevRow). if is_gone r.state then None else position (λ (s : Seen). is_device next d s.label) seen) row
       ∙ ap (λ (q : Seen → Bool). if is_gone (row_at u d).state then None else position q seen) (fun_ext (λ (s : Seen). same_test s.label))
+
+-- so is one of which no more has changed than whether it is leaving
+module _ (u next : Uber) (d : ℕ) (guid : next.guid ≡ u.guid) (row : IsOneDevice (row_at u d) (row_at next d)) where
+  alike_test : (o : Option Label) → is_device next d o ≡ is_device u d o
+  alike_test None = refl
+  alike_test (Some m) =
+      ap (λ (n : ℕ). m.guid == n && (m.index == d && (m.added == (row_at next d).added && m.units == (row_at next d).units))) guid
+      ∙ (ap (λ (n : ℕ). m.guid == u.guid && (m.index == d && (m.added == n && m.units == (row_at next d).units))) row.added
+      ∙ ap (λ (n : ℕ). m.guid == u.guid && (m.index == d && (m.added == (row_at u d).added && m.units == n))) row.units)
+
+  place_alike : (seen : List Seen) → slot_of_device next seen d ≡ slot_of_device u seen d
+  place_alike seen =
+      ap (λ (b : Bool). if b then None else position (λ (s : Seen). is_device next d s.label) seen) row.gone
+      ∙ ap (λ (q : Seen → Bool). if is_gone (row_at u d).state then None else position q seen) (fun_ext (λ (s : Seen). alike_test s.label))
+
+pub slots_alike : (u next : Uber) (seen : List Seen) → HasSameDevices u next → slots_of next seen ≡ slots_of u seen
+slots_alike u next seen h =
+    ap (λ (n : ℕ). map (slot_of_device next seen) (range_with_len 0 n)) h.count
+    ∙ ap (λ (f : ℕ → Option ℕ). map f (range_with_len 0 u.count)) (fun_ext (λ (d : ℕ). place_alike u next d h.guid (h.rows d) seen))
 
 -- the label of a device of the root
 pub device_label : (u : Uber) (d : ℕ) (o : Option Label) → d < u.count → is_gone (row_at u d).state ≡ false → is_device u d o ≡ true → (l : Label) × (o ≡ Some l) × IsRootFor l u × (l.index ≡ d)

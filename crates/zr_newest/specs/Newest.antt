@@ -1,5 +1,6 @@
 -- The newest root of a pool on the disks, and what keeps it so.
 use Rattle.std.specs.Prelude.{◌≡◌, ◌≢◌, ◌⊎◌, ℕ, ◌+◌, ◌<◌, ◌≤◌, true, false, List, length, Option, Some, None}
+use Rattle.zr_base.specs.declared.space.DevRow.{DevRow}
 use Rattle.zr_image.specs.Current.{is_device, row_at, seen_at, slots_of}
 use Rattle.zr_label.specs.Blocks.{padding, uber_block}
 use Rattle.zr_label.specs.Geometry.{slot_of as ring_of}
@@ -54,6 +55,18 @@ pub record IsNewestOn (disks : List (List ℕ)) (u : Uber) (slots : List (Option
   pub seen : List Seen
   pub labels : HaveLabels disks seen
   pub devices : AreAt slots u seen
+
+-- the rows tell of one device: it came in the same group and has as many units, and by both it is gone, or by neither
+pub record IsOneDevice (a b : DevRow) : Type 0 where
+  pub added : b.added ≡ a.added
+  pub units : b.units ≡ a.units
+  pub gone : is_gone b.state ≡ is_gone a.state
+
+-- the root has the devices of the other: no more has changed than whether one is leaving
+pub record HasSameDevices (u next : Uber) : Type 0 where
+  pub guid : next.guid ≡ u.guid
+  pub count : next.count ≡ u.count
+  pub rows : (d : ℕ) → IsOneDevice (row_at u d) (row_at next d)
 
 -- the root has the devices of the other that it names and that are not gone by it, each with its row and in its slot, and no other device has a slot
 pub record HasOwnDevices (u own : Uber) (slots mine : List (Option ℕ)) : Type 0 where

@@ -1,6 +1,6 @@
 -- Lines as steps of plain objects.
 use Rattle.std.proofs.Common.{◌≡◌, ◌∙◌, ℕ, zero, ◌<◌, ◌≤◌, arith, if◌then◌else◌, List, [], ◌∷◌, ◌++◌, length, replicate, true, false, Option, Some, None, refl, sym, ap, subst}
-use Rattle.std.specs.Prelude.{unwrap_or, option_map, Bool, map as list_map}
+use Rattle.std.specs.Prelude.{unwrap_or, option_map, Bool, not, map as list_map}
 use Rattle.std.specs.FinMap as map
 use Rattle.std.proofs.lemmas.List.{length-replicate}
 use Rattle.zr_base.specs.declared.refusal.Refusal.{Refusal}
@@ -27,8 +27,7 @@ use Rattle.zr_sync.specs.declared.open.OpenPool.{OpenPool}
 use Rattle.zr_removal.specs.Steps.{StepsOn}
 use Rattle.zr_removal.specs.declared.evacuate.Evacuated.{Evacuated}
 use Rattle.zr_removal.specs.declared.evacuate.Evacuated.TheVariants.{Copied, Gone, Cancelled}
-use Rattle.zr_pool.specs.Behind.{is_copy}
-use Rattle.zr_pool.specs.Plain.{IsBeyond, IsDone, IsMissing, IsObjectCause, IsPlainOf, IsPlainOn, IsThere, is_untold_behind}
+use Rattle.zr_pool.specs.Plain.{IsBeyond, IsDone, IsMissing, IsObjectCause, IsPlainOf, IsPlainOn, IsThere, is_copy, is_untold_behind}
 use Rattle.zr_pool.specs.Replies.{condense_reply, evac_reply}
 
 pub plain_refusal : (objects : Objects) (command : Command) (r : Refusal) → (r ≡ refusal.NoSuchObject → IsMissing objects command) → (r ≡ refusal.OutOfRange → IsBeyond objects command) → (r ≡ refusal.ObjectExists → IsThere objects command)
@@ -146,15 +145,17 @@ evac_acts policy sizes told c1 c2 w1 w2 x y Holds p (Copied n) steps holds =
 evac_acts policy sizes told c1 c2 w1 w2 x y Holds p (Gone index) steps holds = tt
 evac_acts policy sizes told c1 c2 w1 w2 x y Holds p (Cancelled index) steps holds = tt
 
-pub evac_shows : (P : Type 0) (done : Evacuated) → ((n : ℕ) → done ≡ Copied n → P) → is_untold_behind cmd.StepEvac (evac_reply done) ≡ false → P
-evac_shows P (Copied n) shows off = shows n refl
-evac_shows P (Gone index) shows off = absurd (let no_way : true ≡ false = off in cc)
-evac_shows P (Cancelled index) shows off = absurd (let no_way : true ≡ false = off in cc)
-
 pub evac_copies : (P : Type 0) (done : Evacuated) → ((n : ℕ) → done ≡ Copied n → P) → is_copy cmd.StepEvac (evac_reply done) ≡ true → P
 evac_copies P (Copied n) copies on = copies n refl
 evac_copies P (Gone index) copies on = absurd (let no_way : false ≡ true = on in cc)
 evac_copies P (Cancelled index) copies on = absurd (let no_way : false ≡ true = on in cc)
+
+pub evac_shows : (P : Type 0) (done : Evacuated) → ((n : ℕ) → done ≡ Copied n → P) → is_untold_behind cmd.StepEvac (evac_reply done) ≡ false → P
+evac_shows P done shows off = evac_copies P done shows (by_test (is_copy cmd.StepEvac (evac_reply done)) off)
+  where
+    by_test : (b : Bool) → not b ≡ false → b ≡ true
+    by_test true is = refl
+    by_test false is = absurd (let no_way : true ≡ false = is in cc)
 
 pub condense_done : (done : Condensed) → IsDone (condense_reply done)
 condense_done (condensed.Kept entries) = tt

@@ -21,11 +21,12 @@ use Rattle.zr_script.specs.declared.command.Command.{Command}
 use Rattle.zr_script.specs.declared.command.Command.TheVariants as cmd
 use Rattle.zr_script.specs.declared.reply.Reply.{Reply}
 use Rattle.zr_script.specs.declared.reply.Reply.TheVariants as reply
-use Rattle.zr_shelf.proofs.Runs.{joined, still, weaker}
+use Rattle.zr_shelf.proofs.Runs.{joined, weaker}
 use Rattle.zr_shelf.specs.Disks.{Stand}
 use Rattle.zr_shelf.specs.Moments.{IsStill, Throughout, World}
 use Rattle.zr_open.specs.There.{AreThere}
-use Rattle.zr_stops.proofs.Behind.{behind_shows, commit_behind, commit_shows, line_behind, line_shows, left_behind, made_behind, shown_behind, stop_shows}
+use Rattle.zr_stops.proofs.Joining.{adds_show}
+use Rattle.zr_stops.proofs.Behind.{behind_shows, commit_behind, commit_shows, line_behind, line_shows, left_behind, made_behind, shown_behind, stop_shows, turn_shows}
 use Rattle.zr_stops.proofs.Within.{left_by, same_behind}
 use Rattle.zr_stops.specs.Behind.{AreSameDisks, ShowsOnly, StandsBehind}
 use Rattle.zr_stops.specs.Either.{ShowsEither}
@@ -40,10 +41,10 @@ use Rattle.zr_pool.proofs.Groups.{acknowledged_commits, commits_in_group, copy_n
 use Rattle.zr_pool.proofs.Outside.{keeps_outside}
 use Rattle.zr_pool.proofs.Resets.{behind_last, reset_behind}
 use Rattle.zr_pool.proofs.Turning.{left_of}
-use Rattle.zr_pool.specs.Behind.{ComesFrom, HasReset, IsBehindTurn, LeavesEither, LeavesOnly, StaysTold, is_acknowledged, is_commit, is_copy, is_create, is_import, is_in_group, is_known, is_making, is_refusal, is_resetting, leaves_told, may_stop, resets_in_place, all_there, are_there}
+use Rattle.zr_pool.specs.Behind.{ComesFrom, HasReset, IsBehindTurn, LeavesEither, LeavesOnly, StaysTold, StopsInReset, is_acknowledged, is_commit, is_create, is_import, is_in_group, is_known, is_making, is_refusal, is_resetting, leaves_told, may_stop, all_there, are_there}
 use Rattle.zr_pool.specs.Behind.ComesFrom.{kept, committed, changed, made, found}
 use Rattle.zr_pool.specs.Ends.{answer_of, is_closing}
-use Rattle.zr_pool.specs.Plain.{IsDone, is_untold_behind}
+use Rattle.zr_pool.specs.Plain.{IsDone, is_copy, is_untold_behind}
 use Rattle.zr_pool.specs.Pools.{DeviceState, IsBehind, IsClosedBehind, IsPartOf, stand_of}
 use Rattle.zr_pool.specs.Turns.{IsClosedAnswer, IsTurn, IsWithin, is_on_objects, is_opener, is_table}
 
@@ -149,10 +150,10 @@ module _ (sizes : List ℕ) (objects told : Objects) (x : OpenPool) (old : World
       joined (ShowsEither objects told) old more.start new (commit_shows sizes objects x old h lawful false told more.start more.next more.commits)
       (weaker (ShowsOnly told) (ShowsEither objects told) more.start new (second_of objects told) (line_shows sizes told more.next more.start b new more.written))
 
-  -- a reset: the pool is changed before anything is written
+  -- a reset: the pool is changed in memory before anything is written
   one_reset_shows : (new : World) → WritesOneReset sizes told x old new → Throughout (ShowsEither objects told) old new
   one_reset_shows new (inl nothing) = weaker (λ s. s ≡ old.now) (ShowsEither objects told) old new (λ s same. subst (ShowsEither objects told) (sym same) (first_of objects told old.now (behind_shows sizes objects x old.now h))) nothing.since
-  one_reset_shows new (inr (other, ready, opens, commits)) = stop_shows sizes objects other old (still_behind other old (still old old refl) opens) ready true told new commits
+  one_reset_shows new (inr (other, ready, stays, commits)) = turn_shows sizes objects x old h other stays.devices stays.units ready true told new commits
 
 -- a line that ends with a reset, at once or behind the commit of the group
 module _ (sizes : List ℕ) (objects told : Objects) (x : OpenPool) (old : World) (h : StandsBehind sizes objects x old.now) (lawful : IsOpen sizes x) where
@@ -163,6 +164,11 @@ module _ (sizes : List ℕ) (objects told : Objects) (x : OpenPool) (old : World
       let b = commit_behind sizes objects x old h lawful false told more.start more.next more.commits in
       joined (ShowsEither objects told) old more.start new (commit_shows sizes objects x old h lawful false told more.start more.next more.commits)
       (weaker (ShowsEither told told) (ShowsEither objects told) more.start new (both_told objects told) (one_reset_shows sizes told told more.next more.start b more.commits.pool new more.resets))
+
+  -- or the adding of a device
+  stop_in_reset : (new : World) → StopsInReset sizes told x old new → Throughout (ShowsEither objects told) old new
+  stop_in_reset new (inl resets) = reset_shows new resets
+  stop_in_reset new (inr (slot, adds)) = adds_show sizes objects told slot x lawful old new h adds
 
 -- ---- what is told behind a line
 
@@ -432,7 +438,7 @@ module _ (old new : World) (before : DeviceState) (command : Command) (x y : Ope
   at_table s h = subst (λ (o : Option OpenPool). IfSome o (λ pool. is_table command ≡ true → s.seen ≡ old.now.seen)) (sym account) h
 
   pub open_within : (is_table command ≡ true → IsStill old new) → WorksOnDisks old new → (is_in_group command ≡ true → (p : PoolState) → HoldsState (Unit {0}) old.now.seen x p → WritesInOneGroup sizes p.objects x old new)
-      → (resets_in_place command ≡ true → (p : PoolState) → HoldsState (Unit {0}) old.now.seen x p → WritesReset sizes p.objects x old new) → Throughout Within old new
+      → (is_resetting command ≡ true → (p : PoolState) → HoldsState (Unit {0}) old.now.seen x p → StopsInReset sizes p.objects x old new) → Throughout Within old new
   open_within nothing_done works writes resets = by_table (is_table command) refl
     where
       -- what was committed shows all the time
@@ -458,13 +464,13 @@ module _ (old new : World) (before : DeviceState) (command : Command) (x y : Ope
       by_part (Some objects) Empty is told off shown = nothing off (λ all q also told_q on. let both = sym told ∙ told_q in absurd cc)
       by_part (Some objects) (Refused r) is told off shown = nothing off (λ all q also told_q on. let both = sym told ∙ told_q in absurd cc)
 
-      by_reset : (b : Bool) → resets_in_place command ≡ b → is_in_group command ≡ false → is_table command ≡ false → Throughout Within old new
-      by_reset true once out off = by_part before.behind before.told.shelf refl refl off (λ objects is p told. reset_shows sizes objects p.objects x old (stood objects is) lawful new (resets once p (held p told)))
-      by_reset false none out off = nothing off (λ objects q is told may. no_way (sym none ∙ or_first (is_in_group command) (resets_in_place command) out may))
+      by_reset : (b : Bool) → is_resetting command ≡ b → is_in_group command ≡ false → is_table command ≡ false → Throughout Within old new
+      by_reset true once out off = by_part before.behind before.told.shelf refl refl off (λ objects is p told. stop_in_reset sizes objects p.objects x old (stood objects is) lawful new (resets once p (held p told)))
+      by_reset false none out off = nothing off (λ objects q is told may. no_way (sym none ∙ or_first (is_in_group command) (is_resetting command) out may))
 
       by_group : (b : Bool) → is_in_group command ≡ b → is_table command ≡ false → Throughout Within old new
       by_group true group off = by_part before.behind before.told.shelf refl refl off (λ objects is p told. writes_show sizes objects p.objects x old (stood objects is) lawful new (writes group p (held p told)))
-      by_group false out off = by_reset (resets_in_place command) refl out off
+      by_group false out off = by_reset (is_resetting command) refl out off
 
       by_table : (b : Bool) → is_table command ≡ b → Throughout Within old new
       by_table true on =

@@ -24,8 +24,8 @@ use Rattle.zr_sync.specs.declared.open.OpenPool.{OpenPool}
 use Rattle.zr_vdev.proofs.Follows.{others_itself}
 use Rattle.zr_vdev.specs.Stores.{IsWriteInto, KeepsOthers, is_open_role}
 use Rattle.zr_vdev.specs.declared.kind.Kind.TheVariants.{Block}
-use Rattle.zr_pool.specs.Behind.{is_acknowledged, is_commit, is_copy, is_in_group, is_making, is_resetting, may_stop, resets_in_place}
-use Rattle.zr_pool.specs.Plain.{is_of_removal, is_untold_behind}
+use Rattle.zr_pool.specs.Behind.{is_acknowledged, is_commit, is_in_group, is_making, is_resetting, may_stop}
+use Rattle.zr_pool.specs.Plain.{is_copy, is_of_removal, is_untold_behind}
 use Rattle.zr_pool.specs.Turns.{is_on_objects, is_on_pool, is_opener, is_table}
 
 pub no_way : {P : Type 0} → false ≡ true → P
@@ -86,18 +86,6 @@ resets_told cmd.Upgrade answer on = refl
 resets_told (cmd.Remove dev) answer on = refl
 resets_told command answer on = no_way on
 
-pub in_place_on_pool : (command : Command) → resets_in_place command ≡ true → is_on_pool command ≡ true
-in_place_on_pool cmd.Checkpoint on = refl
-in_place_on_pool cmd.Discard on = refl
-in_place_on_pool cmd.Upgrade on = refl
-in_place_on_pool command on = no_way on
-
-pub in_place_resets : (command : Command) → resets_in_place command ≡ true → is_resetting command ≡ true
-in_place_resets cmd.Checkpoint on = refl
-in_place_resets cmd.Discard on = refl
-in_place_resets cmd.Upgrade on = refl
-in_place_resets command on = no_way on
-
 -- it is none of these
 pub resets_elsewhere : (command : Command) → is_resetting command ≡ true → (is_on_objects command ≡ true) ⊎ (is_table command ≡ true) → ⊥
 resets_elsewhere (cmd.Add dev) on (inl is) = no_way is
@@ -111,13 +99,6 @@ resets_elsewhere cmd.Upgrade on (inr is) = no_way is
 resets_elsewhere (cmd.Remove dev) on (inl is) = no_way is
 resets_elsewhere (cmd.Remove dev) on (inr is) = no_way is
 resets_elsewhere command on which = no_way on
-
--- nor is one that leaves the devices as they are a line of a removal
-pub in_place_elsewhere : (command : Command) → resets_in_place command ≡ true → is_of_removal command ≡ true → ⊥
-in_place_elsewhere cmd.Checkpoint on is = no_way is
-in_place_elsewhere cmd.Discard on is = no_way is
-in_place_elsewhere cmd.Upgrade on is = no_way is
-in_place_elsewhere command on is = no_way on
 
 -- each of them is on a whole pool, or of a removal
 pub resets_somewhere : (command : Command) → is_resetting command ≡ true → is_on_pool command ≡ false → is_of_removal command ≡ false → ⊥

@@ -1,17 +1,26 @@
--- A pool behind a line that ended with a reset, and the root that is the newest before it.
-use Rattle.std.proofs.Common.{◌≡◌, ℕ, List, length, map}
+-- A pool behind a line that ended with a reset, what such a line wrote, and the root that is the newest before it.
+use Rattle.std.proofs.Common.{◌≡◌, inl, inr, ℕ, ◌<◌, true, List, length, map, subst}
+use Rattle.zr_base.specs.declared.space.DevState.TheVariants.{On}
 use Rattle.zr_last.specs.Last.{ShowsLast}
 use Rattle.zr_model.specs.Objects.{Objects}
+use Rattle.zr_lines.specs.Stops.{StaysInPlace, WritesReset}
+use Rattle.zr_removal.proofs.Outgoing.{out_devices}
+use Rattle.zr_removal.specs.Turns.{BeginsInPart, LeavesPool}
 use Rattle.zr_rules.specs.Equation.{devices_in}
+use Rattle.zr_rules.specs.Places.{state_of_dev}
+use Rattle.zr_rules.specs.Roles.{Role}
 use Rattle.zr_shelf.specs.Disks.{Stand}
+use Rattle.zr_shelf.specs.Moments.{World}
 use Rattle.zr_open.specs.There.{AreThere}
 use Rattle.zr_stops.proofs.Behind.{left_behind}
 use Rattle.zr_stops.proofs.Committing.{within_from}
 use Rattle.zr_stops.proofs.Ending.{newest_same}
 use Rattle.zr_stops.proofs.Images.{newest_kept, within_clear}
+use Rattle.zr_stops.proofs.Within.{in_group}
 use Rattle.zr_stops.specs.Behind.{StandsBehind}
 use Rattle.zr_sync.specs.Pools.{IsOpen}
 use Rattle.zr_sync.specs.declared.open.OpenPool.{OpenPool}
+use Rattle.zr_vdev.specs.Stores.{is_open_role}
 use Rattle.zr_pool.specs.Behind.{HasReset}
 
 -- a pool in the group behind a commit goes on from the newest root
@@ -19,9 +28,21 @@ pub behind_last : (sizes : List ℕ) (objects : Objects) (pool : OpenPool) (now 
 behind_last sizes objects pool now h = record {
   root = h.root;
   from = within_from h.root h.first pool h.begin now h.within h.from;
-  newest = newest_same now.seen h.root h.first pool h.within.table (newest_kept sizes h.root h.first objects h.begin h.committed now.seen (within_clear sizes h.root h.first objects h.begin h.committed pool now h.within));
+  newest = newest_same now.seen h.root h.first pool h.within.table (newest_kept sizes h.root h.first objects h.begin h.committed now.seen (within_clear sizes h.root h.first objects h.begin h.committed pool now (in_group h.first h.begin pool now h.within)));
 }
 
 -- what a reset leaves begins a group
 pub reset_behind : (sizes : List ℕ) (objects : Objects) (pool : OpenPool) (now : Stand) → ShowsLast now.seen pool → IsOpen sizes pool → map length now.seen ≡ sizes → HasReset pool now objects → AreThere (devices_in pool.space) → StandsBehind sizes objects pool now
 reset_behind sizes objects pool now shows ready sized reset on = left_behind sizes objects pool now ready sized shows reset.leaves reset.holds on
+
+-- a device that is leaving is where it was, and no other unit may be written
+leaves_in_place : (sizes : List ℕ) (old left : OpenPool) (d : ℕ) → IsOpen sizes old → LeavesPool old left d → state_of_dev old.space.parts.devs d ≡ On → d < old.table.count → StaysInPlace old left
+leaves_in_place sizes old left d ready leaves on known = record {
+  devices = out_devices sizes old left d leaves on known ready;
+  units = λ e u is. subst (λ (r : Role). is_open_role r ≡ true) (leaves.leaves.roles e u) is;
+}
+
+-- so the beginning of a removal wrote what a reset writes
+pub begun : (sizes : List ℕ) (objects : Objects) (old : OpenPool) (d : ℕ) (before now : World) → IsOpen sizes old → state_of_dev old.space.parts.devs d ≡ On → d < old.table.count → BeginsInPart sizes objects old d before now → WritesReset sizes objects old before now
+begun sizes objects old d before now ready on known (inl nothing) = inl (inl nothing)
+begun sizes objects old d before now ready on known (inr (left, open_left, leaves, commits)) = inl (inr (left, open_left, leaves_in_place sizes old left d ready leaves on known, commits))

@@ -4,7 +4,8 @@ use Rattle.std.specs.FinMap as map
 use Rattle.zr_base.specs.declared.space.DevPart.{DevPart}
 use Rattle.zr_command.specs.Meanings.{Disks}
 use Rattle.zr_sync.specs.Ends.{LeavesCommitted}
-use Rattle.zr_lines.specs.Stops.{OpensNoUnit, StaysInOneGroup}
+use Rattle.zr_create.specs.Adding.{AddsInPart}
+use Rattle.zr_lines.specs.Stops.{OpensNoUnit, StaysInOneGroup, WritesReset}
 use Rattle.zr_model.specs.Objects.{Objects}
 use Rattle.zr_model.specs.State.{PoolState, ShelfPart, Is}
 use Rattle.zr_rules.specs.Places.{is_gone}
@@ -18,6 +19,7 @@ use Rattle.zr_stops.specs.Behind.{ShowsOnly}
 use Rattle.zr_stops.specs.Either.{ShowsEither}
 use Rattle.zr_sync.specs.Objects.{HoldsObjects}
 use Rattle.zr_sync.specs.declared.open.OpenPool.{OpenPool}
+use Rattle.zr_pool.specs.Plain.{is_copy}
 use Rattle.zr_pool.specs.Pools.{DeviceState, stand_of}
 
 -- The lines that work in the group that is open, or end it by a commit: those on objects, tables, `step discard`, `sync` and `export`.
@@ -59,16 +61,13 @@ pub record HasReset (pool : OpenPool) (now : Stand) (objects : Objects) : Type 0
   pub leaves : LeavesCommitted pool now
   pub holds : HoldsObjects (Unit {0}) now.seen pool objects
 
--- of those the ones that leave the devices as they are
-abbrev pub resets_in_place : Command → Bool
-resets_in_place cmd.Checkpoint = true
-resets_in_place cmd.Discard = true
-resets_in_place cmd.Upgrade = true
-resets_in_place _ = false
+-- What such a line wrote, wherever it stopped: a reset that leaves each device where it was, or the adding of one.
+abbrev pub StopsInReset : List ℕ → Objects → OpenPool → World → World → Type 0
+StopsInReset sizes objects old before now = WritesReset sizes objects old before now ⊎ ((slot : ℕ) × AddsInPart sizes objects slot old before now)
 
 -- What a crash shows is told at each moment of the line.
 abbrev pub may_stop : Command → Bool
-may_stop command = is_in_group command || resets_in_place command
+may_stop command = is_in_group command || is_resetting command
 
 -- The line stayed in one group: it did nothing to the disks, or wrote units of the group that is open, or of the next one behind a commit of that.
 abbrev pub StaysTold : List ℕ → Objects → OpenPool → OpenPool → World → World → Type 0
@@ -125,11 +124,6 @@ abbrev pub is_acknowledged : Reply → Command → Bool
 is_acknowledged (reply.Synced txg) cmd.Sync = true
 is_acknowledged reply.Done cmd.Export = true
 is_acknowledged answer command = false
-
--- the answer tells of units of a device that is leaving that were copied, into units that were free
-abbrev pub is_copy : Command → Reply → Bool
-is_copy cmd.StepEvac (reply.Copied units) = true
-is_copy command answer = false
 
 -- The line leaves it told which objects were committed last: it works in the group that is open, copies units, or is refused, and writes nothing where no pool is open.
 abbrev pub leaves_told : Option OpenPool → Reply → Command → Bool

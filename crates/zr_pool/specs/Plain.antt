@@ -1,5 +1,5 @@
 -- What a line to the pool on devices makes of the plain objects that its disks hold.
-use Rattle.std.specs.Prelude.{◌≡◌, ℕ, Bool, true, false, All, length, Some, None, is_some, MatchBool}
+use Rattle.std.specs.Prelude.{◌≡◌, ℕ, Bool, true, false, not, All, length, Some, None, is_some, MatchBool}
 use Rattle.std.specs.FinMap as map
 use Rattle.zr_base.specs.declared.refusal.Refusal.{Refusal}
 use Rattle.zr_base.specs.declared.refusal.Refusal.TheVariants as refusal
@@ -105,11 +105,15 @@ is_of_removal cmd.StepEvac = true
 is_of_removal cmd.StepCondense = true
 is_of_removal command = false
 
+-- the answer tells of units of a device that is leaving that were copied, into units that were free
+abbrev pub is_copy : Command → Reply → Bool
+is_copy cmd.StepEvac (reply.Copied units) = true
+is_copy command answer = false
+
 -- What the objects are behind the line is not told yet: a removal was given up, a device is gone, or a mapping was condensed.
 abbrev pub is_untold_behind : Command → Reply → Bool
 is_untold_behind cmd.Cancel answer = true
-is_untold_behind cmd.StepEvac (reply.Copied units) = false
-is_untold_behind cmd.StepEvac answer = true
+is_untold_behind cmd.StepEvac answer = not (is_copy cmd.StepEvac answer)
 is_untold_behind cmd.StepCondense answer = true
 is_untold_behind command answer = false
 

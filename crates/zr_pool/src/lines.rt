@@ -13,12 +13,12 @@ ghost use Rattle.zr_model.specs.State.{PoolState};
 ghost use Rattle.zr_sync.specs.States.{HoldsState};
 ghost use Rattle.zr_last.specs.Last.{KeepsLast};
 ghost use Rattle.zr_sync.specs.Ends.{EndsCommitted};
-ghost use Rattle.zr_lines.specs.Stops.{OpensNoUnit, StaysInGroup, StaysInOneGroup, WritesInOneGroup, WritesReset};
+ghost use Rattle.zr_lines.specs.Stops.{OpensNoUnit, StaysInGroup, StaysInOneGroup, WritesInOneGroup};
 ghost use Rattle.zr_sync.specs.Leads.{CommitsObjects};
 ghost use Rattle.zr_script.specs.declared.command.Command.TheVariants.{Export, StepDiscard};
 ghost use Rattle.zr_shelf.specs.Moments.{IsStill};
 ghost use Rattle.zr_pool.specs.Plain.{IsDone, IsPlainOf, IsPlainRefusal};
-ghost use Rattle.zr_pool.specs.Behind.{HasReset, is_commit, is_resetting, resets_in_place};
+ghost use Rattle.zr_pool.specs.Behind.{HasReset, StopsInReset, is_commit, is_resetting};
 ghost use Rattle.zr_pool.specs.Pools.{IsAtRest};
 ghost use Rattle.zr_pool.specs.Accounts.{Refuses, Turns};
 ghost use Rattle.zr_pool.specs.Replies.{step_reply};
@@ -200,7 +200,7 @@ pub fn pool_line<S: Shelf>(
     ensures left { command.now ≡ Export → (p : PoolState) → HoldsState (S.tells shelf.old) (S.world shelf.old).now.seen pool.old p → OnOk result (IsAtRest (S.world shelf.new).now.seen pool.new p) }
     ensures commits { is_commit command.now ≡ true → (p : PoolState) → HoldsState (S.tells shelf.old) (S.world shelf.old).now.seen pool.old p → OnOk result (EndsCommitted (S.sizes shelf.old) false pool.old pool.new p.objects (S.world shelf.old) (S.world shelf.new)) }
     ensures resets { is_resetting command.now ≡ true → (p : PoolState) → HoldsState (S.tells shelf.old) (S.world shelf.old).now.seen pool.old p → OnOk result (HasReset pool.new (S.world shelf.new).now p.objects) }
-    ensures stops_reset { resets_in_place command.now ≡ true → (p : PoolState) → HoldsState (S.tells shelf.old) (S.world shelf.old).now.seen pool.old p → WritesReset (S.sizes shelf.old) p.objects pool.old (S.world shelf.old) (S.world shelf.new) }
+    ensures stops_reset { is_resetting command.now ≡ true → (p : PoolState) → HoldsState (S.tells shelf.old) (S.world shelf.old).now.seen pool.old p → StopsInReset (S.sizes shelf.old) p.objects pool.old (S.world shelf.old) (S.world shelf.new) }
     ensures stops { is_commit command.now ≡ true → (p : PoolState) → HoldsState (S.tells shelf.old) (S.world shelf.old).now.seen pool.old p → CommitsObjects (S.sizes shelf.old) pool.old false p.objects (S.world shelf.old) (S.world shelf.new) }
     ensures account { S.tells shelf.old → IfOk result (λ reply. Turns paths.now (S.sizes shelf.old) (S.world shelf.old).now.seen pool.old command.now reply (S.world shelf.new).now.seen pool.new) }
     ensures account_no { S.tells shelf.old → (r : Refusal) → IsErrOf result (No r) → Refuses paths.now (S.sizes shelf.old) (S.world shelf.old).now.seen pool.old command.now r pool.new }

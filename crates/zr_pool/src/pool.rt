@@ -15,12 +15,12 @@ ghost use Rattle.zr_model.specs.State.{PoolState};
 ghost use Rattle.zr_pool.specs.Accounts.{Begins, BeginsNone, Refuses, Turns};
 ghost use Rattle.zr_last.specs.Last.{KeepsLast, ShowsLast};
 ghost use Rattle.zr_sync.specs.Ends.{ComesCommitted, EndsCommitted};
-ghost use Rattle.zr_lines.specs.Stops.{OpensNoUnit, StaysInOneGroup, WritesInOneGroup, WritesReset};
+ghost use Rattle.zr_lines.specs.Stops.{OpensNoUnit, StaysInOneGroup, WritesInOneGroup};
 ghost use Rattle.zr_script.specs.declared.command.Command.TheVariants.{Export, Import};
 ghost use Rattle.zr_open.specs.Left.{IsLeftCommitted};
-ghost use Rattle.zr_pool.specs.Plain.{IsDone, IsMade, IsOpeningCause, IsPlainOf, IsPlainRefusal, is_untold_behind, shelf_of};
+ghost use Rattle.zr_pool.specs.Plain.{IsDone, IsMade, IsOpeningCause, IsPlainOf, IsPlainRefusal, is_copy, is_untold_behind, shelf_of};
 ghost use Rattle.zr_open.specs.Flushed.{FlushesOnly};
-ghost use Rattle.zr_pool.specs.Behind.{HasReset, StaysTold, is_commit, is_copy, is_create, is_import, is_in_group, is_making, is_resetting, resets_in_place};
+ghost use Rattle.zr_pool.specs.Behind.{HasReset, StaysTold, StopsInReset, is_commit, is_create, is_import, is_in_group, is_making, is_resetting};
 ghost use Rattle.zr_pool.specs.Pools.{IsAtRest, IsOnShelf};
 ghost use Rattle.zr_pool.specs.Replies.{TellsFault};
 ghost use Rattle.zr_sync.specs.States.{HoldsState};
@@ -107,7 +107,7 @@ fn open_line<S: Shelf>(
     ensures commits { is_commit command.now ≡ true → (p : PoolState) → HoldsState (S.tells shelf.old) (S.world shelf.old).now.seen pool.old p → OnOk result (EndsCommitted (S.sizes shelf.old) false pool.old pool.new p.objects (S.world shelf.old) (S.world shelf.new)) }
     ensures resets { is_resetting command.now ≡ true → (p : PoolState) → HoldsState (S.tells shelf.old) (S.world shelf.old).now.seen pool.old p → OnOk result (HasReset pool.new (S.world shelf.new).now p.objects) }
     ensures copies { S.tells shelf.old → IfOk result (λ found. IfSome found (λ reply. is_copy command.now reply ≡ true → WritesIntoFree pool.old (S.world shelf.old) (S.world shelf.new) × OpensNoUnit pool.old pool.new)) }
-    ensures stops_reset { resets_in_place command.now ≡ true → (p : PoolState) → HoldsState (S.tells shelf.old) (S.world shelf.old).now.seen pool.old p → WritesReset (S.sizes shelf.old) p.objects pool.old (S.world shelf.old) (S.world shelf.new) }
+    ensures stops_reset { is_resetting command.now ≡ true → (p : PoolState) → HoldsState (S.tells shelf.old) (S.world shelf.old).now.seen pool.old p → StopsInReset (S.sizes shelf.old) p.objects pool.old (S.world shelf.old) (S.world shelf.new) }
     ensures account { S.tells shelf.old → IfOk result (λ found. IfSome found (λ reply. Turns paths.now (S.sizes shelf.old) (S.world shelf.old).now.seen pool.old command.now reply (S.world shelf.new).now.seen pool.new)) }
     ensures account_no { S.tells shelf.old → (r : Refusal) → IsErrOf result (No r) → Refuses paths.now (S.sizes shelf.old) (S.world shelf.old).now.seen pool.old command.now r pool.new }
     ensures blamed { IfOk result (λ found. IfSome found (λ reply. TellsFault command.now reply → HasRisen (S.counts shelf.old).disk (S.counts shelf.new).disk)) }

@@ -21,8 +21,8 @@ ghost use Rattle.zr_sync.specs.States.{HasCheckpoint, HoldsState};
 ghost use Rattle.zr_sync.specs.Writes.{WorksOnDisks, WritesIntoFree};
 ghost use Rattle.zr_sync.specs.declared.fault.Fault.TheVariants.{No, Stops};
 ghost use Rattle.zr_sync.specs.declared.stop.Stop.TheVariants.{DiskFault};
-ghost use Rattle.zr_pool.specs.Behind.{HasReset, is_copy, is_resetting};
-ghost use Rattle.zr_pool.specs.Plain.{IsCheckpointCause, IsDone, IsPlainOf, IsPlainRefusal, is_of_removal, is_untold_behind};
+ghost use Rattle.zr_pool.specs.Behind.{HasReset, StopsInReset, is_resetting};
+ghost use Rattle.zr_pool.specs.Plain.{IsCheckpointCause, IsDone, IsPlainOf, IsPlainRefusal, is_copy, is_of_removal, is_untold_behind};
 ghost use Rattle.zr_pool.specs.Accounts.{IsRemovable, IsRemovalCause, Refuses, Turns};
 ghost use Rattle.zr_pool.specs.Replies.{TellsFault, condense_reply, evac_reply};
 ghost use Rattle.zr_pool.specs.Turns.{IsOpenAnswer, IsOpenRefusal, IsRemoveRefusal};
@@ -134,6 +134,7 @@ pub fn removal_line<S: Shelf>(
     ensures shown { S.tells shelf.old → IfOk result (λ reply. is_untold_behind command.now reply ≡ false → KeepsLast (S.world shelf.old) (S.world shelf.new) pool.old pool.new) }
     ensures copies { S.tells shelf.old → IfOk result (λ reply. is_copy command.now reply ≡ true → WritesIntoFree pool.old (S.world shelf.old) (S.world shelf.new) × OpensNoUnit pool.old pool.new) }
     ensures resets { is_resetting command.now ≡ true → (p : PoolState) → HoldsState (S.tells shelf.old) (S.world shelf.old).now.seen pool.old p → OnOk result (HasReset pool.new (S.world shelf.new).now p.objects) }
+    ensures stops_reset { is_resetting command.now ≡ true → (p : PoolState) → HoldsState (S.tells shelf.old) (S.world shelf.old).now.seen pool.old p → StopsInReset (S.sizes shelf.old) p.objects pool.old (S.world shelf.old) (S.world shelf.new) }
     ensures account { S.tells shelf.old → IfOk result (λ reply. Turns paths.now (S.sizes shelf.old) (S.world shelf.old).now.seen pool.old command.now reply (S.world shelf.new).now.seen pool.new) }
     ensures account_no { S.tells shelf.old → (r : Refusal) → IsErrOf result (No r) → Refuses paths.now (S.sizes shelf.old) (S.world shelf.old).now.seen pool.old command.now r pool.new }
     ensures blamed { IfOk result (λ reply. TellsFault command.now reply → HasRisen (S.counts shelf.old).disk (S.counts shelf.new).disk) }

@@ -6,8 +6,8 @@ use Rattle.zr_model.specs.Objects.{Objects}
 use Rattle.zr_model.specs.Runs.{Shelf}
 use Rattle.zr_model.specs.State.{State, PoolState, ShelfPart, Empty, Refused, Is, created}
 use Rattle.zr_moves.specs.Answers.{Acts}
-use Rattle.zr_pool.specs.Behind.{TellsOf, is_acknowledged, is_copy, is_create, is_in_group, is_known, is_making, is_refusal, is_resetting, leaves_told, are_there}
-use Rattle.zr_pool.specs.Plain.{IsObjectsTurn, IsPlainTurn}
+use Rattle.zr_pool.specs.Behind.{TellsOf, is_acknowledged, is_create, is_in_group, is_known, is_making, is_refusal, is_resetting, leaves_told, are_there}
+use Rattle.zr_pool.specs.Plain.{IsObjectsTurn, IsPlainTurn, is_copy}
 use Rattle.zr_pool.specs.Pools.{DeviceState}
 use Rattle.zr_pool.specs.Turns.{IsTurn}
 use Rattle.zr_script.specs.declared.command.Command.{Command}

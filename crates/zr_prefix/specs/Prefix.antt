@@ -7,7 +7,8 @@ use Rattle.zr_model.specs.Objects.{Objects}
 use Rattle.zr_model.specs.Runs.{Point, Turn, end_of}
 use Rattle.zr_model.specs.State.{PoolState, Is}
 use Rattle.zr_open.specs.Shown.{Shows}
-use Rattle.zr_pool.specs.Behind.{TellsOf, is_acknowledged, is_copy, is_in_group, is_making, is_refusal, may_stop}
+use Rattle.zr_pool.specs.Plain.{is_copy}
+use Rattle.zr_pool.specs.Behind.{TellsOf, is_acknowledged, is_in_group, is_making, is_refusal, may_stop}
 use Rattle.zr_pool.specs.Pools.{DeviceState, stand_of}
 use Rattle.zr_script.specs.declared.command.Command.{Command}
 

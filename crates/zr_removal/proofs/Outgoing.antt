@@ -1,7 +1,6 @@
 -- A device that leaves the service, or of which units are copied, is read as before: the disks hold the same objects, and show the last root.
 use Rattle.std.proofs.Common.{◌≡◌, ◌≢◌, inl, inr, ℕ, ◌+◌, ◌<◌, ◌≤◌, Bool, true, false, List, [], ◌∷◌, map, length, Option, Some, None, refl, sym, ◌∙◌, ap, subst, arith}
 use Rattle.std.specs.Prelude.{IfSome, ◌&&◌, ◌==◌, if◌then◌else◌, nat_lt, slice_index, slice_index_or, slice_set}
-use Rattle.std.specs.List.{position, range_with_len}
 use Rattle.std.proofs.Math.Path.{fun_ext}
 use Rattle.std.proofs.lemmas.Bool.{cases_eq}
 use Rattle.std.proofs.lemmas.Bool.Decides.{nat_tests}
@@ -15,16 +14,16 @@ use Rattle.zr_base.specs.declared.space.Entry.{Entry}
 use Rattle.zr_base.specs.declared.space.Extent.{Extent}
 use Rattle.zr_base.specs.declared.space.Policy.{Policy}
 use Rattle.zr_cache.specs.declared.table.Cache.{Cache}
-use Rattle.zr_image.specs.Current.{is_device, row_at, slot_of_device, slots_of}
+use Rattle.zr_image.specs.Current.{row_at}
 use Rattle.zr_label.specs.Blocks.{no_row}
-use Rattle.zr_label.specs.declared.root.Label.{Label}
 use Rattle.zr_label.specs.declared.root.Seen.{Seen}
 use Rattle.zr_label.specs.declared.root.Uber.{Uber}
-use Rattle.zr_last.proofs.Lasting.{commit_places, units_last}
-use Rattle.zr_last.specs.Last.{KeepsLast, ShowsLast}
+use Rattle.zr_last.proofs.Lasting.{commit_places, follows_devices, units_last}
+use Rattle.zr_last.specs.Last.{KeepsDevices, KeepsLast, ShowsLast}
 use Rattle.zr_model.specs.Objects.{Objects}
 use Rattle.zr_newest.proofs.Newest.{above_newest}
-use Rattle.zr_newest.specs.Newest.{AreAt, IsAbove}
+use Rattle.zr_newest.proofs.Seen.{slots_alike}
+use Rattle.zr_newest.specs.Newest.{AreAt, HasSameDevices, IsAbove}
 use Rattle.zr_rules.specs.Devices.{Devices, state_at}
 use Rattle.zr_rules.specs.Equation.{Spends, devices_in, fresh_in, ways_in}
 use Rattle.zr_rules.specs.Mappings.{entry_at}
@@ -271,23 +270,46 @@ last_copied sizes x y before now ready sized wrote rest =
     units_last sizes x y before now ready sized (into_free x.table.slots x.space before now wrote)
     (record { last = ap (λ (p : OpenPool). p.last) rest; guid = ap (λ (p : OpenPool). p.guid) rest; table = ap (λ (p : OpenPool). p.table) rest })
 
--- ---- the slots of a root's devices
+-- ---- its devices
 
-module _ (u v : Uber) (seen : List Seen) (guid : u.guid ≡ v.guid) (count : u.count ≡ v.count) (gone : (e : ℕ) → is_gone (row_at u e).state ≡ is_gone (row_at v e).state) (added : (e : ℕ) → (row_at u e).added ≡ (row_at v e).added) (units : (e : ℕ) → (row_at u e).units ≡ (row_at v e).units) where
-  named_same : (e : ℕ) (l : Option Label) → is_device u e l ≡ is_device v e l
-  named_same e None = refl
-  named_same e (Some l) =
-      ap (λ (n : ℕ). l.guid == n && (l.index == e && (l.added == (row_at u e).added && l.units == (row_at u e).units))) guid
-      ∙ (ap (λ (n : ℕ). l.guid == v.guid && (l.index == e && (l.added == n && l.units == (row_at u e).units))) (added e)
-      ∙ ap (λ (n : ℕ). l.guid == v.guid && (l.index == e && (l.added == (row_at v e).added && l.units == n))) (units e))
+module _ (sizes : List ℕ) (x y : OpenPool) (d : ℕ) (left : LeavesPool x y d) (on : state_of_dev x.space.parts.devs d ≡ On) (known : d < x.table.count) (was : IsOpen sizes x) where
+  abbrev old_row : DevRow
+  old_row = slice_index_or x.table.rows d no_row
 
-  slot_same : (e : ℕ) → slot_of_device u seen e ≡ slot_of_device v seen e
-  slot_same e =
-      ap (λ (b : Bool). if b then None else position (λ (s : Seen). is_device u e s.label) seen) (gone e)
-      ∙ ap (λ (test : Seen → Bool). if is_gone (row_at v e).state then None else position test seen) (fun_ext (λ (s : Seen). named_same e s.label))
+  inside : d < length x.table.rows
+  inside = let lt = known in let size = was.table.size in let few = was.few in omega (arith, lt, size, few)
 
-  pub slots_alike : slots_of u seen ≡ slots_of v seen
-  slots_alike = ap (λ (n : ℕ). map (slot_of_device u seen) (range_with_len 0 n)) count ∙ ap (λ (f : ℕ → Option ℕ). map f (range_with_len 0 v.count)) (fun_ext slot_same)
+  rows_are : y.table.rows ≡ slice_set x.table.rows d (record old_row { state = Leaving })
+  rows_are = ap (λ (t : Table). t.rows) left.table
+
+  here : slice_index_or y.table.rows d no_row ≡ record old_row { state = Leaving }
+  here = ap (λ (rs : List DevRow). slice_index_or rs d no_row) rows_are ∙ get_or-set_same x.table.rows d (record old_row { state = Leaving }) no_row inside
+
+  elsewhere : (e : ℕ) → e ≢ d → slice_index_or y.table.rows e no_row ≡ slice_index_or x.table.rows e no_row
+  elsewhere e other = ap (λ (rs : List DevRow). slice_index_or rs e no_row) rows_are ∙ get_or-set_other x.table.rows d e (record old_row { state = Leaving }) no_row other
+
+  served : old_row.state ≡ On
+  served = sym (ap (λ (r : DevRow). r.state) (was.rows d known)) ∙ on
+
+  field_same : {A : Type 0} (f : DevRow → A) → f (record old_row { state = Leaving }) ≡ f old_row → (e : ℕ) → f (slice_index_or y.table.rows e no_row) ≡ f (slice_index_or x.table.rows e no_row)
+  field_same f one e = elim (cases_eq e d) [
+    | inl at ↦ subst (λ (k : ℕ). f (slice_index_or y.table.rows k no_row) ≡ f (slice_index_or x.table.rows k no_row)) (sym at) (ap f here ∙ one)
+    | inr other ↦ ap f (elsewhere e other)
+  ]
+
+  -- each is where it was
+  pub out_devices : KeepsDevices x y
+  out_devices = record {
+    last = ap (λ (p : OpenPool). p.last) left.rest;
+    guid = ap (λ (p : OpenPool). p.guid) left.rest;
+    count = ap (λ (t : Table). t.count) left.table;
+    slots = ap (λ (t : Table). t.slots) left.table;
+    rows = λ e. record {
+      added = field_same (λ (r : DevRow). r.added) refl e;
+      units = field_same (λ (r : DevRow). r.units) refl e;
+      gone = field_same (λ (r : DevRow). is_gone r.state) (sym (ap (λ (s : DevState). is_gone s) served)) e;
+    };
+  }
 
 -- ---- the last root
 
@@ -297,47 +319,19 @@ module _ (sizes behind : List ℕ) (x y z : OpenPool) (d : ℕ) (before now : Wo
   abbrev root : Uber
   root = h.root
 
-  abbrev old_row : DevRow
-  old_row = slice_index_or x.table.rows d no_row
+  keeps : KeepsDevices x y
+  keeps = out_devices sizes x y d left on known was
 
   module _ (u : Uber) (is : IsNextRoot y true u) where
-    guid_is : u.guid ≡ root.guid
-    guid_is = is.guid ∙ (ap (λ (p : OpenPool). p.guid) left.rest ∙ h.from.guid)
-
-    count_is : u.count ≡ root.count
-    count_is = is.count ∙ (ap (λ (t : Table). t.count) left.table ∙ h.from.count)
-
-    rows_are : u.rows ≡ slice_set x.table.rows d (record old_row { state = Leaving })
-    rows_are = is.rows ∙ ap (λ (t : Table). t.rows) left.table
-
-    inside : d < length x.table.rows
-    inside = let lt = known in let size = was.table.size in let few = was.few in omega (arith, lt, size, few)
-
-    here : row_at u d ≡ record (row_at root d) { state = Leaving }
-    here = ap (λ (rs : List DevRow). slice_index_or rs d no_row) rows_are ∙ (get_or-set_same x.table.rows d (record old_row { state = Leaving }) no_row inside ∙ ap (λ (rs : List DevRow). record (slice_index_or rs d no_row) { state = Leaving }) h.from.rows)
-
-    elsewhere : (e : ℕ) → e ≢ d → row_at u e ≡ row_at root e
-    elsewhere e other = ap (λ (rs : List DevRow). slice_index_or rs e no_row) rows_are ∙ (get_or-set_other x.table.rows d e (record old_row { state = Leaving }) no_row other ∙ ap (λ (rs : List DevRow). slice_index_or rs e no_row) h.from.rows)
-
-    served : (row_at root d).state ≡ On
-    served = ap (λ (rs : List DevRow). (slice_index_or rs d no_row).state) (sym h.from.rows) ∙ (sym (ap (λ (r : DevRow). r.state) (was.rows d known)) ∙ on)
-
-    field_same : {A : Type 0} (f : DevRow → A) → f (record (row_at root d) { state = Leaving }) ≡ f (row_at root d) → (e : ℕ) → f (row_at u e) ≡ f (row_at root e)
-    field_same f one e = elim (cases_eq e d) [
-      | inl at ↦ subst (λ (k : ℕ). f (row_at u k) ≡ f (row_at root k)) (sym at) (ap f here ∙ one)
-      | inr other ↦ ap f (elsewhere e other)
-    ]
+    devices : HasSameDevices root u
+    devices = follows_devices true root u x y h.from keeps is
 
     places : (seen : List Seen) → AreAt x.table.slots root seen → AreAt y.table.slots u seen
-    places seen are e =
-        ap (λ (t : Table). slot_of t.slots e) left.table
-        ∙ (are e
-        ∙ ap (λ (slots : List (Option ℕ)). slot_of slots e)
-        (sym (slots_alike u root seen guid_is count_is (field_same (λ (r : DevRow). is_gone r.state) (sym (ap (λ (s : DevState). is_gone s) served))) (field_same (λ (r : DevRow). r.added) refl) (field_same (λ (r : DevRow). r.units) refl))))
+    places seen are e = ap (λ (slots : List (Option ℕ)). slot_of slots e) keeps.slots ∙ (are e ∙ ap (λ (slots : List (Option ℕ)). slot_of slots e) (sym (slots_alike root u seen devices)))
 
     above : IsAbove before.now.seen u
     above =
-        above_newest before.now.seen root u x.table.slots h.newest guid_is
+        above_newest before.now.seen root u x.table.slots h.newest devices.guid
         (let group = is.txg in let txgs = ap (λ (p : OpenPool). p.group.txg) left.rest in let after = (subst (λ (o : Option Uber). IsAfter o x.group.txg) h.from.last was.after).1 in omega (arith, group, txgs, after))
 
   pub out_last : ShowsLast now.now.seen z

@@ -1,14 +1,16 @@
 -- What the lines of a removal do to an open pool.
-use Rattle.std.specs.Prelude.{◌≡◌, ℕ, true, List, IfSome, slice_index_or}
+use Rattle.std.specs.Prelude.{◌≡◌, ◌⊎◌, ℕ, true, List, IfSome, slice_index_or}
 use Rattle.zr_base.specs.declared.space.DevState.TheVariants.{On, Leaving, Gone}
 use Rattle.zr_label.specs.Blocks.{no_row}
 use Rattle.zr_rules.specs.Space.{Space}
 use Rattle.zr_rules.specs.Steps.{Cancels, Finishes, Leaves}
-use Rattle.zr_shelf.specs.Moments.{World}
+use Rattle.zr_model.specs.Objects.{Objects}
+use Rattle.zr_shelf.specs.Moments.{IsStill, World}
 use Rattle.zr_vdev.specs.Stores.{KeepsOthers}
 use Rattle.zr_vdev.specs.declared.kind.Kind.TheVariants.{Meta}
 use Rattle.zr_sync.specs.Commits.{EndsGroup, IsNextRoot, IsShownFrom}
-use Rattle.zr_sync.specs.Pools.{IsSamePool}
+use Rattle.zr_sync.specs.Leads.{CommitsObjects}
+use Rattle.zr_sync.specs.Pools.{IsOpen, IsSamePool}
 use Rattle.zr_sync.specs.declared.open.OpenPool.{OpenPool}
 use Rattle.zr_removal.specs.Metadata.{GivesMetadata}
 use Rattle.zr_removal.specs.Rows.{with_row, without_slot}
@@ -27,6 +29,10 @@ pub record BeginsRemoval (sizes : List ℕ) (told : Type 0) (now : World) (old n
   pub root : IfSome new.last (IsNextRoot left true)
   pub resets : EndsGroup true left.space new.space
   pub shown : told → IfSome new.last (λ u. (before : World) × IsShownFrom sizes left u before now)
+
+-- Wherever the beginning of a removal stops: nothing was done, or the pool of which the device is leaving was being committed with these objects, by a reset.
+abbrev pub BeginsInPart : List ℕ → Objects → OpenPool → ℕ → World → World → Type 0
+BeginsInPart sizes objects old d before now = IsStill before now ⊎ ((left : OpenPool) × IsOpen sizes left × LeavesPool old left d × CommitsObjects sizes left true objects before now)
 
 -- the device is back in service in the space and in the table, and nothing else is changed
 pub record CancelsSpace (old new : OpenPool) (d : ℕ) : Type 0 where

@@ -19,7 +19,7 @@ ghost use Rattle.zr_sync.specs.declared.fault.Fault.TheVariants.{No, Stops};
 ghost use Rattle.zr_sync.specs.declared.stop.Stop.TheVariants.{DiskFault};
 ghost use Rattle.zr_removal.specs.Devices.{HasOther, IsOnlyOne};
 ghost use Rattle.zr_removal.specs.Refusals.{HasNoRemoval, IsRemoveRefusal, free_beside, removal_needs};
-ghost use Rattle.zr_removal.specs.Turns.{BeginsRemoval, LeavesPool};
+ghost use Rattle.zr_removal.specs.Turns.{BeginsInPart, BeginsRemoval, LeavesPool};
 
 use crate::room::{free_beside, needed};
 use crate::rows::set_row;
@@ -115,6 +115,7 @@ pub fn remove<S: Shelf>(
     ensures shown { S.tells shelf.old → OnOk result (KeepsLast (S.world shelf.old) (S.world shelf.new) pool.old pool.new) }
     ensures ends { (objects : Objects) → HoldsObjects (S.tells shelf.old) (S.world shelf.old).now.seen pool.old objects → OnOk result (LeavesCommitted pool.new (S.world shelf.new).now) }
     ensures objects { (objects : Objects) → HoldsObjects (S.tells shelf.old) (S.world shelf.old).now.seen pool.old objects → OnOk result (HoldsObjects (S.tells shelf.new) (S.world shelf.new).now.seen pool.new objects) }
+    ensures stops { (objects : Objects) → HoldsObjects (S.tells shelf.old) (S.world shelf.old).now.seen pool.old objects → BeginsInPart (S.sizes shelf.old) objects pool.old dev (S.world shelf.old) (S.world shelf.new) }
     ensures refused { (r : Refusal) → IsErrOf result (No r) → IsRemoveRefusal pool.old dev r }
     ensures unchanged { (r : Refusal) → IsErrOf result (No r) → pool.new ≡ pool.old }
     ensures untouched { (r : Refusal) → IsErrOf result (No r) → S.world shelf.new ≡ S.world shelf.old }

@@ -96,7 +96,10 @@ fn root_block(u: &Uber, rt: &impl Abort) -> [u8; 4096] {
 fn label_slot(desk: &mut MemDesk, l: Label, rt: &impl Abort) {
     assert!(rt; desk.slots() == 1 && units_of_size(desk.size(0), 2).is_some());
     assert!(rt; l.guid != 0 && l.index < 32 && l.added != 0 && is_name(&l.name));
-    assert!(rt; put_label(desk, 0, &l) == Ok(()));
+    for n in 0..4 {
+        assert!(rt; desk.slots() == 1 && units_of_size(desk.size(0), 2).is_some());
+        assert!(rt; put_label(desk, 0, n, &l) == Ok(()));
+    }
 }
 
 fn put_root(desk: &mut MemDesk, first: u32, u: &Uber, rt: &impl Abort) {
@@ -242,7 +245,11 @@ fn a_fault_is_told(rt: HostRuntime) -> Result<(), Fail> {
     assert!(rt; desk.slots() == 1 && units_of_size(desk.size(0), 2).is_some());
     let l = label();
     assert!(rt; l.guid != 0 && l.index < 32 && l.added != 0 && is_name(&l.name));
-    assert!(rt; put_label(&mut desk, 0, &l) == Err(ScanErr::Failed));
+    assert!(rt; put_label(&mut desk, 0, 3, &l) == Ok(()));
+    assert!(rt; desk.slots() == 1 && units_of_size(desk.size(0), 2).is_some());
+    assert!(rt; put_label(&mut desk, 0, 2, &l) == Ok(()));
+    assert!(rt; desk.slots() == 1 && units_of_size(desk.size(0), 2).is_some());
+    assert!(rt; put_label(&mut desk, 0, 1, &l) == Err(ScanErr::Failed));
     assert!(rt; desk.slots() == 1);
     assert!(rt; matches!(scan(alloc, &mut desk, 0), Err(ScanErr::Failed)));
     assert!(rt; desk.disk_faults == 2);

@@ -3,7 +3,7 @@ use Rattle.std.proofs.Common.{◌≡◌, ◌≢◌, ◌⊎◌, inl, inr, ℕ, ze
 use Rattle.std.proofs.lemmas.Bool.{cases_lt}
 use Rattle.zr_shelf.specs.Disks.{PendingWrite, Meets, IsUntouched}
 use Rattle.zr_label.specs.Geometry.{is_disk_size, label_at, label_block_at, ring_slot_at, slot_of}
-use Rattle.zr_scan.specs.Puts.{puts, label_places, ring_at, ring_places, root_places}
+use Rattle.zr_scan.specs.Puts.{puts, label_place, ring_at, ring_places, root_places}
 use Rattle.zr_scan.proofs.Putting.{one_put}
 use Rattle.zr_scan.proofs.Spacing.{label_next}
 
@@ -49,12 +49,14 @@ module _ (size : ℕ) (used : IsTrue (is_disk_size 2 size)) where
       one : (m : ℕ) → m < 4 → ¬ Meets (one_put slot zeros (ring_at size m)) slot (label_block_at size n) 4096
       one m four = apart (one_put slot zeros (ring_at size m)) slot (label_block_at size n) 4096 n m 16384 131072 131072 lt four refl refl long (omega arith) (omega arith) (λ e. inl (omega arith))
 
-  -- putting a label leaves the rings
-  pub label_keeps_ring : (slot n k : ℕ) (block : List ℕ) → length block ≡ 4096 → n < 4 → k < 32 → IsUntouched (puts slot (label_places size) block) slot (ring_slot_at size n k) 4096
-  label_keeps_ring slot n k block long lt small = (one 0 (omega arith), (one 1 (omega arith), (one 2 (omega arith), (one 3 (omega arith), tt))))
-    where
-      one : (m : ℕ) → m < 4 → ¬ Meets (one_put slot block (label_block_at size m)) slot (ring_slot_at size n k) 4096
-      one m four = apart (one_put slot block (label_block_at size m)) slot (ring_slot_at size n k) 4096 n m (131072 + 4096 * k) 16384 4096 lt four (omega arith) refl long (omega arith) (omega arith) (λ e. inr (omega arith))
+  module _ (slot m : ℕ) (block : List ℕ) (long : length block ≡ 4096) (four : m < 4) where
+    -- putting a label leaves the rings
+    pub label_keeps_ring : (n k : ℕ) → n < 4 → k < 32 → IsUntouched (puts slot (label_place size m) block) slot (ring_slot_at size n k) 4096
+    label_keeps_ring n k lt small = (apart (one_put slot block (label_block_at size m)) slot (ring_slot_at size n k) 4096 n m (131072 + 4096 * k) 16384 4096 lt four (omega arith) refl long (omega arith) (omega arith) (λ e. inr (omega arith)), tt)
+
+    -- and the other label blocks
+    pub label_keeps_label : (n : ℕ) → n < 4 → n ≢ m → IsUntouched (puts slot (label_place size m) block) slot (label_block_at size n) 4096
+    label_keeps_label n lt other = (apart (one_put slot block (label_block_at size m)) slot (label_block_at size n) 4096 n m 16384 16384 4096 lt four refl refl long (omega arith) (omega arith) (λ e. absurd (other e)), tt)
 
   module _ (slot first txg : ℕ) (block : List ℕ) (long : length block ≡ 4096) (low : first < 2) where
     place_small : txg % 32 < 32

@@ -6,7 +6,7 @@ use Rattle.std.proofs.lemmas.Bool.{leb-true}
 use Rattle.std.proofs.lemmas.List.{drop-take, drop-drop, take-take, drop-replicate, take-replicate}
 use Rattle.zr_shelf.specs.Disks.{disk, part, Stand}
 use Rattle.zr_label.specs.Geometry.{whole, is_disk_size, units_of_size, label_at, label_block_at, ring_slot_at, slot_of}
-use Rattle.zr_scan.specs.Puts.{AreSpread, label_places, ring_at, ring_places, root_places}
+use Rattle.zr_scan.specs.Puts.{AreSpread, label_place, ring_at, ring_places, root_places}
 use Rattle.zr_label.specs.Blocks.{SpellsLabel, SpellsUber, padding}
 use Rattle.zr_label.specs.declared.root.Label.{Label}
 use Rattle.zr_label.specs.declared.root.Uber.{Uber}
@@ -40,11 +40,8 @@ module _ (size : ℕ) (used : IsTrue (is_disk_size 2 size)) where
   label_next (suc (suc zero)) lt = omega (arith, used_enough size used)
   label_next (suc (suc (suc n))) lt = absurd (omega arith)
 
-  pub labels_fit : (n : ℕ) → n ≡ 4096 → AllByRecursion (λ at. at + n ≤ size) (label_places size)
-  labels_fit n is = (omega (arith, label_fits 0 (omega arith)), (omega (arith, label_fits 1 (omega arith)), (omega (arith, label_fits 2 (omega arith)), (omega (arith, label_fits 3 (omega arith)), tt))))
-
-  pub labels_apart : (n : ℕ) → n ≡ 4096 → AreSpread n (label_places size)
-  labels_apart n is = (omega (arith, label_next 0 (omega arith)), (omega (arith, label_next 1 (omega arith)), (omega (arith, label_next 2 (omega arith)), tt)))
+  pub label_fit : (k n : ℕ) → k < 4 → n ≡ 4096 → AllByRecursion (λ at. at + n ≤ size) (label_place size k)
+  label_fit k n low is = (omega (arith, label_fits k low), tt)
 
   pub rings_fit : (n : ℕ) → n ≡ 131072 → AllByRecursion (λ at. at + n ≤ size) (ring_places size)
   rings_fit n is = (omega (arith, label_fits 0 (omega arith)), (omega (arith, label_fits 1 (omega arith)), (omega (arith, label_fits 2 (omega arith)), (omega (arith, label_fits 3 (omega arith)), tt))))
@@ -61,14 +58,6 @@ module _ (size : ℕ) (used : IsTrue (is_disk_size 2 size)) where
   roots_apart zero txg n lt is = let place : txg % 32 < 32 = omega arith in (omega (arith, place, label_next 0 (omega arith), label_next 1 (omega arith)), tt)
   roots_apart (suc zero) txg n lt is = let place : txg % 32 < 32 = omega arith in (omega (arith, place, label_next 1 (omega arith), label_next 2 (omega arith)), tt)
   roots_apart (suc (suc first)) txg n lt is = absurd (omega arith)
-
--- the place of a label block in the list
-pub label_place : (size n : ℕ) → n < 4 → get_or (label_places size) n 0 ≡ label_block_at size n
-label_place size zero lt = refl
-label_place size (suc zero) lt = refl
-label_place size (suc (suc zero)) lt = refl
-label_place size (suc (suc (suc zero))) lt = refl
-label_place size (suc (suc (suc (suc n)))) lt = absurd (omega arith)
 
 pub ring_place : (size n : ℕ) → n < 4 → get_or (ring_places size) n 0 ≡ ring_at size n
 ring_place size zero lt = refl
@@ -91,13 +80,12 @@ in_ring_is size bytes n k lt =
 abbrev pub AreRead : List ℕ → List ℕ → List ℕ → Type 0
 AreRead disk places bytes = (j : ℕ) → j < length places → part disk (slice_index places j) (length bytes) ≡ bytes
 
-pub label_read : (disk : List ℕ) (size sz : ℕ) (places block : List ℕ) (l : Label) → sz ≡ size → places ≡ label_places sz → length block ≡ 4096 → SpellsLabel block l → AreRead disk places block →
-    (n : ℕ) → n < 4 → SpellsLabel (block_of size disk n) l
-label_read disk size sz places block l size_is places_are long spells read n lt =
-    let at_is : get_or places n 0 ≡ label_block_at size n = ap (λ (ps : List ℕ). get_or ps n 0) places_are ∙ (label_place sz n lt ∙ ap (λ (s : ℕ). label_block_at s n) size_is) in
-    let four : length places ≡ 4 = ap length places_are in
+pub label_read : (disk : List ℕ) (size sz n : ℕ) (places block : List ℕ) (l : Label) → sz ≡ size → places ≡ label_place sz n → length block ≡ 4096 → SpellsLabel block l → AreRead disk places block → SpellsLabel (block_of size disk n) l
+label_read disk size sz n places block l size_is places_are long spells read =
+    let at_is : get_or places 0 0 ≡ label_block_at size n = ap (λ (ps : List ℕ). get_or ps 0 0) places_are ∙ ap (λ (s : ℕ). label_block_at s n) size_is in
+    let one : length places ≡ 1 = ap length places_are in
     let here : block_of size disk n ≡ block =
-    ap (λ (a : ℕ). part disk a 4096) (sym at_is) ∙ (ap (λ (m : ℕ). part disk (get_or places n 0) m) (sym long) ∙ read n (omega arith)) in
+    ap (λ (a : ℕ). part disk a 4096) (sym at_is) ∙ (ap (λ (m : ℕ). part disk (get_or places 0 0) m) (sym long) ∙ read 0 (omega (arith, one))) in
     subst (λ (b : List ℕ). SpellsLabel b l) (sym here) spells
 
 module _ (disk : List ℕ) (size sz first : ℕ) (places block : List ℕ) (u : Uber) (size_is : sz ≡ size) (places_are : places ≡ root_places sz first u.txg) (long : length block ≡ 4096) (spells : SpellsUber block u) (read : AreRead disk places block) where

@@ -13,9 +13,9 @@ AreSpread n [] = Unit {0}
 AreSpread n (at ∷ []) = Unit {0}
 AreSpread n (at ∷ next ∷ places) = (at + n ≤ next) × AreSpread n (next ∷ places)
 
--- the places of the four label blocks
-abbrev pub label_places : ℕ → List ℕ
-label_places size = label_block_at size 0 ∷ label_block_at size 1 ∷ label_block_at size 2 ∷ label_block_at size 3 ∷ []
+-- the place of a label block, and no other
+abbrev pub label_place : ℕ → ℕ → List ℕ
+label_place size n = label_block_at size n ∷ []
 
 -- the first byte of the ring of a label
 abbrev pub ring_at : ℕ → ℕ → ℕ

@@ -1,7 +1,7 @@
 //! The places of label blocks, rings and roots, in bytes from the front of a disk.
 ghost use Rattle.std.specs.Prelude.{◌≡◌, ◌≤◌, ◌<◌, ◌+◌, IsTrue};
 ghost use Rattle.zr_label.specs.Geometry.{is_disk_size, label_block_at};
-ghost use Rattle.zr_scan.specs.Puts.{label_places, ring_at, ring_places, root_places};
+ghost use Rattle.zr_scan.specs.Puts.{label_place, ring_at, ring_places, root_places};
 
 use zr_label::{label_at, slot_of};
 
@@ -28,16 +28,13 @@ pub fn ring_at(size: u64, n: u32) -> u64
     label_at(size, n) + 131072
 }
 
-pub fn label_places(size: u64) -> [u64; 4]
+/// The place of a label block.
+pub fn label_place(size: u64, n: u32) -> [u64; 1]
     requires size { IsTrue (is_disk_size 2 size) }
-    ensures { result ≡ label_places size }
+    requires label { n < 4 }
+    ensures { result ≡ label_place size n }
 {
-    [
-        label_block_at(size, 0),
-        label_block_at(size, 1),
-        label_block_at(size, 2),
-        label_block_at(size, 3),
-    ]
+    [label_block_at(size, n)]
 }
 
 pub fn ring_places(size: u64) -> [u64; 4]

@@ -11,12 +11,12 @@ ghost use Rattle.zr_shelf.specs.Doings.{WritesOnly};
 ghost use Rattle.zr_shelf.specs.declared.desk.DeskErr.TheVariants as is_desk;
 ghost use Rattle.zr_label.specs.Blocks.{IsLabel, IsUber, SpellsLabel, label_block, uber_block, padding};
 ghost use Rattle.zr_label.specs.Geometry.{is_disk_size};
-ghost use Rattle.zr_scan.specs.Puts.{puts, AreSpread, label_places, ring_places, root_places};
+ghost use Rattle.zr_scan.specs.Puts.{puts, AreSpread, label_place, ring_places, root_places};
 ghost use Rattle.zr_scan.specs.Scan.{block_of, ring_block, Stands};
 ghost use Rattle.zr_scan.specs.declared.error.ScanErr.TheVariants.{Failed};
 
 use crate::error::ScanErr;
-use crate::places::{RING_BYTES, label_places, ring_places, root_places};
+use crate::places::{RING_BYTES, label_place, ring_places, root_places};
 use crate::rings::zeros;
 use std::alloc::Global;
 use zr_label::{Label, Uber};
@@ -41,21 +41,22 @@ fn put_each<S: Shelf>(shelf: &mut S, slot: u32, places: &[u64], bytes: &[u8]) ->
     Ok(())
 }
 
-/// Puts a label into the four label blocks of a slot.
-pub fn put_label<S: Shelf>(shelf: &mut S, slot: u32, l: &Label) -> Result<(), ScanErr>
+/// Puts a label into label block `n` of a slot, which is below 4.
+pub fn put_label<S: Shelf>(shelf: &mut S, slot: u32, n: u32, l: &Label) -> Result<(), ScanErr>
     requires exists { slot < length (S.sizes shelf.old) }
     requires size { IsTrue (is_disk_size 2 (slice_index (S.sizes shelf.old) slot)) }
+    requires block { n < 4 }
     requires lawful { IsLabel l.now }
     ensures sizes { S.sizes shelf.new ≡ S.sizes shelf.old }
     ensures none_fell { NoneFell (S.counts shelf.old) (S.counts shelf.new) }
     ensures failed { IsErrOf result Failed → HasRisen (S.counts shelf.old).disk (S.counts shelf.new).disk }
     ensures told { S.tells shelf.old → S.tells shelf.new }
-    ensures wrote { S.tells shelf.old → WritesOnly (Contains (puts slot (label_places (slice_index (S.sizes shelf.old) slot)) (label_block l.now))) (S.world shelf.old) (S.world shelf.new) }
-    ensures rest { S.tells shelf.old → IsSameOutside (puts slot (label_places (slice_index (S.sizes shelf.old) slot)) (label_block l.now)) (S.world shelf.old).now.seen (S.world shelf.new).now.seen }
+    ensures wrote { S.tells shelf.old → WritesOnly (Contains (puts slot (label_place (slice_index (S.sizes shelf.old) slot) n) (label_block l.now))) (S.world shelf.old) (S.world shelf.new) }
+    ensures rest { S.tells shelf.old → IsSameOutside (puts slot (label_place (slice_index (S.sizes shelf.old) slot) n) (label_block l.now)) (S.world shelf.old).now.seen (S.world shelf.new).now.seen }
     ensures long { length (label_block l.now) ≡ 4096 }
-    ensures there { S.tells shelf.old → OnOk result ((n : ℕ) → n < 4 → SpellsLabel (block_of (slice_index (S.sizes shelf.old) slot) (disk (S.world shelf.new).now.seen slot) n) l.now) }
+    ensures there { S.tells shelf.old → OnOk result (SpellsLabel (block_of (slice_index (S.sizes shelf.old) slot) (disk (S.world shelf.new).now.seen slot) n) l.now) }
 {
-    let places = label_places(shelf.size(slot));
+    let places = label_place(shelf.size(slot), n);
     put_each(shelf, slot, &places, &l.encode())?;
     Ok(())
 }

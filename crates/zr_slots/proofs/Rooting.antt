@@ -1,6 +1,6 @@
 -- Roots put into several slots, and what the flushes between make of it.
-use Rattle.std.proofs.Common.{◌≡◌, ◌≢◌, ◌⊎◌, inl, inr, ℕ, ◌+◌, ◌<◌, ◌≤◌, List, [], ◌∷◌, length, get_or, Result, Ok, Err, sym, subst, arith}
-use Rattle.std.specs.Prelude.{slice_index, Contains, IsErr}
+use Rattle.std.proofs.Common.{◌≡◌, ◌≢◌, ◌⊎◌, inl, inr, ℕ, suc, ◌+◌, ◌-◌, ◌<◌, ◌≤◌, List, [], ◌∷◌, length, get_or, Result, Ok, Err, sym, subst, arith}
+use Rattle.std.specs.Prelude.{slice_index, Contains, IsErr, OnOk}
 use Rattle.std.proofs.lemmas.Bool.{cases_lt}
 use Rattle.std.proofs.lemmas.List.{get_or_read}
 use Rattle.std.proofs.lemmas.Grind.{get_or_default_zero}
@@ -16,7 +16,7 @@ use Rattle.zr_label.specs.declared.root.Label.{Label}
 use Rattle.zr_scan.specs.Puts.{puts, root_places}
 use Rattle.zr_scan.specs.Scan.{Stands}
 use Rattle.zr_scan.specs.declared.error.ScanErr.{ScanErr}
-use Rattle.zr_slots.specs.Phases.{IsFlushed, IsRootPut, IsRingPut, HaveRoot, IsPublished, IsPublishedInPart, Publishes, Prepares, IsPreparedToHalf}
+use Rattle.zr_slots.specs.Phases.{AreCleared, IsFlushed, IsLabelPut, IsRootPut, IsRingPut, HaveRoot, IsPublished, IsPublishedInPart, Publishes, Prepares, PutsLabels, PutsLast, SettlesLabel, IsPreparedToHalf}
 
 -- writes that are allowed by less are allowed by more
 module _ (A B : PendingWrite → Type 0) (wider : (w : PendingWrite) → A w → B w) where
@@ -119,6 +119,37 @@ module _ (sizes both all : List ℕ) (u : Uber) (old first half : World) (before
 pub published_err : (sizes both all : List ℕ) (u : Uber) (r : Result (Unit {0}) ScanErr) (old new : World) → IsErr r → IsPublishedInPart sizes both all u old new → Publishes sizes both all u r old new
 published_err sizes both all u (Ok done) old new is h = absurd cc
 published_err sizes both all u (Err e) old new is h = h
+
+-- ---- labels
+
+pub on_ok : {P Q : Type 0} (r : Result (Unit {0}) ScanErr) → (P → Q) → OnOk r P → OnOk r Q
+on_ok (Ok done) f h = f h
+on_ok (Err e) f h = h
+
+pub settled_err : (size slot n : ℕ) (l : Label) (r : Result (Unit {0}) ScanErr) (old new : World) → IsErr r → WritesOnly (IsLabelPut size slot n l) old new → SettlesLabel size slot n l r old new
+settled_err size slot n l (Ok done) old new is h = absurd cc
+settled_err size slot n l (Err e) old new is h = h
+
+pub settles_err : (size slot n : ℕ) (l : Label) (e : ScanErr) (r : Result (Unit {0}) ScanErr) (old new : World) → r ≡ Err e → SettlesLabel size slot n l r old new → WritesOnly (IsLabelPut size slot n l) old new
+settles_err size slot n l e r old new is h = subst (λ (x : Result (Unit {0}) ScanErr). SettlesLabel size slot n l x old new) is h
+
+pub settles_ok : (size slot n : ℕ) (l : Label) (done : Unit {0}) (r : Result (Unit {0}) ScanErr) (old new : World) → r ≡ Ok done → SettlesLabel size slot n l r old new → SettlesLabel size slot n l (Ok tt) old new
+settles_ok size slot n l done r old new is h = subst (λ (x : Result (Unit {0}) ScanErr). SettlesLabel size slot n l x old new) is h
+
+pub next_last : (size slot k : ℕ) (l : Label) (old mid new : World) → PutsLast size slot k l old mid → SettlesLabel size slot (3 - k) l (Ok tt) mid new → PutsLast size slot (k + 1) l old new
+next_last size slot k l old mid new last step = subst (λ (n : ℕ). PutsLast size slot n l old new) (one_more_is k) (mid, last, step)
+  where
+    one_more_is : (n : ℕ) → suc n ≡ n + 1
+    one_more_is n = omega arith
+
+pub labels_err : (size slot : ℕ) (l : Label) (r : Result (Unit {0}) ScanErr) (old new : World) → IsErr r → (k : ℕ) × (k < 4) × (mid : World) × PutsLast size slot k l old mid × WritesOnly (IsLabelPut size slot (3 - k) l) mid new → PutsLabels size slot l r old new
+labels_err size slot l (Ok done) old new is h = absurd cc
+labels_err size slot l (Err e) old new is h = h
+
+-- a slot whose rings were cleared
+pub prepared_by : (size slot : ℕ) (l : Label) (r : Result (Unit {0}) ScanErr) (old cleared first new : World) → WritesOnly (IsRingPut size slot) old cleared → IsFlushed cleared first → AreCleared size slot first.now.seen → PutsLabels size slot l r first new → Prepares size slot l r old new
+prepared_by size slot l (Ok done) old cleared first new rings between blank labels = record { cleared = cleared; first = first; rings = rings; between = between; blank = blank; labels = labels }
+prepared_by size slot l (Err e) old cleared first new rings between blank (k, few, mid, last, labels) = inr (record { cleared = cleared; first = first; rings = rings; between = between; blank = blank; k = k; few = few; mid = mid; last = last; labels = labels })
 
 pub prepared_err : (size slot : ℕ) (l : Label) (r : Result (Unit {0}) ScanErr) (old new : World) → IsErr r → WritesOnly (IsRingPut size slot) old new ⊎ IsPreparedToHalf size slot l old new → Prepares size slot l r old new
 prepared_err size slot l (Ok done) old new is h = absurd cc

@@ -22,12 +22,12 @@ use Rattle.zr_vdev.specs.Stores.{is_open_role}
 use Rattle.zr_stops.proofs.Committing.{done_either, next_of, open_only, there_same, stops_either, within_from}
 use Rattle.zr_stops.proofs.Ending.{ends_committed, leaves_committed, newest_same}
 use Rattle.zr_stops.proofs.Images.{Allowed, IsPending, KeepsClear, newest_kept, pending_leaves, pending_step, within_clear, within_pending}
-use Rattle.zr_stops.proofs.Within.{begins_within, line_within, within_writes}
-use Rattle.zr_stops.specs.Behind.{ShowsOnly, StandsBehind}
+use Rattle.zr_stops.proofs.Within.{begins_within, group_changed, in_group, line_within, within_writes}
+use Rattle.zr_stops.specs.Behind.{ShowsOnly, StandsBehind, StandsChanged}
 use Rattle.zr_stops.specs.Either.{ShowsEither}
 use Rattle.zr_sync.specs.Ends.{ComesCommitted, EndsCommitted, LeavesCommitted}
 use Rattle.zr_sync.specs.Heads.{HasDirectory, HasSafeHead}
-use Rattle.zr_last.specs.Last.{ShowsLast}
+use Rattle.zr_last.specs.Last.{KeepsDevices, ShowsLast}
 use Rattle.zr_stops.specs.Last.{IsCommitted}
 
 pub begins_behind : (sizes : List ℕ) (u : Uber) (pool : OpenPool) (objects : Objects) (now : Stand) → IsCommitted sizes now u pool objects → GoesOnFrom u pool → AreThere (devices_in pool.space) → StandsBehind sizes objects pool now
@@ -45,16 +45,19 @@ module _ (sizes : List ℕ) (objects : Objects) (old : OpenPool) (start : World)
     within = line_within h.first h.begin old new start now h.within wrote opens table last guid;
   }
 
+  abbrev changed : StandsChanged h.first h.begin old start.now
+  changed = in_group h.first h.begin old start.now h.within
+
   -- what a crash leaves while a line writes
   pub line_shows : (now : World) → WritesIntoFree old start now → Throughout (ShowsOnly objects) start now
   line_shows now wrote =
       weaker (IsPending sizes h.root h.first objects h.begin h.committed) (ShowsOnly objects) start now
-      (λ stand is. open_only sizes h.root h.first objects h.begin h.committed h.from h.on stand (pending_leaves sizes h.root h.first objects h.begin h.committed stand is))
+      (λ stand is. open_only sizes h.root h.first objects h.committed.ready h.from h.on stand (pending_leaves sizes h.root h.first objects h.begin h.committed stand is))
       (added_throughout (IsPending sizes h.root h.first objects h.begin h.committed) (Allowed sizes h.root h.first objects h.begin h.committed) (pending_step sizes h.root h.first objects h.begin h.committed) start now
-      (within_writes h.first h.begin old old start now h.within wrote) (within_pending sizes h.root h.first objects h.begin h.committed old start.now h.within)).0
+      (within_writes h.first h.begin old start now changed wrote) (within_pending sizes h.root h.first objects h.begin h.committed old start.now changed)).0
 
   abbrev clear : KeepsClear sizes h.root h.first objects h.begin h.committed start.now.seen
-  clear = within_clear sizes h.root h.first objects h.begin h.committed old start.now h.within
+  clear = within_clear sizes h.root h.first objects h.begin h.committed old start.now changed
 
   old_from : GoesOnFrom h.root old
   old_from = within_from h.root h.first old h.begin start.now h.within h.from
@@ -67,7 +70,7 @@ module _ (sizes : List ℕ) (objects : Objects) (old : OpenPool) (start : World)
 
   module _ (ready : IsOpen sizes old) (reset : Bool) (after : Objects) (now : World) where
     pub stop_shows : CommitsObjects sizes old reset after start now → Throughout (ShowsEither objects after) start now
-    stop_shows commits = stops_either sizes reset h.root h.first old objects after h.begin start now h.committed h.from h.on h.within ready commits
+    stop_shows commits = stops_either sizes reset h.root h.first old objects after h.begin start now h.committed h.from h.on (in_group h.first h.begin old start.now h.within) ready commits
 
     module _ (new : OpenPool) (ends : EndsCommitted sizes reset old new after start now) where
       then_committed : (u : Uber) × GoesOnFrom u new × IsCommitted sizes now.now u new after
@@ -79,6 +82,10 @@ module _ (sizes : List ℕ) (objects : Objects) (old : OpenPool) (start : World)
       pub commit_behind : StandsBehind sizes after new now.now
       commit_behind = begins_behind sizes then_committed.0 new after now.now then_committed.2 then_committed.1 (there_same sizes h.first new h.committed.ready ends.pool table h.on)
 
+      -- what it leaves
+      pub commit_stands : (u : Uber) × GoesOnFrom u new × IsCommitted sizes now.now u new after × AreThere (devices_in new.space)
+      commit_stands = (then_committed.0, then_committed.1, then_committed.2, there_same sizes h.first new h.committed.ready ends.pool table h.on)
+
       pub commit_shows : Throughout (ShowsEither objects after) start now
       commit_shows =
           let c = then_committed in
@@ -87,9 +94,14 @@ module _ (sizes : List ℕ) (objects : Objects) (old : OpenPool) (start : World)
           done_either sizes h.root c.0 h.first old new objects after h.begin start done.0 now h.committed h.from h.on h.within ready done.1 done.2
           (subst (λ (o : Option Uber). IsAfter o new.group.txg) c.1.last ends.pool.after).0 (next_of sizes reset h.root c.0 old ready old_from is) c.2 c.1 table
 
+  -- and while a pool is committed that a line made of it in memory
+  module _ (turned : OpenPool) (keeps : KeepsDevices old turned) (opens : (d u : ℕ) → is_open_role (role_at turned.space d u) ≡ true → is_open_role (role_at old.space d u) ≡ true) (ready : IsOpen sizes turned) (reset : Bool) (after : Objects) (now : World) where
+    pub turn_shows : CommitsObjects sizes turned reset after start now → Throughout (ShowsEither objects after) start now
+    turn_shows commits = stops_either sizes reset h.root h.first turned objects after h.begin start now h.committed h.from h.on (group_changed h.first h.begin old turned start.now h.within keeps opens) ready commits
+
 -- what a crash leaves between two lines
 pub behind_shows : (sizes : List ℕ) (objects : Objects) (pool : OpenPool) (now : Stand) → StandsBehind sizes objects pool now → ShowsOnly objects now
-behind_shows sizes objects pool now h = open_only sizes h.root h.first objects h.begin h.committed h.from h.on now (pending_leaves sizes h.root h.first objects h.begin h.committed now (within_pending sizes h.root h.first objects h.begin h.committed pool now h.within))
+behind_shows sizes objects pool now h = open_only sizes h.root h.first objects h.committed.ready h.from h.on now (pending_leaves sizes h.root h.first objects h.begin h.committed now (within_pending sizes h.root h.first objects h.begin h.committed pool now (in_group h.first h.begin pool now h.within)))
 
 -- the first commit of which it is known
 pub shown_behind : (sizes : List ℕ) (reset : Bool) (last : Uber) (old new : OpenPool) (objects : Objects) (before now : World) → IsOpen sizes old → GoesOnFrom last old → map length before.now.seen ≡ sizes → IsNewestOn before.now.seen last old.table.slots → AreThere (devices_in old.space)

@@ -1,227 +1,66 @@
 -- What a crash leaves of a pool's last root while its group is open.
-use Rattle.std.proofs.Common.{◌≡◌, ℕ, ◌+◌, ◌*◌, ◌<◌, ◌≤◌, Bool, true, false, List, [], ◌∷◌, length, map, Option, Some, None, refl, sym, ◌∙◌, ap, subst, arith}
-use Rattle.std.specs.Prelude.{slice_index}
-use Rattle.std.specs.List.{AllByRecursion}
-use Rattle.std.proofs.lemmas.Bool.Decides.{nat_tests}
-use Rattle.zr_base.specs.Extents.{has_unit}
-use Rattle.zr_base.specs.declared.space.Dva.{Dva}
-use Rattle.zr_bptr.specs.declared.Bptr.{Bptr}
-use Rattle.zr_current.proofs.Committed.{IsAside, count_of, into_clear, label_aside, length_at, ring_aside}
-use Rattle.zr_found.proofs.Image.{held_are_found}
-use Rattle.zr_image.specs.Reading.{store_of}
-use Rattle.zr_label.specs.Geometry.{label_block_at, ring_slot_at, unit_at}
+use Rattle.std.proofs.Common.{◌≡◌, ℕ, List, length, map, Option, ◌∙◌}
 use Rattle.zr_label.specs.declared.root.Uber.{Uber}
-use Rattle.zr_image.specs.StateOf.{AreObjects}
-use Rattle.zr_meta.specs.Heads.{head_bytes}
 use Rattle.zr_model.specs.Objects.{Objects}
-use Rattle.zr_newest.proofs.Newest.{newest_still}
-use Rattle.zr_newest.specs.Newest.{IsNewestOn, KeepsRings}
-use Rattle.zr_root.proofs.Beside.{bytes_beside}
-use Rattle.zr_rules.specs.Equation.{devices_in}
-use Rattle.zr_rules.specs.Places.{in_address}
-use Rattle.zr_rules.specs.Resolve.{leads_to}
-use Rattle.zr_rules.specs.Roles.{Role, is_live_role, is_meta_role}
-use Rattle.zr_rules.specs.Space.{OpenSets, Space, is_born, role_at}
-use Rattle.zr_scan.specs.Scan.{block_of, ring_block}
+use Rattle.zr_newest.specs.Newest.{IsNewestOn}
 use Rattle.zr_shelf.proofs.Doings.{added_throughout}
 use Rattle.zr_shelf.proofs.Runs.{weaker}
-use Rattle.zr_shelf.specs.Disks.{IsUntouched, MayLeave, Meets, PendingWrite, Stand, disk, part}
+use Rattle.zr_shelf.specs.Disks.{PendingWrite, Stand}
 use Rattle.zr_shelf.specs.Doings.{Adds}
-use Rattle.zr_shelf.specs.Doings.Adds.{added_none, added}
 use Rattle.zr_shelf.specs.Moments.{Throughout, World}
-use Rattle.zr_store.proofs.Meeting.{at_each}
-use Rattle.zr_sync.specs.Heads.{HasDirectory, IsInMetadata}
-use Rattle.zr_sync.specs.Objects.{account_of}
 use Rattle.zr_sync.specs.Writes.{WritesIntoFree}
 use Rattle.zr_sync.specs.declared.open.OpenPool.{OpenPool}
-use Rattle.zr_tree.specs.Trees.{tree_reach}
-use Rattle.zr_vdev.proofs.Held.{address_same, true_is_false}
-use Rattle.zr_vdev.specs.Runs.{view_of}
-use Rattle.zr_vdev.specs.Stores.{IsStoredAt, IsWriteInto, is_open_role}
+use Rattle.zr_vdev.specs.Stores.{IsWriteInto}
 use Rattle.zr_vdev.specs.declared.kind.Kind.TheVariants.{Block}
-use Rattle.zr_view.specs.Runs.{bytes_from}
-use Rattle.zr_view.specs.Views.{View, address_bytes, slot_of}
-use Rattle.zr_stops.specs.Behind.{StandsInGroup}
-use Rattle.zr_stops.specs.Last.{HasLast, IsCommitted, IsSettled, LeavesLast}
-
--- ---- roles
-
--- where the open group has nothing of its own, a unit that is in use by a block was so before
-settled_live : (s : Space) → IsSettled s → (d u : ℕ) → is_live_role (role_at s d u) ≡ true → is_open_role (role_at s d u) ≡ false
-unfolding role_at
-settled_live s settled d u live =
-    let none : is_born s d u ≡ false = ap (λ (o : OpenSets). has_born o) (settled d) in
-    grind (arith, nat_tests, none, live)
-  where
-    has_born : OpenSets → Bool
-    has_born o = has_unit o.born u
-
-meta_closed : (r : Role) → is_meta_role r ≡ true → is_open_role r ≡ false
-meta_closed r is = grind (arith, is)
-
--- no unit to which the address leads is free or the open group's own
-abbrev IsOutOfReach : Space → Dva → Type 0
-IsOutOfReach s a = (d u : ℕ) → leads_to (devices_in s) a d u ≡ true → is_open_role (role_at s d u) ≡ false
-
--- so it is with metadata
-metadata_out : (s : Space) (a : Dva) → IsInMetadata s a → IsOutOfReach s a
-metadata_out s a lies d u leads = meta_closed (role_at s d u) (lies d u leads)
-
-inside : (a : Dva) (u : ℕ) → a.start ≤ u → u < a.start + a.len → in_address a a.dev u ≡ true
-inside a u low high = grind (arith, nat_tests, low, high)
-
--- ---- what is pending
+use Rattle.zr_stops.proofs.Kept as kept
+use Rattle.zr_stops.proofs.Kept.{LeavesAlone, StandsLast, committed_stands, own_alone}
+use Rattle.zr_stops.specs.Behind.{StandsChanged}
+use Rattle.zr_stops.specs.Last.{HasLast, IsCommitted, LeavesLast}
 
 module _ (sizes : List ℕ) (u : Uber) (pool : OpenPool) (objects : Objects) (start : Stand) (was : IsCommitted sizes start u pool objects) where
-  abbrev pub slots : List (Option ℕ)
-  slots = pool.table.slots
-
+  -- what the lines of the group may write
   abbrev pub Allowed : PendingWrite → Type 0
-  Allowed = IsWriteInto Block slots pool.space
+  Allowed = IsWriteInto Block pool.table.slots pool.space
 
-  -- the disks are durable as they read at the start, and what is pending lies in units that were free
+  abbrev pub stands : StandsLast sizes start u pool objects
+  stands = committed_stands sizes start u pool objects was
+
+  abbrev pub alone : LeavesAlone sizes pool Allowed
+  alone = own_alone sizes pool was.ready
+
   abbrev pub IsPending : Stand → Type 0
-  IsPending stand = (stand.durable ≡ start.seen) × AllByRecursion Allowed stand.writes
+  IsPending = kept.IsPending sizes u pool objects start stands Allowed alone
+
+  abbrev pub KeepsClear : List (List ℕ) → Type 0
+  KeepsClear = kept.KeepsClear sizes u pool objects start stands Allowed alone
 
   pub pending_step : (a b : Stand) → Adds Allowed a b → IsPending a → IsPending b
-  pending_step a b (added_none is) h = subst IsPending (sym is) h
-  pending_step a b (added w may written) h = (written.durable ∙ h.0, subst (AllByRecursion Allowed) (sym written.writes) (may, h.1))
+  pending_step a b adds h = kept.pending_step sizes u pool objects start stands Allowed alone a b adds h
 
-  pending_start : IsPending start
-  pending_start = (sym was.rest.seen, subst (AllByRecursion Allowed) (sym was.rest.writes) tt)
-
-  clear_of_all : (slot at n : ℕ) → ((w : PendingWrite) → Allowed w → ¬ Meets w slot at n) → (ws : List PendingWrite) → AllByRecursion Allowed ws → IsUntouched ws slot at n
-  clear_of_all slot at n clear [] all = tt
-  clear_of_all slot at n clear (w ∷ ws) all = (clear w all.0, clear_of_all slot at n clear ws all.1)
-
-  -- a unit that is in use meets no write
-  unit_clear : (d v slot : ℕ) → slot_of slots d ≡ Some slot → is_open_role (role_at pool.space d v) ≡ false → (w : PendingWrite) → Allowed w → ¬ Meets w slot (unit_at v) 4096
-  unit_clear d v slot is closed w h met =
-      let dev : h.at.dev ≡ d = was.ready.mounted.apart h.at.dev d slot (h.is.slot ∙ ap Some met.same) is in
-      let low : h.at.start ≤ v = before h.at.start v w.at h.is.at met.begins in
-      let high : v < h.at.start + h.at.len = behind h.at.start h.at.len v w.at (length w.bytes) h.is.at h.is.size met.ends in
-      let opened : is_open_role (role_at pool.space d v) ≡ true = subst (λ (e : ℕ). is_open_role (role_at pool.space e v) ≡ true) dev (h.open_units v (inside h.at v low high)) in
-      true_is_false (is_open_role (role_at pool.space d v)) opened closed
-    where
-      before : (first v at : ℕ) → at ≡ 4194304 + 4096 * first → at < 4194304 + 4096 * v + 4096 → first ≤ v
-      before first v at is lt = omega (arith, is, lt)
-
-      behind : (first n v at size : ℕ) → at ≡ 4194304 + 4096 * first → size ≡ 4096 * n → 4194304 + 4096 * v < at + size → v < first + n
-      behind first n v at size is many lt = omega (arith, is, many, lt)
-
-  -- ---- an image
-
-  -- bytes that no such write meets are as they were
-  pub record KeepsClear (image : List (List ℕ)) : Type 0 where
-    pub same_sizes : map length image ≡ map length start.seen
-    pub part_kept : (slot at n : ℕ) → ((w : PendingWrite) → Allowed w → ¬ Meets w slot at n) → part (disk image slot) at n ≡ part (disk start.seen slot) at n
-
-  -- a crash leaves them
-  crash_clear : (stand : Stand) → IsPending stand → (image : List (List ℕ)) → MayLeave stand image → KeepsClear image
-  crash_clear stand pending image leaves = record {
-    same_sizes = leaves.sizes ∙ ap (λ (d : List (List ℕ)). map length d) pending.0;
-    part_kept = λ slot at n clear. leaves.bytes slot at n (clear_of_all slot at n clear stand.writes pending.1) ∙ ap (λ (d : List (List ℕ)). part (disk d slot) at n) pending.0;
-  }
-
-  -- and so the disks read
   pub seen_step : (a b : Stand) → Adds Allowed a b → KeepsClear a.seen → KeepsClear b.seen
-  seen_step a b (added_none is) h = subst (λ (s : Stand). KeepsClear s.seen) (sym is) h
-  seen_step a b (added w may written) h = record {
-    same_sizes = written.seen.sizes ∙ h.same_sizes;
-    part_kept = λ slot at n clear. written.seen.bytes slot at n (clear w may, tt) ∙ h.part_kept slot at n clear;
-  }
+  seen_step a b adds h = kept.seen_step sizes u pool objects start stands Allowed alone a b adds h
 
-  -- within a group too
-  pub within_pending : (old : OpenPool) (now : Stand) → StandsInGroup pool start old now → IsPending now
+  pub within_pending : (old : OpenPool) (now : Stand) → StandsChanged pool start old now → IsPending now
   within_pending old now within = (within.durable, within.writes)
 
-  pub within_clear : (old : OpenPool) (now : Stand) → StandsInGroup pool start old now → KeepsClear now.seen
-  within_clear old now within = record { same_sizes = within.seen.sizes; part_kept = λ slot at n clear. within.seen.bytes slot at n (clear_of_all slot at n clear now.writes within.writes) }
+  pub within_clear : (old : OpenPool) (now : Stand) → StandsChanged pool start old now → KeepsClear now.seen
+  within_clear old now within =
+      record { same_sizes = within.seen.sizes; part_kept = λ slot at n clear. within.seen.bytes slot at n (kept.clear_of_all sizes u pool objects start stands Allowed alone slot at n clear now.writes within.writes) }
 
-  seen_start : KeepsClear start.seen
-  seen_start = record { same_sizes = refl; part_kept = λ slot at n clear. refl }
+  pub newest_kept : (image : List (List ℕ)) → KeepsClear image → IsNewestOn image u pool.table.slots
+  newest_kept image keeps = kept.newest_kept sizes u pool objects start stands Allowed alone image keeps
 
-  module _ (image : List (List ℕ)) (keeps : KeepsClear image) where
-    run_kept : (o : Option ℕ) (d v : ℕ) → slot_of slots d ≡ o → is_open_role (role_at pool.space d v) ≡ false → bytes_from image o v (4096 * 1) ≡ bytes_from start.seen o v (4096 * 1)
-    run_kept None d v is closed = refl
-    run_kept (Some slot) d v is closed = keeps.part_kept slot (unit_at v) 4096 (unit_clear d v slot is closed)
+  pub last_kept : (image : List (List ℕ)) → KeepsClear image → HasLast image u pool objects
+  last_kept image keeps = kept.last_kept sizes u pool objects start stands Allowed alone image keeps
 
-    -- an address in use reads as it did
-    address_kept : (a : Dva) → IsOutOfReach pool.space a → address_bytes (view_of image slots pool.space) a ≡ address_bytes (view_of start.seen slots pool.space) a
-    address_kept a out = address_same slots (devices_in pool.space) start.seen image a (λ d v led. run_kept (slot_of slots d) d v refl (out d v led))
-
-    -- ---- the slots
-
-    module _ (sl : ℕ) where
-      image_size : length (disk image sl) ≡ slice_index sizes sl
-      image_size = length_at image sizes sl (keeps.same_sizes ∙ was.sized)
-
-      old_size : length (disk start.seen sl) ≡ length (disk image sl)
-      old_size = length_at start.seen sizes sl was.sized ∙ sym image_size
-
-      aside_kept : (at : ℕ) → IsAside (slice_index sizes sl) at → part (disk start.seen sl) at 4096 ≡ part (disk image sl) at 4096
-      aside_kept at aside = sym (keeps.part_kept sl at 4096 (into_clear sizes pool was.ready sl at aside))
-
-      label_kept : (n : ℕ) → n < 4 → block_of (length (disk image sl)) (disk start.seen sl) n ≡ block_of (length (disk image sl)) (disk image sl) n
-      label_kept n few =
-          subst (λ (size : ℕ). block_of size (disk start.seen sl) n ≡ block_of size (disk image sl) n) (sym image_size)
-          (aside_kept (label_block_at (slice_index sizes sl) n) (label_aside (slice_index sizes sl) n 16384 few (omega arith)))
-
-      ring_kept : (n k : ℕ) → n < 4 → k < 32 → ring_block (length (disk image sl)) (disk start.seen sl) n k ≡ ring_block (length (disk image sl)) (disk image sl) n k
-      ring_kept n k few low =
-          subst (λ (size : ℕ). ring_block size (disk start.seen sl) n k ≡ ring_block size (disk image sl) n k) (sym image_size)
-          (aside_kept (ring_slot_at (slice_index sizes sl) n k) (ring_aside (slice_index sizes sl) n k few low))
-
-    -- the labels and the rings are as they were
-    pub rings_still : KeepsRings start.seen image
-    rings_still = record {
-      labels = record {
-        count = count_of start.seen image keeps.same_sizes;
-        sizes = λ sl. sym (old_size sl);
-        labels = λ sl n few. subst (λ (size : ℕ). block_of size (disk image sl) n ≡ block_of size (disk start.seen sl) n) (sym (old_size sl)) (sym (label_kept sl n few));
-      };
-      rings = λ sl n k few low. subst (λ (size : ℕ). ring_block size (disk image sl) n k ≡ ring_block size (disk start.seen sl) n k) (sym (old_size sl)) (sym (ring_kept sl n k few low));
-    }
-
-    pub newest_kept : IsNewestOn image u pool.table.slots
-    newest_kept = newest_still start.seen image u pool.table.slots rings_still was.newest
-
-    -- ---- the head and the objects
-
-    abbrev then : View
-    then = view_of start.seen slots pool.space
-
-    abbrev now : View
-    now = view_of image slots pool.space
-
-    head_kept : HasDirectory image pool u.root u.len
-    head_kept = record {
-      head = was.head.head;
-      lawful = was.head.lawful;
-      same = was.head.same;
-      stands = λ t is.
-          bytes_beside (store_of then) (store_of now) t (head_bytes was.head.head) (λ b met. address_kept b.at (metadata_out pool.space b.at (at_each (IsInMetadata pool.space) (tree_reach (store_of then) t) b.at (was.safe t is) met))) (was.head.stands t is);
-    }
-
-    block_kept : (b : Bptr) → IsStoredAt Block pool.space None b.at → (store_of now).bytes b ≡ was.objects.stored.bytes b
-    block_kept b stored = address_kept b.at (λ d v led. settled_live pool.space was.settled d v (stored.used.used d v led)) ∙ sym (was.objects.held.there b stored)
-
-    objects_kept : AreObjects (store_of now) pool.dir objects
-    objects_kept =
-        held_are_found (store_of now) was.objects.stored (account_of pool) objects was.empty
-        (λ b met. block_kept b (at_each (IsStoredAt Block pool.space None) was.objects.stored.pointers b.at was.objects.held.stored met)) was.objects.has
-
-    pub last_kept : HasLast image u pool objects
-    last_kept = record { newest = newest_kept; head = head_kept; objects = objects_kept }
+  pub pending_leaves : (stand : Stand) → IsPending stand → LeavesLast u pool objects stand
+  pending_leaves stand pending = kept.leaves sizes u pool objects start stands Allowed alone stand pending
 
 -- at each moment from where the group began, and now
 group_pending : (sizes : List ℕ) (u : Uber) (pool : OpenPool) (objects : Objects) (before now : World) (was : IsCommitted sizes before.now u pool objects) → WritesIntoFree pool before now
     → Throughout (IsPending sizes u pool objects before.now was) before now × IsPending sizes u pool objects before.now was now.now
 group_pending sizes u pool objects before now was wrote =
-    added_throughout (IsPending sizes u pool objects before.now was) (Allowed sizes u pool objects before.now was) (pending_step sizes u pool objects before.now was) before now wrote (pending_start sizes u pool objects before.now was)
-
-pub pending_leaves : (sizes : List ℕ) (u : Uber) (pool : OpenPool) (objects : Objects) (before : Stand) (was : IsCommitted sizes before u pool objects) (stand : Stand) → IsPending sizes u pool objects before was stand → LeavesLast u pool objects stand
-pending_leaves sizes u pool objects before was stand pending image leaves = last_kept sizes u pool objects before was image (crash_clear sizes u pool objects before was stand pending image leaves)
+    added_throughout (IsPending sizes u pool objects before.now was) (Allowed sizes u pool objects before.now was) (pending_step sizes u pool objects before.now was) before now wrote (kept.pending_start sizes u pool objects before.now (stands sizes u pool objects before.now was) (Allowed sizes u pool objects before.now was) (alone sizes u pool objects before.now was))
 
 pub group_leaves : (sizes : List ℕ) (u : Uber) (pool : OpenPool) (objects : Objects) (before now : World) → IsCommitted sizes before.now u pool objects → WritesIntoFree pool before now → Throughout (LeavesLast u pool objects) before now
 group_leaves sizes u pool objects before now was wrote =
@@ -234,9 +73,9 @@ leaves_now sizes u pool objects before now was wrote = pending_leaves sizes u po
 pub group_reads : (sizes : List ℕ) (u : Uber) (pool : OpenPool) (objects : Objects) (before now : World) → IsCommitted sizes before.now u pool objects → WritesIntoFree pool before now → HasLast now.now.seen u pool objects
 group_reads sizes u pool objects before now was wrote =
     last_kept sizes u pool objects before.now was now.now.seen
-    (added_throughout (λ (s : Stand). KeepsClear sizes u pool objects before.now was s.seen) (Allowed sizes u pool objects before.now was) (seen_step sizes u pool objects before.now was) before now wrote (seen_start sizes u pool objects before.now was)).1
+    (added_throughout (λ (s : Stand). KeepsClear sizes u pool objects before.now was s.seen) (Allowed sizes u pool objects before.now was) (seen_step sizes u pool objects before.now was) before now wrote (kept.seen_start sizes u pool objects before.now (stands sizes u pool objects before.now was) (Allowed sizes u pool objects before.now was) (alone sizes u pool objects before.now was))).1
 
 pub group_sizes : (sizes : List ℕ) (u : Uber) (pool : OpenPool) (objects : Objects) (before now : World) → IsCommitted sizes before.now u pool objects → WritesIntoFree pool before now → map length now.now.seen ≡ sizes
 group_sizes sizes u pool objects before now was wrote =
-    (added_throughout (λ (s : Stand). KeepsClear sizes u pool objects before.now was s.seen) (Allowed sizes u pool objects before.now was) (seen_step sizes u pool objects before.now was) before now wrote (seen_start sizes u pool objects before.now was)).1.same_sizes
+    (added_throughout (λ (s : Stand). KeepsClear sizes u pool objects before.now was s.seen) (Allowed sizes u pool objects before.now was) (seen_step sizes u pool objects before.now was) before now wrote (kept.seen_start sizes u pool objects before.now (stands sizes u pool objects before.now was) (Allowed sizes u pool objects before.now was) (alone sizes u pool objects before.now was))).1.same_sizes
     ∙ was.sized

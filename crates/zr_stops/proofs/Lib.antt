@@ -1,9 +1,12 @@
 pub mod Directories
+pub mod Kept
 pub mod Images
 pub mod Grouped
 pub mod Within
 pub mod Torn
 pub mod Putting
 pub mod Committing
+pub mod Labelling
 pub mod Ending
 pub mod Behind
+pub mod Joining

@@ -1,7 +1,6 @@
 -- While the next root is put into rings, a crash shows the last root or the next one.
-use Rattle.std.proofs.Common.{◌≡◌, ◌⊎◌, inl, inr, ℕ, ◌<◌, ◌%◌, List, length, Option, Ok, refl, sym, ◌∙◌, ap, subst, arith, ⊎_elim}
-use Rattle.zr_current.specs.Current.{HasSlots}
-use Rattle.zr_current.specs.Next.{IsNextOf, IsRingOf}
+use Rattle.std.proofs.Common.{◌≡◌, ◌⊎◌, inl, inr, ℕ, ◌+◌, ◌<◌, ◌%◌, List, length, Option, Ok, refl, sym, ◌∙◌, ap, subst, arith, ⊎_elim}
+use Rattle.zr_current.specs.Next.{IsRingOf}
 use Rattle.zr_image.specs.Current.{FindsCurrent, IsShown, ShowsAll, slots_of}
 use Rattle.zr_image.specs.Honest.Mark.{of_group}
 use Rattle.zr_label.proofs.Ubers.{one_uber}
@@ -12,7 +11,7 @@ use Rattle.zr_label.specs.declared.root.Seen.{Seen}
 use Rattle.zr_label.specs.declared.root.Uber.{Uber}
 use Rattle.zr_newest.proofs.Found.{found, one_pool}
 use Rattle.zr_newest.proofs.Kept.{device_on, labels_on, root_was}
-use Rattle.zr_newest.proofs.Seen.{listed, long_seen, one_label_at, placed_at, root_of_shown, same_slots, seen_labels, shown_of_root, slots_same}
+use Rattle.zr_newest.proofs.Seen.{listed, long_seen, one_label_at, placed_at, root_of_shown, seen_labels, shown_of_root, slots_same}
 use Rattle.zr_newest.specs.Newest.{AreAt, IsNewestOn, KeepsLabels, ShowsRoot, StandsAtDevice}
 use Rattle.zr_scan.proofs.Gathering.{slot_small}
 use Rattle.zr_scan.specs.Scan.{ShowsLabel, Stands, ring_block}
@@ -22,7 +21,7 @@ use Rattle.zr_sync.specs.declared.open.OpenPool.{OpenPool}
 use Rattle.zr_view.specs.Views.{slot_of}
 use Rattle.zr_stops.specs.Torn.{MayHaveRoot, ShowsOneOf}
 
-module _ (disks image : List (List ℕ)) (last u : Uber) (slots : List (Option ℕ)) (lawful : IsUber u) (is : IsNextOf last u) (newest : IsNewestOn disks last slots) (may : MayHaveRoot disks image u) where
+module _ (disks image : List (List ℕ)) (last u : Uber) (slots mine : List (Option ℕ)) (lawful : IsUber u) (txg : u.txg ≡ last.txg + 1) (newest : IsNewestOn disks last slots) (at : AreAt mine u newest.seen) (may : MayHaveRoot disks image u) where
   labels_kept : KeepsLabels disks image
   labels_kept = record { count = may.count; sizes = may.sizes; labels = may.labels }
 
@@ -30,7 +29,7 @@ module _ (disks image : List (List ℕ)) (last u : Uber) (slots : List (Option �
   last_ring : (slot k : ℕ) → k < 4 → ring_block (length (disk disks slot)) (disk image slot) k (ring_of last.txg) ≡ ring_block (length (disk disks slot)) (disk disks slot) k (ring_of last.txg)
   last_ring slot k few = elim (may.rings slot k (ring_of last.txg) few (slot_small last.txg)) [
     | inl same ↦ same
-    | inr put ↦ absurd ((one_more last.txg).other_slot (put.0 ∙ ap (λ (n : ℕ). n % 32) is.txg))
+    | inr put ↦ absurd ((one_more last.txg).other_slot (put.0 ∙ ap (λ (n : ℕ). n % 32) txg))
   ]
 
   last_stands : StandsAtDevice image last slots
@@ -49,12 +48,19 @@ module _ (disks image : List (List ℕ)) (last u : Uber) (slots : List (Option �
       by_block (inr (place, inr none)) = absurd (none (of_group v) spells)
 
   module _ (seen : List Seen) (shown : ShowsAll image seen) where
-    devices : AreAt slots last seen
-    devices =
+    -- the labels are those that were seen
+    moved : (those : List (Option ℕ)) (v : Uber) → AreAt those v newest.seen → AreAt those v seen
+    moved those v are =
         let had = labels_on disks image labels_kept newest.seen newest.labels in
         let has = seen_labels image seen shown in
         let n = had.count ∙ sym has.count in
-        λ d. newest.devices d ∙ ap (λ (these : List (Option ℕ)). slot_of these d) (slots_same newest.seen seen n (one_label_at image newest.seen seen had has) last)
+        λ d. are d ∙ ap (λ (these : List (Option ℕ)). slot_of these d) (slots_same newest.seen seen n (one_label_at image newest.seen seen had has) v)
+
+    devices : AreAt slots last seen
+    devices = moved slots last newest.devices
+
+    next_devices : AreAt mine u seen
+    next_devices = moved mine u at
 
     last_shown : IsShown seen last
     last_shown =
@@ -86,14 +92,9 @@ module _ (disks image : List (List ℕ)) (last u : Uber) (slots : List (Option �
         (λ (put : v ≡ u). inr put)
         (stood_or_next there.0 v (root_of_shown image seen shown there.0 v there.1))
 
-    slots_are : (v : Uber) → FindsCurrent seen (Ok v) → HasSlots (slots_of v seen) slots
-    slots_are v finds_it = elim (one_of v finds_it) [
-      | inl same ↦ subst (λ (w : Uber). HasSlots (slots_of w seen) slots) (sym same) devices
-      | inr same ↦ subst (λ (w : Uber). HasSlots (slots_of w seen) slots) (sym same) (λ d. devices d ∙ ap (λ (these : List (Option ℕ)). slot_of these d) (sym (same_slots last u seen is.guid is.count is.rows)))
-    ]
-
-pub torn_shows : (pool : OpenPool) (disks image : List (List ℕ)) (last u : Uber) → IsUber u → IsNextOf last u → IsNewestOn disks last pool.table.slots → MayHaveRoot disks image u → ShowsOneOf image last u pool
-torn_shows pool disks image last u lawful is newest may = record {
-  one = λ seen shown v finds_it. one_of disks image last u pool.table.slots lawful is newest may seen shown v finds_it;
-  slots = λ seen shown v finds_it. slots_are disks image last u pool.table.slots lawful is newest may seen shown v finds_it;
+pub torn_shows : (first next : OpenPool) (disks image : List (List ℕ)) (last u : Uber) → IsUber u → u.txg ≡ last.txg + 1 → (newest : IsNewestOn disks last first.table.slots) → AreAt next.table.slots u newest.seen → MayHaveRoot disks image u → ShowsOneOf image last u first next
+torn_shows first next disks image last u lawful txg newest at may = record {
+  one = λ seen shown v finds_it. one_of disks image last u first.table.slots next.table.slots lawful txg newest at may seen shown v finds_it;
+  before = λ seen shown. devices disks image last u first.table.slots next.table.slots lawful txg newest at may seen shown;
+  after = λ seen shown. next_devices disks image last u first.table.slots next.table.slots lawful txg newest at may seen shown;
 }

@@ -1,7 +1,9 @@
 -- What the lines of a group do to how the disks stand.
 use Rattle.std.proofs.Common.{◌≡◌, ℕ, ◌<◌, true, List, [], length, Option, refl, sym, ◌∙◌, ap, subst}
 use Rattle.std.specs.List.{AllByRecursion}
+use Rattle.std.specs.Prelude.{slice_index_or}
 use Rattle.zr_image.specs.Honest.{IsLeft, IsMark}
+use Rattle.zr_label.specs.Blocks.{no_row}
 use Rattle.zr_label.specs.Geometry.{label_block_at, ring_slot_at}
 use Rattle.zr_label.specs.declared.root.Uber.{Uber}
 use Rattle.zr_model.specs.Objects.{Objects}
@@ -14,10 +16,14 @@ use Rattle.zr_shelf.specs.Moments.{World}
 use Rattle.zr_shelf.specs.Publish.{IsHonestBlock}
 use Rattle.zr_sync.specs.Writes.{WritesIntoFree}
 use Rattle.zr_sync.specs.declared.open.OpenPool.{OpenPool}
+use Rattle.zr_sync.specs.declared.open.Table.{Table}
 use Rattle.zr_vdev.proofs.Follows.{widen}
 use Rattle.zr_vdev.specs.Stores.{IsWriteInto, is_open_role}
 use Rattle.zr_vdev.specs.declared.kind.Kind.TheVariants.{Block}
-use Rattle.zr_stops.specs.Behind.{AreSameDisks, StandsInGroup, StandsBehind}
+use Rattle.zr_last.proofs.Lasting.{same_devices}
+use Rattle.zr_last.specs.Last.{KeepsDevices}
+use Rattle.zr_newest.specs.Newest.{IsOneDevice}
+use Rattle.zr_stops.specs.Behind.{AreSameDisks, StandsChanged, StandsInGroup, StandsBehind}
 use Rattle.zr_stops.specs.Groups.{IsInGroup}
 use Rattle.zr_stops.specs.Last.{IsCommitted}
 
@@ -53,18 +59,45 @@ module _ (first : OpenPool) (begin : Stand) where
         (record { sizes = written.seen.sizes ∙ h.seen.sizes; bytes = λ slot at n clear. written.seen.bytes slot at n (clear.0, tt) ∙ h.seen.bytes slot at n clear.1 });
   }
 
-  module _ (old new : OpenPool) (before now : World) (group : StandsInGroup first begin old before.now) where
+  module _ (old : OpenPool) (before now : World) (group : StandsChanged first begin old before.now) where
     into_first : (w : PendingWrite) → IsWriteInto Block old.table.slots old.space w → May w
     into_first w h =
-        subst (λ (t : List (Option ℕ)). IsWriteInto Block t first.space w) (ap (λ t. t.slots) group.table) (record { at = h.at; is = h.is; some = h.some; open_units = λ u inside. group.open_units h.at.dev u (h.open_units u inside) })
+        subst (λ (t : List (Option ℕ)). IsWriteInto Block t first.space w) group.devices.slots (record { at = h.at; is = h.is; some = h.some; open_units = λ u inside. group.open_units h.at.dev u (h.open_units u inside) })
 
     -- what is written into free units lies in units that were free when the group began
     pub within_writes : WritesIntoFree old before now → WritesIntoFree first before now
     within_writes wrote = widen (IsWriteInto Block old.table.slots old.space) May into_first before now wrote
 
+  -- a pool of the group has its devices where they were
+  pub in_group : (pool : OpenPool) (now : Stand) → StandsInGroup first begin pool now → StandsChanged first begin pool now
+  in_group pool now h = record {
+    devices = same_devices first pool (record { last = h.last; guid = h.guid; table = h.table });
+    open_units = h.open_units;
+    durable = h.durable;
+    writes = h.writes;
+    seen = h.seen;
+  }
+
+  -- and so has what a line makes of it
+  pub group_changed : (pool changed : OpenPool) (now : Stand) → StandsInGroup first begin pool now → KeepsDevices pool changed → ((d u : ℕ) → is_open_role (role_at changed.space d u) ≡ true → is_open_role (role_at pool.space d u) ≡ true) → StandsChanged first begin changed now
+  group_changed pool changed now h keeps opens = record {
+    devices = record {
+      last = keeps.last ∙ h.last;
+      guid = keeps.guid ∙ h.guid;
+      count = keeps.count ∙ ap (λ (t : Table). t.count) h.table;
+      slots = keeps.slots ∙ ap (λ (t : Table). t.slots) h.table;
+      rows = λ d. subst (λ (t : Table). IsOneDevice (slice_index_or t.rows d no_row) (slice_index_or changed.table.rows d no_row)) h.table (keeps.rows d);
+    };
+    open_units = λ d u is. h.open_units d u (opens d u is);
+    durable = h.durable;
+    writes = h.writes;
+    seen = h.seen;
+  }
+
+  module _ (old new : OpenPool) (before now : World) (group : StandsInGroup first begin old before.now) where
     pub line_within : WritesIntoFree old before now → ((d u : ℕ) → is_open_role (role_at new.space d u) ≡ true → is_open_role (role_at old.space d u) ≡ true) → new.table ≡ old.table → new.last ≡ old.last → new.guid ≡ old.guid → StandsInGroup first begin new now.now
     line_within wrote opens table last guid =
-        let there = (added_throughout IsThere May there_step before now (within_writes wrote) (record { durable = group.durable; writes = group.writes; seen = group.seen })).1 in
+        let there = (added_throughout IsThere May there_step before now (within_writes old before now (in_group old before.now group) wrote) (record { durable = group.durable; writes = group.writes; seen = group.seen })).1 in
         record {
           table = table ∙ group.table;
           last = last ∙ group.last;

@@ -4,6 +4,7 @@ use Rattle.std.specs.List.{AllByRecursion}
 use Rattle.zr_current.specs.Current.{GoesOnFrom}
 use Rattle.zr_image.specs.Honest.{IsLeft}
 use Rattle.zr_label.specs.declared.root.Uber.{Uber}
+use Rattle.zr_last.specs.Last.{KeepsDevices}
 use Rattle.zr_model.specs.Objects.{Objects}
 use Rattle.zr_model.specs.State.{PoolState}
 use Rattle.zr_open.specs.Shown.{Shows}
@@ -22,6 +23,14 @@ pub record StandsInGroup (first : OpenPool) (begin : Stand) (pool : OpenPool) (n
   pub table : pool.table ≡ first.table
   pub last : pool.last ≡ first.last
   pub guid : pool.guid ≡ first.guid
+  pub open_units : (d u : ℕ) → is_open_role (role_at pool.space d u) ≡ true → is_open_role (role_at first.space d u) ≡ true
+  pub durable : now.durable ≡ begin.seen
+  pub writes : AllByRecursion (IsWriteInto Block first.table.slots first.space) now.writes
+  pub seen : IsSameOutside now.writes begin.seen now.seen
+
+-- The pool is what a line makes of one that stands in such a group: each device is where it was, and of them no more has changed than whether one is leaving.
+pub record StandsChanged (first : OpenPool) (begin : Stand) (pool : OpenPool) (now : Stand) : Type 0 where
+  pub devices : KeepsDevices first pool
   pub open_units : (d u : ℕ) → is_open_role (role_at pool.space d u) ≡ true → is_open_role (role_at first.space d u) ≡ true
   pub durable : now.durable ≡ begin.seen
   pub writes : AllByRecursion (IsWriteInto Block first.table.slots first.space) now.writes

@@ -16,7 +16,8 @@ pub record MayHaveRoot (disks image : List (List ℕ)) (u : Uber) : Type 0 where
   pub labels : (slot n : ℕ) → n < 4 → block_of (length (disk disks slot)) (disk image slot) n ≡ block_of (length (disk disks slot)) (disk disks slot) n
   pub rings : (slot n k : ℕ) → n < 4 → k < 32 → IsRingOf u k (ring_block (length (disk disks slot)) (disk disks slot) n k) (ring_block (length (disk disks slot)) (disk image slot) n k)
 
--- Whatever is seen of the slots, the current root is one of these two, and each device is where the pool has it.
-pub record ShowsOneOf (image : List (List ℕ)) (last u : Uber) (pool : OpenPool) : Type 0 where
+-- Whatever is seen of the slots, the current root is one of these two, and each device of either is where its pool has it.
+pub record ShowsOneOf (image : List (List ℕ)) (last u : Uber) (first next : OpenPool) : Type 0 where
   pub one : (seen : List Seen) → ShowsAll image seen → (v : Uber) → FindsCurrent seen (Ok v) → (v ≡ last) ⊎ (v ≡ u)
-  pub slots : (seen : List Seen) → ShowsAll image seen → (v : Uber) → FindsCurrent seen (Ok v) → HasSlots (slots_of v seen) pool.table.slots
+  pub before : (seen : List Seen) → ShowsAll image seen → HasSlots (slots_of last seen) first.table.slots
+  pub after : (seen : List Seen) → ShowsAll image seen → HasSlots (slots_of u seen) next.table.slots

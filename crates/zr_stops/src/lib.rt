@@ -16,6 +16,6 @@ pub use laws::{
     lines_stay_in_their_group, the_last_root_is_shown,
 };
 pub use runs::{
-    a_commit_begins_a_group, a_commit_ends_its_group, a_line_stays_in_its_group,
+    a_commit_begins_a_group, a_commit_ends_its_group, a_device_joins, a_line_stays_in_its_group,
     a_pool_that_was_left_begins_a_group,
 };

@@ -1,5 +1,6 @@
 //! Lines of a group, and the commit that ends it, by how the disks stand before each of them.
 ghost use Rattle.std.specs.Prelude.{◌≡◌, ℕ, Bool, true, List, map, length};
+ghost use Rattle.zr_create.specs.Adding.{AddsInPart};
 ghost use Rattle.zr_current.specs.Current.{GoesOnFrom};
 ghost use Rattle.zr_newest.specs.Newest.{IsNewestOn};
 ghost use Rattle.zr_label.specs.declared.root.Uber.{Uber};
@@ -11,7 +12,7 @@ ghost use Rattle.zr_open.specs.There.{AreThere};
 ghost use Rattle.zr_stops.specs.Behind.{AreSameDisks, ShowsOnly, StandsBehind};
 ghost use Rattle.zr_stops.specs.Either.{ShowsEither};
 ghost use Rattle.zr_sync.specs.Ends.{ComesCommitted, EndsCommitted, LeavesCommitted};
-ghost use Rattle.zr_last.specs.Last.{ShowsLast};
+ghost use Rattle.zr_last.specs.Last.{KeepsDevices, ShowsLast};
 ghost use Rattle.zr_stops.specs.Last.{IsCommitted};
 ghost use Rattle.zr_sync.specs.Leads.{CommitsObjects};
 ghost use Rattle.zr_sync.specs.Objects.{HoldsObjects};
@@ -48,10 +49,19 @@ pub fn a_line_stays_in_its_group()
     ensures shows { (sizes : List ℕ) (objects : Objects) (old : OpenPool) (before now : World) → StandsBehind sizes objects old before.now → WritesIntoFree old before now → Throughout (ShowsOnly objects) before now }
 {}
 
+/// At each moment while a device joins a pool, whatever an honest crash shows are the objects that were committed last, or those
+/// that the line commits. So it is too while the slot is prepared, whatever labels and roots it had.
+pub fn a_device_joins()
+    ensures { (sizes : List ℕ) (before after : Objects) (slot : ℕ) (old : OpenPool) (start now : World) → StandsBehind sizes before old start.now → IsOpen sizes old → AddsInPart sizes after slot old start now → Throughout (ShowsEither before after) start now }
+{}
+
 /// A commit ends the group and begins the next one. At each moment of it, done or not, whatever an honest crash shows are the
-/// objects that were committed last, or those that it commits.
+/// objects that were committed last, or those that it commits. So it is too where the line changed the pool in memory before,
+/// and left each device where it was and no other unit to be written.
 pub fn a_commit_ends_its_group()
     ensures stands { (sizes : List ℕ) (reset : Bool) (before after : Objects) (old new : OpenPool) (start now : World) → StandsBehind sizes before old start.now → IsOpen sizes old → EndsCommitted sizes reset old new after start now → StandsBehind sizes after new now.now }
     ensures shows { (sizes : List ℕ) (reset : Bool) (before after : Objects) (old new : OpenPool) (start now : World) → StandsBehind sizes before old start.now → IsOpen sizes old → EndsCommitted sizes reset old new after start now → Throughout (ShowsEither before after) start now }
     ensures stops { (sizes : List ℕ) (reset : Bool) (before after : Objects) (old : OpenPool) (start now : World) → StandsBehind sizes before old start.now → IsOpen sizes old → CommitsObjects sizes old reset after start now → Throughout (ShowsEither before after) start now }
+    ensures turns { (sizes : List ℕ) (reset : Bool) (before after : Objects) (old turned : OpenPool) (start now : World) → StandsBehind sizes before old start.now → KeepsDevices old turned → ((d u : ℕ) → is_open_role (role_at turned.space d u) ≡ true → is_open_role (role_at old.space d u) ≡ true)
+        → IsOpen sizes turned → CommitsObjects sizes turned reset after start now → Throughout (ShowsEither before after) start now }
 {}

@@ -1,15 +1,16 @@
 -- Work on the disks alone, one step after another.
-use Rattle.std.proofs.Common.{ℕ, List, Result, Ok, Err, inl, inr}
+use Rattle.std.proofs.Common.{ℕ, zero, suc, ◌-◌, List, Result, Ok, Err, inl, inr}
 use Rattle.zr_shelf.specs.Counts.{Counts}
 use Rattle.zr_shelf.specs.Disks.{PendingWrite}
 use Rattle.zr_shelf.specs.Doings.{WritesOnly}
 use Rattle.zr_shelf.specs.Moments.{World, IsStill}
 use Rattle.zr_shelf.proofs.Doings.{does_writes}
 use Rattle.zr_shelf.proofs.Guards.{does_nothing, does_more, does_still, does_flush, does_weaker}
+use Rattle.zr_shelf.proofs.Runs.{still}
 use Rattle.zr_label.specs.declared.root.Label.{Label}
 use Rattle.zr_label.specs.declared.root.Uber.{Uber}
 use Rattle.zr_scan.specs.declared.error.ScanErr.{ScanErr}
-use Rattle.zr_slots.specs.Phases.{IsFlushed, Publishes, Prepares}
+use Rattle.zr_slots.specs.Phases.{IsFlushed, Publishes, Prepares, PutsLast, SettlesLabel}
 use Rattle.zr_sync.specs.declared.open.OpenPool.{OpenPool}
 use Rattle.zr_sync.specs.Writes.{WorksOnDisks, WritesMetadata, WritesTrees, WritesBlocks}
 
@@ -43,15 +44,21 @@ works_published sizes both all u (Err e) a b (inr (inr p)) =
     (works_more p.first p.half b (works_writes _ p.first p.half p.wrote)
     (works_more p.half p.second b (works_flush p.half p.second p.between) (works_writes _ p.second b p.rest)))
 
+works_settled : (size slot n : ℕ) (l : Label) (a b : World) → SettlesLabel size slot n l (Ok tt) a b → WorksOnDisks a b
+works_settled size slot n l a b (put, wrote, flush, stands) = works_more a put b (works_writes _ a put wrote) (works_flush put b flush)
+
+works_last : (size slot k : ℕ) (l : Label) (a b : World) → PutsLast size slot k l a b → WorksOnDisks a b
+works_last size slot zero l a b is = works_still a b (still a b is)
+works_last size slot (suc k) l a b (mid, last, step) = works_more a mid b (works_last size slot k l a mid last) (works_settled size slot (3 - k) l mid b step)
+
 pub works_prepared : (size slot : ℕ) (l : Label) (r : Result (Unit {0}) ScanErr) (a b : World) → Prepares size slot l r a b → WorksOnDisks a b
 works_prepared size slot l (Ok done) a b p =
     works_more a p.cleared b (works_writes _ a p.cleared p.rings)
-    (works_more p.cleared p.first b (works_flush p.cleared p.first p.between)
-    (works_more p.first p.labelled b (works_writes _ p.first p.labelled p.labels) (works_flush p.labelled b p.behind)))
+    (works_more p.cleared p.first b (works_flush p.cleared p.first p.between) (works_last size slot 4 l p.first b p.labels))
 works_prepared size slot l (Err e) a b (inl p) = works_writes _ a b p
 works_prepared size slot l (Err e) a b (inr p) =
     works_more a p.cleared b (works_writes _ a p.cleared p.rings)
-    (works_more p.cleared p.first b (works_flush p.cleared p.first p.between) (works_writes _ p.first b p.labels))
+    (works_more p.cleared p.first b (works_flush p.cleared p.first p.between) (works_more p.first p.mid b (works_last size slot p.k l p.first p.mid p.last) (works_writes _ p.mid b p.labels)))
 
 -- ---- steps on a pool
 

@@ -9,8 +9,9 @@ use Rattle.sha2.proofs.Facts256.{length-sha256}
 use Rattle.zr_base.specs.declared.space.Dva.{Dva}
 use Rattle.zr_bptr.specs.Spelling.{pointer_bytes}
 use Rattle.zr_bptr.proofs.Pieces.{pointer_long}
-use Rattle.zr_label.specs.Blocks.{IsUber, uber_block, uber_words, row_bytes, summed, padding}
+use Rattle.zr_label.specs.Blocks.{IsLabel, IsUber, label_block, label_words, uber_block, uber_words, row_bytes, summed, padding}
 use Rattle.zr_label.specs.Geometry.{label_at, ring_slot_at, slot_of, unit_at}
+use Rattle.zr_label.specs.declared.root.Label.{Label}
 use Rattle.zr_label.specs.declared.root.Uber.{Uber}
 use Rattle.zr_label.proofs.RowLemmas.{table_long}
 use Rattle.zr_label.proofs.Ubers.{root_lawful}
@@ -38,7 +39,7 @@ long_content w p r n name lw lp lr ln =
     let c = length-append r (n ∷ name) in
     omega (arith, a, b, c, lw, lp, lr, ln)
 
-summed_long : (content : List ℕ) → length content ≡ 1344 → length (summed content) ≡ 4096
+summed_long : (content : List ℕ) → length content ≤ 4064 → length (summed content) ≡ 4096
 unfolding summed padding
 summed_long content long =
     let zeros = padding (4064 - length content) in
@@ -49,10 +50,20 @@ summed_long content long =
     let d = length-sha256 body in
     omega (arith, a, b, c, d, long)
 
+summed_block : (content : List ℕ) → length content ≡ 1344 → length (summed content) ≡ 4096
+summed_block content long = summed_long content (omega (arith, long))
+
 pub uber_long : (u : Uber) → IsUber u → length (uber_block u) ≡ 4096
 unfolding uber_block
 uber_long u h =
-    summed_long _ (long_content (uber_words u) (pointer_bytes u.root) (flat_map row_bytes u.rows) u.name.len u.name.bytes refl (pointer_long u.root (root_lawful u.root u.len h.root)) (table_long u.rows 32 h.table.size) h.name.size)
+    summed_block _ (long_content (uber_words u) (pointer_bytes u.root) (flat_map row_bytes u.rows) u.name.len u.name.bytes refl (pointer_long u.root (root_lawful u.root u.len h.root)) (table_long u.rows 32 h.table.size) h.name.size)
+
+front_long : (front : List ℕ) (n : ℕ) (name : List ℕ) → length front ≡ 48 → length name ≡ 63 → length (front ++ n ∷ name) ≤ 4064
+front_long front n name a b = let both = length-append front (n ∷ name) in omega (arith, both, a, b)
+
+pub label_long : (l : Label) → IsLabel l → length (label_block l) ≡ 4096
+unfolding label_block
+label_long l lawful = summed_long (label_words l ++ l.name.len ∷ l.name.bytes) (front_long (label_words l) l.name.len l.name.bytes refl lawful.name.size)
 
 -- ---- where an address leads
 

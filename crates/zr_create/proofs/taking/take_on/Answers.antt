@@ -2,11 +2,13 @@ use Rattle.std.proofs.Common.{◌≡◌, ℕ, ◌<◌, List, length, map, [], So
 use Rattle.std.specs.Prelude.{slice_index}
 use Rattle.std.proofs.lemmas.List.{length-map}
 use Rattle.std.proofs.Math.ListN.{get_or-map}
+use Rattle.zr_label.specs.Blocks.{IsLabel}
 use Rattle.zr_label.specs.declared.root.Label.{Label}
 use Rattle.zr_newest.proofs.Prepared.{prepared_from}
 use Rattle.zr_newest.specs.Newest.{PreparesSlot}
+use Rattle.zr_slots.specs.Phases.{Prepares}
 use Rattle.zr_sync.proofs.Disks.{works_prepared}
-use Rattle.zr_create.proofs.Rows.{sized}
+use Rattle.zr_create.proofs.Rows.{any_version, sized}
 use Rattle.zr_create.proofs.Beside.{prepared_beside}
 use Rattle.zr_create.proofs.Keeping.{objects_kept}
 use Rattle.zr_create.proofs.Taken.{taken}
@@ -63,3 +65,67 @@ returns-clause-labelled g c = λ t.
     let is = c.label_of-label.ensures.value ∙ ap (λ (n : ℕ). record { guid = x.guid; index = x.table.count; added = n; units = c.args.units; name = x.name }) c.txg-txg.ensures in
     subst (λ (l : Label). PreparesSlot before after slot l) is
     (prepared_from before after slot size label known same long (fits.units_any ∙ sym (ap (λ (l : Label). Some l.units) is)) (prepared_beside size slot label c.prepare_device.result (g.S.Shelf.world old) (g.S.Shelf.world new) (c.prepare_device.ensures.order t)) (own.labels t) (own.rings t))
+
+pub returns-in_err-prepare_device-clause-prepares : goal.returns-in_err-prepare_device-clause-prepares
+returns-in_err-prepare_device-clause-prepares g c = λ t.
+    let size = slice_index (g.S.Shelf.sizes c.args.shelf.now) c.args.slot in
+    let x = c.args.pool.now in
+    let is = c.label_of-label.ensures.value ∙ ap (λ (n : ℕ). record { guid = x.guid; index = x.table.count; added = n; units = c.args.units; name = x.name }) c.txg-txg.ensures in
+    (c.prepare_device.result, subst (λ (l : Label). Prepares size c.args.slot l c.prepare_device.result (g.S.Shelf.world c.args.shelf.now) (g.S.Shelf.world c.prepare_device.new.shelf)) is (c.prepare_device.ensures.order t))
+
+pub returns-in_err-push_streams-clause-prepares : goal.returns-in_err-push_streams-clause-prepares
+returns-in_err-push_streams-clause-prepares g c = λ t.
+    let size = slice_index (g.S.Shelf.sizes c.args.shelf.now) c.args.slot in
+    let x = c.args.pool.now in
+    let is = c.label_of-label.ensures.value ∙ ap (λ (n : ℕ). record { guid = x.guid; index = x.table.count; added = n; units = c.args.units; name = x.name }) c.txg-txg.ensures in
+    (c.prepare_device.result, subst (λ (l : Label). Prepares size c.args.slot l c.prepare_device.result (g.S.Shelf.world c.args.shelf.now) (g.S.Shelf.world c.prepare_device.new.shelf)) is (c.prepare_device.ensures.order t))
+
+pub returns-in_err-add_dev-clause-prepares : goal.returns-in_err-add_dev-clause-prepares
+returns-in_err-add_dev-clause-prepares g c = λ t.
+    let size = slice_index (g.S.Shelf.sizes c.args.shelf.now) c.args.slot in
+    let x = c.args.pool.now in
+    let is = c.label_of-label.ensures.value ∙ ap (λ (n : ℕ). record { guid = x.guid; index = x.table.count; added = n; units = c.args.units; name = x.name }) c.txg-txg.ensures in
+    (c.prepare_device.result, subst (λ (l : Label). Prepares size c.args.slot l c.prepare_device.result (g.S.Shelf.world c.args.shelf.now) (g.S.Shelf.world c.prepare_device.new.shelf)) is (c.prepare_device.ensures.order t))
+
+pub returns-clause-prepares : goal.returns-clause-prepares
+returns-clause-prepares g c = λ t.
+    let size = slice_index (g.S.Shelf.sizes c.args.shelf.now) c.args.slot in
+    let x = c.args.pool.now in
+    let is = c.label_of-label.ensures.value ∙ ap (λ (n : ℕ). record { guid = x.guid; index = x.table.count; added = n; units = c.args.units; name = x.name }) c.txg-txg.ensures in
+    (c.prepare_device.result, subst (λ (l : Label). Prepares size c.args.slot l c.prepare_device.result (g.S.Shelf.world c.args.shelf.now) (g.S.Shelf.world c.prepare_device.new.shelf)) is (c.prepare_device.ensures.order t))
+
+pub returns-in_err-prepare_device-clause-label : goal.returns-in_err-prepare_device-clause-label
+returns-in_err-prepare_device-clause-label g c =
+    let x = c.args.pool.now in
+    let is = c.label_of-label.ensures.value ∙ ap (λ (n : ℕ). record { guid = x.guid; index = x.table.count; added = n; units = c.args.units; name = x.name }) c.txg-txg.ensures in
+    subst (λ (l : Label). IsLabel l) is c.label_of-label.ensures.lawful
+
+pub returns-in_err-push_streams-clause-label : goal.returns-in_err-push_streams-clause-label
+returns-in_err-push_streams-clause-label g c =
+    let x = c.args.pool.now in
+    let is = c.label_of-label.ensures.value ∙ ap (λ (n : ℕ). record { guid = x.guid; index = x.table.count; added = n; units = c.args.units; name = x.name }) c.txg-txg.ensures in
+    subst (λ (l : Label). IsLabel l) is c.label_of-label.ensures.lawful
+
+pub returns-in_err-add_dev-clause-label : goal.returns-in_err-add_dev-clause-label
+returns-in_err-add_dev-clause-label g c =
+    let x = c.args.pool.now in
+    let is = c.label_of-label.ensures.value ∙ ap (λ (n : ℕ). record { guid = x.guid; index = x.table.count; added = n; units = c.args.units; name = x.name }) c.txg-txg.ensures in
+    subst (λ (l : Label). IsLabel l) is c.label_of-label.ensures.lawful
+
+pub returns-clause-label : goal.returns-clause-label
+returns-clause-label g c =
+    let x = c.args.pool.now in
+    let is = c.label_of-label.ensures.value ∙ ap (λ (n : ℕ). record { guid = x.guid; index = x.table.count; added = n; units = c.args.units; name = x.name }) c.txg-txg.ensures in
+    subst (λ (l : Label). IsLabel l) is c.label_of-label.ensures.lawful
+
+pub returns-in_err-prepare_device-clause-disk : goal.returns-in_err-prepare_device-clause-disk
+returns-in_err-prepare_device-clause-disk g c = let x = c.args.pool.now in any_version _ x.version c.requires.pool.version (sized _ x.version c.args.units c.requires.pool.version c.requires.units).size_is
+
+pub returns-in_err-push_streams-clause-disk : goal.returns-in_err-push_streams-clause-disk
+returns-in_err-push_streams-clause-disk g c = let x = c.args.pool.now in any_version _ x.version c.requires.pool.version (sized _ x.version c.args.units c.requires.pool.version c.requires.units).size_is
+
+pub returns-in_err-add_dev-clause-disk : goal.returns-in_err-add_dev-clause-disk
+returns-in_err-add_dev-clause-disk g c = let x = c.args.pool.now in any_version _ x.version c.requires.pool.version (sized _ x.version c.args.units c.requires.pool.version c.requires.units).size_is
+
+pub returns-clause-disk : goal.returns-clause-disk
+returns-clause-disk g c = let x = c.args.pool.now in any_version _ x.version c.requires.pool.version (sized _ x.version c.args.units c.requires.pool.version c.requires.units).size_is

@@ -1,4 +1,4 @@
-use Rattle.std.proofs.Common.{false, [], ◌∷◌, ◌++◌, ◌==◌, inr, sym, ◌∙◌, ap, subst, refl, Ok, Err}
+use Rattle.std.proofs.Common.{inl, false, [], ◌∷◌, ◌++◌, ◌==◌, inr, sym, ◌∙◌, ap, subst, refl, Ok, Err}
 use Rattle.std.proofs.lemmas.Result.{err_from_is_err_and}
 use Rattle.zr_script.specs.declared.command.Command.{Command}
 use Rattle.zr_script.specs.declared.command.Command.TheVariants as cmd
@@ -474,20 +474,26 @@ returns-in_ok-upgrade-in-Upgrade-clause-resets g c = λ on p h.
 
 -- ---- wherever such a line stops
 
+pub returns-in_ok-add-in-Add-clause-stops_reset : goal.returns-in_ok-add-in-Add-clause-stops_reset
+returns-in_ok-add-in-Add-clause-stops_reset g c = λ on p h. inr (c.in-Some.slot, c.add.ensures.stops p.objects h.objects)
+
+pub returns-in_err-add-in-Add-clause-stops_reset : goal.returns-in_err-add-in-Add-clause-stops_reset
+returns-in_err-add-in-Add-clause-stops_reset g c = λ on p h. inr (c.in-Some.slot, c.add.ensures.stops p.objects h.objects)
+
 pub returns-in_ok-take-in-Checkpoint-clause-stops_reset : goal.returns-in_ok-take-in-Checkpoint-clause-stops_reset
-returns-in_ok-take-in-Checkpoint-clause-stops_reset g c = λ on p h. c.take.ensures.stops p.objects h.objects
+returns-in_ok-take-in-Checkpoint-clause-stops_reset g c = λ on p h. inl (c.take.ensures.stops p.objects h.objects)
 
 pub returns-in_err-take-in-Checkpoint-clause-stops_reset : goal.returns-in_err-take-in-Checkpoint-clause-stops_reset
-returns-in_err-take-in-Checkpoint-clause-stops_reset g c = λ on p h. c.take.ensures.stops p.objects h.objects
+returns-in_err-take-in-Checkpoint-clause-stops_reset g c = λ on p h. inl (c.take.ensures.stops p.objects h.objects)
 
 pub returns-in_ok-give_up-in-Discard-clause-stops_reset : goal.returns-in_ok-give_up-in-Discard-clause-stops_reset
-returns-in_ok-give_up-in-Discard-clause-stops_reset g c = λ on p h. c.give_up.ensures.stops p.objects h.objects
+returns-in_ok-give_up-in-Discard-clause-stops_reset g c = λ on p h. inl (c.give_up.ensures.stops p.objects h.objects)
 
 pub returns-in_err-give_up-in-Discard-clause-stops_reset : goal.returns-in_err-give_up-in-Discard-clause-stops_reset
-returns-in_err-give_up-in-Discard-clause-stops_reset g c = λ on p h. c.give_up.ensures.stops p.objects h.objects
+returns-in_err-give_up-in-Discard-clause-stops_reset g c = λ on p h. inl (c.give_up.ensures.stops p.objects h.objects)
 
 pub returns-in_ok-upgrade-in-Upgrade-clause-stops_reset : goal.returns-in_ok-upgrade-in-Upgrade-clause-stops_reset
-returns-in_ok-upgrade-in-Upgrade-clause-stops_reset g c = λ on p h. c.upgrade.ensures.stops p.objects h.objects
+returns-in_ok-upgrade-in-Upgrade-clause-stops_reset g c = λ on p h. inl (c.upgrade.ensures.stops p.objects h.objects)
 
 pub returns-in_err-upgrade-in-Upgrade-clause-stops_reset : goal.returns-in_err-upgrade-in-Upgrade-clause-stops_reset
-returns-in_err-upgrade-in-Upgrade-clause-stops_reset g c = λ on p h. c.upgrade.ensures.stops p.objects h.objects
+returns-in_err-upgrade-in-Upgrade-clause-stops_reset g c = λ on p h. inl (c.upgrade.ensures.stops p.objects h.objects)

@@ -7,7 +7,7 @@ use Rattle.zr_script.specs.declared.command.Command.{Command}
 use Rattle.zr_vdev.specs.Stores.{IsWriteInto}
 use Rattle.zr_vdev.specs.declared.kind.Kind.TheVariants.{Block}
 use Rattle.zr_lines.proofs.Stopping.{in_group_itself}
-use Rattle.zr_pool.proofs.Groups.{commit_alone, commits_in_group, copy_step, in_place_elsewhere, in_place_on_pool, in_place_resets, none_of_them, not_of_removal, not_opener, no_way, opens_no_reset, pool_commits, refused_stays, resets_elsewhere, resets_somewhere, same_world}
+use Rattle.zr_pool.proofs.Groups.{commit_alone, commits_in_group, copy_step, none_of_them, not_of_removal, not_opener, no_way, opens_no_reset, pool_commits, refused_stays, resets_elsewhere, resets_somewhere, same_world}
 use Rattle.zr_pool.proofs.Leavings.{opener_refused}
 use Rattle.zr_pool.proofs.Refused.{fault_same}
 use Rattle.zr_pool.proofs.Shown.{same_root, still_last}
@@ -211,28 +211,28 @@ pub returns-clause-resets : goal.returns-clause-resets
 returns-clause-resets g c = λ on p h. absurd (resets_somewhere c.args.command.now on (sym c.is_on_pool.ensures ∙ c.if-is_on_pool.false) (sym c.is_of_removal.ensures ∙ c.if-is_of_removal.false))
 
 pub returns-then-is_on_objects-clause-stops_reset : goal.returns-then-is_on_objects-clause-stops_reset
-returns-then-is_on_objects-clause-stops_reset g c = λ on p h. absurd (resets_elsewhere c.args.command.now (in_place_resets c.args.command.now on) (inl (sym c.is_on_objects.ensures ∙ c.if-is_on_objects.true)))
+returns-then-is_on_objects-clause-stops_reset g c = λ on p h. absurd (resets_elsewhere c.args.command.now on (inl (sym c.is_on_objects.ensures ∙ c.if-is_on_objects.true)))
 
 pub returns-in_err-object_line-clause-stops_reset : goal.returns-in_err-object_line-clause-stops_reset
-returns-in_err-object_line-clause-stops_reset g c = λ on p h. absurd (resets_elsewhere c.args.command.now (in_place_resets c.args.command.now on) (inl (sym c.is_on_objects.ensures ∙ c.if-is_on_objects.true)))
+returns-in_err-object_line-clause-stops_reset g c = λ on p h. absurd (resets_elsewhere c.args.command.now on (inl (sym c.is_on_objects.ensures ∙ c.if-is_on_objects.true)))
 
 pub returns-then-is_table-clause-stops_reset : goal.returns-then-is_table-clause-stops_reset
-returns-then-is_table-clause-stops_reset g c = λ on p h. absurd (resets_elsewhere c.args.command.now (in_place_resets c.args.command.now on) (inr (sym c.is_table.ensures ∙ c.if-is_table.true)))
+returns-then-is_table-clause-stops_reset g c = λ on p h. absurd (resets_elsewhere c.args.command.now on (inr (sym c.is_table.ensures ∙ c.if-is_table.true)))
 
 pub returns-in_err-table_line-clause-stops_reset : goal.returns-in_err-table_line-clause-stops_reset
-returns-in_err-table_line-clause-stops_reset g c = λ on p h. absurd (resets_elsewhere c.args.command.now (in_place_resets c.args.command.now on) (inr (sym c.is_table.ensures ∙ c.if-is_table.true)))
+returns-in_err-table_line-clause-stops_reset g c = λ on p h. absurd (resets_elsewhere c.args.command.now on (inr (sym c.is_table.ensures ∙ c.if-is_table.true)))
 
 pub returns-then-is_of_removal-clause-stops_reset : goal.returns-then-is_of_removal-clause-stops_reset
-returns-then-is_of_removal-clause-stops_reset g c = λ on p h. absurd (in_place_elsewhere c.args.command.now on (sym c.is_of_removal.ensures ∙ c.if-is_of_removal.true))
+returns-then-is_of_removal-clause-stops_reset g c = λ on p h. c.removal_line.ensures.stops_reset on p h
 
 pub returns-in_err-removal_line-clause-stops_reset : goal.returns-in_err-removal_line-clause-stops_reset
-returns-in_err-removal_line-clause-stops_reset g c = λ on p h. absurd (in_place_elsewhere c.args.command.now on (sym c.is_of_removal.ensures ∙ c.if-is_of_removal.true))
+returns-in_err-removal_line-clause-stops_reset g c = λ on p h. c.removal_line.ensures.stops_reset on p h
 
 pub returns-then-is_opener-clause-stops_reset : goal.returns-then-is_opener-clause-stops_reset
-returns-then-is_opener-clause-stops_reset g c = λ on p h. absurd (opens_no_reset c.args.command.now (sym c.is_opener.ensures ∙ c.if-is_opener.true) (in_place_resets c.args.command.now on))
+returns-then-is_opener-clause-stops_reset g c = λ on p h. absurd (opens_no_reset c.args.command.now (sym c.is_opener.ensures ∙ c.if-is_opener.true) on)
 
 pub returns-clause-stops_reset : goal.returns-clause-stops_reset
-returns-clause-stops_reset g c = λ on p h. no_way (sym (sym c.is_on_pool.ensures ∙ c.if-is_on_pool.false) ∙ in_place_on_pool c.args.command.now on)
+returns-clause-stops_reset g c = λ on p h. absurd (resets_somewhere c.args.command.now on (sym c.is_on_pool.ensures ∙ c.if-is_on_pool.false) (sym c.is_of_removal.ensures ∙ c.if-is_of_removal.false))
 
 -- ---- what copies is a step of a removal
 

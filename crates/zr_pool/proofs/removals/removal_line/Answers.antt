@@ -1,4 +1,4 @@
-use Rattle.std.proofs.Common.{◌≡◌, ◌∙◌, inr, true, false, map, Err, refl, ap, sym, subst}
+use Rattle.std.proofs.Common.{◌≡◌, ◌∙◌, inl, inr, true, false, map, Err, refl, ap, sym, subst}
 use Rattle.std.proofs.lemmas.Result.{err_from_is_err_and}
 use Rattle.zr_base.specs.declared.refusal.Refusal.{Refusal}
 use Rattle.zr_moves.specs.Answers.{leave_at, with_devs}
@@ -14,8 +14,8 @@ use Rattle.zr_last.specs.Last.{KeepsRoot}
 use Rattle.zr_lines.specs.Stops.{OpensNoUnit}
 use Rattle.zr_sync.specs.Writes.{WritesIntoFree}
 use Rattle.zr_sync.specs.declared.open.OpenPool.{OpenPool}
-use Rattle.zr_pool.specs.Behind.{is_copy, is_resetting}
-use Rattle.zr_pool.specs.Plain.{IsDone, IsPlainOf, is_untold_behind}
+use Rattle.zr_pool.specs.Behind.{is_resetting}
+use Rattle.zr_pool.specs.Plain.{IsDone, IsPlainOf, is_copy, is_untold_behind}
 use Rattle.zr_pool.specs.Replies.{TellsFault}
 use Rattle.zr_pool.proofs.Acting.{condense_done, evac_acts, evac_copies, evac_shows, removed_as}
 use Rattle.zr_pool.proofs.Blaming.{step_blames}
@@ -23,6 +23,8 @@ use Rattle.zr_pool.proofs.Groups.{no_way}
 use Rattle.zr_pool.proofs.Staying.{same_state}
 use Rattle.zr_pool.proofs.Leavings.{back_told, begins_told, condense_turn, evac_turn, evacuates_told, refusal_same, removal_more}
 use Rattle.zr_pool.proofs.Refused.{fault_same}
+use Rattle.zr_pool.proofs.Resets.{begun}
+use Rattle.zr_shelf.proofs.Runs.{still}
 use Rattle.zr_pool.proofs.removals.removal_line.Goals as goal
 
 pub returns-in_ok-step_condense-in-StepCondense-clause-pool : goal.returns-in_ok-step_condense-in-StepCondense-clause-pool
@@ -257,3 +259,38 @@ returns-in_ok-step_evac-in-StepEvac-clause-copies g c = λ told on.
 
 pub returns-in_ok-step_condense-in-StepCondense-clause-copies : goal.returns-in_ok-step_condense-in-StepCondense-clause-copies
 returns-in_ok-step_condense-in-StepCondense-clause-copies g c = λ told on. no_way (subst (λ (command : Command). is_copy command c.condense_reply.result ≡ true) c.in-StepCondense.is on)
+
+-- ---- a removal that begins, wherever it stops
+
+pub returns-in_err-dev-in-Remove-clause-stops_reset : goal.returns-in_err-dev-in-Remove-clause-stops_reset
+returns-in_err-dev-in-Remove-clause-stops_reset g c = λ on p h. inl (inl (inl (still (g.S.Shelf.world c.args.shelf.now) (g.S.Shelf.world c.args.shelf.now) refl)))
+
+pub returns-in_ok-remove-in-Remove-clause-stops_reset : goal.returns-in_ok-remove-in-Remove-clause-stops_reset
+returns-in_ok-remove-in-Remove-clause-stops_reset g c = λ on p h.
+    let old = c.args.shelf.now in
+    let dev = c.in_ok-dev-in-Remove.ensures in
+    inl (begun (g.S.Shelf.sizes old) p.objects c.args.pool.now c.in_ok-dev-in-Remove.dev (g.S.Shelf.world old) (g.S.Shelf.world c.remove.new.shelf) c.requires.pool dev.on dev.known (c.remove.ensures.stops p.objects h.objects))
+
+pub returns-in_err-remove-in-Remove-clause-stops_reset : goal.returns-in_err-remove-in-Remove-clause-stops_reset
+returns-in_err-remove-in-Remove-clause-stops_reset g c = λ on p h.
+    let old = c.args.shelf.now in
+    let dev = c.in_ok-dev-in-Remove.ensures in
+    inl (begun (g.S.Shelf.sizes old) p.objects c.args.pool.now c.in_ok-dev-in-Remove.dev (g.S.Shelf.world old) (g.S.Shelf.world c.remove.new.shelf) c.requires.pool dev.on dev.known (c.remove.ensures.stops p.objects h.objects))
+
+pub returns-in_ok-cancel-in-Cancel-clause-stops_reset : goal.returns-in_ok-cancel-in-Cancel-clause-stops_reset
+returns-in_ok-cancel-in-Cancel-clause-stops_reset g c = λ on p h. no_way (subst (λ (command : Command). is_resetting command ≡ true) c.in-Cancel.is on)
+
+pub returns-in_err-cancel-in-Cancel-clause-stops_reset : goal.returns-in_err-cancel-in-Cancel-clause-stops_reset
+returns-in_err-cancel-in-Cancel-clause-stops_reset g c = λ on p h. no_way (subst (λ (command : Command). is_resetting command ≡ true) c.in-Cancel.is on)
+
+pub returns-in_ok-step_evac-in-StepEvac-clause-stops_reset : goal.returns-in_ok-step_evac-in-StepEvac-clause-stops_reset
+returns-in_ok-step_evac-in-StepEvac-clause-stops_reset g c = λ on p h. no_way (subst (λ (command : Command). is_resetting command ≡ true) c.in-StepEvac.is on)
+
+pub returns-in_err-step_evac-in-StepEvac-clause-stops_reset : goal.returns-in_err-step_evac-in-StepEvac-clause-stops_reset
+returns-in_err-step_evac-in-StepEvac-clause-stops_reset g c = λ on p h. no_way (subst (λ (command : Command). is_resetting command ≡ true) c.in-StepEvac.is on)
+
+pub returns-in_ok-step_condense-in-StepCondense-clause-stops_reset : goal.returns-in_ok-step_condense-in-StepCondense-clause-stops_reset
+returns-in_ok-step_condense-in-StepCondense-clause-stops_reset g c = λ on p h. no_way (subst (λ (command : Command). is_resetting command ≡ true) c.in-StepCondense.is on)
+
+pub returns-in_err-step_condense-in-StepCondense-clause-stops_reset : goal.returns-in_err-step_condense-in-StepCondense-clause-stops_reset
+returns-in_err-step_condense-in-StepCondense-clause-stops_reset g c = λ on p h. no_way (subst (λ (command : Command). is_resetting command ≡ true) c.in-StepCondense.is on)

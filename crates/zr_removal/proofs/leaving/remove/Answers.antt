@@ -1,5 +1,6 @@
-use Rattle.std.proofs.Common.{◌∙◌}
+use Rattle.std.proofs.Common.{◌∙◌, inl, inr, refl}
 use Rattle.zr_last.proofs.Ending.{leaves_by}
+use Rattle.zr_shelf.proofs.Runs.{still}
 use Rattle.zr_sync.specs.Heads.{IsSeen}
 use Rattle.zr_removal.proofs.Outgoing.{objects_out, out_last}
 use Rattle.zr_removal.proofs.leaving.remove.Goals as goal
@@ -45,3 +46,25 @@ returns-clause-shown g c = λ told h.
     let done = c.in_ok-commit_moving.ensures in
     out_last sizes (g.S.Shelf.sizes new) c.args.pool.now left c.commit_moving.new.pool c.args.dev (g.S.Shelf.world old) (g.S.Shelf.world new) c.in_ok-leave.ensures.leaves c.requires.on c.requires.known c.requires.pool (c.in_ok-leave.ensures.pool sizes c.requires.pool) done.pool (g.S.Shelf.sound old told).sized
     done.txg done.last (done.written told) done.same h
+
+-- ---- wherever it stops
+
+pub returns-in_err-demand_to_remove-clause-stops : goal.returns-in_err-demand_to_remove-clause-stops
+returns-in_err-demand_to_remove-clause-stops g c = λ objects h. inl (still (g.S.Shelf.world c.args.shelf.now) (g.S.Shelf.world c.args.shelf.now) refl)
+
+pub returns-in_err-leave-clause-stops : goal.returns-in_err-leave-clause-stops
+returns-in_err-leave-clause-stops g c = λ objects h. inl (still (g.S.Shelf.world c.args.shelf.now) (g.S.Shelf.world c.args.shelf.now) refl)
+
+pub returns-in_err-commit_moving-clause-stops : goal.returns-in_err-commit_moving-clause-stops
+returns-in_err-commit_moving-clause-stops g c = λ objects h.
+    let old = c.args.shelf.now in
+    let left = c.leave.new.pool in
+    let first = c.in_ok-leave.ensures in
+    inr (left, first.pool (g.S.Shelf.sizes old) c.requires.pool, first.leaves, c.commit_moving.ensures.leads objects (objects_out c.args.pool.now left c.args.dev first.leaves c.requires.on (g.S.Shelf.tells old) (g.S.Shelf.world old).now.seen objects h))
+
+pub returns-clause-stops : goal.returns-clause-stops
+returns-clause-stops g c = λ objects h.
+    let old = c.args.shelf.now in
+    let left = c.leave.new.pool in
+    let first = c.in_ok-leave.ensures in
+    inr (left, first.pool (g.S.Shelf.sizes old) c.requires.pool, first.leaves, c.commit_moving.ensures.leads objects (objects_out c.args.pool.now left c.args.dev first.leaves c.requires.on (g.S.Shelf.tells old) (g.S.Shelf.world old).now.seen objects h))

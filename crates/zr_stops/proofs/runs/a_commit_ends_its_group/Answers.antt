@@ -1,4 +1,4 @@
-use Rattle.zr_stops.proofs.Behind.{commit_behind, commit_shows, stop_shows}
+use Rattle.zr_stops.proofs.Behind.{commit_behind, commit_shows, stop_shows, turn_shows}
 use Rattle.zr_stops.proofs.runs.a_commit_ends_its_group.Goals as goal
 
 pub returns-clause-stands : goal.returns-clause-stands
@@ -9,3 +9,6 @@ returns-clause-shows c = λ sizes reset before after old new start now h ready e
 
 pub returns-clause-stops : goal.returns-clause-stops
 returns-clause-stops c = λ sizes reset before after old start now h ready commits. stop_shows sizes before old start h ready reset after now commits
+
+pub returns-clause-turns : goal.returns-clause-turns
+returns-clause-turns c = λ sizes reset before after old turned start now h keeps opens ready commits. turn_shows sizes before old start h turned keeps opens ready reset after now commits
