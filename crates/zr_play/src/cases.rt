@@ -15,7 +15,8 @@ pub enum Kind {
     Plain,
     /// `@answers`: what its runs are answered alone.
     Answers,
-    /// `@stops N`: what is shown where its first run is stopped from its line N on, counted from 1.
+    /// `@stops N`: what is shown where its last run but one is stopped from its line N on, counted from 1. A run before that
+    /// leaves the files on which it begins.
     Stops(usize),
     /// `@faults`: what comes where a call of its first run fails.
     Faults,

@@ -137,7 +137,7 @@ fn fail_each(
         lines,
         whole: whole.replies,
         files,
-        shown: Shown::new(alloc, states_of(alloc, run, probe)?)?,
+        shown: Shown::new(alloc, states_of(alloc, Vec::new(alloc), run, probe)?)?,
         wrong: 0,
         cancelled: false,
     };

@@ -25,12 +25,19 @@ fn play_case(rt: &HostRuntime, case: &Case) -> anyhow::Result<()> {
     match (case.kind, case.runs.as_slice()) {
         (Kind::Plain, runs) => runs::play_all(rt, runs, true),
         (Kind::Answers, runs) => runs::play_all(rt, runs, false),
-        (Kind::Stops(line), [run, probe]) => stops::stops(rt, line, run, probe),
+        (Kind::Stops(line), [run, probe]) => {
+            stops::stops(rt, line, Vec::new(rt.alloc()), run, probe)
+        }
+        (Kind::Stops(line), [before, run, probe]) => {
+            stops::stops(rt, line, runs::left_for(rt, before, run)?, run, probe)
+        }
         (Kind::Faults, [run, probe]) => faults::faults(rt, run, probe),
         (Kind::Reads, [run]) => reads::reads(rt, run),
         (Kind::Copies, [run]) => copies::copies(rt, run),
         (Kind::Zeros(line), [run]) => runs::play_blank(rt, run, line),
-        _ => anyhow::bail!("stops and faults have a run and a probe, and the others a run alone"),
+        _ => anyhow::bail!(
+            "a case has a run, stops and faults a probe too, and stops may have a run before"
+        ),
     }
 }
 

@@ -160,6 +160,24 @@ fn play(rt: &HostRuntime, mut files: Vec<DiskFile>, run: &Run) -> anyhow::Result
     Ok(files)
 }
 
+/// The files on which the second run begins: those that the first one leaves, with the edits of the second.
+pub fn left_for(rt: &HostRuntime, first: &Run, second: &Run) -> anyhow::Result<Vec<DiskFile>> {
+    let mut files = play(rt, Vec::new(rt.alloc()), first)?;
+    edit(rt.alloc(), &mut files, second.edits.as_slice())?;
+    Ok(files)
+}
+
+/// Copies of files.
+pub fn copies_of(alloc: Global, files: &[DiskFile]) -> Result<Vec<DiskFile>, AllocError> {
+    let mut copies = Vec::new(alloc);
+    for file in files {
+        let path = String::from_str(alloc, file.path.as_str())?;
+        let bytes = file.bytes.as_slice().to_vec(alloc)?;
+        copies.push(DiskFile { path, bytes })?;
+    }
+    Ok(copies)
+}
+
 /// Runs of a case, each over the files that the one before left. The sums of the devices are printed where they are wanted.
 pub fn play_all(rt: &HostRuntime, runs: &[Run], sums: bool) -> anyhow::Result<()> {
     let mut files = Vec::new(rt.alloc());

@@ -9,6 +9,7 @@ use crate::lent_desk::Trouble;
 use crate::patch::take_out;
 use crate::runs::{lend, text_of};
 use std::alloc::{AllocError, Global};
+use zr_shelf::DiskFile;
 
 /// The lines of a script.
 pub fn lines_of(alloc: Global, script: &[u8]) -> Result<Vec<&[u8]>, AllocError> {
@@ -32,10 +33,14 @@ fn exported(alloc: Global, lines: &[&[u8]], count: usize) -> Result<Vec<u8>, All
     Ok(script)
 }
 
-/// What the probe answers for the state after no line, after one, and so on.
-pub fn states_of(alloc: Global, run: &Run, probe: &Run) -> Result<Vec<Vec<u8>>, AllocError> {
+/// What the probe answers for the state after no line, after one, and so on, of a run that begins on these files.
+pub fn states_of(
+    alloc: Global,
+    mut files: Vec<DiskFile>,
+    run: &Run,
+    probe: &Run,
+) -> Result<Vec<Vec<u8>>, AllocError> {
     let lines = lines_of(alloc, run.script.as_slice())?;
-    let mut files = Vec::new(alloc);
     let mut states = Vec::new(alloc);
     for count in 0..=lines.len() {
         let script = exported(alloc, lines.as_slice(), count)?;

@@ -12,7 +12,7 @@ ghost use Rattle.std.specs.Prelude.{◌≤◌};
 use crate::cases::Run;
 use crate::lent_desk::{Reading, Trouble};
 use crate::patch::{Patch, take_out};
-use crate::runs::{lend, print_run, status_of, text_of};
+use crate::runs::{copies_of, lend, print_run, status_of, text_of};
 use crate::states::{Reached, Shown, lines_of, states_of};
 use std::alloc::{AllocError, Global};
 use zr_shelf::{Asked, Call, Deed, DiskFile, MemDesk};
@@ -320,15 +320,23 @@ fn shown_by(
 }
 
 /// Stops the run at each moment from its line of that number on, and prints what it is answered whole, whether each image
-/// shows a state that may be shown, and which states those are.
-pub fn stops(rt: &HostRuntime, line: usize, run: &Run, probe: &Run) -> anyhow::Result<()> {
+/// shows a state that may be shown, and which states those are. The run begins on these files.
+pub fn stops(
+    rt: &HostRuntime,
+    line: usize,
+    files: Vec<DiskFile>,
+    run: &Run,
+    probe: &Run,
+) -> anyhow::Result<()> {
     let alloc = rt.alloc();
     let script = run.script.as_slice().to_vec(alloc)?;
-    let mut desk = MemDesk::new(alloc, script, Vec::new(alloc));
+    let Ok(mut desk) = MemDesk::reopen(alloc, copies_of(alloc, files.as_slice())?, script) else {
+        anyhow::bail!("no memory for a desk");
+    };
     let status = status_of(alloc, run.words.as_slice(), &mut desk)?;
     print_run(rt, desk.sent(), status)?;
     let lines = lines_of(alloc, run.script.as_slice())?;
-    let shown = Shown::new(alloc, states_of(alloc, run, probe)?)?;
+    let shown = Shown::new(alloc, states_of(alloc, files, run, probe)?)?;
     let calls = desk.memory.history.calls.as_slice();
     let shown = shown_by(rt, calls, line, lines.as_slice(), probe, shown)?;
     if shown.wrong == 0 {
