@@ -34,8 +34,8 @@ disks_of stand = record { durable = stand.durable; writes = stand.writes; seen =
 pub record Meaning : Type 1 where
   -- what is told of such a pool between two commands
   pub State : Type 0
-  -- and where there is none yet
-  pub none : State
+  -- and where there is none yet, on disks that stand so
+  pub none : Disks → State
   -- one command from a point, and its answer
   pub takes : Point State → Turn State → Type 0
   -- the command may stand there, by the paths and the state
@@ -55,7 +55,7 @@ pub record Meaning : Type 1 where
 abbrev pub plain : Meaning
 plain = record {
   State = State;
-  none = no_pool;
+  none = λ disks. no_pool;
   takes = Takes;
   serves = IsServed;
   damages = λ p command found. ⊥;
@@ -76,6 +76,10 @@ pub record TurnsTo (m : Meaning) (stands : Disks → m.State → Type 0) (before
   pub after : m.State
   pub stands_for : stands (disks_of new) after
   pub takes : m.takes (point old before) (turn command answer new after)
+
+-- where a run begins, with no pool yet
+abbrev pub beginning : (m : Meaning) → Stand → Point m.State
+beginning m opening = point opening (m.none (disks_of opening))
 
 -- one command after another
 abbrev pub Run : (m : Meaning) → Point m.State → List (Turn m.State) → Type 0

@@ -83,7 +83,7 @@ pub trait Pool {
         requires few { length devs ≤ 32 }
         ensures paths { IfOk result (λ pool. paths pool ≡ devs) }
         ensures fits { (sizes : List ℕ) → length sizes ≡ length devs → IfOk result (λ pool. fits pool sizes) }
-        ensures stands { (disks : Disks) → IfOk result (λ pool. stands pool disks meaning.none) };
+        ensures stands { (disks : Disks) → IfOk result (λ pool. stands pool disks (meaning.none disks)) };
 
     /// Does a command, with a chooser of free runs. None where it may not stand here. The command is that of a line: its
     /// names, paths and bytes are as a line may have them.

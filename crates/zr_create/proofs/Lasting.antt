@@ -28,6 +28,7 @@ use Rattle.zr_txg.specs.declared.group.Group.{Group}
 use Rattle.zr_view.specs.Views.{slot_of}
 use Rattle.zr_create.specs.Devices.{HasDevicesIn, TakesOn, new_row, next_label}
 use Rattle.zr_create.specs.Labelled.{LabelsSlots}
+use Rattle.zr_create.specs.Making.{HasNoRoot, NamesDevices}
 use Rattle.zr_create.specs.Refusals.{ChecksNew, ChecksNext}
 use Rattle.zr_create.proofs.Labelled.{devices_labelled}
 use Rattle.zr_create.proofs.Taken.{IsFree}
@@ -150,23 +151,23 @@ none_in_the_way sizes tells disks version guid named checks slot way = elim chec
   | inl sized ↦ sized.2 slot way
 ]
 
--- The slots were prepared for the devices of a pool without a root, and then it was committed.
-module _ (w1 w2 w3 : World) (s0 s1 s2 s3 : List ℕ) (tells : Type 0) (told : tells) (version guid txg : ℕ) (named : List ℕ) (checks : ChecksNew s0 tells w1.now.seen version guid named (Ok tt)) (inside : AreNamed (length w1.now.seen) named) (x y : OpenPool) (identity : x.guid ≡ guid)
-    (devices : HasDevicesIn s1 txg named x) (only : (d slot : ℕ) → slot_of x.table.slots d ≡ Some slot → (k : ℕ) × (k < length named) × (slice_index named k ≡ slot)) (labelled : LabelsSlots w1.now.seen w2.now.seen named (length named) x)
-    (ready_x : IsOpen s2 x) (ready_y : IsOpen s3 y) (sized : map length w2.now.seen ≡ s2) (txg_y : y.group.txg ≡ x.group.txg + 1) (next : IfSome y.last (IsNextRoot x true))
-    (wrote : IfSome y.last (λ u. (mid : World) × WritesIntoFree x w2 mid × IsShownFrom s2 x u mid w3)) (guid_y : y.guid ≡ x.guid) (table_y : y.table ≡ x.table) (same_count : length w2.now.seen ≡ length w1.now.seen) where
+-- before a pool is made no root stands
+pub none_rooted : (sizes : List ℕ) (tells : Type 0) (told : tells) (disks : List (List ℕ)) (version guid : ℕ) (named : List ℕ) → ChecksNew sizes tells disks version guid named (Ok tt) → HasNoRoot disks
+none_rooted sizes tells told disks version guid named checks slot v is = none_in_the_way sizes tells disks version guid named checks slot (inl (inl (v, shown_of_root disks checks.seen (checks.shown.shows told) slot v is)))
+
+-- The slots were prepared for the devices of a pool without a root.
+module _ (w1 w2 : World) (s0 s1 s2 : List ℕ) (tells : Type 0) (told : tells) (version guid txg : ℕ) (named : List ℕ) (checks : ChecksNew s0 tells w1.now.seen version guid named (Ok tt)) (inside : AreNamed (length w1.now.seen) named) (x : OpenPool) (identity : x.guid ≡ guid)
+    (devices : HasDevicesIn s1 txg named x) (only : (d slot : ℕ) → slot_of x.table.slots d ≡ Some slot → (k : ℕ) × (k < length named) × (slice_index named k ≡ slot)) (labelled : LabelsSlots w1.now.seen w2.now.seen named (length named) x) (ready_x : IsOpen s2 x)
+    (same_count : length w2.now.seen ≡ length w1.now.seen) where
   abbrev seen : List Seen
   seen = checks.seen
-
-  shown : ShowsAll w1.now.seen seen
-  shown = checks.shown.shows told
 
   none : (slot : ℕ) → IsInTheWay seen guid named slot → ⊥
   none = none_in_the_way s0 tells w1.now.seen version guid named checks
 
   -- no root stands there
   no_root : (slot : ℕ) (v : Uber) → ShowsRoot w2.now.seen slot v → ⊥
-  no_root slot v is = none slot (inl (inl (v, shown_of_root w1.now.seen seen shown slot v (labelled.roots slot v is))))
+  no_root slot v is = none_rooted s0 tells told w1.now.seen version guid named checks slot v (labelled.roots slot v is)
 
   -- no other slot has a label of the pool
   foreign : (slot : ℕ) (l : Label) → ((k : ℕ) → k < length named → slice_index named k ≢ slot) → (seen_at seen slot).label ≡ Some l → l.guid ≢ x.guid
@@ -189,9 +190,18 @@ module _ (w1 w2 w3 : World) (s0 s1 s2 s3 : List ℕ) (tells : Type 0) (told : te
           let same = ready_x.mounted.apart d at.0 slot is ((devices.each at.0 at.1).slot_is ∙ ap (λ (k : ℕ). Some k) at.2) in
           absurd (omega (arith, le, lt, same))
 
-  pub new_last : ShowsLast w3.now.seen y
-  new_last =
-      let behind = labelled.labels seen (seen_labels w1.now.seen seen shown) in
-      commit_places s2 s3 x y true w2 w3 ready_x ready_y sized txg_y next wrote guid_y table_y (λ u is slot v stands same. absurd (no_root slot v stands)) behind.0 behind.1
-      (λ u is.
-      devices_labelled s1 txg named x w2.now.seen seen behind.0 behind.1 (λ k lt. (let few = inside k lt in let n = same_count in omega (arith, few, n))) devices past behind.2 foreign u is.guid is.count is.rows)
+  pub new_names : NamesDevices w2.now.seen x
+  new_names =
+      let behind = labelled.labels seen (seen_labels w1.now.seen seen (checks.shown.shows told)) in
+      record {
+        seen = behind.0;
+        labels = behind.1;
+        devices = λ u same_guid count rows.
+            devices_labelled s1 txg named x w2.now.seen seen behind.0 behind.1 (λ k lt. (let few = inside k lt in let n = same_count in omega (arith, few, n))) devices past behind.2 foreign u same_guid count rows;
+      }
+
+  -- Then it was committed.
+  pub new_last : (w3 : World) (s3 : List ℕ) (y : OpenPool) → IsOpen s3 y → map length w2.now.seen ≡ s2 → y.group.txg ≡ x.group.txg + 1 → IfSome y.last (IsNextRoot x true) → IfSome y.last (λ u. (mid : World) × WritesIntoFree x w2 mid × IsShownFrom s2 x u mid w3) → y.guid ≡ x.guid → y.table ≡ x.table → ShowsLast w3.now.seen y
+  new_last w3 s3 y ready_y sized txg_y next wrote guid_y table_y =
+      let names = new_names in
+      commit_places s2 s3 x y true w2 w3 ready_x ready_y sized txg_y next wrote guid_y table_y (λ u is slot v stands same. absurd (no_root slot v stands)) names.seen names.labels (λ u is. names.devices u is.guid is.count is.rows)

@@ -10,4 +10,5 @@ pub mod Grown
 pub mod Keeping
 pub mod Staying
 pub mod Labelled
+pub mod Prepared
 pub mod Lasting

@@ -4,3 +4,4 @@ pub mod Devices
 pub mod Refusals
 pub mod Labelled
 pub mod Adding
+pub mod Making

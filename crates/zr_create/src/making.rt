@@ -17,6 +17,7 @@ ghost use Rattle.zr_sync.specs.declared.fault.Fault.TheVariants.{No, Stops};
 ghost use Rattle.zr_sync.specs.declared.stop.Stop.TheVariants.{DiskFault};
 ghost use Rattle.zr_create.specs.Blank.{IsNamed, IsResetAt, NothingWaits};
 ghost use Rattle.zr_create.specs.Devices.{HasDevicesIn};
+ghost use Rattle.zr_create.specs.Making.{MakesInPart};
 ghost use Rattle.zr_create.specs.Names.{AreApart};
 ghost use Rattle.zr_create.specs.Refusals.{ChecksNew};
 
@@ -90,6 +91,7 @@ pub fn create<S: Shelf, P: Place>(
     ensures last { S.tells shelf.old → IfOk result (ShowsLast (S.world shelf.new).now.seen) }
     // It came with the commit of its first root.
     ensures ends { S.tells shelf.old → IfOk result (λ pool. ComesCommitted (S.sizes shelf.new) pool map.empty (S.world shelf.new)) }
+    ensures stops { S.tells shelf.old → MakesInPart (S.sizes shelf.old) named.now (S.world shelf.old) (S.world shelf.new) }
     ensures objects { S.tells shelf.old → IfOk result (λ pool. HoldsObjects (S.tells shelf.new) (S.world shelf.new).now.seen pool map.empty) }
     ensures refused { (r : Refusal) → IsErrOf result (No r) → ChecksNew (S.sizes shelf.old) (S.tells shelf.old) (S.world shelf.old).now.seen version guid named.now (Err r) }
     ensures allowed { OnOk result (ChecksNew (S.sizes shelf.old) (S.tells shelf.old) (S.world shelf.old).now.seen version guid named.now (Ok tt)) }

@@ -19,6 +19,7 @@ ghost use Rattle.zr_create.specs.Adding.{PreparesNext};
 ghost use Rattle.zr_create.specs.Blank.{IsBlank};
 ghost use Rattle.zr_create.specs.Devices.{TakesOn, HasDevicesIn, HaveDisks, KeepsRest, next_label, with_device};
 ghost use Rattle.zr_create.specs.Labelled.{LabelsSlots};
+ghost use Rattle.zr_create.specs.Making.{PreparesFirst, PreparesInPart};
 ghost use Rattle.zr_create.specs.Names.{AreApart};
 
 use std::alloc::Global;
@@ -139,6 +140,8 @@ pub fn take_all<S: Shelf>(
     ensures devices { OnOk result (HasDevicesIn (S.sizes shelf.old) pool.old.group.txg named.now pool.new) }
     ensures only { OnOk result ((d slot : ℕ) → slot_of pool.new.table.slots d ≡ Some slot → (k : ℕ) × (k < length named.now) × (slice_index named.now k ≡ slot)) }
     ensures labelled { S.tells shelf.old → OnOk result (LabelsSlots (S.world shelf.old).now.seen (S.world shelf.new).now.seen named.now (length named.now) pool.new) }
+    ensures prepares { S.tells shelf.old → PreparesInPart (S.sizes shelf.old) named.now (S.world shelf.old) (S.world shelf.new) }
+    ensures prepared { S.tells shelf.old → OnOk result (PreparesFirst (S.sizes shelf.old) named.now (length named.now) (S.world shelf.old) (S.world shelf.new)) }
     ensures same { OnOk result (KeepsRest pool.old pool.new) }
 {
     for i in 0..named.len() {

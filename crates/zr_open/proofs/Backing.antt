@@ -122,7 +122,7 @@ module _ (t0 : Type 0) (told : t0) (paths disks0 : List (List ℕ)) (sizes : Lis
       let slots = subst (λ (f : Found). HasSlots (slots_of f.root s.seen) f.slots) (sym found) h.slots in
       group_held later later now paths disks0 disks0 sizes s.seen shown current h.finds txg kept l looked its slots l.pool (as_looked later now disks0 sizes sized l looked)
 
-  pub held_then : (s : Scanned) → IsScanned sizes t0 disks0 s → (txg : ℕ) (root : Uber) → IsUber root → root.guid ≡ s.found.root.guid → IsInWindow s.seen s.found.root txg → IsGroup s.seen s.found.root txg root
+  abbrev pub held_then : (s : Scanned) → IsScanned sizes t0 disks0 s → (txg : ℕ) (root : Uber) → IsUber root → root.guid ≡ s.found.root.guid → IsInWindow s.seen s.found.root txg → IsGroup s.seen s.found.root txg root
       → (later : Type 0) (after : List (List ℕ)) (l : Looked) → l.found ≡ record { root = root; slots = s.found.slots } → IsLookedAt sizes t0 disks0 l → (pool : OpenPool) → HoldsRoot disks0 later after l pool → HoldsGroup paths disks0 txg later after pool
   held_then s h txg root is_root pool_is kept group later after l found looked pool held =
       let current = s.found.root in

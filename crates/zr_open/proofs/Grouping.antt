@@ -73,7 +73,7 @@ same_disks_of sizes slots u v rows count h =
 
 -- ---- the pool that is opened by it
 
-ckpt_is : (tells : Type 0) (told : tells) (disks : List (List ℕ)) (sizes : List ℕ) (l : Looked) → IsLookedAt sizes tells disks l → l.root.parts.ckpt ≡ l.root.head.ckpt
+pub ckpt_is : (tells : Type 0) (told : tells) (disks : List (List ℕ)) (sizes : List ℕ) (l : Looked) → IsLookedAt sizes tells disks l → l.root.parts.ckpt ≡ l.root.head.ckpt
 ckpt_is tells told disks sizes l h = let s = (h.stands told).reads in ap (λ (ps : SpaceParts). ps.ckpt) s.counted_is ∙ (counted_ckpt _ s.parts ∙ s.spelled.ckpt_is)
 
 module _ (tells : Type 0) (told : tells) (disks : List (List ℕ)) (sizes : List ℕ) (sized : map length disks ≡ sizes) (l : Looked) (h : IsLookedAt sizes tells disks l) where
@@ -125,13 +125,13 @@ module _ (tells later : Type 0) (told : tells) (paths disks after : List (List �
   abbrev these : List (Option ℕ)
   these = slots_of l.found.root seen
 
-  saved_shown : ShowsSaved paths disks these (told_root l.found.root l.root)
+  pub saved_shown : ShowsSaved paths disks these (told_root l.found.root l.root)
   saved_shown = shows_saved tells told paths disks these l.found.root l.root l.saved (beside_moved tells tells disks disks these l.found.slots (λ t. t) (λ t. refl) same l.found.root l.root l.saved h.beside)
 
-  objects_are : AreObjects (store_of (record { disks = disks; slots = these; devices = devices_of l.root.parts.devs })) l.root.head.dir own.objects
+  pub objects_are : AreObjects (store_of (record { disks = disks; slots = these; devices = devices_of l.root.parts.devs })) l.root.head.dir own.objects
   objects_are = subst (λ (s : Stored). AreObjects s l.root.head.dir own.objects) (store_same disks these l.found.slots (devices_of l.root.parts.devs) same) own.are
 
-  pub group_held : HoldsGroup paths disks txg later after pool
+  abbrev pub group_held : HoldsGroup paths disks txg later after pool
   group_held =
       let u = l.found.root in
       let saved = saved_shown in

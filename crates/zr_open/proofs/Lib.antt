@@ -19,3 +19,4 @@ pub mod Grouping
 pub mod Backing
 pub mod Lasting
 pub mod Resting
+pub mod Going

@@ -11,6 +11,8 @@ use Rattle.zr_open.specs.Found.{FindsOn}
 use Rattle.zr_open.specs.Looked.{IsLooked, IsLookedAt}
 use Rattle.zr_open.specs.Opened.{HasBlock, IsRefusedRoot, IsRefusedSaved}
 use Rattle.zr_roots.specs.Standing.{Stands}
+use Rattle.zr_open.specs.Scanned.{IsScanned}
+use Rattle.zr_open.specs.declared.find.Scanned.{Scanned}
 use Rattle.zr_open.specs.declared.look.Looked.{Looked}
 use Rattle.zr_open.proofs.Beside.{beside_moved, head_moved}
 
@@ -51,6 +53,17 @@ module _ (t1 t2 : Type 0) (disks1 disks2 : List (List ℕ)) (later : t2 → t1) 
     seen = h.seen;
     shown = record { count = h.shown.count; lawful = h.shown.lawful; shows = λ t. subst (λ (ds : List (List ℕ)). ShowsAll ds h.seen) (same_disks t) (h.shown.shows (later t)) };
     finds = h.finds;
+  }
+
+  pub scanned_moved : (s : Scanned) → IsScanned sizes t1 disks1 s → IsScanned sizes t2 disks2 s
+  scanned_moved s h = record {
+    shown = record { count = h.shown.count; lawful = h.shown.lawful; shows = λ t. subst (λ (ds : List (List ℕ)). ShowsAll ds s.seen) (same_disks t) (h.shown.shows (later t)) };
+    lawful = h.lawful;
+    finds = h.finds;
+    slots = h.slots;
+    uber = h.uber;
+    long = h.long;
+    mounted = h.mounted;
   }
 
   pub whole_moved : (l : Looked) → IsLooked sizes t1 disks1 l → IsLooked sizes t2 disks2 l

@@ -10,3 +10,4 @@ pub mod Scanned
 pub mod Groups
 pub mod Flushed
 pub mod There
+pub mod Going

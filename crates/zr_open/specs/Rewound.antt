@@ -3,13 +3,14 @@ use Rattle.std.specs.Prelude.{◌≡◌, ℕ, ◌+◌, ◌==◌, if◌then◌els
 use Rattle.zr_label.specs.declared.root.Uber.{Uber}
 use Rattle.zr_label.specs.Blocks.{SpellsUber}
 use Rattle.zr_model.specs.State.{PoolState, Saved}
-use Rattle.zr_shelf.specs.Moments.{World, IsStill}
+use Rattle.zr_shelf.specs.Moments.{World}
 use Rattle.zr_sync.specs.Commits.{IsShownFrom}
 use Rattle.zr_moves.specs.Answers as moves
 use Rattle.zr_sync.specs.States.{HoldsState}
 use Rattle.zr_sync.specs.declared.open.OpenPool.{OpenPool}
 use Rattle.zr_meta.specs.declared.Head.{Head}
 use Rattle.zr_roots.specs.Devices.{IsCut}
+use Rattle.zr_open.specs.Flushed.{FlushesOnly}
 use Rattle.zr_open.specs.Opened.{HasBlock, IsFresh, IsHeadOn}
 use Rattle.zr_open.specs.Shown.{Shows}
 
@@ -25,12 +26,12 @@ pub record HoldsSaved (paths before : List (List ℕ)) (tells : Type 0) (disks :
   pub saved_is : state.saved ≡ Some saved
   pub holds : HoldsState tells disks pool (moves.rewound state saved)
 
--- Nothing was done, and then the root of the pool was published, first where the root before it has its devices too.
+-- Nothing was done but flushes, and then the root of the pool was published, first where the root before it has its devices too.
 pub record IsShownBehind (sizes : List ℕ) (last : Uber) (pool : OpenPool) (before now : World) : Type 0 where
   pub root : Uber
   pub root_is : pool.last ≡ Some root
   pub read : World
-  pub still : IsStill before read
+  pub flushes : FlushesOnly before read
   pub shown : IsShownFrom sizes (record pool { last = Some last }) root read now
 
 -- The pool is that of the root which the head of the current one has saved, one group above that, as a reset. It has no slot of a device that was added since, or that had gone then.

@@ -9,13 +9,16 @@ ghost use Rattle.zr_base.specs.declared.refusal.Refusal.{Refusal};
 ghost use Rattle.zr_label.specs.declared.root.Uber.{Uber};
 ghost use Rattle.zr_last.specs.Last.{ShowsLast};
 ghost use Rattle.zr_shelf.specs.Counts.{NoneFell};
+ghost use Rattle.zr_shelf.specs.Disks.{IsAtRest};
 ghost use Rattle.zr_shelf.specs.Moments.{IsStill};
 ghost use Rattle.zr_sync.specs.Commits.{IsShownFrom};
 ghost use Rattle.zr_sync.specs.Pools.{IsOpen};
 ghost use Rattle.zr_sync.specs.Writes.{WorksOnDisks};
 ghost use Rattle.zr_sync.specs.declared.fault.Fault.TheVariants.{No, Stops};
 ghost use Rattle.zr_sync.specs.declared.stop.Stop.TheVariants.{DiskFault};
+ghost use Rattle.zr_open.specs.Flushed.{FlushesOnly};
 ghost use Rattle.zr_open.specs.Found.{FindsOn};
+ghost use Rattle.zr_open.specs.Going.{GoesBackInPart, ResetsInPart};
 ghost use Rattle.zr_open.specs.Groups.{HoldsGroup, HoldsRoot, IsBack, IsBackRefusal};
 ghost use Rattle.zr_open.specs.Left.{IsLeftCommitted};
 ghost use Rattle.zr_open.specs.Looked.{IsLookedAt, WasLookedAt};
@@ -61,6 +64,7 @@ fn reset<S: Shelf>(
     ensures groups { IfOk result (λ pool. pool.group.txg ≤ 2 ^ 63 + 1) }
     ensures refused { (r : Refusal) → IsErrOf result (No r) → MayRefuse (meta_of then.old.saved) r }
     ensures untouched { S.tells shelf.old → (r : Refusal) → IsErrOf result (No r) → IsStill (S.world shelf.old) (S.world shelf.new) }
+    ensures stops { S.tells shelf.old → IsAtRest (S.world shelf.old).now → IsLookedAt (S.sizes shelf.old) (Unit {0}) (S.world shelf.old).now.seen then.old → ResetsInPart (S.sizes shelf.old) current.now then.old (S.world shelf.old) (S.world shelf.new) }
 {
     let place = Found {
         root: rewound(&then.found.root, current.txg + 1),
@@ -80,9 +84,10 @@ fn reset<S: Shelf>(
 }
 
 /// Opens the pool as a group that is kept left it. The group of the current root is opened as `import` does; the root of
-/// a lower one is written once more, one group above the current one and as a reset. All is durable behind it.
+/// a lower one is written once more, one group above the current one and as a reset.
 ///
-/// It reads what `import` reads, for a lower group twice. What it answers but Ok has written nothing, or stops the run.
+/// It makes all durable first and reads what `import` reads, for a lower group twice. What it answers but Ok has written
+/// nothing, or stops the run.
 pub fn go_back<S: Shelf>(alloc: Global, shelf: &mut S, txg: u64) -> Result<OpenPool, Fault>
     requires slots { length (S.sizes shelf.old) ≤ 32 }
     ensures sizes { S.sizes shelf.new ≡ S.sizes shelf.old }
@@ -98,13 +103,15 @@ pub fn go_back<S: Shelf>(alloc: Global, shelf: &mut S, txg: u64) -> Result<OpenP
     ensures room { IfOk result (λ pool. CoversOwed pool.space) }
     ensures groups { IfOk result (λ pool. pool.group.txg ≤ 2 ^ 63 + 1) }
     ensures refused { (r : Refusal) → IsErrOf result (No r) → FindsOn (S.sizes shelf.old) (S.tells shelf.old) (S.world shelf.old).now.seen (Err r) ⊎ ((u : Uber) × (at : FindsOn (S.sizes shelf.old) (S.tells shelf.old) (S.world shelf.old).now.seen (Ok u)) × IsBackRefusal (S.tells shelf.old) (S.world shelf.old).now.seen at.seen u txg r) }
-    ensures untouched { S.tells shelf.old → (r : Refusal) → IsErrOf result (No r) → IsStill (S.world shelf.old) (S.world shelf.new) }
+    ensures flushes { S.tells shelf.old → (r : Refusal) → IsErrOf result (No r) → FlushesOnly (S.world shelf.old) (S.world shelf.new) }
+    ensures reads { S.tells shelf.old → (r : Refusal) → IsErrOf result (No r) → (S.world shelf.new).now.seen ≡ (S.world shelf.old).now.seen }
+    ensures stops { S.tells shelf.old → GoesBackInPart (S.sizes shelf.old) txg (S.world shelf.old) (S.world shelf.new) }
 {
+    settle(shelf)?;
     let Scanned { seen, found } = scan(alloc, shelf)?;
     let now = look_at(alloc, shelf, &found)?;
     let root = kept_root(seen.as_slice(), &found.root, txg)?;
     if txg == found.root.txg {
-        settle(shelf)?;
         return Ok(now.pool);
     }
     drop(now);

@@ -27,7 +27,7 @@ use zr_shelf::Shelf;
 use zr_sync::{Fault, OpenPool};
 
 /// Makes all that was written before durable.
-pub(crate) fn settle<S: Shelf>(shelf: &mut S) -> Result<(), ScanErr>
+pub fn settle<S: Shelf>(shelf: &mut S) -> Result<(), ScanErr>
     ensures sizes { S.sizes shelf.new ≡ S.sizes shelf.old }
     ensures none_fell { NoneFell (S.counts shelf.old) (S.counts shelf.new) }
     ensures failed { IsErrOf result Failed → HasRisen (S.counts shelf.old).disk (S.counts shelf.new).disk }

@@ -25,7 +25,7 @@ mod room;
 mod saved;
 
 pub use groups::go_back;
-pub use imports::import;
+pub use imports::{import, settle};
 pub use laws::{
     commit_is_found, head_is_read, held_is_meant, left_is_found, left_is_shown, meant_is_shown,
     shown_is_held, streams_record_parts,

@@ -9,9 +9,8 @@ ghost use Rattle.zr_base.specs.declared.refusal.Refusal.{Refusal};
 ghost use Rattle.zr_label.specs.Blocks.{IsUber};
 ghost use Rattle.zr_last.specs.Last.{ShowsLast};
 ghost use Rattle.zr_shelf.specs.Counts.{NoneFell};
-ghost use Rattle.zr_shelf.specs.Moments.{IsStill};
 ghost use Rattle.zr_store.specs.Store.{Stored};
-ghost use Rattle.zr_sync.specs.Commits.{IsShownFrom};
+ghost use Rattle.zr_sync.specs.Commits.{IsShownFrom, PublishesRoot};
 ghost use Rattle.zr_sync.specs.Holds.{HasBlocks};
 ghost use Rattle.zr_sync.specs.Pools.{IsOpen};
 ghost use Rattle.zr_sync.specs.Writes.{WorksOnDisks};
@@ -20,11 +19,14 @@ ghost use Rattle.zr_sync.specs.declared.stop.Stop.TheVariants.{DiskFault};
 ghost use Rattle.zr_base.specs.declared.refusal.Refusal.TheVariants.{NoCheckpoint};
 ghost use Rattle.zr_image.specs.Current.{slots_of};
 ghost use Rattle.zr_label.specs.declared.root.Uber.{Uber};
+ghost use Rattle.zr_open.specs.Flushed.{FlushesOnly};
 ghost use Rattle.zr_open.specs.Found.{FindsOn};
+ghost use Rattle.zr_open.specs.Going.{RewindsInPart};
 ghost use Rattle.zr_open.specs.Left.{IsLeftCommitted};
 ghost use Rattle.zr_open.specs.Opened.{CoversOwed, IsRefusedRoot, IsRefusedSaved};
 ghost use Rattle.zr_open.specs.Rewound.{HasNoSaved, HoldsSaved, IsRewound, IsShownBehind, ShowsNoSaved, rewound};
 
+use crate::imports::settle;
 use crate::look::look;
 use crate::pool::open;
 use std::alloc::Global;
@@ -67,6 +69,7 @@ pub(crate) fn show<S: Shelf>(
     ensures disks { S.tells shelf.old → WorksOnDisks (S.world shelf.old) (S.world shelf.new) }
     ensures fault { IsErrOf result DiskFault → HasRisen (S.counts shelf.old).disk (S.counts shelf.new).disk }
     ensures shown { S.tells shelf.old → OnOk result (IsShownFrom (S.sizes shelf.old) (record pool.now { last = Some current.now }) root.now (S.world shelf.old) (S.world shelf.new)) }
+    ensures stops { S.tells shelf.old → PublishesRoot (S.sizes shelf.old) (record pool.now { last = Some current.now }) root.now (S.world shelf.old) (S.world shelf.new) }
     ensures keeps { (s : Stored) → HasBlocks (S.tells shelf.old) (S.world shelf.old).now.seen pool.now s → HasBlocks (S.tells shelf.new) (S.world shelf.new).now.seen pool.now s }
 {
     let both = slots_in_both(alloc, current, root, &pool.table.slots)?;
@@ -77,8 +80,8 @@ pub(crate) fn show<S: Shelf>(
 
 /// Goes back to the checkpoint that the pool holds, and opens it.
 ///
-/// It reads what `import` reads, and then writes the saved root once more, with a flush before, between and behind. What it
-/// answers but Ok has written nothing, or stops the run.
+/// It makes all durable first and reads what `import` reads, and then writes the saved root once more, with a flush before,
+/// between and behind. What it answers but Ok has written nothing, or stops the run.
 pub fn rewind<S: Shelf>(alloc: Global, shelf: &mut S) -> Result<OpenPool, Fault>
     requires slots { length (S.sizes shelf.old) ≤ 32 }
     ensures sizes { S.sizes shelf.new ≡ S.sizes shelf.old }
@@ -96,8 +99,11 @@ pub fn rewind<S: Shelf>(alloc: Global, shelf: &mut S) -> Result<OpenPool, Fault>
     ensures groups { IfOk result (λ pool. pool.group.txg ≤ 2 ^ 63 + 1) }
     ensures refused { (r : Refusal) → IsErrOf result (No r) → FindsOn (S.sizes shelf.old) (S.tells shelf.old) (S.world shelf.old).now.seen (Err r) ⊎ (IsRefusedRoot r ⊎ ((u : Uber) × (at : FindsOn (S.sizes shelf.old) (S.tells shelf.old) (S.world shelf.old).now.seen (Ok u)) × (IsRefusedSaved (S.tells shelf.old) (S.world shelf.old).now.seen (slots_of u at.seen) u r ⊎ ((r ≡ NoCheckpoint) × HasNoSaved (S.tells shelf.old) (S.world shelf.old).now.seen (slots_of u at.seen) u)))) }
     ensures unsaved { S.tells shelf.old → IsErrOf result (No NoCheckpoint) → ShowsNoSaved (S.world shelf.old).now.paths (S.world shelf.old).now.seen }
-    ensures untouched { S.tells shelf.old → (r : Refusal) → IsErrOf result (No r) → IsStill (S.world shelf.old) (S.world shelf.new) }
+    ensures flushes { S.tells shelf.old → (r : Refusal) → IsErrOf result (No r) → FlushesOnly (S.world shelf.old) (S.world shelf.new) }
+    ensures reads { S.tells shelf.old → (r : Refusal) → IsErrOf result (No r) → (S.world shelf.new).now.seen ≡ (S.world shelf.old).now.seen }
+    ensures stops { S.tells shelf.old → RewindsInPart (S.sizes shelf.old) (S.world shelf.old) (S.world shelf.new) }
 {
+    settle(shelf)?;
     let looked = look(alloc, shelf)?;
     let found = looked.found;
     let Some(mut saved) = looked.into_saved() else {

@@ -1,18 +1,18 @@
 -- Which objects are told to be committed last behind a line, and what a crash shows at each moment of it.
-use Rattle.std.proofs.Common.{◌≡◌, ◌⊎◌, inl, inr, ℕ, zero, suc, List, [], ◌∷◌, Bool, true, false, length, map, Option, Some, None, Result, Ok, Err, refl, sym, ◌∙◌, ap, subst}
+use Rattle.std.proofs.Common.{◌≡◌, ◌⊎◌, inl, inr, ℕ, zero, suc, List, [], ◌∷◌, Bool, true, false, length, map, Option, Some, None, Result, Ok, Err, refl, sym, ◌∙◌, ap, subst, ⊎_elim}
 use Rattle.std.specs.FinMap as map
-use Rattle.std.specs.Prelude.{IfOk, IfSome, OnErr, OnOk, is_some, not, if◌then◌else◌, ◌&&◌, ◌||◌}
+use Rattle.std.specs.Prelude.{IfOk, IfSome, OnErr, OnOk, is_some, not, if◌then◌else◌, ◌&&◌, ◌||◌, All}
 use Rattle.zr_base.specs.declared.refusal.Refusal.{Refusal}
 use Rattle.zr_base.specs.declared.space.DevPart.{DevPart}
 use Rattle.zr_base.specs.declared.space.DevState.{DevState}
 use Rattle.zr_base.specs.declared.space.DevState.TheVariants.{On, Leaving, Gone}
-use Rattle.zr_command.specs.Meanings.{disks_of}
+use Rattle.zr_command.specs.Meanings.{disks_of, Disks}
 use Rattle.zr_last.specs.Last.{KeepsLast, ShowsLast}
 use Rattle.zr_sync.specs.Ends.{ComesCommitted, EndsCommitted}
 use Rattle.zr_lines.specs.Stops.{OpensNoUnit, StaysInOneGroup, WritesInOneGroup, WritesOneReset, WritesReset}
 use Rattle.zr_model.specs.Objects.{Objects}
 use Rattle.zr_model.specs.Runs.{point}
-use Rattle.zr_model.specs.State.{PoolState, ShelfPart, Empty, Refused, Is}
+use Rattle.zr_model.specs.State.{PoolState, ShelfPart, Empty, Refused, Is, Saved}
 use Rattle.zr_open.specs.Flushed.{FlushesOnly}
 use Rattle.zr_open.specs.Left.{IsLeftCommitted}
 use Rattle.zr_rules.specs.Equation.{devices_in}
@@ -22,9 +22,9 @@ use Rattle.zr_script.specs.declared.command.Command.TheVariants as cmd
 use Rattle.zr_script.specs.declared.reply.Reply.{Reply}
 use Rattle.zr_script.specs.declared.reply.Reply.TheVariants as reply
 use Rattle.zr_shelf.proofs.Runs.{joined, weaker}
-use Rattle.zr_shelf.specs.Disks.{Stand}
+use Rattle.zr_shelf.specs.Disks.{Stand, IsAtRest}
 use Rattle.zr_shelf.specs.Moments.{IsStill, Throughout, World}
-use Rattle.zr_open.specs.There.{AreThere}
+use Rattle.zr_open.specs.There.{AreThere, IsStillThere}
 use Rattle.zr_stops.proofs.Joining.{adds_show}
 use Rattle.zr_stops.proofs.Behind.{behind_shows, commit_behind, commit_shows, line_behind, line_shows, left_behind, made_behind, shown_behind, stop_shows, turn_shows}
 use Rattle.zr_stops.proofs.Within.{left_by, same_behind}
@@ -36,16 +36,24 @@ use Rattle.zr_sync.specs.Writes.{WorksOnDisks, WritesIntoFree}
 use Rattle.zr_sync.specs.declared.fault.Fault.{Fault}
 use Rattle.zr_sync.specs.declared.fault.Fault.TheVariants.{No, Stops}
 use Rattle.zr_sync.specs.declared.open.OpenPool.{OpenPool}
-use Rattle.zr_pool.proofs.Closed.{StandsAs, closed_behind, closed_shows, flushes_keep, still_closed}
-use Rattle.zr_pool.proofs.Groups.{acknowledged_commits, commits_in_group, copy_no_commit, copy_no_reset, making_stops, not_resetting, opens_no_commit, opens_no_reset, resets_told}
+use Rattle.zr_create.specs.Making.{HasNoRoot, MakesBehind}
+use Rattle.zr_open.proofs.Flushing.{flushes_read}
+use Rattle.zr_stops.proofs.Making.{in_the_way, makes_empty}
+use Rattle.zr_pool.proofs.Beginning.{flushes_unwritten, of_beginning, puts_work, unwritten_more}
+use Rattle.zr_open.specs.Going.{PutsBack}
+use Rattle.zr_open.specs.Shown.{Shows}
+use Rattle.zr_stops.proofs.Returning.{returns_either}
+use Rattle.zr_stops.proofs.Preparing.{settled_left}
+use Rattle.zr_pool.proofs.Closed.{StandsAs, closed_behind, closed_shows, flushes_keep, still_closed, stands_as}
+use Rattle.zr_pool.proofs.Groups.{acknowledged_commits, commits_in_group, copy_no_commit, copy_no_reset, not_resetting, opens_no_commit, opens_no_reset, resets_told, opening_stops}
 use Rattle.zr_pool.proofs.Outside.{keeps_outside}
 use Rattle.zr_pool.proofs.Resets.{behind_last, reset_behind}
 use Rattle.zr_pool.proofs.Turning.{left_of}
-use Rattle.zr_pool.specs.Behind.{ComesFrom, HasReset, IsBehindTurn, LeavesEither, LeavesOnly, StaysTold, StopsInReset, is_acknowledged, is_commit, is_create, is_import, is_in_group, is_known, is_making, is_refusal, is_resetting, leaves_told, may_stop, all_there, are_there}
+use Rattle.zr_pool.specs.Behind.{ComesFrom, HasReset, IsBehindTurn, LeavesEither, LeavesOnly, StaysTold, StopsInReset, is_acknowledged, is_commit, is_create, is_import, is_in_group, is_known, is_refusal, is_resetting, leaves_told, may_stop, all_there, are_there, StopsInCreate, AreAllThere, OpensTo, StopsInOpening}
 use Rattle.zr_pool.specs.Behind.ComesFrom.{kept, committed, changed, made, found}
 use Rattle.zr_pool.specs.Ends.{answer_of, is_closing}
 use Rattle.zr_pool.specs.Plain.{IsDone, is_copy, is_untold_behind}
-use Rattle.zr_pool.specs.Pools.{DeviceState, IsBehind, IsClosedBehind, IsPartOf, stand_of}
+use Rattle.zr_pool.specs.Pools.{DeviceState, IsBehind, IsClosedBehind, IsPartOf, stand_of, IsAsBegun, IsUnwritten}
 use Rattle.zr_pool.specs.Turns.{IsClosedAnswer, IsTurn, IsWithin, is_on_objects, is_opener, is_table}
 
 no_way : {P : Type 0} → false ≡ true → P
@@ -68,6 +76,13 @@ rows_there : (parts : List DevPart) → all_there parts ≡ true → (d : ℕ) �
 rows_there [] all d = refl
 rows_there (p ∷ parts) all zero = first_there (is_gone p.row.state) (all_there parts) all
 rows_there (p ∷ parts) all (suc d) = rows_there parts (rest_there (is_gone p.row.state) (all_there parts) all) d
+
+all_rows : (parts : List DevPart) → ((d : ℕ) → is_gone (part_of parts d).row.state ≡ false) → all_there parts ≡ true
+all_rows [] on = refl
+all_rows (p ∷ parts) on = ap (λ (b : Bool). not b && all_there parts) (on zero) ∙ all_rows parts (λ d. on (suc d))
+
+all_devices : (pool : OpenPool) → AreThere (devices_in pool.space) → are_there (Some pool) ≡ true
+all_devices pool on = all_rows pool.space.parts.devs on
 
 devices_there : (pool : OpenPool) → are_there (Some pool) ≡ true → AreThere (devices_in pool.space)
 devices_there pool all d = rows_there pool.space.parts.devs all d
@@ -257,7 +272,10 @@ off_objects command table = no_way table
 -- ---- where a pool is open
 
 module _ (old new : World) (before : DeviceState) (command : Command) (x y : OpenPool) (sizes : List ℕ) (lawful : IsOpen sizes x) (sized_old : map length old.now.seen ≡ sizes) (sized_new : map length new.now.seen ≡ sizes)
-    (part : IsPartOf old.now.seen x before.told.shelf) (account : before.account ≡ Some x) (was_shown : before.shown ≡ true → ShowsLast old.now.seen x) (was : IfSome before.behind (IsBehind (Some x) (disks_of old.now))) where
+    (part : IsPartOf old.now.seen x before.told.shelf) (account : before.account ≡ Some x) (was_shown : before.shown ≡ true → ShowsLast old.now.seen x) (was : IfSome before.behind (IsBehind (Some x) (disks_of old.now))) (since : IfSome before.begun (IsAsBegun (Some x) (disks_of old.now))) where
+  not_begun : (first : Disks) → before.begun ≡ Some first → ⊥
+  not_begun first is = let some : Some x ≡ None = (subst (λ (o : Option Disks). IfSome o (IsAsBegun (Some x) (disks_of old.now))) is since).0 in cc
+
   is_open : before.account ≡ None → ⊥
   is_open none = let both = sym none ∙ account in absurd cc
 
@@ -446,7 +464,7 @@ module _ (old new : World) (before : DeviceState) (command : Command) (x y : Ope
       still_shows objects q is = leaves_there objects q.objects old.now (first_of objects q.objects old.now (behind_shows sizes objects x old.now (stood objects is)))
 
       nothing : is_table command ≡ false → ((objects : Objects) (q : PoolState) → before.behind ≡ Some objects → before.told.shelf ≡ Is q → may_stop command ≡ true → ⊥) → Throughout Within old new
-      nothing off none = weaker _ Within old new (λ s _. record { tables = at_table s (λ on. no_way (sym off ∙ on)); shows = λ objects q is told group. absurd (none objects q is told group); opens = λ objects closed is off_making. absurd (is_open closed) }) (keeps_outside old new works).since
+      nothing off none = weaker _ Within old new (λ s _. record { tables = at_table s (λ on. no_way (sym off ∙ on)); shows = λ objects q is told group. absurd (none objects q is told group); opens = λ objects closed is off_making. absurd (is_open closed); begins = λ first is. absurd (not_begun first is) }) (keeps_outside old new works).since
 
       by_part : (o : Option Objects) (s : ShelfPart) → before.behind ≡ o → before.told.shelf ≡ s → is_table command ≡ false → ((objects : Objects) → before.behind ≡ Some objects → (p : PoolState) → before.told.shelf ≡ Is p → Throughout (ShowsEither objects p.objects) old new) → Throughout Within old new
       by_part None s is told off shown = nothing off (λ objects q also told_q on. none_some objects (sym is ∙ also))
@@ -459,6 +477,7 @@ module _ (old new : World) (before : DeviceState) (command : Command) (x y : Ope
                 let second : p ≡ q = (let both = sym told ∙ told_q in cc) in
                 subst (λ (r : PoolState). LeavesEither all r.objects (disks_of s)) second (subst (λ (a : Objects). LeavesEither a p.objects (disks_of s)) first (leaves_there objects p.objects s shows));
             opens = λ all closed also off_making. absurd (is_open closed);
+            begins = λ first_disks begun. absurd (not_begun first_disks begun);
           })
           (shown objects is p told)
       by_part (Some objects) Empty is told off shown = nothing off (λ all q also told_q on. let both = sym told ∙ told_q in absurd cc)
@@ -479,6 +498,7 @@ module _ (old new : World) (before : DeviceState) (command : Command) (x y : Ope
             tables = at_table s (λ _. ap (λ (t : Stand). t.seen) same);
             shows = λ objects q is told group. subst (λ (t : Stand). LeavesEither objects q.objects (disks_of t)) (sym same) (still_shows objects q is);
             opens = λ objects closed is off_making. absurd (is_open closed);
+            begins = λ first is. absurd (not_begun first is);
           })
           (nothing_done on).since
       by_table false off = by_group (is_in_group command) refl off
@@ -490,15 +510,15 @@ no_import (cmd.Create name guid devs) create import = no_way import
 no_import (cmd.CreateOld name guid devs) create import = no_way import
 no_import command create import = no_way create
 
-module _ (old new : World) (before : DeviceState) (command : Command) (account : before.account ≡ None) (was : IfSome before.behind (IsBehind None (disks_of old.now))) where
+module _ (old new : World) (before : DeviceState) (command : Command) (account : before.account ≡ None) (was : IfSome before.behind (IsBehind None (disks_of old.now))) (since : IfSome before.begun (IsAsBegun None (disks_of old.now))) where
+  begun_at : (first : Disks) → before.begun ≡ Some first → IsUnwritten first (disks_of old.now)
+  begun_at first is = (subst (λ (o : Option Disks). IfSome o (IsAsBegun None (disks_of old.now))) is since).1
+
   closed_at : (objects : Objects) → before.behind ≡ Some objects → IsClosedBehind (disks_of old.now) objects
   closed_at objects is = subst (λ (o : Option Objects). IfSome o (IsBehind None (disks_of old.now))) is was
 
-  leaves_closed : (n : Refusal) → is_making command ≡ false → leaves_told before.account (reply.No n) command ≡ true
-  leaves_closed n off = subst (λ (o : Option OpenPool). leaves_told o (reply.No n) command ≡ true) (sym account) (ap not off)
-
-  left_closed : (n : Refusal) → leaves_told before.account (reply.No n) command ≡ true → not (is_making command) ≡ true
-  left_closed n leaves = subst (λ (o : Option OpenPool). leaves_told o (reply.No n) command ≡ true) account leaves
+  leaves_closed : (n : Refusal) → leaves_told before.account (reply.No n) command ≡ true
+  leaves_closed n = subst (λ (o : Option OpenPool). leaves_told o (reply.No n) command ≡ true) (sym account) refl
 
   -- what is done here does not leave it told
   none_left : leaves_told before.account reply.Done command ≡ true → ⊥
@@ -572,34 +592,30 @@ module _ (old new : World) (before : DeviceState) (command : Command) (account :
         by_pool None ready comes leaves shows held = closed_untold None (λ create there. no_way there) (λ import there p told. no_way there)
         by_pool (Some y) ready comes leaves shows held = by_create y ready shows (is_create command) refl comes leaves held
 
-    -- a refusal that writes nothing leaves what is told
-    module _ (n : Refusal) (flushes : is_making command ≡ false → FlushesOnly old new) where
+    -- a refusal writes nothing, and leaves what is told
+    module _ (n : Refusal) (flushes : FlushesOnly old new) where
       untold_no : ((p : PoolState) → before.told.shelf ≡ Is p → is_some before.behind ≡ true → leaves_told before.account (reply.No n) command ≡ true → ⊥) → Behinds new before command now_told None (reply.No n)
       untold_no none = untold new before command now_told None (reply.No n) (λ also create there. no_way there) (λ also import there p told. no_way there) none (λ p told known on done there. no_way there) (λ p told known acknowledged. no_way acknowledged)
 
-      refused_part : (objects : Objects) → before.behind ≡ Some objects → is_making command ≡ false → (s : ShelfPart) → before.told.shelf ≡ s → Behinds new before command now_told None (reply.No n)
-      refused_part objects is off (Is p) told =
-          told_behind new before command now_told None (reply.No n) p objects (λ none create done. absurd (let e : reply.No n ≡ reply.Done = done in cc)) (λ none import done. absurd (let e : reply.No n ≡ reply.Done = done in cc)) told (kept p told (leaves_closed n off) is)
-          (still_closed (disks_of old.now) new.now objects (flushes_keep old new objects (closed_at objects is) (flushes off)).1 (closed_at objects is)) (λ on done. no_way (sym done)) (λ acknowledged. no_way acknowledged)
-      refused_part objects is off Empty told = untold_no (λ p also some leaves. let both = sym told ∙ also in absurd cc)
-      refused_part objects is off (Refused r) told = untold_no (λ p also some leaves. let both = sym told ∙ also in absurd cc)
+      refused_part : (objects : Objects) → before.behind ≡ Some objects → (s : ShelfPart) → before.told.shelf ≡ s → Behinds new before command now_told None (reply.No n)
+      refused_part objects is (Is p) told =
+          told_behind new before command now_told None (reply.No n) p objects (λ none create done. absurd (let e : reply.No n ≡ reply.Done = done in cc)) (λ none import done. absurd (let e : reply.No n ≡ reply.Done = done in cc)) told (kept p told (leaves_closed n) is)
+          (still_closed (disks_of old.now) new.now objects (flushes_keep old new objects (closed_at objects is) flushes).1 (closed_at objects is)) (λ on done. no_way (sym done)) (λ acknowledged. no_way acknowledged)
+      refused_part objects is Empty told = untold_no (λ p also some leaves. let both = sym told ∙ also in absurd cc)
+      refused_part objects is (Refused r) told = untold_no (λ p also some leaves. let both = sym told ∙ also in absurd cc)
 
-      refused_last : (o : Option Objects) → before.behind ≡ o → is_making command ≡ false → Behinds new before command now_told None (reply.No n)
-      refused_last None is off = untold_no (λ p told some leaves. no_way (sym (ap (λ (o : Option Objects). is_some o) is) ∙ some))
-      refused_last (Some objects) is off = refused_part objects is off before.told.shelf refl
-
-      refused_making : (b : Bool) → is_making command ≡ b → Behinds new before command now_told None (reply.No n)
-      refused_making true making = untold_no (λ p told some leaves. no_way (sym (ap not making) ∙ left_closed n leaves))
-      refused_making false off = refused_last before.behind refl off
+      refused_last : (o : Option Objects) → before.behind ≡ o → Behinds new before command now_told None (reply.No n)
+      refused_last None is = untold_no (λ p told some leaves. no_way (sym (ap (λ (o : Option Objects). is_some o) is) ∙ some))
+      refused_last (Some objects) is = refused_part objects is before.told.shelf refl
 
     pub closed_behinds : (sizes : List ℕ) (pool : Option OpenPool) → IfSome pool (IsOpen sizes) → (is_create command ≡ true → IfSome pool (λ y. ComesCommitted sizes y map.empty new)) → (is_import command ≡ true → IfSome pool (IsLeftCommitted new.now)) → IfSome pool (ShowsLast new.now.seen) → map length new.now.seen ≡ sizes
-        → IfSome pool (λ y. IsPartOf new.now.seen y now_told) → (is_making command ≡ false → FlushesOnly old new) → (r : Result (Option Reply) Fault) → IfOk r (λ answered. IfSome answered (λ answer. IsTurn false command answer (is_some pool))) → IfOk r (λ answered. IfSome answered (λ answer. answer ≡ reply.Done)) → OnErr r (pool ≡ None)
+        → IfSome pool (λ y. IsPartOf new.now.seen y now_told) → (r : Result (Option Reply) Fault) → ((n : Refusal) → r ≡ Err (No n) → FlushesOnly old new) → IfOk r (λ answered. IfSome answered (λ answer. IsTurn false command answer (is_some pool))) → IfOk r (λ answered. IfSome answered (λ answer. answer ≡ reply.Done)) → OnErr r (pool ≡ None)
         → IfOk (answer_of r) (λ answered. IfSome answered (λ answer. Behinds new before command now_told pool answer))
-    closed_behinds sizes pool ready comes leaves shows sized held flushes (Ok None) turn done closed = tt
-    closed_behinds sizes pool ready comes leaves shows sized held flushes (Ok (Some answer)) turn done closed =
+    closed_behinds sizes pool ready comes leaves shows sized held (Ok None) flushes turn done closed = tt
+    closed_behinds sizes pool ready comes leaves shows sized held (Ok (Some answer)) flushes turn done closed =
         subst (λ (a : Reply). Behinds new before command now_told pool a) (sym done) (by_pool (subst (IsClosedAnswer command) done turn.0) sizes sized pool ready comes leaves shows held)
-    closed_behinds sizes pool ready comes leaves shows sized held flushes (Err (No n)) turn done closed = subst (λ (o : Option OpenPool). Behinds new before command now_told o (reply.No n)) (sym closed) (refused_making n flushes (is_making command) refl)
-    closed_behinds sizes pool ready comes leaves shows sized held flushes (Err (Stops s)) turn done closed = tt
+    closed_behinds sizes pool ready comes leaves shows sized held (Err (No n)) flushes turn done closed = subst (λ (o : Option OpenPool). Behinds new before command now_told o (reply.No n)) (sym closed) (refused_last n (flushes n refl) before.behind refl)
+    closed_behinds sizes pool ready comes leaves shows sized held (Err (Stops s)) flushes turn done closed = tt
 
   -- ---- the moments of a line
 
@@ -609,21 +625,98 @@ module _ (old new : World) (before : DeviceState) (command : Command) (account :
   no_table : (s : Stand) → IfSome before.account (λ pool. is_table command ≡ true → s.seen ≡ old.now.seen)
   no_table s = subst (λ (o : Option OpenPool). IfSome o (λ pool. is_table command ≡ true → s.seen ≡ old.now.seen)) (sym account) tt
 
-  pub closed_within : WorksOnDisks old new → (is_making command ≡ false → FlushesOnly old new) → Throughout ClosedWithin old new
-  closed_within works flushes = by_making (is_making command) refl
+  -- the objects that were committed last were shown before the line
+  showed_last : (p : PoolState) → Shows old.now.paths old.now.seen p → (objects : Objects) → before.behind ≡ Some objects → p.objects ≡ objects
+  showed_last p shown objects is =
+      let closed = closed_at objects is in
+      closed_shows (disks_of old.now) objects closed old.now.seen (settled_left (stand_of (disks_of old.now)) closed.durable) old.now.paths p shown
+
+  -- nothing was written up to there
+  quiet : (s : Stand) → IsUnwritten (disks_of old.now) (disks_of s) → ClosedWithin s
+  quiet s same = record {
+    tables = no_table s;
+    shows = λ all q also told group image left paths p shown. inl (only all also image left paths p shown);
+    opens = λ all closed also there image left paths p shown. inl (only all also image left paths p shown);
+    begins = λ first is there image left. inl (of_beginning first (disks_of s) image (unwritten_more first (disks_of old.now) (disks_of s) (begun_at first is) same) left);
+  }
     where
-      nothing : ((objects : Objects) → before.behind ≡ Some objects → is_making command ≡ false → ⊥) → ((objects : Objects) → before.behind ≡ Some objects → may_stop command ≡ true → ⊥) → Throughout ClosedWithin old new
-      nothing none none_group = weaker _ ClosedWithin old new (λ s _. record { tables = no_table s; shows = λ objects q is told group. absurd (none_group objects is group); opens = λ objects closed is off. absurd (none objects is off) }) (keeps_outside old new works).since
+      only : (all : Objects) → before.behind ≡ Some all → LeavesOnly all (disks_of s)
+      only all also = closed_shows (disks_of s) all (still_closed (disks_of old.now) s all (stands_as (disks_of old.now) s (closed_at all also).durable (closed_at all also).writes same) (closed_at all also))
 
-      by_last : (o : Option Objects) → before.behind ≡ o → is_making command ≡ false → Throughout ClosedWithin old new
-      by_last None is off = nothing (λ objects also _. none_some objects (sym is ∙ also)) (λ objects also _. none_some objects (sym is ∙ also))
-      by_last (Some objects) is off =
-          weaker (StandsAs (disks_of old.now)) ClosedWithin old new
-          (λ s same.
-          let only : (all : Objects) → before.behind ≡ Some all → LeavesOnly all (disks_of s) = (λ all also. closed_shows (disks_of s) all (still_closed (disks_of old.now) s all same (closed_at all also))) in
-          record { tables = no_table s; shows = λ all q also told group image left paths p shown. inl (only all also image left paths p shown); opens = λ all closed also on. only all also })
-          (flushes_keep old new objects (closed_at objects is) (flushes off)).0
+  unwritten_within : (mid : World) → FlushesOnly old mid → Throughout ClosedWithin old mid
+  unwritten_within mid flushes = weaker (λ s. IsUnwritten (disks_of old.now) (disks_of s)) ClosedWithin old mid quiet (flushes_unwritten old mid flushes).0
 
-      by_making : (b : Bool) → is_making command ≡ b → Throughout ClosedWithin old new
-      by_making true making = nothing (λ objects is off. no_way (sym off ∙ making)) (λ objects is may. making_stops command making may)
-      by_making false off = by_last before.behind refl off
+  -- a pool is made, where none was committed
+  module _ (opener : is_opener command ≡ true) where
+    made_within : (sizes : List ℕ) (start : World) (named : List ℕ) → ((objects : Objects) → objects ≡ map.empty → OpensTo (point old.now before).shelf command objects) → map length start.now.seen ≡ sizes → FlushesOnly old start → IsAtRest start.now → MakesBehind sizes named start new → (o : Option Objects) → before.behind ≡ o
+        → Throughout ClosedWithin old new
+    made_within sizes start named empty sized flushes rest makes (Some objects) is =
+        let closed = closed_at objects is in
+        let same = subst HasNoRoot (flushes_read old start flushes).seen makes.unused in
+        absurd (in_the_way (map length old.now.seen) objects closed.pool (stand_of (disks_of old.now)) closed.behind same)
+    made_within sizes start named empty sized flushes rest makes None is =
+        joined ClosedWithin old start new (unwritten_within start flushes)
+        (weaker (ShowsOnly map.empty) ClosedWithin start new (λ s only. record {
+          tables = no_table s;
+          shows = λ objects q also told may. none_some objects (sym is ∙ also);
+          opens = λ objects closed also there. none_some objects (sym is ∙ also);
+          begins = λ first begun there image left. inr (λ paths p shown. inr (empty p.objects (only image (left_by s (stand_of (disks_of s)) (same_disks s) image left) paths p shown)));
+        }) (makes_empty sizes named start new rest sized makes))
+
+    stops_within : (sizes : List ℕ) → map length old.now.seen ≡ sizes → ((objects : Objects) → objects ≡ map.empty → OpensTo (point old.now before).shelf command objects) → StopsInCreate sizes old new → Throughout ClosedWithin old new
+    stops_within sizes sized empty (inl nothing) = unwritten_within new nothing
+    stops_within sizes sized empty (inr (start, named, flushes, rest, makes)) = made_within sizes start named empty (ap (λ (d : List (List ℕ)). map length d) (flushes_read old start flushes).seen ∙ sized) flushes rest makes before.behind refl
+
+    -- a pool is gone back to: the one that was shown, or the other
+    module _ (sizes : List ℕ) (read : World) (flushes : FlushesOnly old read) (rest : IsAtRest read.now) (p : PoolState) (shown : Shows old.now.paths old.now.seen p) (after : Objects) (puts : PutsBack sizes p.objects after read new) (opens : OpensTo (point old.now before).shelf command after)
+        (there : AreAllThere (point old.now before).shelf command → AreThere (devices_in puts.pool.space)) (there_back : AreAllThere (point old.now before).shelf command → AreThere (devices_in puts.back.space)) where
+      either_within : (s : Stand) → ShowsEither p.objects after s → ClosedWithin s
+      either_within s shows = record {
+        tables = no_table s;
+        shows = λ all q also told may. absurd (opening_stops command opener may);
+        opens = λ all closed also all_there image left paths q is. ⊎_elim (λ same. inl (same ∙ showed_last p shown all also)) (λ same. inr (subst (OpensTo (point old.now before).shelf command) (sym same) opens)) (shows image (left_by s (stand_of (disks_of s)) (same_disks s) image left) paths q is);
+        begins = λ first begun all_there image left. inr (λ paths q is. ⊎_elim (λ same. inl (p, shown, sym same)) (λ same. inr (subst (OpensTo (point old.now before).shelf command) (sym same) opens)) (shows image (left_by s (stand_of (disks_of s)) (same_disks s) image left) paths q is));
+      }
+
+      -- a device is gone
+      gone_within : WorksOnDisks read new → (AreAllThere (point old.now before).shelf command → ⊥) → Throughout ClosedWithin read new
+      gone_within works out = weaker _ ClosedWithin read new (λ s _. record {
+        tables = no_table s;
+        shows = λ all q also told may. absurd (opening_stops command opener may);
+        opens = λ all closed also all_there. absurd (out all_there);
+        begins = λ first begun all_there. absurd (out all_there);
+      }) (keeps_outside read new works).since
+
+      back_by : WorksOnDisks read new → (a b : Bool) → are_there (Some puts.pool) ≡ a → are_there (Some puts.back) ≡ b → Throughout ClosedWithin read new
+      back_by works true true is is_back = weaker (ShowsEither p.objects after) ClosedWithin read new either_within (returns_either sizes p.objects after read new puts (devices_there puts.pool is) (devices_there puts.back is_back))
+      back_by works false b is is_back = gone_within works (λ all. no_way (sym is ∙ all_devices puts.pool (there all)))
+      back_by works true false is is_back = gone_within works (λ all. no_way (sym is_back ∙ all_devices puts.back (there_back all)))
+
+      back_within : WorksOnDisks read new → Throughout ClosedWithin old new
+      back_within works = joined ClosedWithin old read new (unwritten_within read flushes) (back_by works (are_there (Some puts.pool)) (are_there (Some puts.back)) refl refl)
+
+  -- what is told of a removal in the line's own words
+  back_to : (c : Command) → command ≡ c → AreAllThere (point old.now before).shelf command → AreAllThere (point old.now before).shelf c
+  back_to c is all = subst (AreAllThere (point old.now before).shelf) is all
+
+  to_back : (c : Command) → command ≡ c → (objects : Objects) → OpensTo (point old.now before).shelf c objects → OpensTo (point old.now before).shelf command objects
+  to_back c is objects h = subst (λ (d : Command). OpensTo (point old.now before).shelf d objects) (sym is) h
+
+  opener_is : (c : Command) → command ≡ c → is_opener c ≡ true → is_opener command ≡ true
+  opener_is c is on = subst (λ (d : Command). is_opener d ≡ true) (sym is) on
+
+  by_command : (sizes : List ℕ) → map length old.now.seen ≡ sizes → (c : Command) → command ≡ c → StopsInOpening sizes c old new → Throughout ClosedWithin old new
+  by_command sizes sized (cmd.Create name guid devs) is stops = stops_within (opener_is (cmd.Create name guid devs) is refl) sizes sized (λ objects none. to_back (cmd.Create name guid devs) is objects none) stops
+  by_command sizes sized (cmd.CreateOld name guid devs) is stops = stops_within (opener_is (cmd.CreateOld name guid devs) is refl) sizes sized (λ objects none. to_back (cmd.CreateOld name guid devs) is objects none) stops
+  by_command sizes sized cmd.ImportRewind is (inl nothing) = unwritten_within new nothing
+  by_command sizes sized cmd.ImportRewind is (inr r) =
+      back_within (opener_is cmd.ImportRewind is refl) sizes r.read r.flushes r.rest r.state r.shown r.saved.objects r.puts (to_back cmd.ImportRewind is r.saved.objects (r.state, r.saved, r.shown, r.saved_is, refl)) (λ all. r.there (back_to cmd.ImportRewind is all r.state r.shown).0)
+      (λ all. r.there_back (subst (λ (o : Option Saved). IfSome o (λ s. All IsStillThere s.devs)) r.saved_is (back_to cmd.ImportRewind is all r.state r.shown).1)) (puts_work sizes (record r.puts.back { last = Some r.puts.current }) r.puts.root r.read new r.puts.puts)
+  by_command sizes sized (cmd.ImportTxg txg) is (inl nothing) = unwritten_within new nothing
+  by_command sizes sized (cmd.ImportTxg txg) is (inr r) =
+      back_within (opener_is (cmd.ImportTxg txg) is refl) sizes r.read r.flushes r.rest r.state r.shown r.group.objects r.puts (to_back (cmd.ImportTxg txg) is r.group.objects (r.group, r.group_shown, refl)) (λ all. r.there ((back_to (cmd.ImportTxg txg) is all).0 r.state r.shown))
+      (λ all. r.there_back ((back_to (cmd.ImportTxg txg) is all).1 r.group r.group_shown)) (puts_work sizes (record r.puts.back { last = Some r.puts.current }) r.puts.root r.read new r.puts.puts)
+  by_command sizes sized c is stops = unwritten_within new stops
+
+  pub closed_within : (sizes : List ℕ) → map length old.now.seen ≡ sizes → StopsInOpening sizes command old new → Throughout ClosedWithin old new
+  closed_within sizes sized stops = by_command sizes sized command refl stops

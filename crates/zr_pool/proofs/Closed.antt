@@ -1,5 +1,5 @@
 -- A pool that is closed: what a commit left stays there, as long as nothing is done but flushes.
-use Rattle.std.proofs.Common.{◌≡◌, ℕ, Bool, List, [], length, map, refl, sym, ◌∙◌, ap, subst}
+use Rattle.std.proofs.Common.{◌≡◌, inl, inr, ℕ, Bool, List, [], length, map, refl, sym, ◌∙◌, ap, subst}
 use Rattle.zr_command.specs.Meanings.{Disks, disks_of}
 use Rattle.zr_last.proofs.Ending.{commit_rests}
 use Rattle.zr_sync.specs.Ends.{EndsCommitted}
@@ -16,7 +16,7 @@ use Rattle.zr_stops.specs.Behind.{StandsBehind}
 use Rattle.zr_sync.specs.Pools.{IsOpen}
 use Rattle.zr_sync.specs.declared.open.OpenPool.{OpenPool}
 use Rattle.zr_pool.specs.Behind.{LeavesOnly}
-use Rattle.zr_pool.specs.Pools.{IsClosedBehind, stand_of}
+use Rattle.zr_pool.specs.Pools.{IsClosedBehind, IsUnwritten, stand_of}
 
 -- ---- flushes where nothing is pending
 
@@ -25,6 +25,11 @@ pub record StandsAs (d : Disks) (s : Stand) : Type 0 where
   pub durable : s.durable ≡ d.durable
   pub writes : s.writes ≡ d.writes
   pub seen : s.seen ≡ d.seen
+
+-- so they do where nothing was written, and nothing is pending
+pub stands_as : (d : Disks) (s : Stand) → d.durable ≡ d.seen → d.writes ≡ [] → IsUnwritten d (disks_of s) → StandsAs d s
+stands_as d s rest none (inl same) = record { durable = ap (λ (x : Disks). x.durable) same; writes = ap (λ (x : Disks). x.writes) same; seen = ap (λ (x : Disks). x.seen) same }
+stands_as d s rest none (inr same) = record { durable = ap (λ (x : Disks). x.durable) same ∙ sym rest; writes = ap (λ (x : Disks). x.writes) same ∙ sym none; seen = ap (λ (x : Disks). x.seen) same }
 
 as_they_are : (s : Stand) → StandsAs (disks_of s) s
 as_they_are s = record { durable = refl; writes = refl; seen = refl }

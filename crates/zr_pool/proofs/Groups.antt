@@ -8,6 +8,7 @@ use Rattle.zr_lines.proofs.Stopping.{in_group_itself}
 use Rattle.zr_sync.specs.Ends.{EndsCommitted}
 use Rattle.zr_lines.specs.Stops.{OpensNoUnit, StaysInGroup, StaysInOneGroup}
 use Rattle.zr_model.specs.Objects.{Objects}
+use Rattle.zr_open.specs.Flushed.{FlushesOnly}
 use Rattle.zr_rules.specs.Roles.{Role, discarded}
 use Rattle.zr_rules.specs.Roles.Role.{Kept}
 use Rattle.zr_rules.specs.Space.{Space, role_at}
@@ -24,7 +25,7 @@ use Rattle.zr_sync.specs.declared.open.OpenPool.{OpenPool}
 use Rattle.zr_vdev.proofs.Follows.{others_itself}
 use Rattle.zr_vdev.specs.Stores.{IsWriteInto, KeepsOthers, is_open_role}
 use Rattle.zr_vdev.specs.declared.kind.Kind.TheVariants.{Block}
-use Rattle.zr_pool.specs.Behind.{is_acknowledged, is_commit, is_in_group, is_making, is_resetting, may_stop}
+use Rattle.zr_pool.specs.Behind.{StopsInOpening, is_acknowledged, is_commit, is_in_group, is_resetting, may_stop}
 use Rattle.zr_pool.specs.Plain.{is_copy, is_of_removal, is_untold_behind}
 use Rattle.zr_pool.specs.Turns.{is_on_objects, is_on_pool, is_opener, is_table}
 
@@ -62,13 +63,23 @@ not_opener cmd.ImportRewind on group = no_way group
 not_opener (cmd.ImportTxg txg) on group = no_way group
 not_opener command on group = no_way on
 
--- at no moment of such a line is it told what a crash shows
-pub making_stops : (command : Command) → is_making command ≡ true → may_stop command ≡ true → ⊥
-making_stops (cmd.Create name guid devs) on may = no_way may
-making_stops (cmd.CreateOld name guid devs) on may = no_way may
-making_stops cmd.ImportRewind on may = no_way may
-making_stops (cmd.ImportTxg txg) on may = no_way may
-making_stops command on may = no_way on
+-- a line that makes a pool or goes back stops in no group
+pub opening_stops : (command : Command) → is_opener command ≡ true → may_stop command ≡ true → ⊥
+opening_stops (cmd.Create name guid devs) on may = no_way may
+opening_stops (cmd.CreateOld name guid devs) on may = no_way may
+opening_stops cmd.Import on may = no_way may
+opening_stops cmd.ImportRewind on may = no_way may
+opening_stops (cmd.ImportTxg txg) on may = no_way may
+opening_stops command on may = no_way on
+
+-- what a line wrote that makes no pool and does not go back is nothing
+pub opening_nothing : (sizes : List ℕ) (command : Command) (before now : World) → ((name : List ℕ) (guid : ℕ) (devs : List (List ℕ)) → command ≡ cmd.Create name guid devs → ⊥) → ((name : List ℕ) (guid : ℕ) (devs : List (List ℕ)) → command ≡ cmd.CreateOld name guid devs → ⊥) → (command ≡ cmd.ImportRewind → ⊥) → ((txg : ℕ) → command ≡ cmd.ImportTxg txg → ⊥)
+    → FlushesOnly before now → StopsInOpening sizes command before now
+opening_nothing sizes (cmd.Create name guid devs) before now new old back group nothing = absurd (new name guid devs refl)
+opening_nothing sizes (cmd.CreateOld name guid devs) before now new old back group nothing = absurd (old name guid devs refl)
+opening_nothing sizes cmd.ImportRewind before now new old back group nothing = absurd (back refl)
+opening_nothing sizes (cmd.ImportTxg txg) before now new old back group nothing = absurd (group txg refl)
+opening_nothing sizes command before now new old back group nothing = nothing
 
 pub not_resetting : (command : Command) → is_resetting command ≡ true → is_in_group command ≡ true → ⊥
 not_resetting (cmd.Add dev) on group = no_way group

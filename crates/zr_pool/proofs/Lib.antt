@@ -12,5 +12,6 @@ pub mod Blaming
 pub mod Groups
 pub mod Closed
 pub mod Resets
+pub mod Beginning
 pub mod Behind
 pub mod Accounting

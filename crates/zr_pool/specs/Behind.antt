@@ -1,26 +1,33 @@
 -- What a stop leaves of the pool on devices, in the group that is open and while it is committed.
-use Rattle.std.specs.Prelude.{◌≡◌, ◌⊎◌, ℕ, Bool, true, false, not, ◌&&◌, ◌||◌, List, [], ◌∷◌, Option, Some, None, is_some, if◌then◌else◌}
+use Rattle.std.specs.Prelude.{◌≡◌, ◌⊎◌, ℕ, All, IfSome, Bool, true, false, not, ◌&&◌, ◌||◌, List, [], ◌∷◌, Option, Some, None, is_some, if◌then◌else◌}
 use Rattle.std.specs.FinMap as map
 use Rattle.zr_base.specs.declared.space.DevPart.{DevPart}
 use Rattle.zr_command.specs.Meanings.{Disks}
 use Rattle.zr_sync.specs.Ends.{LeavesCommitted}
 use Rattle.zr_create.specs.Adding.{AddsInPart}
+use Rattle.zr_create.specs.Making.{MakesBehind}
+use Rattle.zr_image.specs.Honest.{IsLeft}
 use Rattle.zr_lines.specs.Stops.{OpensNoUnit, StaysInOneGroup, WritesReset}
 use Rattle.zr_model.specs.Objects.{Objects}
-use Rattle.zr_model.specs.State.{PoolState, ShelfPart, Is}
+use Rattle.zr_model.specs.Runs.{Shelf}
+use Rattle.zr_model.specs.State.{PoolState, Saved, ShelfPart, Is}
+use Rattle.zr_open.specs.Flushed.{FlushesOnly}
+use Rattle.zr_open.specs.Going.{GoesBackInPart, RewindsInPart}
+use Rattle.zr_open.specs.Shown.{Shows, ShowsGroup}
+use Rattle.zr_open.specs.There.{IsStillThere}
 use Rattle.zr_rules.specs.Places.{is_gone}
 use Rattle.zr_script.specs.declared.command.Command.{Command}
 use Rattle.zr_script.specs.declared.command.Command.TheVariants as cmd
 use Rattle.zr_script.specs.declared.reply.Reply.{Reply}
 use Rattle.zr_script.specs.declared.reply.Reply.TheVariants as reply
-use Rattle.zr_shelf.specs.Disks.{Stand}
+use Rattle.zr_shelf.specs.Disks.{IsAtRest, Stand}
 use Rattle.zr_shelf.specs.Moments.{IsStill, World}
 use Rattle.zr_stops.specs.Behind.{ShowsOnly}
 use Rattle.zr_stops.specs.Either.{ShowsEither}
 use Rattle.zr_sync.specs.Objects.{HoldsObjects}
 use Rattle.zr_sync.specs.declared.open.OpenPool.{OpenPool}
 use Rattle.zr_pool.specs.Plain.{is_copy}
-use Rattle.zr_pool.specs.Pools.{DeviceState, stand_of}
+use Rattle.zr_pool.specs.Pools.{DeviceState, settled, stand_of}
 
 -- The lines that work in the group that is open, or end it by a commit: those on objects, tables, `step discard`, `sync` and `export`.
 abbrev pub is_in_group : Command → Bool
@@ -81,6 +88,60 @@ LeavesOnly objects disks = ShowsOnly objects (stand_of disks)
 abbrev pub LeavesEither : Objects → Objects → Disks → Type 0
 LeavesEither before after disks = ShowsEither before after (stand_of disks)
 
+-- the lines that make a pool
+abbrev pub is_create : Command → Bool
+is_create (cmd.Create name guid devs) = true
+is_create (cmd.CreateOld name guid devs) = true
+is_create _ = false
+
+-- What the making of a pool wrote, wherever it stopped: nothing, or behind a flush slots were being prepared, or the pool was being committed on them.
+abbrev pub StopsInCreate : List ℕ → World → World → Type 0
+StopsInCreate sizes before now = FlushesOnly before now ⊎ ((start : World) × (named : List ℕ) × FlushesOnly before start × IsAtRest start.now × MakesBehind sizes named start now)
+
+-- What a line wrote where no pool is open, wherever it stopped: the making of one, going back, or nothing.
+abbrev pub StopsInOpening : List ℕ → Command → World → World → Type 0
+StopsInOpening sizes (cmd.Create name guid devs) before now = StopsInCreate sizes before now
+StopsInOpening sizes (cmd.CreateOld name guid devs) before now = StopsInCreate sizes before now
+StopsInOpening sizes cmd.ImportRewind before now = RewindsInPart sizes before now
+StopsInOpening sizes (cmd.ImportTxg txg) before now = GoesBackInPart sizes txg before now
+StopsInOpening sizes command before now = FlushesOnly before now
+
+-- an honest crash may have left it when the disks stood so, or behind a flush then
+abbrev pub IsOfBeginning : Disks → List (List ℕ) → Type 0
+IsOfBeginning first image = IsLeft (stand_of first) image ⊎ IsLeft (stand_of (settled first)) image
+
+-- the disks showed a pool with these objects
+abbrev pub Showed : Shelf → Objects → Type 0
+Showed shelf objects = (p : PoolState) × Shows shelf.paths shelf.disks p × (p.objects ≡ objects)
+
+-- By what the disks showed before it, the line makes a pool, which has no objects, or goes back to one with these objects.
+abbrev pub OpensTo : Shelf → Command → Objects → Type 0
+OpensTo shelf (cmd.Create name guid devs) objects = objects ≡ map.empty
+OpensTo shelf (cmd.CreateOld name guid devs) objects = objects ≡ map.empty
+OpensTo shelf cmd.ImportRewind objects = (p : PoolState) × (s : Saved) × Shows shelf.paths shelf.disks p × (p.saved ≡ Some s) × (s.objects ≡ objects)
+OpensTo shelf (cmd.ImportTxg txg) objects = (p : PoolState) × ShowsGroup shelf.paths shelf.disks txg p × (p.objects ≡ objects)
+OpensTo shelf command objects = ⊥
+
+-- where the line goes back, no device is removed of what it goes back from, and none of what it goes back to
+abbrev pub AreAllThere : Shelf → Command → Type 0
+AreAllThere shelf cmd.ImportRewind = (p : PoolState) → Shows shelf.paths shelf.disks p → All IsStillThere p.devs × IfSome p.saved (λ s. All IsStillThere s.devs)
+AreAllThere shelf (cmd.ImportTxg txg) = ((p : PoolState) → Shows shelf.paths shelf.disks p → All IsStillThere p.devs) × ((p : PoolState) → ShowsGroup shelf.paths shelf.disks txg p → All IsStillThere p.devs)
+AreAllThere shelf command = Unit {0}
+
+-- whatever an honest crash leaves of these disks shows these objects, or those that the line opens to, if it shows a pool
+abbrev pub LeavesOpened : Shelf → Command → Objects → Disks → Type 0
+LeavesOpened shelf command objects disks = (image : List (List ℕ)) → IsLeft (stand_of disks) image → (paths : List (List ℕ)) (p : PoolState) → Shows paths image p → (p.objects ≡ objects) ⊎ OpensTo shelf command p.objects
+
+-- whatever an honest crash leaves of them it may have left at the beginning too, or it shows the objects that the disks showed before the line, or those that the line opens to, if it shows a pool
+abbrev pub LeavesBegun : Shelf → Command → Disks → Disks → Type 0
+LeavesBegun shelf command first disks =
+    (image : List (List ℕ)) → IsLeft (stand_of disks) image → IsOfBeginning first image ⊎ ((paths : List (List ℕ)) (p : PoolState) → Shows paths image p → Showed shelf p.objects ⊎ OpensTo shelf command p.objects)
+
+-- what is refused leaves it as it is whether anything was written
+abbrev pub begun_behind : Option Disks → Reply → Option Disks
+begun_behind begun (reply.No r) = begun
+begun_behind begun answer = None
+
 -- no device is gone
 abbrev pub all_there : List DevPart → Bool
 all_there [] = true
@@ -93,20 +154,6 @@ are_there (Some pool) = all_there pool.space.parts.devs
 -- A commit will be known: the last one is, or the disks are told to show the last root, and no device is gone.
 abbrev pub is_known : DeviceState → Bool
 is_known state = if is_some state.behind then true else state.shown && are_there state.account
-
--- the lines that make a pool
-abbrev pub is_create : Command → Bool
-is_create (cmd.Create name guid devs) = true
-is_create (cmd.CreateOld name guid devs) = true
-is_create _ = false
-
--- the lines that write where no pool is open: they make one, or go back
-abbrev pub is_making : Command → Bool
-is_making (cmd.Create name guid devs) = true
-is_making (cmd.CreateOld name guid devs) = true
-is_making cmd.ImportRewind = true
-is_making (cmd.ImportTxg txg) = true
-is_making _ = false
 
 -- the lines that open a pool which is there, as it is or by going back
 abbrev pub is_import : Command → Bool
@@ -125,10 +172,10 @@ is_acknowledged (reply.Synced txg) cmd.Sync = true
 is_acknowledged reply.Done cmd.Export = true
 is_acknowledged answer command = false
 
--- The line leaves it told which objects were committed last: it works in the group that is open, copies units, or is refused, and writes nothing where no pool is open.
+-- The line leaves it told which objects were committed last: it works in the group that is open, copies units, or is refused.
 abbrev pub leaves_told : Option OpenPool → Reply → Command → Bool
 leaves_told (Some pool) answer command = is_refusal answer || (is_in_group command || is_copy command answer)
-leaves_told None answer command = is_refusal answer && not (is_making command)
+leaves_told None answer command = is_refusal answer
 
 -- the pool that is told has these objects
 abbrev pub TellsOf : ShelfPart → Objects → Type 0

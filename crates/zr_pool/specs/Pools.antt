@@ -1,5 +1,5 @@
 -- The pool on the devices of the words.
-use Rattle.std.specs.Prelude.{◌≡◌, ℕ, Bool, true, false, ◌≤◌, List, [], length, map, Option, Some, None, IfSome}
+use Rattle.std.specs.Prelude.{◌≡◌, ◌⊎◌, ℕ, Bool, true, false, ◌≤◌, List, [], length, map, Option, Some, None, IfSome}
 use Rattle.std.specs.List.{list_any}
 use Rattle.zr_base.specs.declared.space.DevPart.{DevPart}
 use Rattle.zr_command.specs.Meanings.{Disks}
@@ -84,17 +84,30 @@ abbrev pub IsBehind : Option OpenPool → Disks → Objects → Type 0
 IsBehind (Some pool) disks objects = StandsBehind (map length disks.seen) objects pool (stand_of disks)
 IsBehind None disks objects = IsClosedBehind disks objects
 
+-- the disks as they stand behind a flush
+abbrev pub settled : Disks → Disks
+settled disks = record { durable = disks.seen; writes = []; seen = disks.seen }
+
+-- nothing was written since the disks stood so, but all may have been made durable
+abbrev pub IsUnwritten : Disks → Disks → Type 0
+IsUnwritten first disks = (disks ≡ first) ⊎ (disks ≡ settled first)
+
+-- no pool is open, and nothing was written since
+abbrev pub IsAsBegun : Option OpenPool → Disks → Disks → Type 0
+IsAsBegun pool disks first = (pool ≡ None) × IsUnwritten first disks
+
 -- What is told of a pool on devices between two commands: its objects, as far as these are told, what it holds beside its disks while it is open, whether the disks show it, and which objects
--- were committed last, as far as that is told.
+-- were committed last, as far as that is told; and how the disks stood when the run began, while nothing was written since.
 pub record DeviceState : Type 0 where
   pub told : State
   pub account : Option OpenPool
   pub shown : Bool
   pub behind : Option Objects
+  pub begun : Option Disks
 
 -- no pool yet
-abbrev pub no_device_state : DeviceState
-no_device_state = record { told = no_pool; account = None; shown = false; behind = None }
+abbrev pub no_device_state : Disks → DeviceState
+no_device_state disks = record { told = no_pool; account = None; shown = false; behind = None; begun = Some disks }
 
 -- what is told of the pool and its disks is so, and the account is the pool's own
 pub record Stands (pool : Option OpenPool) (disks : Disks) (state : DeviceState) : Type 0 where
@@ -102,3 +115,4 @@ pub record Stands (pool : Option OpenPool) (disks : Disks) (state : DeviceState)
   pub account : state.account ≡ pool
   pub shown : state.shown ≡ true → AreShown pool disks.seen state.told.shelf
   pub behind : IfSome state.behind (IsBehind pool disks)
+  pub begun : IfSome state.begun (IsAsBegun pool disks)

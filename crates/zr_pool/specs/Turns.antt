@@ -18,9 +18,9 @@ use Rattle.zr_model.specs.Runs.{Point, Shelf, Turn}
 use Rattle.zr_sync.specs.Pools.{IsOpen}
 use Rattle.zr_sync.specs.declared.open.OpenPool.{OpenPool}
 use Rattle.zr_pool.specs.Accounts.{Turns, Begins, BeginsNone}
-use Rattle.zr_pool.specs.Behind.{IsBehindTurn, LeavesEither, LeavesOnly, is_making, may_stop}
+use Rattle.zr_pool.specs.Behind.{AreAllThere, IsBehindTurn, LeavesBegun, LeavesEither, LeavesOnly, LeavesOpened, begun_behind, may_stop}
 use Rattle.zr_pool.specs.Plain.{IsObjectsTurn, IsRejoined, is_of_removal, is_untold_behind}
-use Rattle.zr_pool.specs.Pools.{DeviceState, no_device_state}
+use Rattle.zr_pool.specs.Pools.{DeviceState, IsUnwritten, no_device_state}
 use Rattle.zr_pool.specs.Replies.{TellsFault}
 
 -- the lines on objects
@@ -217,7 +217,7 @@ works_on false work actor = false
 abbrev pub on_objects_told : Meaning
 on_objects_told = record {
   State = State;
-  none = no_pool;
+  none = λ disks. no_pool;
   takes = λ p t. IsTurn p.state.is_open t.command t.answer t.point.state.is_open × IsObjectsTurn p.state.is_open p.state.shelf p.shelf p.state t.command t.answer t.point.state;
   serves = λ paths state command. IsServed command;
   damages = λ p command found. Unit {0};
@@ -246,26 +246,29 @@ abbrev pub told_turn : Turn DeviceState → Turn State
 told_turn t = record { command = t.command; answer = t.answer; point = told_point t.point }
 
 -- One line to the pool on devices: what it makes of the objects and of the account, which is that of a lawful pool on these disks, whether the disks are told to show it, and which objects are
--- told to be committed last. An import finds the objects that were left there.
+-- told to be committed last, and whether nothing was written yet. An import finds the objects that were left there.
 pub record IsDeviceTurn (p : Point DeviceState) (t : Turn DeviceState) : Type 0 where
   pub objects : on_objects_told.takes (told_point p) (told_turn t)
   pub account : IsAccountTurn p.shelf p.state.account t.command t.answer t.point.shelf t.point.state.account
   pub lawful : IfSome t.point.state.account (IsOpen (sizes_of t.point.shelf.disks))
   pub shown : t.point.state.shown ≡ is_shown p.state.told.is_open p.state.shown t.command t.answer
   pub behind : IsBehindTurn p.state t.command t.answer t.point.state.told.shelf t.point.state.account t.point.state.behind
+  pub begun : t.point.state.begun ≡ begun_behind p.state.begun t.answer
   pub rejoined : p.state.shown ≡ true → t.command ≡ cmd.Import → t.answer ≡ reply.Done → IsRejoined p.state.told.shelf t.point.state.told.shelf
 
--- How the disks may stand between two lines: they read as behind the last, and whatever an honest crash shows are the objects that were committed last.
+-- How the disks may stand between two lines: they read as behind the last, whatever an honest crash shows are the objects that were committed last, and where nothing was written yet they stand as at the beginning.
 pub record RestsOn (p : Point DeviceState) (disks : Disks) : Type 0 where
   pub reads : disks.seen ≡ p.shelf.disks
   pub shows : (objects : Objects) → p.state.behind ≡ Some objects → LeavesOnly objects disks
+  pub unwritten : (first : Disks) → p.state.begun ≡ Some first → IsUnwritten first disks
 
 -- How the disks may stand at a moment of a line: while one tells how an open pool stands, they read as before it. Whatever an honest crash shows are the objects that were committed last, or those from before
--- the line, which it commits; and just the former where no pool is open, as long as none is made and nothing is gone back to.
+-- the line, which it commits. Where no pool is open they are the former, or those that the line opens to; and where nothing was written yet, it is what a crash would have left at the beginning, or what is shown has the objects that were shown before the line, or those that it opens to.
 pub record IsWithin (p : Point DeviceState) (command : Command) (disks : Disks) : Type 0 where
   pub tables : IfSome p.state.account (λ pool. is_table command ≡ true → disks.seen ≡ p.shelf.disks)
   pub shows : (objects : Objects) (q : PoolState) → p.state.behind ≡ Some objects → p.state.told.shelf ≡ Is q → may_stop command ≡ true → LeavesEither objects q.objects disks
-  pub opens : (objects : Objects) → p.state.account ≡ None → p.state.behind ≡ Some objects → is_making command ≡ false → LeavesOnly objects disks
+  pub opens : (objects : Objects) → p.state.account ≡ None → p.state.behind ≡ Some objects → AreAllThere p.shelf command → LeavesOpened p.shelf command objects disks
+  pub begins : (first : Disks) → p.state.begun ≡ Some first → AreAllThere p.shelf command → LeavesBegun p.shelf command first disks
 
 -- What commands mean to the pool on devices.
 abbrev pub on_devices : Meaning

@@ -20,7 +20,7 @@ ghost use Rattle.zr_script.specs.declared.command.Command.TheVariants.{Export, I
 ghost use Rattle.zr_open.specs.Left.{IsLeftCommitted};
 ghost use Rattle.zr_pool.specs.Plain.{IsDone, IsMade, IsOpeningCause, IsPlainOf, IsPlainRefusal, is_copy, is_untold_behind, shelf_of};
 ghost use Rattle.zr_open.specs.Flushed.{FlushesOnly};
-ghost use Rattle.zr_pool.specs.Behind.{HasReset, StaysTold, StopsInReset, is_commit, is_create, is_import, is_in_group, is_making, is_resetting};
+ghost use Rattle.zr_pool.specs.Behind.{HasReset, StaysTold, StopsInReset, StopsInOpening, is_commit, is_create, is_import, is_in_group, is_resetting};
 ghost use Rattle.zr_pool.specs.Pools.{IsAtRest, IsOnShelf};
 ghost use Rattle.zr_pool.specs.Replies.{TellsFault};
 ghost use Rattle.zr_sync.specs.States.{HoldsState};
@@ -160,7 +160,8 @@ impl DevicePool {
         ensures last { S.tells shelf.old → IfSome self.new.pool (ShowsLast (S.world shelf.new).now.seen) }
         ensures ends { S.tells shelf.old → is_create command.now ≡ true → IfSome self.new.pool (λ pool. ComesCommitted (S.sizes shelf.new) pool map.empty (S.world shelf.new)) }
         ensures leaves { S.tells shelf.old → is_import command.now ≡ true → IfSome self.new.pool (IsLeftCommitted (S.world shelf.new).now) }
-        ensures flushes { S.tells shelf.old → is_making command.now ≡ false → FlushesOnly (S.world shelf.old) (S.world shelf.new) }
+        ensures unwritten { S.tells shelf.old → (r : Refusal) → IsErrOf result (No r) → FlushesOnly (S.world shelf.old) (S.world shelf.new) }
+        ensures stops { S.tells shelf.old → StopsInOpening (S.sizes shelf.old) command.now (S.world shelf.old) (S.world shelf.new) }
         ensures untouched { S.tells shelf.old → (r : Refusal) → IsErrOf result (No r) → (S.world shelf.new).now.seen ≡ (S.world shelf.old).now.seen }
         ensures turn { IfOk result (λ found. IfSome found (λ reply. IsTurn false command.now reply (is_some self.new.pool))) }
         ensures refused { (r : Refusal) → IsErrOf result (No r) → IsClosedRefusal command.now r }

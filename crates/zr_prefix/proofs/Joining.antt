@@ -1,5 +1,5 @@
 -- Stopped runs, and what the next one finds.
-use Rattle.std.proofs.Common.{◌≡◌, List, [], ◌∷◌, ◌++◌, refl, sym, subst, inl, inr}
+use Rattle.std.proofs.Common.{◌≡◌, List, [], ◌∷◌, ◌++◌, Some, None, refl, sym, subst, inl, inr}
 use Rattle.zr_command.specs.Meanings.{Run, disks_of}
 use Rattle.zr_model.specs.Runs.{Point, Shelf, Turn, point, end_of}
 use Rattle.zr_model.specs.State.{State, PoolState, IsOpened}
@@ -23,9 +23,9 @@ use Rattle.zr_prefix.specs.Prefix.{IsTold}
 
 -- ---- a moment
 
-module _ (A : Type 0) (Means : A → Command → Type 0) (replies : Replies) (items : List (Item A)) (opening stand : Stand) (m : IsMomentOf A on_devices Means replies items no_device_state opening stand) where
+module _ (A : Type 0) (Means : A → Command → Type 0) (replies : Replies) (items : List (Item A)) (opening stand : Stand) (m : IsMomentOf A on_devices Means replies items (no_device_state (disks_of opening)) opening stand) where
   abbrev first : Point DeviceState
-  first = point opening no_device_state
+  first = point opening (no_device_state (disks_of opening))
 
   abbrev now : Point DeviceState
   now = end_of first m.turns
@@ -34,18 +34,20 @@ module _ (A : Type 0) (Means : A → Command → Type 0) (replies : Replies) (it
   There = IsStoppedAt opening stand m.turns (IsDue on_devices Means m.rest now)
 
   by_disks : (d : MayStand on_devices replies (IsDue on_devices Means m.rest now) now m.part (disks_of stand)) → IsToldWhere replies (IsDue on_devices Means m.rest now) now m.part (disks_of stand) d → There
-  by_disks (resting rests last) told = record { done = record { begin = opening; turns = m.turns }; begins = refl; lines = inl refl; stops = record { run = m.run; shows = rest_shows first m.turns (disks_of stand) refl m.run told rests } }
-  by_disks (under_way command due within last) (told, covered) = record { done = record { begin = opening; turns = m.turns }; begins = refl; lines = inl refl; stops = record { run = m.run; shows = line_shows first m.turns (disks_of stand) refl m.run told command covered within } }
+  by_disks (resting rests last) told = record { done = record { begin = opening; turns = m.turns; due = None }; begins = refl; lines = inl refl; under_way = tt; stops = record { run = m.run; shows = rest_shows first m.turns (disks_of stand) refl m.run told rests None } }
+  by_disks (under_way command due within last) (told, covered) =
+      record { done = record { begin = opening; turns = m.turns; due = Some command }; begins = refl; lines = inl refl; under_way = due; stops = record { run = m.run; shows = line_shows first m.turns (disks_of stand) refl m.run told command covered within } }
   by_disks (replying t due takes rests front) told =
       let run = run_more on_devices first m.turns t m.run takes in
       let same = end_more first m.turns t in
       record {
-        done = record { begin = opening; turns = m.turns ++ t ∷ [] };
+        done = record { begin = opening; turns = m.turns ++ t ∷ []; due = None };
         begins = refl;
         lines = inr (t, due, refl);
+        under_way = tt;
         stops = record {
           run = run;
-          shows = rest_shows first (m.turns ++ t ∷ []) (disks_of stand) refl run (subst IsTold (sym same) told) (subst (λ (q : Point DeviceState). RestsOn q (disks_of stand)) (sym same) rests);
+          shows = rest_shows first (m.turns ++ t ∷ []) (disks_of stand) refl run (subst IsTold (sym same) told) (subst (λ (q : Point DeviceState). RestsOn q (disks_of stand)) (sym same) rests) None;
         };
       }
 
@@ -62,10 +64,10 @@ import_finds shelf old new command answer imports done turn =
 joins : (a b : StoppedRun) → GoesOn a b → Joins a b
 joins a b h =
     let turn : IsDeviceTurn (begin_of b) h.first = (subst (λ (turns : List (Turn DeviceState)). Run on_devices (begin_of b) turns) h.turns h.run).0 in
-    let (p, shown, opened) = import_finds (begin_of b).shelf no_device_state.told h.first.point.state.told h.first.command h.first.answer h.imports h.done turn.objects.1 in
+    let (p, shown, opened) = import_finds (begin_of b).shelf (no_device_state (disks_of b.begin)).told h.first.point.state.told h.first.command h.first.answer h.imports h.done turn.objects.1 in
     record {
       objects = p.objects;
-      prefix = h.stopped.shows b.begin.seen h.left b.begin.paths p shown;
+      comes = h.stopped.shows b.begin.seen h.left b.begin.paths p shown;
       first = h.first;
       rest = h.rest;
       turns = h.turns;

@@ -1,9 +1,9 @@
 -- The objects that are told to be committed last are those of a prefix.
-use Rattle.std.proofs.Common.{◌≡◌, Bool, true, false, List, [], ◌∷◌, ◌++◌, Some, None, refl, sym, ◌∙◌, ap, subst}
+use Rattle.std.proofs.Common.{◌≡◌, inr, Bool, true, false, List, [], ◌∷◌, ◌++◌, Some, None, refl, sym, ◌∙◌, ap, subst}
 use Rattle.std.proofs.lemmas.List.{append-nil, append_assoc}
 use Rattle.std.specs.FinMap as map
 use Rattle.std.specs.List.{AllByRecursion}
-use Rattle.zr_command.specs.Meanings.{Meaning, Run}
+use Rattle.zr_command.specs.Meanings.{Disks, Meaning, Run}
 use Rattle.zr_model.specs.Objects.{Objects}
 use Rattle.zr_model.specs.Runs.{Point, Turn, end_of}
 use Rattle.zr_model.specs.State.{PoolState, Is}
@@ -14,7 +14,7 @@ use Rattle.zr_pool.specs.Pools.{DeviceState}
 use Rattle.zr_pool.specs.Turns.{IsDeviceTurn, IsTurn, on_devices}
 use Rattle.zr_script.specs.declared.reply.Reply.{Reply}
 use Rattle.zr_script.specs.declared.reply.Reply.TheVariants as reply
-use Rattle.zr_prefix.proofs.Tells.{acknowledged_told, known_behind, leaves_small, made_told, reset_told}
+use Rattle.zr_prefix.proofs.Tells.{acknowledged_told, begun_before, known_behind, leaves_small, made_told, reset_told}
 use Rattle.zr_prefix.specs.Prefix.{IsOfPrefix, MayBeLost}
 
 -- ---- one line more
@@ -100,3 +100,12 @@ keeps_all p (t ∷ turns) done run keeps =
 
 pub prefix_told : (p : Point DeviceState) (turns : List (Turn DeviceState)) (objects : Objects) → p.state.behind ≡ None → Run on_devices p turns → (end_of p turns).state.behind ≡ Some objects → IsOfPrefix p turns objects
 prefix_told p turns objects none run is = keeps_all p turns [] run (λ all also. let both = sym none ∙ also in absurd cc) objects is
+
+-- ---- of a run in which nothing was written yet
+
+pub begun_told : (p : Point DeviceState) (turns : List (Turn DeviceState)) (first : Disks) → Run on_devices p turns → (end_of p turns).state.begun ≡ Some first → (p.state.begun ≡ Some first) × AllByRecursion MayBeLost turns
+begun_told p [] first run is = (is, tt)
+begun_told p (t ∷ turns) first run is =
+    let rest = begun_told t.point turns first run.1 is in
+    let here = begun_before first p.state.begun t.answer t.command (sym run.0.begun ∙ rest.0) in
+    (here.0, (record { small = inr (inr here.1); unacknowledged = here.2 }, rest.1))

@@ -1,35 +1,70 @@
 -- What a crash shows between two lines and at a moment of one.
-use Rattle.std.proofs.Common.{◌≡◌, inl, inr, true, List, [], Option, Some, None, refl, sym, subst}
+use Rattle.std.proofs.Common.{◌≡◌, ◌⊎◌, inl, inr, ℕ, Bool, true, false, List, [], Option, Some, None, refl, sym, ◌∙◌, ap, subst, ⊎_elim}
 use Rattle.std.proofs.lemmas.List.{append-nil}
-use Rattle.std.specs.Prelude.{is_some}
+use Rattle.std.specs.List.{AllByRecursion}
+use Rattle.std.specs.Prelude.{IsSomeAnd, is_some}
 use Rattle.zr_command.specs.Meanings.{Disks, Run}
 use Rattle.zr_model.specs.Objects.{Objects}
 use Rattle.zr_model.specs.Runs.{Point, Turn, end_of}
+use Rattle.zr_pool.proofs.Beginning.{of_beginning as left_at_beginning}
+use Rattle.zr_pool.specs.Behind.{IsOfBeginning, OpensTo, Showed}
 use Rattle.zr_pool.specs.Pools.{DeviceState}
 use Rattle.zr_pool.specs.Turns.{IsWithin, RestsOn, on_devices}
 use Rattle.zr_script.specs.declared.command.Command.{Command}
-use Rattle.zr_prefix.proofs.Prefixes.{prefix_told}
+use Rattle.zr_prefix.proofs.Prefixes.{begun_told, prefix_told}
 use Rattle.zr_prefix.proofs.Tells.{no_way}
-use Rattle.zr_prefix.specs.Prefix.{IsCovered, IsOfPrefix, IsTold, ShowsPrefix}
+use Rattle.zr_prefix.specs.Prefix.{ComesOf, IsAsBegan, IsCovered, IsOfPrefix, IsTold, MayBeLost, ShowsPrefix}
+use Rattle.zr_prefix.specs.Prefix.ComesOf.{of_beginning, of_opening, of_prefix}
 use Rattle.zr_prefix.specs.Prefix.IsCovered.{while_closed, while_open}
 
-some_told : (o : Option Objects) → is_some o ≡ true → (objects : Objects) × (o ≡ Some objects)
+some_told : {A : Type 0} → (o : Option A) → is_some o ≡ true → (a : A) × (o ≡ Some a)
 some_told None some = no_way some
-some_told (Some objects) some = (objects, refl)
+some_told (Some a) some = (a, refl)
 
-module _ (p : Point DeviceState) (turns : List (Turn DeviceState)) (disks : Disks) (none : p.state.behind ≡ None) (run : Run on_devices p turns) (told : IsTold (end_of p turns)) where
-  last : (objects : Objects) × ((end_of p turns).state.behind ≡ Some objects)
-  last = some_told (end_of p turns).state.behind told
+module _ (p : Point DeviceState) (turns : List (Turn DeviceState)) (disks : Disks) (none : p.state.behind ≡ None) (run : Run on_devices p turns) where
+  prefix : (objects : Objects) → (end_of p turns).state.behind ≡ Some objects → IsOfPrefix p turns objects
+  prefix objects is = prefix_told p turns objects none run is
 
-  prefix : IsOfPrefix p turns last.0
-  prefix = prefix_told p turns last.0 none run last.1
+  -- as it was when the run began
+  as_began : (first : Disks) → (end_of p turns).state.begun ≡ Some first → (due : Option Command) (image : List (List ℕ)) (objects : Objects) → IsOfBeginning first image → ComesOf p turns due image objects
+  as_began first is due image objects left =
+      let told = begun_told p turns first run is in
+      of_beginning (inl (subst (λ (o : Option Disks). IsSomeAnd o (λ f. IsOfBeginning f image)) (sym told.0) left)) told.1
 
-  pub rest_shows : RestsOn (end_of p turns) disks → ShowsPrefix p turns disks
-  rest_shows rests image left paths q shown = subst (IsOfPrefix p turns) (sym (rests.shows last.0 last.1 image left paths q shown)) prefix
+  rest_by : RestsOn (end_of p turns) disks → (due : Option Command) → IsTold (end_of p turns) → ShowsPrefix p turns due disks
+  rest_by rests due (inl some) image left paths q shown =
+      let last = some_told (end_of p turns).state.behind some in
+      of_prefix (subst (IsOfPrefix p turns) (sym (rests.shows last.0 last.1 image left paths q shown)) (prefix last.0 last.1))
+  rest_by rests due (inr some) image left paths q shown =
+      let first = some_told (end_of p turns).state.begun some in
+      as_began first.0 first.1 due image q.objects (left_at_beginning first.0 disks image (rests.unwritten first.0 first.1) left)
 
-  pub line_shows : (command : Command) → IsCovered (end_of p turns) command → IsWithin (end_of p turns) command disks → ShowsPrefix p turns disks
-  line_shows command (while_open r is may) within image left paths q shown = elim (within.shows last.0 r last.1 is may image left paths q shown) [
-    | inl same ↦ subst (IsOfPrefix p turns) (sym same) prefix
-    | inr same ↦ record { front = turns; back = []; parts = append-nil turns; told = (r, is, sym same); lost = tt }
-  ]
-  line_shows command (while_closed closed off) within image left paths q shown = subst (IsOfPrefix p turns) (sym (within.opens last.0 closed last.1 off image left paths q shown)) prefix
+  pub rest_shows : IsTold (end_of p turns) → RestsOn (end_of p turns) disks → (due : Option Command) → ShowsPrefix p turns due disks
+  rest_shows told rests due = rest_by rests due told
+
+  line_by : (command : Command) → IsTold (end_of p turns) → IsCovered (end_of p turns) command → IsWithin (end_of p turns) command disks → ShowsPrefix p turns (Some command) disks
+  line_by command told (while_open some r is may) within image left paths q shown =
+      let last = some_told (end_of p turns).state.behind some in
+      elim (within.shows last.0 r last.1 is may image left paths q shown) [
+        | inl same ↦ of_prefix (subst (IsOfPrefix p turns) (sym same) (prefix last.0 last.1))
+        | inr same ↦ of_prefix (record { front = turns; back = []; parts = append-nil turns; told = (r, is, sym same); lost = tt })
+      ]
+  line_by command (inl some) (while_closed closed off) within image left paths q shown =
+      let last = some_told (end_of p turns).state.behind some in
+      elim (within.opens last.0 closed last.1 off image left paths q shown) [
+        | inl same ↦ of_prefix (subst (IsOfPrefix p turns) (sym same) (prefix last.0 last.1))
+        | inr opens ↦ of_opening opens
+      ]
+  line_by command (inr some) (while_closed closed off) within image left paths q shown =
+      let first = some_told (end_of p turns).state.begun some in
+      elim (within.begins first.0 first.1 off image left) [
+        | inl same ↦ as_began first.0 first.1 (Some command) image q.objects same
+        | inr shows ↦ by_shown (begun_told p turns first.0 run first.1).1 (shows paths q shown)
+      ]
+    where
+      by_shown : AllByRecursion MayBeLost turns → Showed (end_of p turns).shelf q.objects ⊎ OpensTo (end_of p turns).shelf command q.objects → ComesOf p turns (Some command) image q.objects
+      by_shown lost (inl showed) = of_beginning (inr showed) lost
+      by_shown lost (inr opens) = of_opening opens
+
+  pub line_shows : IsTold (end_of p turns) → (command : Command) → IsCovered (end_of p turns) command → IsWithin (end_of p turns) command disks → ShowsPrefix p turns (Some command) disks
+  line_shows told command covered within = line_by command told covered within

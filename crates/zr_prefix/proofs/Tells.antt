@@ -1,12 +1,13 @@
 -- What is told behind a line that acknowledges a commit, or that made a pool.
 use Rattle.std.proofs.Common.{◌≡◌, ◌⊎◌, inl, inr, Bool, true, false, Option, Some, None, refl, ◌∙◌, ap, sym, subst}
 use Rattle.std.specs.FinMap as map
-use Rattle.std.specs.Prelude.{is_some, not, if◌then◌else◌, ◌&&◌, ◌||◌}
+use Rattle.std.specs.Prelude.{is_some, if◌then◌else◌, ◌&&◌, ◌||◌}
+use Rattle.zr_command.specs.Meanings.{Disks}
 use Rattle.zr_model.specs.Objects.{Objects}
 use Rattle.zr_model.specs.Runs.{Shelf}
 use Rattle.zr_model.specs.State.{State, PoolState, ShelfPart, Empty, Refused, Is, created}
 use Rattle.zr_moves.specs.Answers.{Acts}
-use Rattle.zr_pool.specs.Behind.{TellsOf, is_acknowledged, is_create, is_in_group, is_known, is_making, is_refusal, is_resetting, leaves_told, are_there}
+use Rattle.zr_pool.specs.Behind.{TellsOf, begun_behind, is_acknowledged, is_create, is_in_group, is_known, is_refusal, is_resetting, leaves_told, are_there}
 use Rattle.zr_pool.specs.Plain.{IsObjectsTurn, IsPlainTurn, is_copy}
 use Rattle.zr_pool.specs.Pools.{DeviceState}
 use Rattle.zr_pool.specs.Turns.{IsTurn}
@@ -96,10 +97,6 @@ made_told (cmd.CreateOld name guid devs) true part shelf old new create turn obj
 made_told (cmd.CreateOld name guid devs) false part shelf old new create turn objects = (created name guid devs, objects.shelf, refl)
 made_told command is_open part shelf old new create turn objects = no_way create
 
-first : (a b : Bool) → (a && b) ≡ true → a ≡ true
-first true b is = refl
-first false b is = no_way is
-
 one_of : (a b c : Bool) → (a || (b || c)) ≡ true → (b ≡ true) ⊎ ((c ≡ true) ⊎ (a ≡ true))
 one_of true b c is = inr (inr refl)
 one_of false true c is = inl refl
@@ -108,7 +105,17 @@ one_of false false c is = inr (inl is)
 -- a line that leaves it told which objects were committed last works in the group, copies units, or is refused
 pub leaves_small : (account : Option OpenPool) (answer : Reply) (command : Command) → leaves_told account answer command ≡ true → (is_in_group command ≡ true) ⊎ ((is_copy command answer ≡ true) ⊎ (is_refusal answer ≡ true))
 leaves_small (Some pool) answer command leaves = one_of (is_refusal answer) (is_in_group command) (is_copy command answer) leaves
-leaves_small None answer command leaves = inr (inr (first (is_refusal answer) (not (is_making command)) leaves))
+leaves_small None answer command leaves = inr (inr leaves)
 
 pub known_behind : (state : DeviceState) (objects : Objects) → state.behind ≡ Some objects → is_known state ≡ true
 known_behind state objects is = ap (λ (o : Option Objects). if is_some o then true else state.shown && are_there state.account) is
+
+-- a refusal acknowledges nothing
+refused_unacknowledged : (answer : Reply) (command : Command) → is_refusal answer ≡ true → is_acknowledged answer command ≡ false
+refused_unacknowledged (reply.No r) command is = refl
+refused_unacknowledged answer command is = no_way is
+
+-- what is told to be unwritten was so before the line, which was refused
+pub begun_before : (first : Disks) (begun : Option Disks) (answer : Reply) (command : Command) → begun_behind begun answer ≡ Some first → (begun ≡ Some first) × (is_refusal answer ≡ true) × (is_acknowledged answer command ≡ false)
+begun_before first begun (reply.No r) command is = (is, refl, refused_unacknowledged (reply.No r) command refl)
+begun_before first begun answer command is = absurd cc

@@ -1,5 +1,5 @@
 -- A run that was stopped, and one that goes on from what it left.
-use Rattle.std.specs.Prelude.{◌≡◌, ◌⊎◌, ℕ, List, [], ◌∷◌, ◌++◌}
+use Rattle.std.specs.Prelude.{◌≡◌, ◌⊎◌, ℕ, List, [], ◌∷◌, ◌++◌, IfSome, Option}
 use Rattle.zr_command.specs.Meanings.{Disks, Run, disks_of}
 use Rattle.zr_image.specs.Honest.{IsLeft}
 use Rattle.zr_model.specs.Objects.{Objects}
@@ -15,27 +15,29 @@ use Rattle.zr_session.specs.Moments.{IsMomentOf, MayStand}
 use Rattle.zr_session.specs.Moments.MayStand.{resting, under_way, replying}
 use Rattle.zr_session.specs.declared.replies.Replies.{Replies}
 use Rattle.zr_shelf.specs.Disks.{Stand}
-use Rattle.zr_prefix.specs.Prefix.{IsCovered, IsOfPrefix, IsTold, ShowsPrefix}
+use Rattle.zr_prefix.specs.Prefix.{ComesOf, IsCovered, IsTold, ShowsPrefix}
 
--- a run that was stopped: where it began, with all devices attached, and the lines that were answered
+-- a run that was stopped: where it began, with all devices attached, the lines that were answered, and the one that was under way, if one was
 pub record StoppedRun : Type 0 where
   pub begin : Stand
   pub turns : List (Turn DeviceState)
+  pub due : Option Command
 
 -- with no pool yet
 abbrev pub begin_of : StoppedRun → Point DeviceState
-begin_of r = point r.begin no_device_state
+begin_of r = point r.begin (no_device_state (disks_of r.begin))
 
--- Where it was stopped: its lines are a run of the pool on devices, and whatever an honest crash leaves of the disks shows the objects of a prefix of them.
+-- Where it was stopped: its lines are a run of the pool on devices, and what an honest crash shows of the disks comes of them.
 pub record IsStopped (r : StoppedRun) (stop : Stand) : Type 0 where
   pub run : Run on_devices (begin_of r) r.turns
-  pub shows : ShowsPrefix (begin_of r) r.turns (disks_of stop)
+  pub shows : ShowsPrefix (begin_of r) r.turns r.due (disks_of stop)
 
--- A run that began so was stopped there: its lines are those that were answered, or these and the one that was due, which is done.
+-- A run that began so was stopped there: its lines are those that were answered, or these and the one that was due, which is done; and only that one may be under way.
 pub record IsStoppedAt (opening stop : Stand) (answered : List (Turn DeviceState)) (Due : Command → Type 0) : Type 0 where
   pub done : StoppedRun
   pub begins : done.begin ≡ opening
   pub lines : (done.turns ≡ answered) ⊎ ((t : Turn DeviceState) × Due t.command × (done.turns ≡ answered ++ t ∷ []))
+  pub under_way : IfSome done.due Due
   pub stops : IsStopped done stop
 
 -- At a moment of a run it is told what was committed: between two lines, within one that may be stopped at any moment, or behind one.
@@ -44,9 +46,9 @@ IsToldWhere replies Due p part disks (resting rests last) = IsTold p
 IsToldWhere replies Due p part disks (under_way command due within last) = IsTold p × IsCovered p command
 IsToldWhere replies Due p part disks (replying t due takes rests front) = IsTold t.point
 
-abbrev pub StopsTold : (A : Type 0) (Means : A → Command → Type 0) (replies : Replies) (items : List (Item A)) (opening stand : Stand) → IsMomentOf A on_devices Means replies items no_device_state opening stand → Type 0
+abbrev pub StopsTold : (A : Type 0) (Means : A → Command → Type 0) (replies : Replies) (items : List (Item A)) (opening stand : Stand) → IsMomentOf A on_devices Means replies items (no_device_state (disks_of opening)) opening stand → Type 0
 StopsTold A Means replies items opening stand m =
-    let p = end_of (point opening no_device_state) m.turns in
+    let p = end_of (point opening (no_device_state (disks_of opening))) m.turns in
     IsToldWhere replies (IsDue on_devices Means m.rest p) p m.part (disks_of stand) m.disks
 
 -- The second run begins on an image that an honest crash left where the first was stopped, and its first line imports the pool.
@@ -66,10 +68,10 @@ abbrev pub FollowOn : StoppedRun → List StoppedRun → Type 0
 FollowOn a [] = Unit {0}
 FollowOn a (b ∷ more) = GoesOn a b × FollowOn b more
 
--- The second run begins with the objects behind a prefix of the first: they are told behind its import.
+-- The second run begins with what comes of the first: its objects are told behind its import.
 pub record Joins (a b : StoppedRun) : Type 0 where
   pub objects : Objects
-  pub prefix : IsOfPrefix (begin_of a) a.turns objects
+  pub comes : ComesOf (begin_of a) a.turns a.due b.begin.seen objects
   pub first : Turn DeviceState
   pub rest : List (Turn DeviceState)
   pub turns : b.turns ≡ first ∷ rest

@@ -1,6 +1,6 @@
 //! The laws, as calls that do nothing: a caller learns them by their contracts.
-ghost use Rattle.std.specs.Prelude.{◌≡◌, ℕ, List, Some, None};
-ghost use Rattle.zr_command.specs.Meanings.{Disks, Run};
+ghost use Rattle.std.specs.Prelude.{◌≡◌, ℕ, List, Option, Some, None};
+ghost use Rattle.zr_command.specs.Meanings.{Disks, Run, disks_of};
 ghost use Rattle.zr_model.specs.Objects.{Objects};
 ghost use Rattle.zr_model.specs.Runs.{Asks, Point, Turn, end_of, point};
 ghost use Rattle.zr_pool.specs.Pools.{DeviceState, no_device_state};
@@ -21,26 +21,27 @@ pub fn what_is_committed_is_told()
     ensures { (p : Point DeviceState) (turns : List (Turn DeviceState)) (objects : Objects) → p.state.behind ≡ None → Run on_devices p turns → (end_of p turns).state.behind ≡ Some objects → IsOfPrefix p turns objects }
 {}
 
-/// Between two lines whatever an honest crash leaves shows the objects of such a prefix, where they are told.
+/// Between two lines whatever an honest crash leaves shows the objects of such a prefix, where they are told; and where nothing was
+/// written yet, what it would have shown when the run began.
 pub fn a_rest_shows_a_prefix()
-    ensures { (p : Point DeviceState) (turns : List (Turn DeviceState)) (disks : Disks) → p.state.behind ≡ None → Run on_devices p turns → IsTold (end_of p turns) → RestsOn (end_of p turns) disks → ShowsPrefix p turns disks }
+    ensures { (p : Point DeviceState) (turns : List (Turn DeviceState)) (disks : Disks) → p.state.behind ≡ None → Run on_devices p turns → IsTold (end_of p turns) → RestsOn (end_of p turns) disks → (due : Option Command) → ShowsPrefix p turns due disks }
 {}
 
-/// So it does at each moment of a line behind them that works in the group that is open or commits it, and of one that makes
-/// nothing and goes back to nothing where no pool is open.
+/// So it does at each moment of a line behind them that works in the group that is open or commits it, and of one where no pool
+/// is open: while a pool is made, or gone back to, it may show that pool too.
 pub fn a_line_shows_a_prefix()
-    ensures { (p : Point DeviceState) (turns : List (Turn DeviceState)) (command : Command) (disks : Disks) → p.state.behind ≡ None → Run on_devices p turns → IsTold (end_of p turns) → IsCovered (end_of p turns) command → IsWithin (end_of p turns) command disks → ShowsPrefix p turns disks }
+    ensures { (p : Point DeviceState) (turns : List (Turn DeviceState)) (command : Command) (disks : Disks) → p.state.behind ≡ None → Run on_devices p turns → IsTold (end_of p turns) → IsCovered (end_of p turns) command → IsWithin (end_of p turns) command disks → ShowsPrefix p turns (Some command) disks }
 {}
 
-/// At a moment of a run at which it is told what was committed, over the lines of an input or generated ones, whatever an honest
-/// crash leaves shows the objects of a prefix of the lines that are answered by then, or of these and the one that was due.
+/// At a moment of a run at which it is told what was committed, or that nothing was written yet, over the lines of an input or
+/// generated ones, whatever an honest crash leaves comes of the lines that are answered by then, or of these and the one that was due.
 pub fn a_stopped_run_shows_a_prefix()
-    ensures given { (rounds : ℕ) (opening stand : Stand) (m : IsMoment on_devices rounds opening stand) → StopsTold (List ℕ) Asks Sent (agenda rounds (lines_of opening.left)) opening stand m → IsStoppedAt opening stand m.turns (IsDue on_devices Asks m.rest (end_of (point opening no_device_state) m.turns)) }
-    ensures generated { (task : Task) (opening stand : Stand) (m : IsMomentOf Command on_devices IsGiven Kept (due_in task) no_device_state opening stand) → StopsTold Command IsGiven Kept (due_in task) opening stand m → IsStoppedAt opening stand m.turns (IsDue on_devices IsGiven m.rest (end_of (point opening no_device_state) m.turns)) }
+    ensures given { (rounds : ℕ) (opening stand : Stand) (m : IsMoment on_devices rounds opening stand) → StopsTold (List ℕ) Asks Sent (agenda rounds (lines_of opening.left)) opening stand m → IsStoppedAt opening stand m.turns (IsDue on_devices Asks m.rest (end_of (point opening (no_device_state (disks_of opening))) m.turns)) }
+    ensures generated { (task : Task) (opening stand : Stand) (m : IsMomentOf Command on_devices IsGiven Kept (due_in task) (no_device_state (disks_of opening)) opening stand) → StopsTold Command IsGiven Kept (due_in task) opening stand m → IsStoppedAt opening stand m.turns (IsDue on_devices IsGiven m.rest (end_of (point opening (no_device_state (disks_of opening))) m.turns)) }
 {}
 
 /// Runs of which each begins on an image that an honest crash left of the one before, and imports the pool: each finds the
-/// objects behind a prefix of the lines of the one before.
+/// objects that come of the lines of the one before.
 pub fn stopped_runs_join()
     ensures { (first : StoppedRun) (more : List StoppedRun) → FollowOn first more → AreJoined first more }
 {}

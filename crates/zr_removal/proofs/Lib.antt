@@ -6,3 +6,4 @@ pub mod Copied
 pub mod Ending
 pub mod Alike
 pub mod Outgoing
+pub mod Returning

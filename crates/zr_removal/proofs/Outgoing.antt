@@ -1,6 +1,6 @@
--- A device that leaves the service, or of which units are copied, is read as before: the disks hold the same objects, and show the last root.
+-- A device of which only changes whether it is leaving, or of which units are copied, is read as before: the disks hold the same objects, and show the last root.
 use Rattle.std.proofs.Common.{◌≡◌, ◌≢◌, inl, inr, ℕ, ◌+◌, ◌<◌, ◌≤◌, Bool, true, false, List, [], ◌∷◌, map, length, Option, Some, None, refl, sym, ◌∙◌, ap, subst, arith}
-use Rattle.std.specs.Prelude.{IfSome, ◌&&◌, ◌==◌, if◌then◌else◌, nat_lt, slice_index, slice_index_or, slice_set}
+use Rattle.std.specs.Prelude.{IfSome, if◌then◌else◌, nat_lt, slice_index, slice_index_or, slice_set}
 use Rattle.std.proofs.Math.Path.{fun_ext}
 use Rattle.std.proofs.lemmas.Bool.{cases_eq}
 use Rattle.std.proofs.lemmas.Bool.Decides.{nat_tests}
@@ -14,7 +14,6 @@ use Rattle.zr_base.specs.declared.space.Entry.{Entry}
 use Rattle.zr_base.specs.declared.space.Extent.{Extent}
 use Rattle.zr_base.specs.declared.space.Policy.{Policy}
 use Rattle.zr_cache.specs.declared.table.Cache.{Cache}
-use Rattle.zr_image.specs.Current.{row_at}
 use Rattle.zr_label.specs.Blocks.{no_row}
 use Rattle.zr_label.specs.declared.root.Seen.{Seen}
 use Rattle.zr_label.specs.declared.root.Uber.{Uber}
@@ -57,6 +56,7 @@ use Rattle.zr_vdev.specs.Runs.{view_of}
 use Rattle.zr_vdev.specs.Stores.{HoldsBlocks, IsWriteInto, addresses_of, is_open_role, may_write}
 use Rattle.zr_vdev.specs.declared.kind.Kind.TheVariants.{Block, Meta}
 use Rattle.zr_view.specs.Views.{address_bytes, slot_of}
+use Rattle.zr_removal.specs.Rows.{with_row}
 use Rattle.zr_removal.specs.Turns.{LeavesPool}
 use Rattle.zr_removal.proofs.Alike.{bytes_same, hits_same, is_resolved_same, leads_same, live_same, unit_same, ways_same}
 
@@ -180,14 +180,18 @@ leaves_one x y d h on = record {
   elsewhere = h.leaves.elsewhere;
 }
 
+-- the disks hold the same objects for a pool of which one device turned
+pub objects_turned : (x y : OpenPool) (d : ℕ) → TurnsOne x.space y.space d → y.table.slots ≡ x.table.slots → y.cache ≡ x.cache → y.dir ≡ x.dir → y.group ≡ x.group → (t : Type 0) (disks : List (List ℕ)) (objects : Objects) → HoldsObjects t disks x objects → HoldsObjects t disks y objects
+objects_turned x y d one slots cache dir group t disks objects holds =
+    let these = x.table.slots in
+    let again = blocks_turned x.space y.space d one these t t disks disks x.cache x.cache holds.stored holds.held.told (reads_turned x.space y.space d one disks these x.cache holds.held.read) (λ a is. refl) holds.held in
+    objects_stay x y objects dir group holds
+    (subst (λ (those : List (Option ℕ)). Now (HoldsBlocks Block those t disks y.space None y.cache) (λ n. Swaps holds.stored n [] [])) (sym slots)
+    (subst (λ (k : Cache). Now (HoldsBlocks Block these t disks y.space None k) (λ n. Swaps holds.stored n [] [])) (sym cache) again))
+
 pub objects_out : (x y : OpenPool) (d : ℕ) → LeavesPool x y d → state_of_dev x.space.parts.devs d ≡ On → (t : Type 0) (disks : List (List ℕ)) (objects : Objects) → HoldsObjects t disks x objects → HoldsObjects t disks y objects
 objects_out x y d h on t disks objects holds =
-    let one = leaves_one x y d h on in
-    let slots = x.table.slots in
-    let again = blocks_turned x.space y.space d one slots t t disks disks x.cache x.cache holds.stored holds.held.told (reads_turned x.space y.space d one disks slots x.cache holds.held.read) (λ a is. refl) holds.held in
-    objects_stay x y objects (ap (λ (p : OpenPool). p.dir) h.rest) (ap (λ (p : OpenPool). p.group) h.rest) holds
-    (subst (λ (these : List (Option ℕ)). Now (HoldsBlocks Block these t disks y.space None y.cache) (λ n. Swaps holds.stored n [] [])) (sym (ap (λ (w : Table). w.slots) h.table))
-    (subst (λ (k : Cache). Now (HoldsBlocks Block slots t disks y.space None k) (λ n. Swaps holds.stored n [] [])) (sym (ap (λ (p : OpenPool). p.cache) h.rest)) again))
+    objects_turned x y d (leaves_one x y d h on) (ap (λ (w : Table). w.slots) h.table) (ap (λ (p : OpenPool). p.cache) h.rest) (ap (λ (p : OpenPool). p.dir) h.rest) (ap (λ (p : OpenPool). p.group) h.rest) t disks objects holds
 
 -- ---- units of it are copied
 
@@ -253,6 +257,16 @@ objects_copied policy x y t0 t1 t2 before now n objects apart copies wrote read 
     objects_stay x y objects (ap (λ (p : OpenPool). p.dir) rest) (ap (λ (p : OpenPool). p.group) rest) holds
     (subst (λ (w : Table). Now (HoldsBlocks Block w.slots t2 now.now.seen y.space None y.cache) (λ m. Swaps holds.stored m [] [])) (sym (ap (λ (p : OpenPool). p.table) rest)) again)
 
+-- and where nothing was copied, since a disk failed
+pub objects_tried : (x y : OpenPool) (t1 t2 : Type 0) (before now : World) (objects : Objects) → ((d e slot : ℕ) → slot_of x.table.slots d ≡ Some slot → slot_of x.table.slots e ≡ Some slot → d ≡ e) → WritesOnly (IsWriteIntoFree x.table.slots x.space) before now
+    → (AreRead before.now.seen x.table.slots x.space x.cache → AreRead now.now.seen x.table.slots x.space y.cache) → y ≡ record x { cache = y.cache } → t2 → HoldsObjects t1 before.now.seen x objects → HoldsObjects t2 now.now.seen y objects
+objects_tried x y t1 t2 before now objects apart wrote read rest told holds =
+    let slots = x.table.slots in
+    let again = held_again Block slots t1 t2 before.now.seen now.now.seen x.space x.space None x.cache y.cache holds.stored told (read holds.held.read)
+    (λ a is. record { used = is.used; whole = tt }) (λ a is. free_writes slots x.space before now a apart wrote is.used) holds.held.once holds.held.back holds.held in
+    objects_stay x y objects (ap (λ (p : OpenPool). p.dir) rest) (ap (λ (p : OpenPool). p.group) rest) holds
+    (subst (λ (p : OpenPool). Now (HoldsBlocks Block p.table.slots t2 now.now.seen p.space None y.cache) (λ m. Swaps holds.stored m [] [])) (sym rest) again)
+
 -- nothing is written but what a block may have
 module _ (slots : List (Option ℕ)) (s : Space) (before now : World) where
   free_open : (r : Role) → may_write Meta r ≡ true → may_write Block r ≡ true
@@ -272,55 +286,57 @@ last_copied sizes x y before now ready sized wrote rest =
 
 -- ---- its devices
 
-module _ (sizes : List ℕ) (x y : OpenPool) (d : ℕ) (left : LeavesPool x y d) (on : state_of_dev x.space.parts.devs d ≡ On) (known : d < x.table.count) (was : IsOpen sizes x) where
+-- One device has another state, and is gone or not as it was: each device is where it was.
+module _ (sizes : List ℕ) (x y : OpenPool) (d : ℕ) (state : DevState) (table : y.table ≡ with_row x.table d (record (slice_index_or x.table.rows d no_row) { state = state })) (stays : is_gone state ≡ is_gone (state_of_dev x.space.parts.devs d)) (known : d < x.table.count) (was : IsOpen sizes x)
+    (last : y.last ≡ x.last) (guid : y.guid ≡ x.guid) where
   abbrev old_row : DevRow
   old_row = slice_index_or x.table.rows d no_row
+
+  abbrev new_row : DevRow
+  new_row = record (slice_index_or x.table.rows d no_row) { state = state }
 
   inside : d < length x.table.rows
   inside = let lt = known in let size = was.table.size in let few = was.few in omega (arith, lt, size, few)
 
-  rows_are : y.table.rows ≡ slice_set x.table.rows d (record old_row { state = Leaving })
-  rows_are = ap (λ (t : Table). t.rows) left.table
+  rows_are : y.table.rows ≡ slice_set x.table.rows d new_row
+  rows_are = ap (λ (t : Table). t.rows) table
 
-  here : slice_index_or y.table.rows d no_row ≡ record old_row { state = Leaving }
-  here = ap (λ (rs : List DevRow). slice_index_or rs d no_row) rows_are ∙ get_or-set_same x.table.rows d (record old_row { state = Leaving }) no_row inside
+  here : slice_index_or y.table.rows d no_row ≡ new_row
+  here = ap (λ (rs : List DevRow). slice_index_or rs d no_row) rows_are ∙ get_or-set_same x.table.rows d new_row no_row inside
 
   elsewhere : (e : ℕ) → e ≢ d → slice_index_or y.table.rows e no_row ≡ slice_index_or x.table.rows e no_row
-  elsewhere e other = ap (λ (rs : List DevRow). slice_index_or rs e no_row) rows_are ∙ get_or-set_other x.table.rows d e (record old_row { state = Leaving }) no_row other
+  elsewhere e other = ap (λ (rs : List DevRow). slice_index_or rs e no_row) rows_are ∙ get_or-set_other x.table.rows d e new_row no_row other
 
-  served : old_row.state ≡ On
-  served = sym (ap (λ (r : DevRow). r.state) (was.rows d known)) ∙ on
-
-  field_same : {A : Type 0} (f : DevRow → A) → f (record old_row { state = Leaving }) ≡ f old_row → (e : ℕ) → f (slice_index_or y.table.rows e no_row) ≡ f (slice_index_or x.table.rows e no_row)
+  field_same : {A : Type 0} (f : DevRow → A) → f new_row ≡ f old_row → (e : ℕ) → f (slice_index_or y.table.rows e no_row) ≡ f (slice_index_or x.table.rows e no_row)
   field_same f one e = elim (cases_eq e d) [
     | inl at ↦ subst (λ (k : ℕ). f (slice_index_or y.table.rows k no_row) ≡ f (slice_index_or x.table.rows k no_row)) (sym at) (ap f here ∙ one)
     | inr other ↦ ap f (elsewhere e other)
   ]
 
-  -- each is where it was
-  pub out_devices : KeepsDevices x y
-  out_devices = record {
-    last = ap (λ (p : OpenPool). p.last) left.rest;
-    guid = ap (λ (p : OpenPool). p.guid) left.rest;
-    count = ap (λ (t : Table). t.count) left.table;
-    slots = ap (λ (t : Table). t.slots) left.table;
+  pub turned_devices : KeepsDevices x y
+  turned_devices = record {
+    last = last;
+    guid = guid;
+    count = ap (λ (t : Table). t.count) table;
+    slots = ap (λ (t : Table). t.slots) table;
     rows = λ e. record {
       added = field_same (λ (r : DevRow). r.added) refl e;
       units = field_same (λ (r : DevRow). r.units) refl e;
-      gone = field_same (λ (r : DevRow). is_gone r.state) (sym (ap (λ (s : DevState). is_gone s) served)) e;
+      gone = field_same (λ (r : DevRow). is_gone r.state) (stays ∙ ap (λ (r : DevRow). is_gone r.state) (was.rows d known)) e;
     };
   }
 
+-- so it is where a device begins to leave
+pub out_devices : (sizes : List ℕ) (x y : OpenPool) (d : ℕ) → LeavesPool x y d → state_of_dev x.space.parts.devs d ≡ On → d < x.table.count → IsOpen sizes x → KeepsDevices x y
+out_devices sizes x y d left on known was = turned_devices sizes x y d Leaving left.table (sym (ap (λ (s : DevState). is_gone s) on)) known was (ap (λ (p : OpenPool). p.last) left.rest) (ap (λ (p : OpenPool). p.guid) left.rest)
+
 -- ---- the last root
 
--- A commit behind which the device is leaving shows its root, where the last one was the newest: each device has the slot that it had.
-module _ (sizes behind : List ℕ) (x y z : OpenPool) (d : ℕ) (before now : World) (left : LeavesPool x y d) (on : state_of_dev x.space.parts.devs d ≡ On) (known : d < x.table.count) (was : IsOpen sizes x) (ready : IsOpen sizes y) (later : IsOpen behind z) (sized : map length before.now.seen ≡ sizes)
+-- A commit behind which each device is where it was shows its root, where the last one was the newest: each device has the slot that it had.
+module _ (sizes behind : List ℕ) (x y z : OpenPool) (before now : World) (keeps : KeepsDevices x y) (group : y.group.txg ≡ x.group.txg) (first : IsAfter x.last x.group.txg) (ready : IsOpen sizes y) (later : IsOpen behind z) (sized : map length before.now.seen ≡ sizes)
     (txg : z.group.txg ≡ y.group.txg + 1) (next : IfSome z.last (IsNextRoot y true)) (wrote : IfSome z.last (λ u. (mid : World) × WritesIntoFree y before mid × IsShownFrom sizes y u mid now)) (same : IsSamePool y z) (h : ShowsLast before.now.seen x) where
   abbrev root : Uber
   root = h.root
-
-  keeps : KeepsDevices x y
-  keeps = out_devices sizes x y d left on known was
 
   module _ (u : Uber) (is : IsNextRoot y true u) where
     devices : HasSameDevices root u
@@ -332,7 +348,13 @@ module _ (sizes behind : List ℕ) (x y z : OpenPool) (d : ℕ) (before now : Wo
     above : IsAbove before.now.seen u
     above =
         above_newest before.now.seen root u x.table.slots h.newest devices.guid
-        (let group = is.txg in let txgs = ap (λ (p : OpenPool). p.group.txg) left.rest in let after = (subst (λ (o : Option Uber). IsAfter o x.group.txg) h.from.last was.after).1 in omega (arith, group, txgs, after))
+        (let txgs = is.txg in let same_group = group in let after = (subst (λ (o : Option Uber). IsAfter o x.group.txg) h.from.last first).1 in omega (arith, txgs, same_group, after))
 
-  pub out_last : ShowsLast now.now.seen z
-  out_last = commit_places sizes behind y z true before now ready later sized txg next wrote same.guid same.table above h.newest.seen h.newest.labels (λ u is. places u is h.newest.seen h.newest.devices)
+  pub turned_last : ShowsLast now.now.seen z
+  turned_last = commit_places sizes behind y z true before now ready later sized txg next wrote same.guid same.table above h.newest.seen h.newest.labels (λ u is. places u is h.newest.seen h.newest.devices)
+
+-- so it is behind the commit with which a device begins to leave
+pub out_last : (sizes behind : List ℕ) (x y z : OpenPool) (d : ℕ) (before now : World) → LeavesPool x y d → state_of_dev x.space.parts.devs d ≡ On → d < x.table.count → IsOpen sizes x → IsOpen sizes y → IsOpen behind z → map length before.now.seen ≡ sizes
+    → z.group.txg ≡ y.group.txg + 1 → IfSome z.last (IsNextRoot y true) → IfSome z.last (λ u. (mid : World) × WritesIntoFree y before mid × IsShownFrom sizes y u mid now) → IsSamePool y z → ShowsLast before.now.seen x → ShowsLast now.now.seen z
+out_last sizes behind x y z d before now left on known was ready later sized txg next wrote same h =
+    turned_last sizes behind x y z before now (out_devices sizes x y d left on known was) (ap (λ (p : OpenPool). p.group.txg) left.rest) was.after ready later sized txg next wrote same h

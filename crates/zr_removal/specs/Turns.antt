@@ -2,6 +2,7 @@
 use Rattle.std.specs.Prelude.{◌≡◌, ◌⊎◌, ℕ, true, List, IfSome, slice_index_or}
 use Rattle.zr_base.specs.declared.space.DevState.TheVariants.{On, Leaving, Gone}
 use Rattle.zr_label.specs.Blocks.{no_row}
+use Rattle.zr_rules.specs.Places.{is_leaving, state_of_dev}
 use Rattle.zr_rules.specs.Space.{Space}
 use Rattle.zr_rules.specs.Steps.{Cancels, Finishes, Leaves}
 use Rattle.zr_model.specs.Objects.{Objects}
@@ -11,6 +12,7 @@ use Rattle.zr_vdev.specs.declared.kind.Kind.TheVariants.{Meta}
 use Rattle.zr_sync.specs.Commits.{EndsGroup, IsNextRoot, IsShownFrom}
 use Rattle.zr_sync.specs.Leads.{CommitsObjects}
 use Rattle.zr_sync.specs.Pools.{IsOpen, IsSamePool}
+use Rattle.zr_sync.specs.Writes.{WritesIntoFree}
 use Rattle.zr_sync.specs.declared.open.OpenPool.{OpenPool}
 use Rattle.zr_removal.specs.Metadata.{GivesMetadata}
 use Rattle.zr_removal.specs.Rows.{with_row, without_slot}
@@ -56,6 +58,21 @@ pub record CancelsRemoval (sizes : List ℕ) (told : Type 0) (now : World) (old 
   pub root : IfSome new.last (IsNextRoot back true)
   pub resets : EndsGroup true back.space new.space
   pub shown : told → IfSome new.last (λ u. (before : World) × IsShownFrom sizes back u before now)
+
+-- The device that was leaving is back in service, nothing was written meanwhile but units that were free or the group's own, and the pool was being committed with these objects, by a reset.
+pub record CommitsBack (sizes : List ℕ) (objects : Objects) (old : OpenPool) (before now : World) : Type 0 where
+  pub dev : ℕ
+  pub leaving : is_leaving (state_of_dev old.space.parts.devs dev) ≡ true
+  pub back : OpenPool
+  pub ready : IsOpen sizes back
+  pub comes : ComesBack old back dev
+  pub start : World
+  pub written : WritesIntoFree old before start
+  pub commits : CommitsObjects sizes back true objects start now
+
+-- Wherever the giving up of a removal stops: nothing was written but units that were free or the group's own, or the pool to which the device has come back was being committed with these objects, by a reset.
+abbrev pub CancelsInPart : List ℕ → Objects → OpenPool → World → World → Type 0
+CancelsInPart sizes objects old before now = WritesIntoFree old before now ⊎ CommitsBack sizes objects old before now
 
 -- The device is gone in the space and in the table, in the open group, behind metadata that was left on it, and nothing else is changed.
 pub record FinishesSpace (old new : OpenPool) (d : ℕ) : Type 0 where

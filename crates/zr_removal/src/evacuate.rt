@@ -12,6 +12,7 @@ ghost use Rattle.zr_space.specs.Plans.{IsCopied};
 ghost use Rattle.zr_last.specs.Last.{KeepsLast};
 ghost use Rattle.zr_model.specs.Objects.{Objects};
 ghost use Rattle.zr_shelf.specs.Doings.{WritesOnly};
+ghost use Rattle.zr_sync.specs.Ends.{LeavesCommitted};
 ghost use Rattle.zr_sync.specs.Objects.{HoldsObjects};
 ghost use Rattle.zr_vdev.specs.Caches.{AreRead};
 ghost use Rattle.zr_vdev.specs.Copies.{CopiesUnits, IsWriteIntoFree};
@@ -26,7 +27,7 @@ ghost use Rattle.zr_sync.specs.declared.fault.Fault.TheVariants.{No, Stops};
 ghost use Rattle.zr_sync.specs.declared.stop.Stop.TheVariants.{DiskFault};
 ghost use Rattle.zr_removal.specs.Refusals.{HasRemoval, IsStepRefusal};
 ghost use Rattle.zr_removal.specs.Steps.{StepsOn};
-ghost use Rattle.zr_removal.specs.Turns.{EndsRemoval, FinishesSpace, ForgetsSlot, Vanishes};
+ghost use Rattle.zr_removal.specs.Turns.{CancelsInPart, EndsRemoval, FinishesSpace, ForgetsSlot, Vanishes};
 
 use crate::cancelling::cancel_removal;
 use crate::metadata::give_metadata;
@@ -225,8 +226,8 @@ fn finish_removal<S: Shelf>(
 }
 
 /// Makes a step of the removal that goes on: copies the next units, at most 256, or ends the removal where none is left.
-/// A copy costs one read and one write, and an end costs a commit, and a walk over the mapping and its marks. Behind a copy the
-/// pool holds the objects that it held.
+/// A copy costs one read and one write, and an end costs a commit, and a walk over the mapping and its marks. Behind a copy, and
+/// behind a removal that was given up, the pool holds the objects that it held.
 ///
 /// For now want of memory is also the answer where fewer units are free than are left to copy: the room that is asked for
 /// when a removal begins rules that out, and no law says so yet.
@@ -250,6 +251,10 @@ pub fn step_evac<S: Shelf>(
     ensures opens { IfOk result (λ done. (n : ℕ) → done ≡ evacuated.Copied n → (d u : ℕ) → is_open_role (role_at pool.new.space d u) ≡ true → is_open_role (role_at pool.old.space d u) ≡ true) }
     ensures shown { S.tells shelf.old → IfOk result (λ done. (n : ℕ) → done ≡ evacuated.Copied n → KeepsLast (S.world shelf.old) (S.world shelf.new) pool.old pool.new) }
     ensures objects { (objects : Objects) → HoldsObjects (S.tells shelf.old) (S.world shelf.old).now.seen pool.old objects → IfOk result (λ done. (n : ℕ) → done ≡ evacuated.Copied n → HoldsObjects (S.tells shelf.new) (S.world shelf.new).now.seen pool.new objects) }
+    ensures back_shown { S.tells shelf.old → IfOk result (λ done. (d : ℕ) → done ≡ evacuated.Cancelled d → KeepsLast (S.world shelf.old) (S.world shelf.new) pool.old pool.new) }
+    ensures back_ends { (objects : Objects) → HoldsObjects (S.tells shelf.old) (S.world shelf.old).now.seen pool.old objects → IfOk result (λ done. (d : ℕ) → done ≡ evacuated.Cancelled d → LeavesCommitted pool.new (S.world shelf.new).now) }
+    ensures back_objects { (objects : Objects) → HoldsObjects (S.tells shelf.old) (S.world shelf.old).now.seen pool.old objects → IfOk result (λ done. (d : ℕ) → done ≡ evacuated.Cancelled d → HoldsObjects (S.tells shelf.new) (S.world shelf.new).now.seen pool.new objects) }
+    ensures back_stops { (objects : Objects) → HoldsObjects (S.tells shelf.old) (S.world shelf.old).now.seen pool.old objects → IfOk result (λ done. (d : ℕ) → done ≡ evacuated.Cancelled d → CancelsInPart (S.sizes shelf.old) objects pool.old (S.world shelf.old) (S.world shelf.new)) }
     ensures refused { (r : Refusal) → IsErrOf result (No r) → IsStepRefusal pool.old.space r }
     ensures unchanged { (r : Refusal) → IsErrOf result (No r) → pool.new ≡ pool.old }
     ensures untouched { (r : Refusal) → IsErrOf result (No r) → S.world shelf.new ≡ S.world shelf.old }

@@ -81,7 +81,7 @@ impl Pool for DamagedPool {
 
     ghost paths = { λ p. p.paths };
 
-    ghost meaning = { record { State = Unit {0}; none = tt; takes = λ p t. ⊥; serves = λ paths state command. Unit {0}; damages = λ p command found. Unit {0}; blames = λ command answer. ⊥; works = λ state actor. false; rests = λ p disks. Unit {0}; within = λ p command disks. Unit {0} } };
+    ghost meaning = { record { State = Unit {0}; none = λ disks. tt; takes = λ p t. ⊥; serves = λ paths state command. Unit {0}; damages = λ p command found. Unit {0}; blames = λ command answer. ⊥; works = λ state actor. false; rests = λ p disks. Unit {0}; within = λ p command disks. Unit {0} } };
 
     ghost stands = { λ p disks state. Unit {0} };
 
@@ -149,7 +149,7 @@ impl Pool for BusyPool {
     ghost paths = { λ p. p.paths };
 
     // A state says whether there is work.
-    ghost meaning = { record { State = Bool; none = false; takes = λ p t. Unit {0}; serves = λ paths state command. Unit {0}; damages = λ p command found. ⊥; blames = λ command answer. ⊥; works = λ state actor. state; rests = λ p disks. Unit {0}; within = λ p command disks. Unit {0} } };
+    ghost meaning = { record { State = Bool; none = λ disks. false; takes = λ p t. Unit {0}; serves = λ paths state command. Unit {0}; damages = λ p command found. ⊥; blames = λ command answer. ⊥; works = λ state actor. state; rests = λ p disks. Unit {0}; within = λ p command disks. Unit {0} } };
 
     ghost stands = { λ p disks state. state ≡ nat_lt 0 p.left };
 

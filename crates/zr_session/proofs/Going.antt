@@ -6,7 +6,7 @@ use Rattle.std.proofs.lemmas.Bool.Decides.{eqb_tells}
 use Rattle.std.proofs.lemmas.List.{append-nil, length-take}
 use Rattle.zr_shelf.specs.Disks.{Stand, taken_to}
 use Rattle.zr_script.specs.Lines.{lines_of, before_lines}
-use Rattle.zr_command.specs.Meanings.{Meaning, Disks, disks_of, Run}
+use Rattle.zr_command.specs.Meanings.{Meaning, Disks, disks_of, Run, beginning}
 use Rattle.zr_model.specs.Runs.{Turn, point, end_of, texts, Asks, bytes_to}
 use Rattle.zr_session.specs.Agenda.{Item, Given, rounds_of, agenda, Plays}
 use Rattle.zr_session.specs.Answers.{IsOpenLine}
@@ -19,9 +19,9 @@ use Rattle.zr_session.proofs.Playing.{plays_both, run_both, end_both, told_both,
 pub done_more : (meaning : Meaning) (opening old new : Stand) (before after : meaning.State) (items more : List (Item (List ℕ))) (turns : List (Turn meaning.State))
     → HasDone meaning opening old before items turns → (d : DoesItems (List ℕ) meaning Asks Sent more before after old new) → HasDone meaning opening new after (items ++ more) (turns ++ d.turns)
 done_more meaning opening old new before after items more turns h d = record {
-  plays = plays_both (List ℕ) meaning Asks items more (point opening meaning.none) turns d.turns h.plays (subst (λ p. Plays meaning Asks more p d.turns) (sym h.ends) d.plays);
-  run = run_both meaning (point opening meaning.none) turns d.turns h.run (subst (λ p. Run meaning p d.turns) (sym h.ends) d.run);
-  ends = end_both (point opening meaning.none) turns d.turns ∙ (ap (λ p. end_of p d.turns) h.ends ∙ d.ends);
+  plays = plays_both (List ℕ) meaning Asks items more (beginning meaning opening) turns d.turns h.plays (subst (λ p. Plays meaning Asks more p d.turns) (sym h.ends) d.plays);
+  run = run_both meaning (beginning meaning opening) turns d.turns h.run (subst (λ p. Run meaning p d.turns) (sym h.ends) d.run);
+  ends = end_both (beginning meaning opening) turns d.turns ∙ (ap (λ p. end_of p d.turns) h.ends ∙ d.ends);
   sent = d.sends.sent ∙ (ap (λ s. s ++ texts d.turns) h.sent ∙ (append_assoc opening.sent (texts turns) (texts d.turns) ∙ ap (λ s. opening.sent ++ s) (sym (told_both Sent turns d.turns))));
 }
 
@@ -67,7 +67,7 @@ open_both [] part h k = k
 open_both (b ∷ line) part h k = (h.0, open_both line part h.1 k)
 
 -- nothing is taken yet
-pub at_start : (meaning : Meaning) (rounds : ℕ) (opening : Stand) → IsAt meaning rounds opening opening meaning.none [] [] 0 0
+pub at_start : (meaning : Meaning) (rounds : ℕ) (opening : Stand) → IsAt meaning rounds opening opening (meaning.none (disks_of opening)) [] [] 0 0
 at_start meaning rounds opening = record {
   lines = [];
   turns = [];
@@ -295,12 +295,12 @@ left_end old new out n t z e = ap (λ s. s.left) t.2 ∙ (sym (t.1 ∙ ap (λ k.
 pub room_fits : {X : Type 0} (taken most : ℕ) (piece : List X) → taken < 2 ^ 32 → most ≡ min (2 ^ 32 - taken) 65536 → taken + length (take most piece) ≤ 2 ^ 32
 room_fits taken most piece l e = let t = length-take most piece in omega arith
 
-pub start_as : (meaning : Meaning) (rounds : ℕ) (stands : Disks → meaning.State → Type 0) (opening : Stand) (line : List ℕ) (count : ℕ) → ((disks : Disks) → stands disks meaning.none) → line ≡ [] → count ≡ 0
+pub start_as : (meaning : Meaning) (rounds : ℕ) (stands : Disks → meaning.State → Type 0) (opening : Stand) (line : List ℕ) (count : ℕ) → ((disks : Disks) → stands disks (meaning.none disks)) → line ≡ [] → count ≡ 0
     → StandsAt meaning rounds stands opening opening [] line count 0
 start_as meaning rounds stands opening line count closed l n = record {
-  state = meaning.none;
+  state = meaning.none (disks_of opening);
   stands_for = closed (disks_of opening);
-  holds = subst (λ x. IsAt meaning rounds opening opening meaning.none [] x count 0) (sym l) (subst (λ x. IsAt meaning rounds opening opening meaning.none [] [] x 0) (sym n) (at_start meaning rounds opening));
+  holds = subst (λ x. IsAt meaning rounds opening opening (meaning.none (disks_of opening)) [] x count 0) (sym l) (subst (λ x. IsAt meaning rounds opening opening (meaning.none (disks_of opening)) [] [] x 0) (sym n) (at_start meaning rounds opening));
 }
 
 -- the same of the state for which the pool stands

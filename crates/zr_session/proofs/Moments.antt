@@ -276,8 +276,8 @@ the_agenda rounds all lines more e = ap (λ ls. agenda rounds ls) e ∙ flat_map
 line_is_moment : (m : Meaning) (rounds : ℕ) (opening now stand : Stand) (state : m.State) (line : List ℕ) (number : ℕ) → IsNext m rounds opening now state line number
     → IsLineMoment m rounds line state now stand → IsMoment m rounds opening stand
 line_is_moment m rounds opening now stand state line number d h =
-    subst (λ items. IsMomentOf (List ℕ) m Asks Sent items m.none opening stand) (sym (the_agenda rounds (lines_of opening.left) d.lines (line ∷ d.more) d.front))
-    (moment_behind (List ℕ) m Asks Sent (agenda rounds d.lines) ((Given line ∷ rounds_of rounds) ++ agenda rounds d.more) d.turns m.none state opening now stand d.done.plays d.done.run d.done.ends d.done.sent
+    subst (λ items. IsMomentOf (List ℕ) m Asks Sent items (m.none (disks_of opening)) opening stand) (sym (the_agenda rounds (lines_of opening.left) d.lines (line ∷ d.more) d.front))
+    (moment_behind (List ℕ) m Asks Sent (agenda rounds d.lines) ((Given line ∷ rounds_of rounds) ++ agenda rounds d.more) d.turns (m.none (disks_of opening)) state opening now stand d.done.plays d.done.run d.done.ends d.done.sent
     (moment_before (List ℕ) m Asks Sent (Given line ∷ rounds_of rounds) (agenda rounds d.more) state now stand h))
 
 -- none is, and no more than a last line is sent
@@ -285,8 +285,8 @@ rest_is_moment : (m : Meaning) (rounds : ℕ) (opening now stand : Stand) (state
     → m.rests (point now state) (disks_of stand) → stand.sent ≡ now.sent ++ part → IsOfLastLine part → IsMoment m rounds opening stand
 rest_is_moment m rounds opening now stand state rest line count taken part a rests sent last =
     let more : List (List ℕ) = lines_of (line ++ (rest ++ now.left)) in
-    subst (λ items. IsMomentOf (List ℕ) m Asks Sent items m.none opening stand) (sym (the_agenda rounds (lines_of opening.left) a.lines more (ap lines_of a.input ∙ a.split (rest ++ now.left))))
-    (moment_behind (List ℕ) m Asks Sent (agenda rounds a.lines) (agenda rounds more) a.turns m.none state opening now stand a.done.plays a.done.run a.done.ends a.done.sent
+    subst (λ items. IsMomentOf (List ℕ) m Asks Sent items (m.none (disks_of opening)) opening stand) (sym (the_agenda rounds (lines_of opening.left) a.lines more (ap lines_of a.input ∙ a.split (rest ++ now.left))))
+    (moment_behind (List ℕ) m Asks Sent (agenda rounds a.lines) (agenda rounds more) a.turns (m.none (disks_of opening)) state opening now stand a.done.plays a.done.run a.done.ends a.done.sent
     (moment_before (List ℕ) m Asks Sent [] (agenda rounds more) state now stand (rest_moment (List ℕ) m Asks Sent state now stand part rests sent last)))
 
 next_moments : (m : Meaning) (rounds : ℕ) (opening : Stand) (mid new : World) (state : m.State) (line : List ℕ) (number : ℕ) → IsNext m rounds opening mid.now state line number

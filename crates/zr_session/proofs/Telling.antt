@@ -8,7 +8,7 @@ use Rattle.zr_shelf.proofs.Runs.{weaker, joined, on_attach}
 use Rattle.zr_script.specs.declared.command.Command.{Command}
 use Rattle.zr_script.specs.declared.reply.Reply.{Reply}
 use Rattle.zr_script.specs.CommandLine.{CommandLine}
-use Rattle.zr_command.specs.Meanings.{Meaning, disks_of}
+use Rattle.zr_command.specs.Meanings.{Meaning, disks_of, beginning}
 use Rattle.zr_model.specs.Runs.{point}
 use Rattle.zr_session.specs.Agenda.{Given, rounds_of, agenda, IsGiven}
 use Rattle.zr_session.specs.Answers.{IsStarted, paths_in, rounds_in, IsAttached}
@@ -56,13 +56,13 @@ behind_moments m rounds commands i x answer tally a b b' old mid next new l e d 
 
 -- ---- a generated run
 
-pub generated_moments : (m : Meaning) (task : Task) (old new : World) → Throughout (IsMomentOf Command m IsGiven Kept (due_in task) m.none old.now) old new → Throughout (IsGeneratedMoment m task old.now) old new
-generated_moments m task old new h = weaker (IsMomentOf Command m IsGiven Kept (due_in task) m.none old.now) (IsGeneratedMoment m task old.now) old new (λ stand at. inl at) h
+pub generated_moments : (m : Meaning) (task : Task) (old new : World) → Throughout (IsMomentOf Command m IsGiven Kept (due_in task) (m.none (disks_of old.now)) old.now) old new → Throughout (IsGeneratedMoment m task old.now) old new
+generated_moments m task old new h = weaker (IsMomentOf Command m IsGiven Kept (due_in task) (m.none (disks_of old.now)) old.now) (IsGeneratedMoment m task old.now) old new (λ stand at. inl at) h
 
 -- its line is sent
-pub telling_moments : (m : Meaning) (task : Task) (state : m.State) (counted : Tally) (bytes : List ℕ) (old mid new : World) → (d : DoesCommands m (due_in task) counted m.none state old.now mid.now)
-    → bytes ≡ generated_text task.number task.count (given_answers m (due_in task) (point old.now m.none) d.does.turns) → m.rests (point mid.now state) (disks_of mid.now)
-    → Throughout (IsMomentOf Command m IsGiven Kept (due_in task) m.none old.now) old mid → Throughout (IsSending bytes mid.now) mid new → Throughout (IsGeneratedMoment m task old.now) old new
+pub telling_moments : (m : Meaning) (task : Task) (state : m.State) (counted : Tally) (bytes : List ℕ) (old mid new : World) → (d : DoesCommands m (due_in task) counted (m.none (disks_of old.now)) state old.now mid.now)
+    → bytes ≡ generated_text task.number task.count (given_answers m (due_in task) (beginning m old.now) d.does.turns) → m.rests (point mid.now state) (disks_of mid.now)
+    → Throughout (IsMomentOf Command m IsGiven Kept (due_in task) (m.none (disks_of old.now)) old.now) old mid → Throughout (IsSending bytes mid.now) mid new → Throughout (IsGeneratedMoment m task old.now) old new
 telling_moments m task state counted bytes old mid new d e rests h k =
     joined (IsGeneratedMoment m task old.now) old mid new (generated_moments m task old mid h)
     (weaker (IsSending bytes mid.now) (IsGeneratedMoment m task old.now) mid new

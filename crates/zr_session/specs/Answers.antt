@@ -9,8 +9,8 @@ use Rattle.zr_script.specs.CommandLine.{CommandLine, IsCommandLine}
 use Rattle.zr_script.specs.Grammar.{IsLine}
 use Rattle.zr_script.specs.Lines.{lines_of}
 use Rattle.zr_script.specs.ReplyText.{reply_text, BadLine, InputLimit, DiskFault, Damage, last_line}
-use Rattle.zr_command.specs.Meanings.{Meaning, Run, IsBad}
-use Rattle.zr_model.specs.Runs.{Point, Turn, point, end_of, texts, Asks, bytes_to}
+use Rattle.zr_command.specs.Meanings.{Meaning, Run, IsBad, beginning}
+use Rattle.zr_model.specs.Runs.{Point, Turn, end_of, texts, Asks, bytes_to}
 use Rattle.zr_words.specs.Choosing.{chosen}
 use Rattle.zr_session.specs.Agenda.{Item, agenda, Plays, IsDue}
 
@@ -50,15 +50,15 @@ pub record Reach (S : Type 0) : Type 0 where
 pub record HasReached (m : Meaning) (rounds : ℕ) (opening now : Stand) (r : Reach m.State) (text : List ℕ) : Type 0 where
   pub begins : lines_of opening.left ≡ r.lines ++ r.more
   pub due : agenda rounds r.lines ≡ r.front ++ r.rest
-  pub plays : Plays m Asks r.front (point opening m.none) r.turns
-  pub run : Run m (point opening m.none) r.turns
+  pub plays : Plays m Asks r.front (beginning m opening) r.turns
+  pub run : Run m (beginning m opening) r.turns
   pub input : opening.left ≡ r.taken ++ now.left
   pub most : length r.taken ≤ 2 ^ 32
   pub sent : now.sent ≡ opening.sent ++ (texts r.turns ++ text)
 
 -- how things stand then
 abbrev pub point_at : (m : Meaning) → Stand → Reach m.State → Point m.State
-point_at m opening r = end_of (point opening m.none) r.turns
+point_at m opening r = end_of (beginning m opening) r.turns
 
 -- no line feed
 abbrev pub IsOpenLine : List ℕ → Type 0

@@ -6,7 +6,7 @@ use Rattle.zr_script.specs.declared.command.Command.{Command}
 use Rattle.zr_script.specs.CommandLine.{CommandLine}
 use Rattle.zr_script.specs.Generated.{script_of}
 use Rattle.zr_script.specs.ReplyText.{BadLine, DiskFault, Damage, last_line}
-use Rattle.zr_command.specs.Meanings.{Meaning, Run}
+use Rattle.zr_command.specs.Meanings.{Meaning, Run, beginning}
 use Rattle.zr_model.specs.Runs.{Point, Turn, point, end_of}
 use Rattle.zr_session.specs.Tally.{Answer, answer_of, generated_text}
 use Rattle.zr_session.specs.Agenda.{Item, Given, Inserted, agenda, IsGiven, Plays, IsDue}
@@ -50,18 +50,18 @@ pub record Stage (S : Type 0) : Type 0 where
 -- What is done is a run of the pool. Nothing was taken of the input, and this text is all that was sent.
 pub record HasGenerated (m : Meaning) (task : Task) (opening now : Stand) (s : Stage m.State) (text : List ℕ) : Type 0 where
   pub due : due_in task ≡ s.front ++ s.rest
-  pub plays : Plays m IsGiven s.front (point opening m.none) s.turns
-  pub run : Run m (point opening m.none) s.turns
+  pub plays : Plays m IsGiven s.front (beginning m opening) s.turns
+  pub run : Run m (beginning m opening) s.turns
   pub left : now.left ≡ opening.left
   pub sent : now.sent ≡ opening.sent ++ text
 
 -- how things stand then
 abbrev pub point_in : (m : Meaning) → Stand → Stage m.State → Point m.State
-point_in m opening s = end_of (point opening m.none) s.turns
+point_in m opening s = end_of (beginning m opening) s.turns
 
 -- the line that tells of the replies so far
 abbrev pub tally_text : (m : Meaning) → Task → Stand → Stage m.State → List ℕ
-tally_text m task opening s = generated_text task.number task.count (given_answers m s.front (point opening m.none) s.turns)
+tally_text m task opening s = generated_text task.number task.count (given_answers m s.front (beginning m opening) s.turns)
 
 -- the command is due
 abbrev pub IsNextCommand : (m : Meaning) → Stand → Stage m.State → Command → Type 0

@@ -63,7 +63,7 @@ IsLineMoment m rounds line before old stand = IsMomentOf (List ℕ) m Asks Sent 
 
 -- a moment of a run over the input: its lines are due, with so many rounds behind each
 abbrev pub IsMoment : Meaning → ℕ → Stand → Stand → Type 0
-IsMoment m rounds opening stand = IsMomentOf (List ℕ) m Asks Sent (agenda rounds (lines_of opening.left)) m.none opening stand
+IsMoment m rounds opening stand = IsMomentOf (List ℕ) m Asks Sent (agenda rounds (lines_of opening.left)) (m.none (disks_of opening)) opening stand
 
 -- all is done in a generated run, and its one line is being sent
 pub record IsTelling (m : Meaning) (task : Task) (opening stand : Stand) : Type 0 where
@@ -76,7 +76,7 @@ pub record IsTelling (m : Meaning) (task : Task) (opening stand : Stand) : Type 
 
 -- a moment of a generated run
 abbrev pub IsGeneratedMoment : Meaning → Task → Stand → Stand → Type 0
-IsGeneratedMoment m task opening stand = IsMomentOf Command m IsGiven Kept (due_in task) m.none opening stand ⊎ IsTelling m task opening stand
+IsGeneratedMoment m task opening stand = IsMomentOf Command m IsGiven Kept (due_in task) (m.none (disks_of opening)) opening stand ⊎ IsTelling m task opening stand
 
 -- first ones of these devices are attached, or all
 abbrev pub IsAttaching : List (List ℕ × Option ℕ) → Stand → Stand → Type 0

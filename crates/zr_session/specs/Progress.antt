@@ -3,7 +3,7 @@ use Rattle.std.specs.Prelude.{◌≡◌, ℕ, ◌+◌, ◌^◌, ◌≤◌, ◌<�
 use Rattle.std.specs.List.{flat_map}
 use Rattle.zr_shelf.specs.Disks.{Stand}
 use Rattle.zr_script.specs.Lines.{lines_of}
-use Rattle.zr_command.specs.Meanings.{Meaning, Disks, Run}
+use Rattle.zr_command.specs.Meanings.{Meaning, Disks, Run, beginning}
 use Rattle.zr_model.specs.Runs.{Turn, point, end_of, texts, Asks, bytes_to}
 use Rattle.zr_session.specs.Agenda.{Item, agenda, Plays}
 use Rattle.zr_session.specs.Answers.{IsOpenLine}
@@ -11,9 +11,9 @@ use Rattle.zr_session.specs.Lines.{StandsForOne}
 
 -- first items are done, and this was sent for them
 pub record HasDone (m : Meaning) (opening now : Stand) (state : m.State) (items : List (Item (List ℕ))) (turns : List (Turn m.State)) : Type 0 where
-  pub plays : Plays m Asks items (point opening m.none) turns
-  pub run : Run m (point opening m.none) turns
-  pub ends : end_of (point opening m.none) turns ≡ point now state
+  pub plays : Plays m Asks items (beginning m opening) turns
+  pub run : Run m (beginning m opening) turns
+  pub ends : end_of (beginning m opening) turns ≡ point now state
   pub sent : now.sent ≡ opening.sent ++ texts turns
 
 -- `rest` is what was taken and not yet looked at, and `line` what stands before it behind the last line feed

@@ -82,7 +82,7 @@ pub fn generate<P: Pool, D: Desk>(
     desk: &mut D,
 ) -> End
     requires fits { P.fits pool.old (D.sizes desk.old) }
-    requires closed { (disks : Disks) → P.stands pool.old disks P.meaning.none }
+    requires closed { (disks : Disks) → P.stands pool.old disks (P.meaning.none disks) }
     requires enough { 3 ≤ length devices.now }
     requires paths { IsTrue (list_all is_path (map path_of devices.now)) }
     requires different { IsTrue (are_different (map path_of devices.now)) }

@@ -74,7 +74,7 @@ fn take_piece<P: Pool, D: Desk>(
 /// Answers the whole input.
 pub fn serve<P: Pool, D: Desk>(alloc: Global, course: &Course, pool: &mut P, desk: &mut D) -> End
     requires fits { P.fits pool.old (D.sizes desk.old) }
-    requires closed { (disks : Disks) → P.stands pool.old disks P.meaning.none }
+    requires closed { (disks : Disks) → P.stands pool.old disks (P.meaning.none disks) }
     ensures ends { D.tells desk.old → (D.world desk.old).now.paths ≡ P.paths pool.old → EndsAs P.meaning course.now.rounds result (D.world desk.old).now (D.world desk.new).now }
     ensures moments { D.tells desk.old → (D.world desk.old).now.paths ≡ P.paths pool.old → Throughout (IsMoment P.meaning course.now.rounds (D.world desk.old).now) (D.world desk.old) (D.world desk.new) }
     ensures cause { HasCause (MayBeDamaged P.meaning) (D.counts desk.old) (D.counts desk.new) result }

@@ -1,16 +1,16 @@
 -- What stays of a pool's last root while nothing is written that it needs.
-use Rattle.std.proofs.Common.{◌≡◌, ℕ, ◌+◌, ◌*◌, ◌<◌, ◌≤◌, Bool, true, false, List, [], ◌∷◌, length, map, Option, Some, None, refl, sym, ◌∙◌, ap, subst, arith}
+use Rattle.std.proofs.Common.{◌≡◌, ℕ, ◌+◌, ◌*◌, ◌<◌, ◌≤◌, Bool, true, false, List, [], length, map, Option, Some, None, refl, sym, ◌∙◌, ap, subst, arith}
 use Rattle.std.specs.Prelude.{All, slice_index}
 use Rattle.std.specs.List.{AllByRecursion}
 use Rattle.std.proofs.lemmas.Bool.Decides.{nat_tests}
 use Rattle.zr_base.specs.Extents.{has_unit}
 use Rattle.zr_base.specs.declared.space.Dva.{Dva}
 use Rattle.zr_bptr.specs.declared.Bptr.{Bptr}
-use Rattle.zr_current.proofs.Committed.{IsAside, count_of, into_clear, label_aside, length_at, ring_aside}
+use Rattle.zr_current.proofs.Committed.{IsAside, into_clear}
 use Rattle.zr_found.proofs.Image.{held_are_found}
 use Rattle.zr_held.specs.Held.{HasObjects}
 use Rattle.zr_image.specs.Reading.{store_of}
-use Rattle.zr_label.specs.Geometry.{label_block_at, ring_slot_at, unit_at}
+use Rattle.zr_label.specs.Geometry.{unit_at}
 use Rattle.zr_label.specs.declared.root.Uber.{Uber}
 use Rattle.zr_image.specs.StateOf.{AreObjects}
 use Rattle.zr_meta.specs.Heads.{head_bytes}
@@ -23,10 +23,8 @@ use Rattle.zr_rules.specs.Places.{in_address}
 use Rattle.zr_rules.specs.Resolve.{leads_to}
 use Rattle.zr_rules.specs.Roles.{Role, is_live_role, is_meta_role}
 use Rattle.zr_rules.specs.Space.{OpenSets, Space, is_born, role_at}
-use Rattle.zr_scan.specs.Scan.{block_of, ring_block}
-use Rattle.zr_shelf.specs.Disks.{IsAtRest, IsUntouched, MayLeave, Meets, PendingWrite, Stand, disk, part}
+use Rattle.zr_shelf.specs.Disks.{IsAtRest, IsUntouched, Meets, PendingWrite, Stand}
 use Rattle.zr_shelf.specs.Doings.{Adds}
-use Rattle.zr_shelf.specs.Doings.Adds.{added_none, added}
 use Rattle.zr_store.proofs.Meeting.{at_each}
 use Rattle.zr_store.specs.Store.{Stored}
 use Rattle.zr_sync.specs.Heads.{HasDirectory, HasSafeHead, IsInMetadata}
@@ -41,6 +39,7 @@ use Rattle.zr_vdev.specs.declared.kind.Kind.TheVariants.{Block}
 use Rattle.zr_view.specs.Runs.{bytes_from}
 use Rattle.zr_view.specs.Views.{View, address_bytes, slot_of}
 use Rattle.zr_stops.specs.Last.{HasLast, IsCommitted, IsSettled, LeavesLast}
+use Rattle.zr_stops.proofs.Aside as aside
 
 -- ---- roles
 
@@ -136,43 +135,28 @@ module _ (sizes : List ℕ) (u : Uber) (pool : OpenPool) (objects : Objects) (st
 
   -- the disks are durable as they read at the start, and what is pending lies in units that were free
   abbrev pub IsPending : Stand → Type 0
-  IsPending stand = (stand.durable ≡ start.seen) × AllByRecursion Allowed stand.writes
+  IsPending = aside.IsPending sizes start was.rest was.sized Allowed alone.aside
 
   pub pending_step : (a b : Stand) → Adds Allowed a b → IsPending a → IsPending b
-  pending_step a b (added_none is) h = subst IsPending (sym is) h
-  pending_step a b (added w may written) h = (written.durable ∙ h.0, subst (AllByRecursion Allowed) (sym written.writes) (may, h.1))
+  pending_step a b adds h = aside.pending_step sizes start was.rest was.sized Allowed alone.aside a b adds h
 
   pub pending_start : IsPending start
-  pending_start = (sym was.rest.seen, subst (AllByRecursion Allowed) (sym was.rest.writes) tt)
+  pending_start = aside.pending_start sizes start was.rest was.sized Allowed alone.aside
 
   pub clear_of_all : (slot at n : ℕ) → ((w : PendingWrite) → Allowed w → ¬ Meets w slot at n) → (ws : List PendingWrite) → AllByRecursion Allowed ws → IsUntouched ws slot at n
-  clear_of_all slot at n clear [] all = tt
-  clear_of_all slot at n clear (w ∷ ws) all = (clear w all.0, clear_of_all slot at n clear ws all.1)
-
-  -- ---- an image
+  clear_of_all slot at n clear ws all = aside.clear_of_all sizes start was.rest was.sized Allowed alone.aside slot at n clear ws all
 
   -- bytes that no such write meets are as they were
-  pub record KeepsClear (image : List (List ℕ)) : Type 0 where
-    pub same_sizes : map length image ≡ map length start.seen
-    pub part_kept : (slot at n : ℕ) → ((w : PendingWrite) → Allowed w → ¬ Meets w slot at n) → part (disk image slot) at n ≡ part (disk start.seen slot) at n
+  abbrev pub KeepsClear : List (List ℕ) → Type 0
+  KeepsClear = aside.KeepsClear sizes start was.rest was.sized Allowed alone.aside
 
-  -- a crash leaves them
-  pub crash_clear : (stand : Stand) → IsPending stand → (image : List (List ℕ)) → MayLeave stand image → KeepsClear image
-  crash_clear stand pending image leaves = record {
-    same_sizes = leaves.sizes ∙ ap (λ (d : List (List ℕ)). map length d) pending.0;
-    part_kept = λ slot at n clear. leaves.bytes slot at n (clear_of_all slot at n clear stand.writes pending.1) ∙ ap (λ (d : List (List ℕ)). part (disk d slot) at n) pending.0;
-  }
-
-  -- and so the disks read
   pub seen_step : (a b : Stand) → Adds Allowed a b → KeepsClear a.seen → KeepsClear b.seen
-  seen_step a b (added_none is) h = subst (λ (s : Stand). KeepsClear s.seen) (sym is) h
-  seen_step a b (added w may written) h = record {
-    same_sizes = written.seen.sizes ∙ h.same_sizes;
-    part_kept = λ slot at n clear. written.seen.bytes slot at n (clear w may, tt) ∙ h.part_kept slot at n clear;
-  }
+  seen_step a b adds h = aside.seen_step sizes start was.rest was.sized Allowed alone.aside a b adds h
 
   pub seen_start : KeepsClear start.seen
-  seen_start = record { same_sizes = refl; part_kept = λ slot at n clear. refl }
+  seen_start = aside.seen_start sizes start was.rest was.sized Allowed alone.aside
+
+  -- ---- an image
 
   module _ (image : List (List ℕ)) (keeps : KeepsClear image) where
     run_kept : (o : Option ℕ) (d v : ℕ) → slot_of slots d ≡ o → is_open_role (role_at pool.space d v) ≡ false → bytes_from image o v (4096 * 1) ≡ bytes_from start.seen o v (4096 * 1)
@@ -183,38 +167,9 @@ module _ (sizes : List ℕ) (u : Uber) (pool : OpenPool) (objects : Objects) (st
     address_kept : (a : Dva) → IsOutOfReach pool.space a → address_bytes (view_of image slots pool.space) a ≡ address_bytes (view_of start.seen slots pool.space) a
     address_kept a out = address_same slots (devices_in pool.space) start.seen image a (λ d v led. run_kept (slot_of slots d) d v refl (out d v led))
 
-    -- ---- the slots
-
-    module _ (sl : ℕ) where
-      image_size : length (disk image sl) ≡ slice_index sizes sl
-      image_size = length_at image sizes sl (keeps.same_sizes ∙ was.sized)
-
-      old_size : length (disk start.seen sl) ≡ length (disk image sl)
-      old_size = length_at start.seen sizes sl was.sized ∙ sym image_size
-
-      aside_kept : (at : ℕ) → IsAside (slice_index sizes sl) at → part (disk start.seen sl) at 4096 ≡ part (disk image sl) at 4096
-      aside_kept at aside = sym (keeps.part_kept sl at 4096 (alone.aside sl at aside))
-
-      label_kept : (n : ℕ) → n < 4 → block_of (length (disk image sl)) (disk start.seen sl) n ≡ block_of (length (disk image sl)) (disk image sl) n
-      label_kept n few =
-          subst (λ (size : ℕ). block_of size (disk start.seen sl) n ≡ block_of size (disk image sl) n) (sym image_size)
-          (aside_kept (label_block_at (slice_index sizes sl) n) (label_aside (slice_index sizes sl) n 16384 few (omega arith)))
-
-      ring_kept : (n k : ℕ) → n < 4 → k < 32 → ring_block (length (disk image sl)) (disk start.seen sl) n k ≡ ring_block (length (disk image sl)) (disk image sl) n k
-      ring_kept n k few low =
-          subst (λ (size : ℕ). ring_block size (disk start.seen sl) n k ≡ ring_block size (disk image sl) n k) (sym image_size)
-          (aside_kept (ring_slot_at (slice_index sizes sl) n k) (ring_aside (slice_index sizes sl) n k few low))
-
     -- the labels and the rings are as they were
     pub rings_still : KeepsRings start.seen image
-    rings_still = record {
-      labels = record {
-        count = count_of start.seen image keeps.same_sizes;
-        sizes = λ sl. sym (old_size sl);
-        labels = λ sl n few. subst (λ (size : ℕ). block_of size (disk image sl) n ≡ block_of size (disk start.seen sl) n) (sym (old_size sl)) (sym (label_kept sl n few));
-      };
-      rings = λ sl n k few low. subst (λ (size : ℕ). ring_block size (disk image sl) n k ≡ ring_block size (disk start.seen sl) n k) (sym (old_size sl)) (sym (ring_kept sl n k few low));
-    }
+    rings_still = aside.rings_still sizes start was.rest was.sized Allowed alone.aside image keeps
 
     pub newest_kept : IsNewestOn image u pool.table.slots
     newest_kept = newest_still start.seen image u pool.table.slots rings_still was.newest
@@ -249,4 +204,4 @@ module _ (sizes : List ℕ) (u : Uber) (pool : OpenPool) (objects : Objects) (st
 
   -- whatever a crash leaves has it
   pub leaves : (stand : Stand) → IsPending stand → LeavesLast u pool objects stand
-  leaves stand pending image left = last_kept image (crash_clear stand pending image left)
+  leaves stand pending image left = last_kept image (aside.crash_clear sizes start was.rest was.sized Allowed alone.aside stand pending image left)

@@ -1,4 +1,5 @@
 pub mod Directories
+pub mod Aside
 pub mod Kept
 pub mod Images
 pub mod Grouped
@@ -6,7 +7,10 @@ pub mod Within
 pub mod Torn
 pub mod Putting
 pub mod Committing
+pub mod Preparing
 pub mod Labelling
+pub mod Making
 pub mod Ending
 pub mod Behind
 pub mod Joining
+pub mod Returning

@@ -12,7 +12,7 @@ use Rattle.zr_label.specs.declared.root.Uber.{Uber}
 use Rattle.zr_newest.proofs.Found.{found, one_pool}
 use Rattle.zr_newest.proofs.Kept.{device_on, labels_on, root_was}
 use Rattle.zr_newest.proofs.Seen.{listed, long_seen, one_label_at, placed_at, root_of_shown, seen_labels, shown_of_root, slots_same}
-use Rattle.zr_newest.specs.Newest.{AreAt, IsNewestOn, KeepsLabels, ShowsRoot, StandsAtDevice}
+use Rattle.zr_newest.specs.Newest.{AreAt, HaveLabels, IsNewestOn, KeepsLabels, ShowsRoot, StandsAtDevice}
 use Rattle.zr_scan.proofs.Gathering.{slot_small}
 use Rattle.zr_scan.specs.Scan.{ShowsLabel, Stands, ring_block}
 use Rattle.zr_shelf.proofs.Publish.{one_more}
@@ -21,22 +21,12 @@ use Rattle.zr_sync.specs.declared.open.OpenPool.{OpenPool}
 use Rattle.zr_view.specs.Views.{slot_of}
 use Rattle.zr_stops.specs.Torn.{MayHaveRoot, ShowsOneOf}
 
-module _ (disks image : List (List ℕ)) (last u : Uber) (slots mine : List (Option ℕ)) (lawful : IsUber u) (txg : u.txg ≡ last.txg + 1) (newest : IsNewestOn disks last slots) (at : AreAt mine u newest.seen) (may : MayHaveRoot disks image u) where
+module _ (disks image : List (List ℕ)) (u : Uber) (lawful : IsUber u) (may : MayHaveRoot disks image u) where
   labels_kept : KeepsLabels disks image
   labels_kept = record { count = may.count; sizes = may.sizes; labels = may.labels }
 
-  -- the last root stands where it stood, in another place than the next one
-  last_ring : (slot k : ℕ) → k < 4 → ring_block (length (disk disks slot)) (disk image slot) k (ring_of last.txg) ≡ ring_block (length (disk disks slot)) (disk disks slot) k (ring_of last.txg)
-  last_ring slot k few = elim (may.rings slot k (ring_of last.txg) few (slot_small last.txg)) [
-    | inl same ↦ same
-    | inr put ↦ absurd ((one_more last.txg).other_slot (put.0 ∙ ap (λ (n : ℕ). n % 32) txg))
-  ]
-
-  last_stands : StandsAtDevice image last slots
-  last_stands = device_on disks image last slots newest.stands (may.sizes newest.stands.slot) (last_ring newest.stands.slot newest.stands.ring newest.stands.four)
-
   -- a root that is shown there was shown before, or is the next one
-  stood_or_next : (slot : ℕ) (v : Uber) → ShowsRoot image slot v → ShowsRoot disks slot v ⊎ (v ≡ u)
+  pub stood_or_next : (slot : ℕ) (v : Uber) → ShowsRoot image slot v → ShowsRoot disks slot v ⊎ (v ≡ u)
   stood_or_next slot v h = by_block (may.rings slot h.ring (ring_of v.txg) h.four (slot_small v.txg))
     where
       spells : SpellsUber (ring_block (length (disk disks slot)) (disk image slot) h.ring (ring_of v.txg)) v
@@ -47,20 +37,31 @@ module _ (disks image : List (List ℕ)) (last u : Uber) (slots mine : List (Opt
       by_block (inr (place, inl put)) = inr (one_uber (uber_block u) v u (subst (λ (block : List ℕ). SpellsUber block v) put spells) (record { lawful = lawful; spelling = refl }))
       by_block (inr (place, inr none)) = absurd (none (of_group v) spells)
 
-  module _ (seen : List Seen) (shown : ShowsAll image seen) where
-    -- the labels are those that were seen
-    moved : (those : List (Option ℕ)) (v : Uber) → AreAt those v newest.seen → AreAt those v seen
-    moved those v are =
-        let had = labels_on disks image labels_kept newest.seen newest.labels in
-        let has = seen_labels image seen shown in
-        let n = had.count ∙ sym has.count in
-        λ d. are d ∙ ap (λ (these : List (Option ℕ)). slot_of these d) (slots_same newest.seen seen n (one_label_at image newest.seen seen had has) v)
+  -- the devices are where the labels were that were seen before
+  pub moved : (before : List Seen) → HaveLabels disks before → (seen : List Seen) → ShowsAll image seen → (those : List (Option ℕ)) (v : Uber) → AreAt those v before → AreAt those v seen
+  moved before labels seen shown those v are =
+      let had = labels_on disks image labels_kept before labels in
+      let has = seen_labels image seen shown in
+      let n = had.count ∙ sym has.count in
+      λ d. are d ∙ ap (λ (these : List (Option ℕ)). slot_of these d) (slots_same before seen n (one_label_at image before seen had has) v)
 
+module _ (disks image : List (List ℕ)) (last u : Uber) (slots mine : List (Option ℕ)) (lawful : IsUber u) (txg : u.txg ≡ last.txg + 1) (newest : IsNewestOn disks last slots) (at : AreAt mine u newest.seen) (may : MayHaveRoot disks image u) where
+  -- the last root stands where it stood, in another place than the next one
+  last_ring : (slot k : ℕ) → k < 4 → ring_block (length (disk disks slot)) (disk image slot) k (ring_of last.txg) ≡ ring_block (length (disk disks slot)) (disk disks slot) k (ring_of last.txg)
+  last_ring slot k few = elim (may.rings slot k (ring_of last.txg) few (slot_small last.txg)) [
+    | inl same ↦ same
+    | inr put ↦ absurd ((one_more last.txg).other_slot (put.0 ∙ ap (λ (n : ℕ). n % 32) txg))
+  ]
+
+  last_stands : StandsAtDevice image last slots
+  last_stands = device_on disks image last slots newest.stands (may.sizes newest.stands.slot) (last_ring newest.stands.slot newest.stands.ring newest.stands.four)
+
+  module _ (seen : List Seen) (shown : ShowsAll image seen) where
     devices : AreAt slots last seen
-    devices = moved slots last newest.devices
+    devices = moved disks image u lawful may newest.seen newest.labels seen shown slots last newest.devices
 
     next_devices : AreAt mine u seen
-    next_devices = moved mine u at
+    next_devices = moved disks image u lawful may newest.seen newest.labels seen shown mine u at
 
     last_shown : IsShown seen last
     last_shown =
@@ -90,7 +91,7 @@ module _ (disks image : List (List ℕ)) (last u : Uber) (slots mine : List (Opt
         ⊎_elim
         (λ (stood : ShowsRoot disks there.0 v). ⊎_elim (λ (same : v ≡ last). inl same) (λ (lt : v.txg < last.txg). absurd (omega (arith, lt, low))) (newest.newest there.0 v stood one))
         (λ (put : v ≡ u). inr put)
-        (stood_or_next there.0 v (root_of_shown image seen shown there.0 v there.1))
+        (stood_or_next disks image u lawful may there.0 v (root_of_shown image seen shown there.0 v there.1))
 
 pub torn_shows : (first next : OpenPool) (disks image : List (List ℕ)) (last u : Uber) → IsUber u → u.txg ≡ last.txg + 1 → (newest : IsNewestOn disks last first.table.slots) → AreAt next.table.slots u newest.seen → MayHaveRoot disks image u → ShowsOneOf image last u first next
 torn_shows first next disks image last u lawful txg newest at may = record {

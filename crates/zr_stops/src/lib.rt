@@ -17,5 +17,5 @@ pub use laws::{
 };
 pub use runs::{
     a_commit_begins_a_group, a_commit_ends_its_group, a_device_joins, a_line_stays_in_its_group,
-    a_pool_that_was_left_begins_a_group,
+    a_pool_goes_back, a_pool_is_made, a_pool_that_was_left_begins_a_group,
 };

@@ -1,13 +1,16 @@
 //! Lines of a group, and the commit that ends it, by how the disks stand before each of them.
 ghost use Rattle.std.specs.Prelude.{◌≡◌, ℕ, Bool, true, List, map, length};
+ghost use Rattle.std.specs.FinMap as finite;
 ghost use Rattle.zr_create.specs.Adding.{AddsInPart};
+ghost use Rattle.zr_create.specs.Making.{HasNoRoot, MakesBehind};
 ghost use Rattle.zr_current.specs.Current.{GoesOnFrom};
 ghost use Rattle.zr_newest.specs.Newest.{IsNewestOn};
 ghost use Rattle.zr_label.specs.declared.root.Uber.{Uber};
 ghost use Rattle.zr_model.specs.Objects.{Objects};
 ghost use Rattle.zr_rules.specs.Equation.{devices_in};
-ghost use Rattle.zr_shelf.specs.Disks.{Stand};
+ghost use Rattle.zr_shelf.specs.Disks.{IsAtRest, Stand};
 ghost use Rattle.zr_shelf.specs.Moments.{Throughout, World};
+ghost use Rattle.zr_open.specs.Going.{PutsBack};
 ghost use Rattle.zr_open.specs.There.{AreThere};
 ghost use Rattle.zr_stops.specs.Behind.{AreSameDisks, ShowsOnly, StandsBehind};
 ghost use Rattle.zr_stops.specs.Either.{ShowsEither};
@@ -64,4 +67,17 @@ pub fn a_commit_ends_its_group()
     ensures stops { (sizes : List ℕ) (reset : Bool) (before after : Objects) (old : OpenPool) (start now : World) → StandsBehind sizes before old start.now → IsOpen sizes old → CommitsObjects sizes old reset after start now → Throughout (ShowsEither before after) start now }
     ensures turns { (sizes : List ℕ) (reset : Bool) (before after : Objects) (old turned : OpenPool) (start now : World) → StandsBehind sizes before old start.now → KeepsDevices old turned → ((d u : ℕ) → is_open_role (role_at turned.space d u) ≡ true → is_open_role (role_at old.space d u) ≡ true)
         → IsOpen sizes turned → CommitsObjects sizes turned reset after start now → Throughout (ShowsEither before after) start now }
+{}
+
+/// At each moment while a pool is gone back to, whatever an honest crash shows are the objects of the current root, or those of
+/// the root that is put behind it. No device of either pool is gone.
+pub fn a_pool_goes_back()
+    ensures { (sizes : List ℕ) (before after : Objects) (read now : World) (h : PutsBack sizes before after read now) → AreThere (devices_in h.pool.space) → AreThere (devices_in h.back.space) → Throughout (ShowsEither before after) read now }
+{}
+
+/// At each moment while a pool is made, on disks that show no root and where nothing was pending, whatever an honest crash shows has no
+/// objects. No pool is made where one was committed.
+pub fn a_pool_is_made()
+    ensures shows { (sizes named : List ℕ) (start now : World) → IsAtRest start.now → map length start.now.seen ≡ sizes → MakesBehind sizes named start now → Throughout (ShowsOnly finite.empty) start now }
+    ensures in_the_way { (sizes : List ℕ) (objects : Objects) (pool : OpenPool) (now : Stand) → StandsBehind sizes objects pool now → HasNoRoot now.seen → ⊥ }
 {}

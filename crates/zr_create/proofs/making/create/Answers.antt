@@ -1,4 +1,4 @@
-use Rattle.std.proofs.Common.{◌≡◌, ◌≤◌, ℕ, true, List, Ok, length, subst, sym, ◌∙◌, ap, arith}
+use Rattle.std.proofs.Common.{◌≡◌, ◌≤◌, ℕ, true, List, Ok, inl, inr, length, refl, subst, sym, ◌∙◌, ap, arith}
 use Rattle.std.proofs.lemmas.List.{length-map}
 use Rattle.zr_shelf.specs.Disks.{Stand}
 use Rattle.std.specs.FinMap as map
@@ -9,12 +9,16 @@ use Rattle.zr_create.specs.Devices.{HaveDisks, HasDevicesIn}
 use Rattle.zr_create.proofs.Staying.{still_in}
 use Rattle.zr_sync.proofs.Disks.{works_more, works_still}
 use Rattle.zr_create.proofs.Checking.{new_disks}
+use Rattle.zr_shelf.proofs.Runs.{still as unmoved}
+use Rattle.zr_create.specs.Making.{PreparesFirst, PreparesInPart}
 use Rattle.zr_create.specs.Refusals.{ChecksNew}
+use Rattle.zr_sync.specs.Leads.{CommitsObjects}
+use Rattle.zr_sync.specs.Pools.{IsOpen}
 use Rattle.zr_slots.specs.Checks.{AreNamed}
 use Rattle.zr_sync.proofs.Ending.{ends_by}
 use Rattle.zr_sync.specs.Ends.{EndsCommitted}
 use Rattle.zr_create.proofs.Going.{with_some}
-use Rattle.zr_create.proofs.Lasting.{new_last}
+use Rattle.zr_create.proofs.Lasting.{new_last, new_names, none_rooted}
 use Rattle.zr_create.proofs.Nothing.{new_serve, none_held}
 use Rattle.zr_create.proofs.making.create.Goals as goal
 
@@ -122,5 +126,109 @@ returns-clause-last g c = λ t.
     let inside = subst (λ (n : ℕ). AreNamed n named) (sym count) c.requires.named in
     let some : 1 ≤ x.table.count = let n = taken.devices.count in let least = c.requires.some in omega (arith, n, least) in
     let ready = with_some (g.S.Shelf.sizes second) x taken.pool some in
-    new_last (g.S.Shelf.world first) (g.S.Shelf.world second) (g.S.Shelf.world third) (g.S.Shelf.sizes old) (g.S.Shelf.sizes first) (g.S.Shelf.sizes second) (g.S.Shelf.sizes third) (g.S.Shelf.tells old) t c.args.version c.args.guid c.in_ok-pool.pool.group.txg named checks inside x y
-    (taken.same.guid ∙ c.in_ok-pool.ensures.named.guid_is) taken.devices taken.only (taken.labelled told) ready done.pool (g.S.Shelf.sound second told2).sized done.txg done.last (done.written told2) done.same.guid done.same.table (more ∙ sym count)
+    new_last (g.S.Shelf.world first) (g.S.Shelf.world second) (g.S.Shelf.sizes old) (g.S.Shelf.sizes first) (g.S.Shelf.sizes second) (g.S.Shelf.tells old) t c.args.version c.args.guid c.in_ok-pool.pool.group.txg named checks inside x
+    (taken.same.guid ∙ c.in_ok-pool.ensures.named.guid_is) taken.devices taken.only (taken.labelled told) ready (more ∙ sym count) (g.S.Shelf.world third) (g.S.Shelf.sizes third) y done.pool (g.S.Shelf.sound second told2).sized done.txg done.last (done.written told2) done.same.guid done.same.table
+
+-- ---- wherever it stops
+
+pub returns-in_err-check_new-clause-stops : goal.returns-in_err-check_new-clause-stops
+returns-in_err-check_new-clause-stops g c = λ t. let world = g.S.Shelf.world c.check_new.new.shelf in (world, c.check_new.ensures.still t, inl (unmoved world world refl))
+
+pub returns-in_err-pool-clause-stops : goal.returns-in_err-pool-clause-stops
+returns-in_err-pool-clause-stops g c = λ t. let world = g.S.Shelf.world c.check_new.new.shelf in (world, c.check_new.ensures.still t, inl (unmoved world world refl))
+
+pub returns-in_err-take_all-clause-stops : goal.returns-in_err-take_all-clause-stops
+returns-in_err-take_all-clause-stops g c = λ t.
+    let old = c.args.shelf.now in
+    let named = c.args.named.now in
+    let still = c.check_new.ensures.still t in
+    let w1 = g.S.Shelf.world c.check_new.new.shelf in
+    let w2 = g.S.Shelf.world c.take_all.new.shelf in
+    let checks = subst (λ (ds : List (List ℕ)). ChecksNew (g.S.Shelf.sizes old) (g.S.Shelf.tells old) ds c.args.version c.args.guid named (Ok tt)) (sym (ap (λ (s : Stand). s.seen) still.now)) c.in_ok-check_new.ensures.allowed in (
+      w1,
+      still,
+      inr (record {
+        unused = none_rooted (g.S.Shelf.sizes old) (g.S.Shelf.tells old) t w1.now.seen c.args.version c.args.guid named checks;
+        rest = inl (subst (λ (n : List ℕ). PreparesInPart n named w1 w2) c.check_new.ensures.sizes (c.take_all.ensures.prepares (c.check_new.ensures.told t)));
+      }),
+    )
+
+pub returns-in_err-commit-clause-stops : goal.returns-in_err-commit-clause-stops
+returns-in_err-commit-clause-stops g c = λ t.
+    let told = c.check_new.ensures.told t in
+    let told2 = c.take_all.ensures.told told in
+    let old = c.args.shelf.now in
+    let first = c.check_new.new.shelf in
+    let second = c.take_all.new.shelf in
+    let named = c.args.named.now in
+    let x = c.take_all.new.pool in
+    let taken = c.in_ok-take_all.ensures in
+    let blank = c.in_ok-pool.ensures.blank in
+    let still = c.check_new.ensures.still t in
+    let sizes2 = c.take_all.ensures.sizes ∙ c.check_new.ensures.sizes in
+    let count : length (g.S.Shelf.world first).now.seen ≡ length (g.S.Shelf.sizes old) = sym (length-map (g.S.Shelf.world first).now.seen length) ∙ ap (λ (ns : List ℕ). length ns) ((g.S.Shelf.sound first told).sized ∙ c.check_new.ensures.sizes) in
+    let more : length (g.S.Shelf.world second).now.seen ≡ length (g.S.Shelf.sizes old) =
+    sym (length-map (g.S.Shelf.world second).now.seen length) ∙ ap (λ (ns : List ℕ). length ns) ((g.S.Shelf.sound second told2).sized ∙ sizes2) in
+    let checks = subst (λ (ds : List (List ℕ)). ChecksNew (g.S.Shelf.sizes old) (g.S.Shelf.tells old) ds c.args.version c.args.guid named (Ok tt)) (sym (ap (λ (s : Stand). s.seen) still.now)) c.in_ok-check_new.ensures.allowed in
+    let inside = subst (λ (n : ℕ). AreNamed n named) (sym count) c.requires.named in
+    let some : 1 ≤ x.table.count = let n = taken.devices.count in let least = c.requires.some in omega (arith, n, least) in
+    let ready = with_some (g.S.Shelf.sizes second) x taken.pool some in
+    let service = new_serve (g.S.Shelf.sizes second) (g.S.Shelf.sizes first) _ named x taken.pool taken.devices in
+    let held = none_held (g.S.Shelf.tells second) (g.S.Shelf.world second).now.seen x told2 service (taken.same.dir ∙ blank.dir) (ap (λ (z : Group). z.objects) taken.same.group ∙ blank.objects) (ap entries taken.same.cache ∙ blank.cache) in (
+      g.S.Shelf.world first,
+      still,
+      inr (record {
+        unused = none_rooted (g.S.Shelf.sizes old) (g.S.Shelf.tells old) t (g.S.Shelf.world first).now.seen c.args.version c.args.guid named checks;
+        rest = inr (record {
+          labelled = g.S.Shelf.world second;
+          prepared = subst (λ (n : List ℕ). PreparesFirst n named (length named) (g.S.Shelf.world first) (g.S.Shelf.world second)) c.check_new.ensures.sizes (taken.prepared told);
+          pool = x;
+          ready = subst (λ (n : List ℕ). IsOpen n x) sizes2 ready;
+          first = taken.same.last ∙ blank.last;
+          service = service;
+          names = new_names (g.S.Shelf.world first) (g.S.Shelf.world second) (g.S.Shelf.sizes old) (g.S.Shelf.sizes first) (g.S.Shelf.sizes second) (g.S.Shelf.tells old) t c.args.version c.args.guid c.in_ok-pool.pool.group.txg named checks inside x
+              (taken.same.guid ∙ c.in_ok-pool.ensures.named.guid_is) taken.devices taken.only (taken.labelled told) ready (more ∙ sym count);
+          commits = subst (λ (n : List ℕ). CommitsObjects n x true map.empty (g.S.Shelf.world second) (g.S.Shelf.world c.commit.new.shelf)) sizes2 (c.commit.ensures.leads map.empty held);
+        });
+      }),
+    )
+
+pub returns-clause-stops : goal.returns-clause-stops
+returns-clause-stops g c = λ t.
+    let told = c.check_new.ensures.told t in
+    let told2 = c.take_all.ensures.told told in
+    let old = c.args.shelf.now in
+    let first = c.check_new.new.shelf in
+    let second = c.take_all.new.shelf in
+    let named = c.args.named.now in
+    let x = c.take_all.new.pool in
+    let taken = c.in_ok-take_all.ensures in
+    let blank = c.in_ok-pool.ensures.blank in
+    let still = c.check_new.ensures.still t in
+    let sizes2 = c.take_all.ensures.sizes ∙ c.check_new.ensures.sizes in
+    let count : length (g.S.Shelf.world first).now.seen ≡ length (g.S.Shelf.sizes old) = sym (length-map (g.S.Shelf.world first).now.seen length) ∙ ap (λ (ns : List ℕ). length ns) ((g.S.Shelf.sound first told).sized ∙ c.check_new.ensures.sizes) in
+    let more : length (g.S.Shelf.world second).now.seen ≡ length (g.S.Shelf.sizes old) =
+    sym (length-map (g.S.Shelf.world second).now.seen length) ∙ ap (λ (ns : List ℕ). length ns) ((g.S.Shelf.sound second told2).sized ∙ sizes2) in
+    let checks = subst (λ (ds : List (List ℕ)). ChecksNew (g.S.Shelf.sizes old) (g.S.Shelf.tells old) ds c.args.version c.args.guid named (Ok tt)) (sym (ap (λ (s : Stand). s.seen) still.now)) c.in_ok-check_new.ensures.allowed in
+    let inside = subst (λ (n : ℕ). AreNamed n named) (sym count) c.requires.named in
+    let some : 1 ≤ x.table.count = let n = taken.devices.count in let least = c.requires.some in omega (arith, n, least) in
+    let ready = with_some (g.S.Shelf.sizes second) x taken.pool some in
+    let service = new_serve (g.S.Shelf.sizes second) (g.S.Shelf.sizes first) _ named x taken.pool taken.devices in
+    let held = none_held (g.S.Shelf.tells second) (g.S.Shelf.world second).now.seen x told2 service (taken.same.dir ∙ blank.dir) (ap (λ (z : Group). z.objects) taken.same.group ∙ blank.objects) (ap entries taken.same.cache ∙ blank.cache) in (
+      g.S.Shelf.world first,
+      still,
+      inr (record {
+        unused = none_rooted (g.S.Shelf.sizes old) (g.S.Shelf.tells old) t (g.S.Shelf.world first).now.seen c.args.version c.args.guid named checks;
+        rest = inr (record {
+          labelled = g.S.Shelf.world second;
+          prepared = subst (λ (n : List ℕ). PreparesFirst n named (length named) (g.S.Shelf.world first) (g.S.Shelf.world second)) c.check_new.ensures.sizes (taken.prepared told);
+          pool = x;
+          ready = subst (λ (n : List ℕ). IsOpen n x) sizes2 ready;
+          first = taken.same.last ∙ blank.last;
+          service = service;
+          names = new_names (g.S.Shelf.world first) (g.S.Shelf.world second) (g.S.Shelf.sizes old) (g.S.Shelf.sizes first) (g.S.Shelf.sizes second) (g.S.Shelf.tells old) t c.args.version c.args.guid c.in_ok-pool.pool.group.txg named checks inside x
+              (taken.same.guid ∙ c.in_ok-pool.ensures.named.guid_is) taken.devices taken.only (taken.labelled told) ready (more ∙ sym count);
+          commits = subst (λ (n : List ℕ). CommitsObjects n x true map.empty (g.S.Shelf.world second) (g.S.Shelf.world c.commit.new.shelf)) sizes2 (c.commit.ensures.leads map.empty held);
+        });
+      }),
+    )

@@ -1,10 +1,12 @@
-use Rattle.std.proofs.Common.{ℕ, List, Some, refl, sym, ◌≡◌, ◌<◌, ◌∙◌, ap, subst, get_or, arith}
+use Rattle.std.proofs.Common.{ℕ, List, Some, Ok, inl, inr, refl, sym, ◌≡◌, ◌<◌, ◌∙◌, ap, subst, get_or, arith}
 use Rattle.std.specs.Prelude.{slice_index}
 use Rattle.zr_label.specs.Geometry.{units_of_size}
 use Rattle.zr_sync.specs.Pools.{IsPool}
 use Rattle.zr_sync.proofs.Disks.{works_more}
 use Rattle.zr_create.proofs.Going.{with_any, same_more, count_more, only_more, each_more}
 use Rattle.zr_create.proofs.Labelled.{more_labelled}
+use Rattle.zr_create.proofs.Prepared.{next_prepared, one_prepared}
+use Rattle.zr_create.specs.Devices.{next_label}
 use Rattle.zr_create.proofs.taking.take_all.Goals as goal
 
 pub returns-in_err-take_on-clause-disks : goal.returns-in_err-take_on-clause-disks
@@ -33,8 +35,29 @@ loop-i-preserved g c =
       same = same_more sizes c.args.named.now c.loop-i.i slot c.in-Some.units c.args.pool.now c.loop-i.pool c.take_on.new.pool pool few count refl units c.loop-i.invariant.same c.in_ok-take_on.ensures.taken;
       count = count_more sizes c.args.named.now c.loop-i.i slot c.in-Some.units c.args.pool.now c.loop-i.pool c.take_on.new.pool pool few count refl units c.loop-i.invariant.same c.in_ok-take_on.ensures.taken;
       each = each_more sizes c.args.named.now c.loop-i.i slot c.in-Some.units c.args.pool.now c.loop-i.pool c.take_on.new.pool pool few count refl units c.loop-i.invariant.same c.in_ok-take_on.ensures.taken c.loop-i.invariant.each;
+      firsts = λ t.
+          next_prepared sizes c.args.named.now c.loop-i.i (g.S.Shelf.world c.args.shelf.now) (g.S.Shelf.world c.loop-i.shelf) (g.S.Shelf.world c.take_on.new.shelf) (c.loop-i.invariant.firsts t)
+          (one_prepared sizes (g.S.Shelf.sizes c.loop-i.shelf) slot (next_label c.loop-i.pool c.in-Some.units) (Ok tt) (g.S.Shelf.world c.loop-i.shelf) (g.S.Shelf.world c.take_on.new.shelf) c.loop-i.invariant.sizes (c.requires.named c.loop-i.i inside) c.take_on.ensures.disk c.take_on.ensures.label
+          (c.in_ok-take_on.ensures.prepared (c.loop-i.invariant.told t)));
       labelled = λ t.
           more_labelled (g.S.Shelf.world c.args.shelf.now).now.seen (g.S.Shelf.world c.loop-i.shelf).now.seen (g.S.Shelf.world c.take_on.new.shelf).now.seen c.args.named.now c.loop-i.i slot c.in-Some.units c.loop-i.pool c.take_on.new.pool c.requires.apart inside refl count
           (let size = pool.table.size in omega (arith, few, size)) c.in_ok-take_on.ensures.taken (c.in_ok-take_on.ensures.labelled (c.loop-i.invariant.told t)) (c.loop-i.invariant.labelled t);
       only = only_more sizes c.args.named.now c.loop-i.i slot c.in-Some.units c.args.pool.now c.loop-i.pool c.take_on.new.pool pool few count refl units c.loop-i.invariant.same c.in_ok-take_on.ensures.taken c.loop-i.invariant.only;
     }
+
+-- ---- what was prepared, wherever it stops
+
+pub returns-in_err-take_on-clause-prepares : goal.returns-in_err-take_on-clause-prepares
+returns-in_err-take_on-clause-prepares g c = λ t.
+    let sizes = g.S.Shelf.sizes c.args.shelf.now in
+    let slot = get_or c.args.named.now c.loop-i.i 0 in
+    let part = c.take_on.ensures.prepares (c.loop-i.invariant.told t) in
+    record {
+      count = c.loop-i.i;
+      mid = g.S.Shelf.world c.loop-i.shelf;
+      done = c.loop-i.invariant.firsts t;
+      next = inr (part.0, one_prepared sizes (g.S.Shelf.sizes c.loop-i.shelf) slot (next_label c.loop-i.pool c.in-Some.units) part.0 (g.S.Shelf.world c.loop-i.shelf) (g.S.Shelf.world c.take_on.new.shelf) c.loop-i.invariant.sizes (c.requires.named c.loop-i.i c.loop-i-test.true) c.take_on.ensures.disk c.take_on.ensures.label part.1);
+    }
+
+pub returns-clause-prepares : goal.returns-clause-prepares
+returns-clause-prepares g c = λ t. record { count = c.loop-i.i; mid = g.S.Shelf.world c.loop-i.shelf; done = c.loop-i.invariant.firsts t; next = inl refl }

@@ -6,6 +6,7 @@ use Rattle.zr_sync.specs.Pools.{IsPool}
 use Rattle.zr_sync.specs.Writes.{WorksOnDisks}
 use Rattle.zr_create.specs.Devices.{IsDeviceIn, KeepsRest}
 use Rattle.zr_create.specs.Labelled.{LabelsSlots}
+use Rattle.zr_create.specs.Making.{PreparesFirst}
 use Rattle.zr_create.proofs.taking.take_all.Given as goal
 
 abbrev pub invariant-loop-i : goal.invariant-loop-i
@@ -19,5 +20,6 @@ invariant-loop-i g l = record {
   count : l.pool.table.count ≡ l.i;
   each : (k : ℕ) → k < l.i → IsDeviceIn (g.S.Shelf.sizes l.fn.shelf) l.fn.pool.group.txg l.pool k (slice_index l.named k);
   only : (d slot : ℕ) → slot_of l.pool.table.slots d ≡ Some slot → (k : ℕ) × (k < l.i) × (slice_index l.named k ≡ slot);
+  firsts : g.S.Shelf.tells l.fn.shelf → PreparesFirst (g.S.Shelf.sizes l.fn.shelf) l.named l.i (g.S.Shelf.world l.fn.shelf) (g.S.Shelf.world l.shelf);
   labelled : g.S.Shelf.tells l.fn.shelf → LabelsSlots (g.S.Shelf.world l.fn.shelf).now.seen (g.S.Shelf.world l.shelf).now.seen l.named l.i l.pool;
 }

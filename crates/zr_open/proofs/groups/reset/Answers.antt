@@ -1,8 +1,9 @@
-use Rattle.std.proofs.Common.{rules, ◌≡◌, ◌+◌, ◌≤◌, ℕ, List, [], Err, refl, sym, ◌∙◌, ap, subst, arith}
+use Rattle.std.proofs.Common.{inl, rules, ◌≡◌, ◌+◌, ◌≤◌, ℕ, List, [], Err, refl, sym, ◌∙◌, ap, subst, arith}
 use Rattle.zr_base.specs.declared.space.Dva.{Dva}
 use Rattle.zr_import.specs.declared.roots.Root.{Root}
 use Rattle.zr_label.specs.Blocks.{IsUber}
 use Rattle.zr_label.specs.declared.root.Uber.{Uber}
+use Rattle.zr_shelf.proofs.Runs.{still}
 use Rattle.zr_sync.specs.Pools.{IsOpen}
 use Rattle.zr_sync.specs.declared.fault.Fault.TheVariants.{No}
 use Rattle.zr_open.specs.Opened.{IsFresh, MayRefuse}
@@ -11,6 +12,7 @@ use Rattle.zr_open.specs.Roots.{HasParts, meta_of}
 use Rattle.zr_meta.specs.Heads.{IsSaved}
 use Rattle.zr_sync.specs.Pools.{saved_block}
 use Rattle.zr_open.proofs.Beside.{has_saved, lawful_saved}
+use Rattle.zr_open.proofs.Going.{resets}
 use Rattle.zr_open.proofs.Grouping.{as_reset, back, same_disks_of, stands_back}
 use Rattle.zr_open.proofs.Looking.{looked_moved}
 use Rattle.zr_open.proofs.Resting.{leaves_shown}
@@ -94,3 +96,38 @@ returns-clause-leaves g c = λ t h on.
     let there = stands_back (Unit {0}) tt disks sizes sound.sized l h txg le pool is ready fresh parts own.slots in
     leaves_shown disks sizes (rewound u txg) pool (back (Unit {0}) tt disks sizes sound.sized l h txg le pool is ready fresh parts own.slots) (meta_of l.saved) is ready fresh h.head parts there on c.args.current.now c.rewound.result
     (g.S.Shelf.world c.args.shelf.now) (g.S.Shelf.world c.show.new.shelf) refl c.rewound.ensures.lawful (c.in_ok-show.ensures.shown t)
+
+-- ---- wherever it stops
+
+pub returns-in_err-checkpoint-clause-stops : goal.returns-in_err-checkpoint-clause-stops
+returns-in_err-checkpoint-clause-stops g c = λ t rest h. inl (still (g.S.Shelf.world c.args.shelf.now) (g.S.Shelf.world c.args.shelf.now) refl)
+
+pub returns-in_err-reset-clause-stops : goal.returns-in_err-reset-clause-stops
+returns-in_err-reset-clause-stops g c = λ t rest h. inl (still (g.S.Shelf.world c.args.shelf.now) (g.S.Shelf.world c.args.shelf.now) refl)
+
+pub returns-in_err-pool-clause-stops : goal.returns-in_err-pool-clause-stops
+returns-in_err-pool-clause-stops g c = λ t rest h. inl (still (g.S.Shelf.world c.args.shelf.now) (g.S.Shelf.world c.args.shelf.now) refl)
+
+pub returns-in_err-show-clause-stops : goal.returns-in_err-show-clause-stops
+returns-in_err-show-clause-stops g c = λ t rest h.
+    let sizes = g.S.Shelf.sizes c.args.shelf.now in
+    let l = c.args.then.now in
+    let u = l.found.root in
+    let own = c.in_ok-pool.ensures in
+    let pool = c.in_ok-pool.pool in
+    let next = c.rewound.ensures.is in
+    let ready = own.open sizes (same_disks_of sizes l.found.slots c.rewound.result u (ap (λ (x : Uber). x.rows) next) (ap (λ (x : Uber). x.count) next) h.mounted) in
+    let parts = subst (λ (r : Root). HasParts r (meta_of l.saved) pool) c.in_ok-reset.ensures (subst (λ (meta : List Dva). HasParts c.reset.new.self meta pool) c.saved_meta.ensures own.parts) in
+    resets sizes (g.S.Shelf.world c.args.shelf.now) (g.S.Shelf.world c.show.new.shelf) (g.S.Shelf.sound c.args.shelf.now t).sized rest l h c.args.current.now c.rewound.result c.requires.below next c.rewound.ensures.lawful pool ready own.fresh parts own.slots (c.show.ensures.stops t)
+
+pub returns-clause-stops : goal.returns-clause-stops
+returns-clause-stops g c = λ t rest h.
+    let sizes = g.S.Shelf.sizes c.args.shelf.now in
+    let l = c.args.then.now in
+    let u = l.found.root in
+    let own = c.in_ok-pool.ensures in
+    let pool = c.in_ok-pool.pool in
+    let next = c.rewound.ensures.is in
+    let ready = own.open sizes (same_disks_of sizes l.found.slots c.rewound.result u (ap (λ (x : Uber). x.rows) next) (ap (λ (x : Uber). x.count) next) h.mounted) in
+    let parts = subst (λ (r : Root). HasParts r (meta_of l.saved) pool) c.in_ok-reset.ensures (subst (λ (meta : List Dva). HasParts c.reset.new.self meta pool) c.saved_meta.ensures own.parts) in
+    resets sizes (g.S.Shelf.world c.args.shelf.now) (g.S.Shelf.world c.show.new.shelf) (g.S.Shelf.sound c.args.shelf.now t).sized rest l h c.args.current.now c.rewound.result c.requires.below next c.rewound.ensures.lawful pool ready own.fresh parts own.slots (c.show.ensures.stops t)

@@ -8,12 +8,12 @@ use Rattle.zr_label.specs.Blocks.{IsUber}
 use Rattle.zr_label.specs.declared.root.Uber.{Uber}
 use Rattle.zr_rules.specs.Devices.{devices_of}
 use Rattle.zr_store.specs.Store.{Stored}
-use Rattle.zr_sync.specs.Commits.{IsShownFrom}
+use Rattle.zr_sync.specs.Commits.{IsShownFrom, PublishesRoot}
 use Rattle.zr_sync.specs.Holds.{HasBlocks}
 use Rattle.zr_sync.specs.Pools.{IsOpen}
 use Rattle.zr_sync.specs.declared.fault.Fault.TheVariants.{No, Stops}
 use Rattle.zr_sync.specs.declared.stop.Stop.TheVariants.{DiskFault}
-use Rattle.zr_sync.proofs.Disks.{works_more, works_still}
+use Rattle.zr_sync.proofs.Disks.{works_more}
 use Rattle.zr_sync.proofs.Pools.{risen_later}
 use Rattle.zr_base.specs.declared.refusal.Refusal.TheVariants.{NoCheckpoint}
 use Rattle.zr_base.specs.declared.space.CkptPart.{CkptPart}
@@ -31,32 +31,95 @@ use Rattle.zr_open.specs.Roots.{HasParts, IsBeside, IsSavedRoot, meta_of, told_r
 use Rattle.zr_open.specs.declared.look.Looked.{Looked}
 use Rattle.zr_open.specs.declared.saved.SavedRoot.{SavedRoot}
 use Rattle.zr_image.specs.Current.{ShowsAll}
-use Rattle.zr_label.specs.declared.root.Seen.{Seen}
-use Rattle.zr_newest.specs.Newest.{HasOwnDevices}
 use Rattle.zr_open.proofs.Beside.{head_at, no_block, saved_disks, saved_moved}
+use Rattle.zr_open.proofs.Flushing.{flushes_read, flushes_still, flushes_work, rests_still}
+use Rattle.zr_open.proofs.Going.{looked_flushed, rewinds}
 use Rattle.zr_open.proofs.Lasting.{published_last, saved_at, saved_own}
+use Rattle.zr_open.proofs.Looking.{IsRefusedOn, refusal_moved, whole_moved}
 use Rattle.zr_open.proofs.Resting.{leaves_shown}
 use Rattle.zr_open.proofs.Rewinding.{back, rewound_disks, saved_are, saved_held, saved_objects, stands}
 use Rattle.zr_open.proofs.Showing.{ShowsSaved, saved_with, shows_it, state}
 use Rattle.zr_open.proofs.Views.{store_same}
 use Rattle.zr_open.proofs.rewinds.rewind.Goals as goal
 
+-- ---- what is done to the disks, where nothing is written
+
+pub returns-in_err-settle-clause-disks : goal.returns-in_err-settle-clause-disks
+returns-in_err-settle-clause-disks g c = λ t. flushes_work (g.S.Shelf.world c.args.shelf.now) (g.S.Shelf.world c.settle.new.shelf) (c.settle.ensures.flushes t)
+
+pub returns-in_err-settle-clause-flushes : goal.returns-in_err-settle-clause-flushes
+returns-in_err-settle-clause-flushes g c = λ t r is. c.settle.ensures.flushes t
+
+pub returns-in_err-settle-clause-reads : goal.returns-in_err-settle-clause-reads
+returns-in_err-settle-clause-reads g c = λ t r is. (flushes_read (g.S.Shelf.world c.args.shelf.now) (g.S.Shelf.world c.settle.new.shelf) (c.settle.ensures.flushes t)).seen
+
+pub returns-in_err-settle-clause-stops : goal.returns-in_err-settle-clause-stops
+returns-in_err-settle-clause-stops g c = λ t. inl (c.settle.ensures.flushes t)
+
 pub returns-in_err-looked-clause-disks : goal.returns-in_err-looked-clause-disks
-returns-in_err-looked-clause-disks g c = λ t. works_still (g.S.Shelf.world c.args.shelf.now) (g.S.Shelf.world c.look.new.shelf) (c.in_err-looked.ensures.still t)
+returns-in_err-looked-clause-disks g c = λ t. flushes_work (g.S.Shelf.world c.args.shelf.now) (g.S.Shelf.world c.look.new.shelf) (flushes_still (g.S.Shelf.world c.args.shelf.now) (g.S.Shelf.world c.settle.new.shelf) (g.S.Shelf.world c.look.new.shelf) (c.settle.ensures.flushes t) (c.look.ensures.still (c.settle.ensures.told t)))
+
+pub returns-in_err-looked-clause-flushes : goal.returns-in_err-looked-clause-flushes
+returns-in_err-looked-clause-flushes g c = λ t r is. flushes_still (g.S.Shelf.world c.args.shelf.now) (g.S.Shelf.world c.settle.new.shelf) (g.S.Shelf.world c.look.new.shelf) (c.settle.ensures.flushes t) (c.look.ensures.still (c.settle.ensures.told t))
+
+pub returns-in_err-looked-clause-reads : goal.returns-in_err-looked-clause-reads
+returns-in_err-looked-clause-reads g c = λ t r is. ap (λ (stand : Stand). stand.seen) (c.look.ensures.still (c.settle.ensures.told t)).now ∙ (flushes_read (g.S.Shelf.world c.args.shelf.now) (g.S.Shelf.world c.settle.new.shelf) (c.settle.ensures.flushes t)).seen
+
+pub returns-in_err-looked-clause-stops : goal.returns-in_err-looked-clause-stops
+returns-in_err-looked-clause-stops g c = λ t. inl (flushes_still (g.S.Shelf.world c.args.shelf.now) (g.S.Shelf.world c.settle.new.shelf) (g.S.Shelf.world c.look.new.shelf) (c.settle.ensures.flushes t) (c.look.ensures.still (c.settle.ensures.told t)))
+
+pub returns-in_default-clause-disks : goal.returns-in_default-clause-disks
+returns-in_default-clause-disks g c = λ t. flushes_work (g.S.Shelf.world c.args.shelf.now) (g.S.Shelf.world c.look.new.shelf) (flushes_still (g.S.Shelf.world c.args.shelf.now) (g.S.Shelf.world c.settle.new.shelf) (g.S.Shelf.world c.look.new.shelf) (c.settle.ensures.flushes t) (c.look.ensures.still (c.settle.ensures.told t)))
+
+pub returns-in_default-clause-flushes : goal.returns-in_default-clause-flushes
+returns-in_default-clause-flushes g c = λ t r is. flushes_still (g.S.Shelf.world c.args.shelf.now) (g.S.Shelf.world c.settle.new.shelf) (g.S.Shelf.world c.look.new.shelf) (c.settle.ensures.flushes t) (c.look.ensures.still (c.settle.ensures.told t))
+
+pub returns-in_default-clause-reads : goal.returns-in_default-clause-reads
+returns-in_default-clause-reads g c = λ t r is. ap (λ (stand : Stand). stand.seen) (c.look.ensures.still (c.settle.ensures.told t)).now ∙ (flushes_read (g.S.Shelf.world c.args.shelf.now) (g.S.Shelf.world c.settle.new.shelf) (c.settle.ensures.flushes t)).seen
+
+pub returns-in_default-clause-stops : goal.returns-in_default-clause-stops
+returns-in_default-clause-stops g c = λ t. inl (flushes_still (g.S.Shelf.world c.args.shelf.now) (g.S.Shelf.world c.settle.new.shelf) (g.S.Shelf.world c.look.new.shelf) (c.settle.ensures.flushes t) (c.look.ensures.still (c.settle.ensures.told t)))
+
+pub returns-in_err-reset-clause-disks : goal.returns-in_err-reset-clause-disks
+returns-in_err-reset-clause-disks g c = λ t. flushes_work (g.S.Shelf.world c.args.shelf.now) (g.S.Shelf.world c.look.new.shelf) (flushes_still (g.S.Shelf.world c.args.shelf.now) (g.S.Shelf.world c.settle.new.shelf) (g.S.Shelf.world c.look.new.shelf) (c.settle.ensures.flushes t) (c.look.ensures.still (c.settle.ensures.told t)))
+
+pub returns-in_err-reset-clause-flushes : goal.returns-in_err-reset-clause-flushes
+returns-in_err-reset-clause-flushes g c = λ t r is. flushes_still (g.S.Shelf.world c.args.shelf.now) (g.S.Shelf.world c.settle.new.shelf) (g.S.Shelf.world c.look.new.shelf) (c.settle.ensures.flushes t) (c.look.ensures.still (c.settle.ensures.told t))
+
+pub returns-in_err-reset-clause-reads : goal.returns-in_err-reset-clause-reads
+returns-in_err-reset-clause-reads g c = λ t r is. ap (λ (stand : Stand). stand.seen) (c.look.ensures.still (c.settle.ensures.told t)).now ∙ (flushes_read (g.S.Shelf.world c.args.shelf.now) (g.S.Shelf.world c.settle.new.shelf) (c.settle.ensures.flushes t)).seen
+
+pub returns-in_err-reset-clause-stops : goal.returns-in_err-reset-clause-stops
+returns-in_err-reset-clause-stops g c = λ t. inl (flushes_still (g.S.Shelf.world c.args.shelf.now) (g.S.Shelf.world c.settle.new.shelf) (g.S.Shelf.world c.look.new.shelf) (c.settle.ensures.flushes t) (c.look.ensures.still (c.settle.ensures.told t)))
+
+pub returns-in_err-pool-clause-disks : goal.returns-in_err-pool-clause-disks
+returns-in_err-pool-clause-disks g c = λ t. flushes_work (g.S.Shelf.world c.args.shelf.now) (g.S.Shelf.world c.look.new.shelf) (flushes_still (g.S.Shelf.world c.args.shelf.now) (g.S.Shelf.world c.settle.new.shelf) (g.S.Shelf.world c.look.new.shelf) (c.settle.ensures.flushes t) (c.look.ensures.still (c.settle.ensures.told t)))
+
+pub returns-in_err-pool-clause-flushes : goal.returns-in_err-pool-clause-flushes
+returns-in_err-pool-clause-flushes g c = λ t r is. flushes_still (g.S.Shelf.world c.args.shelf.now) (g.S.Shelf.world c.settle.new.shelf) (g.S.Shelf.world c.look.new.shelf) (c.settle.ensures.flushes t) (c.look.ensures.still (c.settle.ensures.told t))
+
+pub returns-in_err-pool-clause-reads : goal.returns-in_err-pool-clause-reads
+returns-in_err-pool-clause-reads g c = λ t r is. ap (λ (stand : Stand). stand.seen) (c.look.ensures.still (c.settle.ensures.told t)).now ∙ (flushes_read (g.S.Shelf.world c.args.shelf.now) (g.S.Shelf.world c.settle.new.shelf) (c.settle.ensures.flushes t)).seen
+
+pub returns-in_err-pool-clause-stops : goal.returns-in_err-pool-clause-stops
+returns-in_err-pool-clause-stops g c = λ t. inl (flushes_still (g.S.Shelf.world c.args.shelf.now) (g.S.Shelf.world c.settle.new.shelf) (g.S.Shelf.world c.look.new.shelf) (c.settle.ensures.flushes t) (c.look.ensures.still (c.settle.ensures.told t)))
+
+-- ---- why it is refused
 
 pub returns-in_err-looked-clause-refused : goal.returns-in_err-looked-clause-refused
 returns-in_err-looked-clause-refused g c = λ r is.
     let told = c.in_err-looked.field-0.0 in
-    let e : c.from_residual.result ≡ Err told = search rules in
+    let e : c.from_residual-in_err-looked.result ≡ Err told = search rules in
     let both = sym e ∙ is in
     let same : told ≡ No r = cc in
-    elim (c.in_err-looked.ensures.refused r (ap Err same)) [
+    let old = c.args.shelf.now in
+    let mid = c.settle.new.shelf in
+    let seen = λ (t : g.S.Shelf.tells old). (flushes_read (g.S.Shelf.world old) (g.S.Shelf.world mid) (c.settle.ensures.flushes t)).seen in
+    elim (refusal_moved (g.S.Shelf.tells mid) (g.S.Shelf.tells old) (g.S.Shelf.world mid).now.seen (g.S.Shelf.world old).now.seen c.settle.ensures.told seen (g.S.Shelf.sizes old) r
+    (subst (λ (ns : List ℕ). IsRefusedOn ns (g.S.Shelf.tells mid) (g.S.Shelf.world mid).now.seen r) c.settle.ensures.sizes (c.in_err-looked.ensures.refused r (ap Err same)))) [
       | inl first ↦ inl first
       | inr rest ↦ elim rest [ inl own ↦ inr (inl own) | inr saved ↦ inr (inr (saved.0, saved.1, inl saved.2)) ]
     ]
-
-pub returns-in_default-clause-disks : goal.returns-in_default-clause-disks
-returns-in_default-clause-disks g c = λ t. works_still (g.S.Shelf.world c.args.shelf.now) (g.S.Shelf.world c.look.new.shelf) (c.in_ok-looked.ensures.still t)
 
 pub returns-in_default-clause-refused : goal.returns-in_default-clause-refused
 returns-in_default-clause-refused g c = λ r is.
@@ -64,7 +127,7 @@ returns-in_default-clause-refused g c = λ r is.
     let tells = g.S.Shelf.tells c.args.shelf.now in
     let disks = (g.S.Shelf.world c.args.shelf.now).now.seen in
     let l = c.in_ok-looked.looked in
-    let h = c.in_ok-looked.ensures.looked in
+    let h = looked_flushed (g.S.Shelf.tells c.settle.new.shelf) tells (g.S.Shelf.world c.settle.new.shelf) (g.S.Shelf.world c.args.shelf.now) c.settle.ensures.told c.settle.ensures.flushes (g.S.Shelf.sizes c.settle.new.shelf) sizes c.settle.ensures.sizes l c.in_ok-looked.ensures.looked in
     let u = l.found.root in
     inr (inr (
       u,
@@ -82,7 +145,7 @@ returns-in_default-clause-unsaved g c = λ t is.
     let w = g.S.Shelf.world c.args.shelf.now in
     let disks = w.now.seen in
     let l = c.in_ok-looked.looked in
-    let h = c.in_ok-looked.ensures.looked in
+    let h = looked_flushed (g.S.Shelf.tells c.settle.new.shelf) tells (g.S.Shelf.world c.settle.new.shelf) (g.S.Shelf.world c.args.shelf.now) c.settle.ensures.told c.settle.ensures.flushes (g.S.Shelf.sizes c.settle.new.shelf) sizes c.settle.ensures.sizes l c.in_ok-looked.ensures.looked in
     let u = l.found.root in
     let these = slots_of u h.finds.seen in
     let sound = g.S.Shelf.sound c.args.shelf.now t in
@@ -98,10 +161,10 @@ returns-in_default-clause-unsaved g c = λ t is.
 pub returns-in_err-looked-clause-unsaved : goal.returns-in_err-looked-clause-unsaved
 returns-in_err-looked-clause-unsaved g c = λ t is.
     let told = c.in_err-looked.field-0.0 in
-    let e : c.from_residual.result ≡ Err told = search rules in
+    let e : c.from_residual-in_err-looked.result ≡ Err told = search rules in
     let both = sym e ∙ is in
     let same : told ≡ No NoCheckpoint = cc in
-    absurd (looked_refusal (g.S.Shelf.sizes c.args.shelf.now) (g.S.Shelf.tells c.args.shelf.now) (g.S.Shelf.world c.args.shelf.now).now.seen NoCheckpoint (c.in_err-looked.ensures.refused NoCheckpoint (ap Err same)))
+    absurd (looked_refusal (g.S.Shelf.sizes c.settle.new.shelf) (g.S.Shelf.tells c.settle.new.shelf) (g.S.Shelf.world c.settle.new.shelf).now.seen NoCheckpoint (c.in_err-looked.ensures.refused NoCheckpoint (ap Err same)))
 
 pub returns-in_err-pool-clause-unsaved : goal.returns-in_err-pool-clause-unsaved
 returns-in_err-pool-clause-unsaved g c = λ t is.
@@ -110,12 +173,6 @@ returns-in_err-pool-clause-unsaved g c = λ t is.
     let both = sym e ∙ is in
     let same : told ≡ No NoCheckpoint = cc in
     absurd (elim (c.in_err-pool.ensures.refused NoCheckpoint (ap Err same)) [ inl own ↦ root_refusal NoCheckpoint own | inr other ↦ other.1 refl ])
-
-pub returns-in_err-reset-clause-disks : goal.returns-in_err-reset-clause-disks
-returns-in_err-reset-clause-disks g c = λ t. works_still (g.S.Shelf.world c.args.shelf.now) (g.S.Shelf.world c.look.new.shelf) (c.in_ok-looked.ensures.still t)
-
-pub returns-in_err-pool-clause-disks : goal.returns-in_err-pool-clause-disks
-returns-in_err-pool-clause-disks g c = λ t. works_still (g.S.Shelf.world c.args.shelf.now) (g.S.Shelf.world c.look.new.shelf) (c.in_ok-looked.ensures.still t)
 
 pub returns-in_err-pool-clause-refused : goal.returns-in_err-pool-clause-refused
 returns-in_err-pool-clause-refused g c = λ r is.
@@ -164,20 +221,22 @@ show-requires-clause-pool g c =
     let disks = (g.S.Shelf.world c.args.shelf.now).now.seen in
     let l = c.in_ok-looked.looked in
     let s = c.in-Some.saved in
-    let h = c.in_ok-looked.ensures.looked in
+    let h = looked_flushed (g.S.Shelf.tells c.settle.new.shelf) tells (g.S.Shelf.world c.settle.new.shelf) (g.S.Shelf.world c.args.shelf.now) c.settle.ensures.told c.settle.ensures.flushes (g.S.Shelf.sizes c.settle.new.shelf) sizes c.settle.ensures.sizes l c.in_ok-looked.ensures.looked in
     let b = back_is sizes tells disks l s h (sym c.into_saved.ensures ∙ c.in-Some.is) in
     let place = place_disks sizes l.found.slots c.own_slots.result s.uber c.rewound-root.result (l.found.root.txg + 1) c.rewound-root.ensures.is c.own_slots.ensures.own b.disks_are in
-    subst (λ (ns : List ℕ). IsOpen ns c.in_ok-pool.pool) (sym c.in_ok-looked.ensures.sizes) (c.in_ok-pool.ensures.open sizes place)
+    subst (λ (ns : List ℕ). IsOpen ns c.in_ok-pool.pool) (sym (c.look.ensures.sizes ∙ c.settle.ensures.sizes)) (c.in_ok-pool.ensures.open sizes place)
 
 pub returns-in_err-show-clause-disks : goal.returns-in_err-show-clause-disks
 returns-in_err-show-clause-disks g c = λ t.
-    works_more (g.S.Shelf.world c.args.shelf.now) (g.S.Shelf.world c.look.new.shelf) (g.S.Shelf.world c.show.new.shelf) (works_still (g.S.Shelf.world c.args.shelf.now) (g.S.Shelf.world c.look.new.shelf) (c.in_ok-looked.ensures.still t))
-    (c.in_err-show.ensures.disks (c.in_ok-looked.ensures.told t))
+    works_more (g.S.Shelf.world c.args.shelf.now) (g.S.Shelf.world c.look.new.shelf) (g.S.Shelf.world c.show.new.shelf)
+    (flushes_work (g.S.Shelf.world c.args.shelf.now) (g.S.Shelf.world c.look.new.shelf) (flushes_still (g.S.Shelf.world c.args.shelf.now) (g.S.Shelf.world c.settle.new.shelf) (g.S.Shelf.world c.look.new.shelf) (c.settle.ensures.flushes t) (c.look.ensures.still (c.settle.ensures.told t))))
+    (c.show.ensures.disks (c.look.ensures.told (c.settle.ensures.told t)))
 
 pub returns-clause-disks : goal.returns-clause-disks
 returns-clause-disks g c = λ t.
-    works_more (g.S.Shelf.world c.args.shelf.now) (g.S.Shelf.world c.look.new.shelf) (g.S.Shelf.world c.show.new.shelf) (works_still (g.S.Shelf.world c.args.shelf.now) (g.S.Shelf.world c.look.new.shelf) (c.in_ok-looked.ensures.still t))
-    (c.in_ok-show.ensures.disks (c.in_ok-looked.ensures.told t))
+    works_more (g.S.Shelf.world c.args.shelf.now) (g.S.Shelf.world c.look.new.shelf) (g.S.Shelf.world c.show.new.shelf)
+    (flushes_work (g.S.Shelf.world c.args.shelf.now) (g.S.Shelf.world c.look.new.shelf) (flushes_still (g.S.Shelf.world c.args.shelf.now) (g.S.Shelf.world c.settle.new.shelf) (g.S.Shelf.world c.look.new.shelf) (c.settle.ensures.flushes t) (c.look.ensures.still (c.settle.ensures.told t))))
+    (c.show.ensures.disks (c.look.ensures.told (c.settle.ensures.told t)))
 
 pub returns-clause-pool : goal.returns-clause-pool
 returns-clause-pool g c =
@@ -186,10 +245,10 @@ returns-clause-pool g c =
     let disks = (g.S.Shelf.world c.args.shelf.now).now.seen in
     let l = c.in_ok-looked.looked in
     let s = c.in-Some.saved in
-    let h = c.in_ok-looked.ensures.looked in
+    let h = looked_flushed (g.S.Shelf.tells c.settle.new.shelf) tells (g.S.Shelf.world c.settle.new.shelf) (g.S.Shelf.world c.args.shelf.now) c.settle.ensures.told c.settle.ensures.flushes (g.S.Shelf.sizes c.settle.new.shelf) sizes c.settle.ensures.sizes l c.in_ok-looked.ensures.looked in
     let b = back_is sizes tells disks l s h (sym c.into_saved.ensures ∙ c.in-Some.is) in
     let place = place_disks sizes l.found.slots c.own_slots.result s.uber c.rewound-root.result (l.found.root.txg + 1) c.rewound-root.ensures.is c.own_slots.ensures.own b.disks_are in
-    subst (λ (ns : List ℕ). IsOpen ns c.in_ok-pool.pool) (sym (c.in_ok-show.ensures.sizes ∙ c.in_ok-looked.ensures.sizes)) (c.in_ok-pool.ensures.open sizes place)
+    subst (λ (ns : List ℕ). IsOpen ns c.in_ok-pool.pool) (sym (c.in_ok-show.ensures.sizes ∙ (c.look.ensures.sizes ∙ c.settle.ensures.sizes))) (c.in_ok-pool.ensures.open sizes place)
 
 pub returns-clause-rewound : goal.returns-clause-rewound
 returns-clause-rewound g c =
@@ -198,7 +257,7 @@ returns-clause-rewound g c =
     let disks = (g.S.Shelf.world c.args.shelf.now).now.seen in
     let l = c.in_ok-looked.looked in
     let s = c.in-Some.saved in
-    let h = c.in_ok-looked.ensures.looked in
+    let h = looked_flushed (g.S.Shelf.tells c.settle.new.shelf) tells (g.S.Shelf.world c.settle.new.shelf) (g.S.Shelf.world c.args.shelf.now) c.settle.ensures.told c.settle.ensures.flushes (g.S.Shelf.sizes c.settle.new.shelf) sizes c.settle.ensures.sizes l c.in_ok-looked.ensures.looked in
     let b = back_is sizes tells disks l s h (sym c.into_saved.ensures ∙ c.in-Some.is) in
     let u = l.found.root in (
       u,
@@ -219,7 +278,7 @@ returns-clause-shown g c = λ t.
     let tells = g.S.Shelf.tells c.args.shelf.now in
     let disks = (g.S.Shelf.world c.args.shelf.now).now.seen in
     let l = c.in_ok-looked.looked in
-    let h = c.in_ok-looked.ensures.looked in
+    let h = looked_flushed (g.S.Shelf.tells c.settle.new.shelf) tells (g.S.Shelf.world c.settle.new.shelf) (g.S.Shelf.world c.args.shelf.now) c.settle.ensures.told c.settle.ensures.flushes (g.S.Shelf.sizes c.settle.new.shelf) sizes c.settle.ensures.sizes l c.in_ok-looked.ensures.looked in
     let u = l.found.root in (
       u,
       h.finds,
@@ -227,9 +286,9 @@ returns-clause-shown g c = λ t.
         root = c.rewound-root.result;
         root_is = c.in_ok-pool.ensures.fresh.last;
         read = g.S.Shelf.world c.look.new.shelf;
-        still = c.in_ok-looked.ensures.still t;
-        shown = subst (λ (ns : List ℕ). IsShownFrom ns (record c.in_ok-pool.pool { last = Some u }) c.rewound-root.result (g.S.Shelf.world c.look.new.shelf) (g.S.Shelf.world c.show.new.shelf)) c.in_ok-looked.ensures.sizes
-            (c.in_ok-show.ensures.shown (c.in_ok-looked.ensures.told t));
+        flushes = flushes_still (g.S.Shelf.world c.args.shelf.now) (g.S.Shelf.world c.settle.new.shelf) (g.S.Shelf.world c.look.new.shelf) (c.settle.ensures.flushes t) (c.look.ensures.still (c.settle.ensures.told t));
+        shown = subst (λ (ns : List ℕ). IsShownFrom ns (record c.in_ok-pool.pool { last = Some u }) c.rewound-root.result (g.S.Shelf.world c.look.new.shelf) (g.S.Shelf.world c.show.new.shelf)) (c.look.ensures.sizes ∙ c.settle.ensures.sizes)
+            (c.in_ok-show.ensures.shown (c.look.ensures.told (c.settle.ensures.told t)));
       },
     )
 
@@ -241,7 +300,7 @@ returns-clause-objects g c = λ t.
     let disks = w.now.seen in
     let l = c.in_ok-looked.looked in
     let s = c.in-Some.saved in
-    let h = c.in_ok-looked.ensures.looked in
+    let h = looked_flushed (g.S.Shelf.tells c.settle.new.shelf) tells (g.S.Shelf.world c.settle.new.shelf) (g.S.Shelf.world c.args.shelf.now) c.settle.ensures.told c.settle.ensures.flushes (g.S.Shelf.sizes c.settle.new.shelf) sizes c.settle.ensures.sizes l c.in_ok-looked.ensures.looked in
     let b = back_is sizes tells disks l s h (sym c.into_saved.ensures ∙ c.in-Some.is) in
     let u = l.found.root in
     let txg = u.txg + 1 in
@@ -251,8 +310,8 @@ returns-clause-objects g c = λ t.
     let these = slots_of u h.finds.seen in
     let slots = l.found.slots in
     let later = g.S.Shelf.tells c.look.new.shelf in
-    let told = c.in_ok-looked.ensures.told t in
-    let still = c.in_ok-looked.ensures.still t in
+    let told = c.look.ensures.told (c.settle.ensures.told t) in
+    let same_disks : (g.S.Shelf.world c.look.new.shelf).now.seen ≡ disks = ap (λ (stand : Stand). stand.seen) (c.look.ensures.still (c.settle.ensures.told t)).now ∙ (flushes_read (g.S.Shelf.world c.args.shelf.now) (g.S.Shelf.world c.settle.new.shelf) (c.settle.ensures.flushes t)).seen in
     let sound = g.S.Shelf.sound c.args.shelf.now t in
     let place = place_disks sizes slots c.own_slots.result s.uber next txg c.rewound-root.ensures.is c.own_slots.ensures.own b.disks_are in
     let ready = own.open sizes place in
@@ -279,7 +338,7 @@ returns-clause-objects g c = λ t.
       holds = record {
         objects = record {
           stored = held.stored;
-          held = c.in_ok-show.ensures.keeps held.stored (subst (λ (st : Stand). HasBlocks later st.seen pool held.stored) (sym still.now) held.held);
+          held = c.in_ok-show.ensures.keeps held.stored (subst (λ (ds : List (List ℕ)). HasBlocks later ds pool held.stored) (sym same_disks) held.held);
           has = held.has;
         };
         checkpoint = subst (λ (k : CkptPart). HasCheckpoint k None false) (sym (ap (λ (ps : SpaceParts). ps.ckpt) parts.space.parts_are ∙ saved.clear)) (refl, refl);
@@ -287,10 +346,10 @@ returns-clause-objects g c = λ t.
     }
 
 pub returns-clause-told : goal.returns-clause-told
-returns-clause-told g c = λ t. c.in_ok-show.ensures.told (c.in_ok-looked.ensures.told t)
+returns-clause-told g c = λ t. c.in_ok-show.ensures.told (c.look.ensures.told (c.settle.ensures.told t))
 
 pub returns-in_err-show-clause-told : goal.returns-in_err-show-clause-told
-returns-in_err-show-clause-told g c = λ t. c.in_err-show.ensures.told (c.in_ok-looked.ensures.told t)
+returns-in_err-show-clause-told g c = λ t. c.in_err-show.ensures.told (c.look.ensures.told (c.settle.ensures.told t))
 
 pub returns-in_err-show-clause-fault : goal.returns-in_err-show-clause-fault
 returns-in_err-show-clause-fault g c = λ is.
@@ -299,7 +358,9 @@ returns-in_err-show-clause-fault g c = λ is.
     let both = sym e ∙ is in
     let same : told ≡ DiskFault = cc in
     let counts = g.S.Shelf.counts in
-    risen_later (counts c.args.shelf.now).disk (counts c.look.new.shelf).disk (counts c.show.new.shelf).disk c.in_ok-looked.ensures.none_fell.disk (c.in_err-show.ensures.fault (ap Err same))
+    let last = (counts c.show.new.shelf).disk in
+    risen_later (counts c.args.shelf.now).disk (counts c.settle.new.shelf).disk last c.settle.ensures.none_fell.disk
+    (risen_later (counts c.settle.new.shelf).disk (counts c.look.new.shelf).disk last c.look.ensures.none_fell.disk (c.in_err-show.ensures.fault (ap Err same)))
 
 -- ---- the last root
 
@@ -310,18 +371,19 @@ returns-clause-last g c = λ t.
     let disks = (g.S.Shelf.world c.args.shelf.now).now.seen in
     let l = c.in_ok-looked.looked in
     let s = c.in-Some.saved in
-    let h = c.in_ok-looked.ensures.looked in
+    let h = looked_flushed (g.S.Shelf.tells c.settle.new.shelf) tells (g.S.Shelf.world c.settle.new.shelf) (g.S.Shelf.world c.args.shelf.now) c.settle.ensures.told c.settle.ensures.flushes (g.S.Shelf.sizes c.settle.new.shelf) sizes c.settle.ensures.sizes l c.in_ok-looked.ensures.looked in
     let b = back_is sizes tells disks l s h (sym c.into_saved.ensures ∙ c.in-Some.is) in
     let u = l.found.root in
     let next = c.rewound-root.result in
     let pool = c.in_ok-pool.pool in
     let read = g.S.Shelf.world c.look.new.shelf in
     let now = g.S.Shelf.world c.show.new.shelf in
-    let told = c.in_ok-looked.ensures.told t in
+    let told = c.look.ensures.told (c.settle.ensures.told t) in
     let seen = h.finds.seen in
     let place = place_disks sizes l.found.slots c.own_slots.result s.uber next (u.txg + 1) c.rewound-root.ensures.is c.own_slots.ensures.own b.disks_are in
-    let ready = subst (λ (ns : List ℕ). IsOpen ns pool) (sym c.in_ok-looked.ensures.sizes) (c.in_ok-pool.ensures.open sizes place) in
-    let shown = subst (λ (st : Stand). ShowsAll st.seen seen) (sym (c.in_ok-looked.ensures.still t).now) (h.finds.shown.shows t) in
+    let ready = subst (λ (ns : List ℕ). IsOpen ns pool) (sym (c.look.ensures.sizes ∙ c.settle.ensures.sizes)) (c.in_ok-pool.ensures.open sizes place) in
+    let same_disks : (g.S.Shelf.world c.look.new.shelf).now.seen ≡ disks = ap (λ (stand : Stand). stand.seen) (c.look.ensures.still (c.settle.ensures.told t)).now ∙ (flushes_read (g.S.Shelf.world c.args.shelf.now) (g.S.Shelf.world c.settle.new.shelf) (c.settle.ensures.flushes t)).seen in
+    let shown = subst (λ (ds : List (List ℕ)). ShowsAll ds seen) (sym same_disks) (h.finds.shown.shows t) in
     let cut = own_cut l.found.slots c.own_slots.result s.uber next (u.txg + 1) c.rewound-root.ensures.is c.own_slots.ensures.own in
     let own = saved_own u s.uber l.found.slots c.own_slots.result (u.txg + 1) h.at.uber b.saved.is_saved.spelled.lawful b.saved.is_saved.guid b.saved.is_saved.rows cut in
     let devices = subst (λ (x : Uber). HasSlots (slots_of x seen) c.own_slots.result) (sym c.rewound-root.ensures.is) (saved_at u s.uber l.found.slots c.own_slots.result (u.txg + 1) seen h.slots own) in
@@ -337,7 +399,7 @@ returns-clause-leaves g c = λ t on.
     let disks = (g.S.Shelf.world c.args.shelf.now).now.seen in
     let l = c.in_ok-looked.looked in
     let s = c.in-Some.saved in
-    let h = c.in_ok-looked.ensures.looked in
+    let h = looked_flushed (g.S.Shelf.tells c.settle.new.shelf) tells (g.S.Shelf.world c.settle.new.shelf) (g.S.Shelf.world c.args.shelf.now) c.settle.ensures.told c.settle.ensures.flushes (g.S.Shelf.sizes c.settle.new.shelf) sizes c.settle.ensures.sizes l c.in_ok-looked.ensures.looked in
     let b = back_is sizes tells disks l s h (sym c.into_saved.ensures ∙ c.in-Some.is) in
     let u = l.found.root in
     let txg = u.txg + 1 in
@@ -347,8 +409,8 @@ returns-clause-leaves g c = λ t on.
     let slots = l.found.slots in
     let read = g.S.Shelf.world c.look.new.shelf in
     let now = g.S.Shelf.world c.show.new.shelf in
-    let told = c.in_ok-looked.ensures.told t in
-    let still = c.in_ok-looked.ensures.still t in
+    let told = c.look.ensures.told (c.settle.ensures.told t) in
+    let same_disks : (g.S.Shelf.world c.look.new.shelf).now.seen ≡ disks = ap (λ (stand : Stand). stand.seen) (c.look.ensures.still (c.settle.ensures.told t)).now ∙ (flushes_read (g.S.Shelf.world c.args.shelf.now) (g.S.Shelf.world c.settle.new.shelf) (c.settle.ensures.flushes t)).seen in
     let sound = g.S.Shelf.sound c.args.shelf.now t in
     let ready = own.open sizes (place_disks sizes slots c.own_slots.result s.uber next txg c.rewound-root.ensures.is c.own_slots.ensures.own b.disks_are) in
     let cut = subst (IsCut s.uber slots) (sym own.slots) (own_cut slots c.own_slots.result s.uber next txg c.rewound-root.ensures.is c.own_slots.ensures.own) in
@@ -356,5 +418,61 @@ returns-clause-leaves g c = λ t on.
     let fresh = subst (λ (x : Uber). IsFresh x pool) c.rewound-root.ensures.is own.fresh in
     let parts = subst (λ (r : Root). HasParts r [] pool) c.in_ok-reset.ensures own.parts in
     let there = stands tells t disks sizes sound.sized slots u l.root b.block s txg pool b.saved b.past cut is ready fresh parts in
-    leaves_shown disks sizes (rewound s.uber txg) pool (back tells t disks sizes sound.sized slots u l.root b.block s txg pool b.saved b.past cut is ready fresh parts) [] is ready fresh b.saved.head parts there on u next read now (ap (λ (st : Stand). st.seen) still.now) c.rewound-root.ensures.lawful
-    (subst (λ (ns : List ℕ). IsShownFrom ns (record pool { last = Some u }) next read now) c.in_ok-looked.ensures.sizes (c.in_ok-show.ensures.shown told))
+    leaves_shown disks sizes (rewound s.uber txg) pool (back tells t disks sizes sound.sized slots u l.root b.block s txg pool b.saved b.past cut is ready fresh parts) [] is ready fresh b.saved.head parts there on u next read now same_disks c.rewound-root.ensures.lawful
+    (subst (λ (ns : List ℕ). IsShownFrom ns (record pool { last = Some u }) next read now) (c.look.ensures.sizes ∙ c.settle.ensures.sizes) (c.in_ok-show.ensures.shown told))
+
+-- ---- wherever it stops
+
+pub returns-in_err-show-clause-stops : goal.returns-in_err-show-clause-stops
+returns-in_err-show-clause-stops g c = λ t.
+    let sizes = g.S.Shelf.sizes c.args.shelf.now in
+    let old = g.S.Shelf.world c.args.shelf.now in
+    let mid = g.S.Shelf.world c.settle.new.shelf in
+    let read = g.S.Shelf.world c.look.new.shelf in
+    let now = g.S.Shelf.world c.show.new.shelf in
+    let l = c.in_ok-looked.looked in
+    let s = c.in-Some.saved in
+    let u = l.found.root in
+    let next = c.rewound-root.result in
+    let next_is = c.rewound-root.ensures.is in
+    let pool = c.in_ok-pool.pool in
+    let own = c.in_ok-pool.ensures in
+    let told = c.settle.ensures.told t in
+    let still = c.look.ensures.still told in
+    let same_sizes : g.S.Shelf.sizes c.look.new.shelf ≡ sizes = c.look.ensures.sizes ∙ c.settle.ensures.sizes in
+    let h = whole_moved (g.S.Shelf.tells c.settle.new.shelf) (Unit {0}) mid.now.seen read.now.seen (λ x. told) (λ x. sym (ap (λ (stand : Stand). stand.seen) still.now)) sizes l
+    (subst (λ (ns : List ℕ). IsLooked ns (g.S.Shelf.tells c.settle.new.shelf) mid.now.seen l) c.settle.ensures.sizes c.in_ok-looked.ensures.looked) in
+    let b = back_is sizes (Unit {0}) read.now.seen l s h (sym c.into_saved.ensures ∙ c.in-Some.is) in
+    let place = place_disks sizes l.found.slots c.own_slots.result s.uber next (u.txg + 1) next_is c.own_slots.ensures.own b.disks_are in
+    let cut = subst (IsCut s.uber l.found.slots) (sym own.slots) (own_cut l.found.slots c.own_slots.result s.uber next (u.txg + 1) next_is c.own_slots.ensures.own) in
+    let parts = subst (λ (r : Root). HasParts r [] pool) c.in_ok-reset.ensures own.parts in
+    let puts = subst (λ (ns : List ℕ). PublishesRoot ns (record pool { last = Some u }) next read now) same_sizes (c.show.ensures.stops (c.look.ensures.told told)) in
+    rewinds sizes old.now.paths read ((g.S.Shelf.sound c.look.new.shelf (c.look.ensures.told told)).sized ∙ same_sizes) (rests_still mid read (c.in_ok-settle.ensures.rests t) still) l h b.block s b.has b.saved next next_is c.rewound-root.ensures.lawful pool (own.open sizes place) cut own.fresh parts now puts
+    old refl (flushes_still old mid read (c.settle.ensures.flushes t) still)
+
+pub returns-clause-stops : goal.returns-clause-stops
+returns-clause-stops g c = λ t.
+    let sizes = g.S.Shelf.sizes c.args.shelf.now in
+    let old = g.S.Shelf.world c.args.shelf.now in
+    let mid = g.S.Shelf.world c.settle.new.shelf in
+    let read = g.S.Shelf.world c.look.new.shelf in
+    let now = g.S.Shelf.world c.show.new.shelf in
+    let l = c.in_ok-looked.looked in
+    let s = c.in-Some.saved in
+    let u = l.found.root in
+    let next = c.rewound-root.result in
+    let next_is = c.rewound-root.ensures.is in
+    let pool = c.in_ok-pool.pool in
+    let own = c.in_ok-pool.ensures in
+    let told = c.settle.ensures.told t in
+    let still = c.look.ensures.still told in
+    let same_sizes : g.S.Shelf.sizes c.look.new.shelf ≡ sizes = c.look.ensures.sizes ∙ c.settle.ensures.sizes in
+    let h = whole_moved (g.S.Shelf.tells c.settle.new.shelf) (Unit {0}) mid.now.seen read.now.seen (λ x. told) (λ x. sym (ap (λ (stand : Stand). stand.seen) still.now)) sizes l
+    (subst (λ (ns : List ℕ). IsLooked ns (g.S.Shelf.tells c.settle.new.shelf) mid.now.seen l) c.settle.ensures.sizes c.in_ok-looked.ensures.looked) in
+    let b = back_is sizes (Unit {0}) read.now.seen l s h (sym c.into_saved.ensures ∙ c.in-Some.is) in
+    let place = place_disks sizes l.found.slots c.own_slots.result s.uber next (u.txg + 1) next_is c.own_slots.ensures.own b.disks_are in
+    let cut = subst (IsCut s.uber l.found.slots) (sym own.slots) (own_cut l.found.slots c.own_slots.result s.uber next (u.txg + 1) next_is c.own_slots.ensures.own) in
+    let parts = subst (λ (r : Root). HasParts r [] pool) c.in_ok-reset.ensures own.parts in
+    let puts = subst (λ (ns : List ℕ). PublishesRoot ns (record pool { last = Some u }) next read now) same_sizes (c.show.ensures.stops (c.look.ensures.told told)) in
+    rewinds sizes old.now.paths read ((g.S.Shelf.sound c.look.new.shelf (c.look.ensures.told told)).sized ∙ same_sizes) (rests_still mid read (c.in_ok-settle.ensures.rests t) still) l h b.block s b.has b.saved next next_is c.rewound-root.ensures.lawful pool (own.open sizes place) cut own.fresh parts now puts
+    old refl (flushes_still old mid read (c.settle.ensures.flushes t) still)

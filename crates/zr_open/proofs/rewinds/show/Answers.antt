@@ -1,8 +1,9 @@
-use Rattle.std.proofs.Common.{Some, refl, sym, subst}
+use Rattle.std.proofs.Common.{inl, inr, Some, refl, sym, subst}
+use Rattle.zr_shelf.proofs.Runs.{still}
 use Rattle.zr_slots.specs.Phases.{AreDisks}
 use Rattle.zr_sync.proofs.Disks.{works_published}
 use Rattle.zr_sync.proofs.Holding.{published_holds}
-use Rattle.zr_sync.proofs.Publishing.{slots_disks, shown}
+use Rattle.zr_sync.proofs.Publishing.{shown, shown_in_part, slots_disks}
 use Rattle.zr_open.proofs.rewinds.show.Goals as goal
 
 pub publish-requires-clause-both : goal.publish-requires-clause-both
@@ -29,6 +30,26 @@ returns-clause-shown g c = λ t.
     refl c.as_slice.ensures c.as_slice-2.ensures
     c.in_ok-both.ensures.each c.in_ok-both.ensures.all c.in_ok-all.ensures.each c.in_ok-all.ensures.all
     (c.in_ok-publish.ensures.order t)
+
+pub returns-in_err-both-clause-stops : goal.returns-in_err-both-clause-stops
+returns-in_err-both-clause-stops g c = λ t. inl (still (g.S.Shelf.world c.args.shelf.now) (g.S.Shelf.world c.args.shelf.now) refl)
+
+pub returns-in_err-all-clause-stops : goal.returns-in_err-all-clause-stops
+returns-in_err-all-clause-stops g c = λ t. inl (still (g.S.Shelf.world c.args.shelf.now) (g.S.Shelf.world c.args.shelf.now) refl)
+
+pub returns-in_err-publish-clause-stops : goal.returns-in_err-publish-clause-stops
+returns-in_err-publish-clause-stops g c = λ t.
+    inr (inl (shown_in_part (g.S.Shelf.sizes c.args.shelf.now) (record c.args.pool.now { last = Some c.args.current.now }) c.args.current.now c.args.root.now c.in_ok-both.both c.in_ok-all.all c.as_slice.result.now c.as_slice-2.result.now (g.S.Shelf.world c.args.shelf.now) (g.S.Shelf.world c.publish.new.shelf)
+    refl c.as_slice.ensures c.as_slice-2.ensures
+    c.in_ok-both.ensures.each c.in_ok-both.ensures.all c.in_ok-all.ensures.each c.in_ok-all.ensures.all
+    (c.in_err-publish.ensures.order t)))
+
+pub returns-clause-stops : goal.returns-clause-stops
+returns-clause-stops g c = λ t.
+    inr (inr (shown (g.S.Shelf.sizes c.args.shelf.now) (record c.args.pool.now { last = Some c.args.current.now }) c.args.current.now c.args.root.now c.in_ok-both.both c.in_ok-all.all c.as_slice.result.now c.as_slice-2.result.now (g.S.Shelf.world c.args.shelf.now) (g.S.Shelf.world c.publish.new.shelf)
+    refl c.as_slice.ensures c.as_slice-2.ensures
+    c.in_ok-both.ensures.each c.in_ok-both.ensures.all c.in_ok-all.ensures.each c.in_ok-all.ensures.all
+    (c.in_ok-publish.ensures.order t)))
 
 pub returns-in_err-publish-clause-keeps : goal.returns-in_err-publish-clause-keeps
 returns-in_err-publish-clause-keeps g c = λ s held.

@@ -1,4 +1,4 @@
-use Rattle.std.proofs.Common.{◌≡◌, true, false, None, Err, ◌∙◌, ap, refl, sym, subst}
+use Rattle.std.proofs.Common.{◌≡◌, inl, true, false, None, Err, ◌∙◌, ap, refl, sym, subst}
 use Rattle.zr_base.specs.declared.space.CkptPart.{CkptPart}
 use Rattle.std.proofs.lemmas.Result.{err_from_is_err_and}
 use Rattle.zr_script.specs.declared.command.Command.{Command}
@@ -7,23 +7,24 @@ use Rattle.zr_base.specs.declared.refusal.Refusal.{Refusal}
 use Rattle.zr_sync.specs.declared.fault.Fault.TheVariants.{No}
 use Rattle.zr_open.proofs.Refusing.{back_refusal, looked_refusal, not_kept_shown, rewind_refusal}
 use Rattle.zr_pool.specs.Accounts.{Begins, BeginsNone}
-use Rattle.zr_pool.specs.Behind.{is_create, is_import}
+use Rattle.zr_pool.proofs.Beginning.{flushes_nothing}
+use Rattle.zr_pool.proofs.Groups.{opening_nothing}
+use Rattle.zr_pool.specs.Behind.{StopsInOpening, is_create, is_import}
 use Rattle.zr_pool.specs.Plain.{IsMade, IsOpeningCause, shelf_of}
 use Rattle.zr_pool.specs.Turns.{IsClosedRefusal}
 use Rattle.zr_pool.proofs.Leavings.{in_the_way, is_new, not_begun}
 use Rattle.zr_pool.proofs.Refused.{fault_same, group_cause, rewind_cause}
-use Rattle.zr_shelf.specs.Disks.{Stand}
 use Rattle.zr_open.proofs.Flushing.{flushes_work}
 use Rattle.zr_pool.proofs.begin.begin.Goals as goal
 
 pub returns-in_ok-made-in-Create-clause-made : goal.returns-in_ok-made-in-Create-clause-made
 returns-in_ok-made-in-Create-clause-made g c = λ told.
-    let Holds = HoldsState (g.S.Shelf.tells c.create.new.shelf) (g.S.Shelf.world c.create.new.shelf).now.seen c.in_ok-made-in-Create.made in
+    let Holds = HoldsState (g.S.Shelf.tells c.make.new.shelf) (g.S.Shelf.world c.make.new.shelf).now.seen c.in_ok-made-in-Create.made in
     subst (λ (command : Command). IsMade (shelf_of (g.S.Shelf.world c.args.shelf.now).now) Holds command) (sym c.in-Create.is) (record { objects = c.in_ok-made-in-Create.ensures.objects told; checkpoint = subst (λ (k : CkptPart). HasCheckpoint k None false) (sym c.in_ok-made-in-Create.ensures.clear) (refl, refl) })
 
 pub returns-in_ok-made-in-CreateOld-clause-made : goal.returns-in_ok-made-in-CreateOld-clause-made
 returns-in_ok-made-in-CreateOld-clause-made g c = λ told.
-    let Holds = HoldsState (g.S.Shelf.tells c.create-in-CreateOld.new.shelf) (g.S.Shelf.world c.create-in-CreateOld.new.shelf).now.seen c.in_ok-made-in-CreateOld.made in
+    let Holds = HoldsState (g.S.Shelf.tells c.make-in-CreateOld.new.shelf) (g.S.Shelf.world c.make-in-CreateOld.new.shelf).now.seen c.in_ok-made-in-CreateOld.made in
     subst (λ (command : Command). IsMade (shelf_of (g.S.Shelf.world c.args.shelf.now).now) Holds command) (sym c.in-CreateOld.is) (record { objects = c.in_ok-made-in-CreateOld.ensures.objects told; checkpoint = subst (λ (k : CkptPart). HasCheckpoint k None false) (sym c.in_ok-made-in-CreateOld.ensures.clear) (refl, refl) })
 
 -- ---- the account
@@ -39,7 +40,7 @@ returns-in_ok-made-in-Create-clause-begins g c = λ told.
     let at = c.in-Create in
     subst (λ (command : Command). Begins paths sizes disks command made) (sym at.is)
     (is_new (g.S.Shelf.tells shelf) told 2 at.guid paths sizes disks at.devs c.as_slice.result.now c.as_slice.ensures c.in_ok-named-in-Create.named.items c.as_slice-in-Create-2.result.now c.as_slice-in-Create-2.ensures.value c.in_ok-named-in-Create.ensures.slots
-    at.name c.name_of-name.result made (c.name_of-name.ensures.name ∙ c.as_slice-in-Create.ensures) done.allowed done.named done.devices done.clear done.txg done.empty done.root done.settled)
+    at.name c.name_of-name.result made (c.name_of-name.ensures.name ∙ c.as_slice-in-Create.ensures) (done.allowed told) done.named done.devices done.clear done.txg done.empty done.root done.settled)
 
 pub returns-in_err-made-in-Create-clause-begins_no : goal.returns-in_err-made-in-Create-clause-begins_no
 returns-in_err-made-in-Create-clause-begins_no g c = λ told r is.
@@ -52,7 +53,7 @@ returns-in_err-made-in-Create-clause-begins_no g c = λ told r is.
     let at = c.in-Create in
     subst (λ (command : Command). BeginsNone paths sizes disks command r) (sym at.is)
     (in_the_way (g.S.Shelf.tells shelf) told 2 at.guid paths sizes disks at.devs c.as_slice.result.now c.as_slice.ensures c.in_ok-named-in-Create.named.items c.as_slice-in-Create-2.result.now c.as_slice-in-Create-2.ensures.value c.in_ok-named-in-Create.ensures.slots
-    r (c.create.ensures.refused r (c.in_err-made-in-Create.was ∙ ap Err e)))
+    r (c.make.ensures.refused told r (c.in_err-made-in-Create.was ∙ ap Err e)))
 
 pub returns-in_ok-made-in-CreateOld-clause-begins : goal.returns-in_ok-made-in-CreateOld-clause-begins
 returns-in_ok-made-in-CreateOld-clause-begins g c = λ told.
@@ -65,7 +66,7 @@ returns-in_ok-made-in-CreateOld-clause-begins g c = λ told.
     let at = c.in-CreateOld in
     subst (λ (command : Command). Begins paths sizes disks command made) (sym at.is)
     (is_new (g.S.Shelf.tells shelf) told 1 at.guid paths sizes disks at.devs c.as_slice-in-CreateOld.result.now c.as_slice-in-CreateOld.ensures c.in_ok-named-in-CreateOld.named.items c.as_slice-in-CreateOld-3.result.now c.as_slice-in-CreateOld-3.ensures.value c.in_ok-named-in-CreateOld.ensures.slots
-    at.name c.name_of-name-in-CreateOld.result made (c.name_of-name-in-CreateOld.ensures.name ∙ c.as_slice-in-CreateOld-2.ensures) done.allowed done.named done.devices done.clear done.txg done.empty done.root done.settled)
+    at.name c.name_of-name-in-CreateOld.result made (c.name_of-name-in-CreateOld.ensures.name ∙ c.as_slice-in-CreateOld-2.ensures) (done.allowed told) done.named done.devices done.clear done.txg done.empty done.root done.settled)
 
 pub returns-in_err-made-in-CreateOld-clause-begins_no : goal.returns-in_err-made-in-CreateOld-clause-begins_no
 returns-in_err-made-in-CreateOld-clause-begins_no g c = λ told r is.
@@ -78,7 +79,7 @@ returns-in_err-made-in-CreateOld-clause-begins_no g c = λ told r is.
     let at = c.in-CreateOld in
     subst (λ (command : Command). BeginsNone paths sizes disks command r) (sym at.is)
     (in_the_way (g.S.Shelf.tells shelf) told 1 at.guid paths sizes disks at.devs c.as_slice-in-CreateOld.result.now c.as_slice-in-CreateOld.ensures c.in_ok-named-in-CreateOld.named.items c.as_slice-in-CreateOld-3.result.now c.as_slice-in-CreateOld-3.ensures.value c.in_ok-named-in-CreateOld.ensures.slots
-    r (c.create-in-CreateOld.ensures.refused r (c.in_err-made-in-CreateOld.was ∙ ap Err e)))
+    r (c.make-in-CreateOld.ensures.refused told r (c.in_err-made-in-CreateOld.was ∙ ap Err e)))
 
 pub returns-in_default-clause-begins_no : goal.returns-in_default-clause-begins_no
 returns-in_default-clause-begins_no g c = λ told r is.
@@ -217,7 +218,7 @@ returns-in_err-made-in-Create-clause-untouched g c = λ told r is.
     let q = err_from_is_err_and res.result res.ensures.1 in
     let e = fault_same c.in_err-made-in-Create.field-0.0 q.0 r res.result q.1 q.2 is in
     let was = c.in_err-made-in-Create.was ∙ ap Err e in
-    ap (λ (stand : Stand). stand.seen) (c.create.ensures.untouched told r was).now
+    c.make.ensures.untouched told r was
 
 pub returns-in_err-made-in-CreateOld-clause-untouched : goal.returns-in_err-made-in-CreateOld-clause-untouched
 returns-in_err-made-in-CreateOld-clause-untouched g c = λ told r is.
@@ -225,7 +226,7 @@ returns-in_err-made-in-CreateOld-clause-untouched g c = λ told r is.
     let q = err_from_is_err_and res.result res.ensures.1 in
     let e = fault_same c.in_err-made-in-CreateOld.field-0.0 q.0 r res.result q.1 q.2 is in
     let was = c.in_err-made-in-CreateOld.was ∙ ap Err e in
-    ap (λ (stand : Stand). stand.seen) (c.create-in-CreateOld.ensures.untouched told r was).now
+    c.make-in-CreateOld.ensures.untouched told r was
 
 pub returns-in_err-import-in-Import-clause-untouched : goal.returns-in_err-import-in-Import-clause-untouched
 returns-in_err-import-in-Import-clause-untouched g c = λ told r is. c.import.ensures.reads told
@@ -236,7 +237,7 @@ returns-in_err-rewind-in-ImportRewind-clause-untouched g c = λ told r is.
     let q = err_from_is_err_and res.result res.ensures.1 in
     let e = fault_same c.in_err-rewind-in-ImportRewind.field-0.0 q.0 r res.result q.1 q.2 is in
     let was = c.in_err-rewind-in-ImportRewind.was ∙ ap Err e in
-    ap (λ (stand : Stand). stand.seen) (c.rewind.ensures.untouched told r was).now
+    c.rewind.ensures.reads told r was
 
 pub returns-in_err-go_back-in-ImportTxg-clause-untouched : goal.returns-in_err-go_back-in-ImportTxg-clause-untouched
 returns-in_err-go_back-in-ImportTxg-clause-untouched g c = λ told r is.
@@ -244,7 +245,7 @@ returns-in_err-go_back-in-ImportTxg-clause-untouched g c = λ told r is.
     let q = err_from_is_err_and res.result res.ensures.1 in
     let e = fault_same c.in_err-go_back-in-ImportTxg.field-0.0 q.0 r res.result q.1 q.2 is in
     let was = c.in_err-go_back-in-ImportTxg.was ∙ ap Err e in
-    ap (λ (stand : Stand). stand.seen) (c.go_back.ensures.untouched told r was).now
+    c.go_back.ensures.reads told r was
 
 pub returns-in_ok-made-in-Create-clause-ends : goal.returns-in_ok-made-in-Create-clause-ends
 returns-in_ok-made-in-Create-clause-ends g c = λ told create. c.in_ok-made-in-Create.ensures.ends told
@@ -277,3 +278,115 @@ returns-in_ok-rewind-in-ImportRewind-clause-leaves g c = λ told opens. c.in_ok-
 
 pub returns-in_ok-go_back-in-ImportTxg-clause-leaves : goal.returns-in_ok-go_back-in-ImportTxg-clause-leaves
 returns-in_ok-go_back-in-ImportTxg-clause-leaves g c = λ told opens. c.in_ok-go_back-in-ImportTxg.ensures.leaves told
+
+-- ---- what a refusal leaves unwritten
+
+pub returns-in_err-made-in-Create-clause-unwritten : goal.returns-in_err-made-in-Create-clause-unwritten
+returns-in_err-made-in-Create-clause-unwritten g c = λ told r is.
+    let res = c.from_residual-in_err-made-in-Create in
+    let q = err_from_is_err_and res.result res.ensures.1 in
+    let e = fault_same c.in_err-made-in-Create.field-0.0 q.0 r res.result q.1 q.2 is in
+    let was = c.in_err-made-in-Create.was ∙ ap Err e in
+    c.make.ensures.unwritten told r was
+
+pub returns-in_err-made-in-CreateOld-clause-unwritten : goal.returns-in_err-made-in-CreateOld-clause-unwritten
+returns-in_err-made-in-CreateOld-clause-unwritten g c = λ told r is.
+    let res = c.from_residual-in_err-made-in-CreateOld in
+    let q = err_from_is_err_and res.result res.ensures.1 in
+    let e = fault_same c.in_err-made-in-CreateOld.field-0.0 q.0 r res.result q.1 q.2 is in
+    let was = c.in_err-made-in-CreateOld.was ∙ ap Err e in
+    c.make-in-CreateOld.ensures.unwritten told r was
+
+pub returns-in_err-rewind-in-ImportRewind-clause-unwritten : goal.returns-in_err-rewind-in-ImportRewind-clause-unwritten
+returns-in_err-rewind-in-ImportRewind-clause-unwritten g c = λ told r is.
+    let res = c.from_residual-in_err-rewind-in-ImportRewind in
+    let q = err_from_is_err_and res.result res.ensures.1 in
+    let e = fault_same c.in_err-rewind-in-ImportRewind.field-0.0 q.0 r res.result q.1 q.2 is in
+    let was = c.in_err-rewind-in-ImportRewind.was ∙ ap Err e in
+    c.rewind.ensures.flushes told r was
+
+pub returns-in_err-go_back-in-ImportTxg-clause-unwritten : goal.returns-in_err-go_back-in-ImportTxg-clause-unwritten
+returns-in_err-go_back-in-ImportTxg-clause-unwritten g c = λ told r is.
+    let res = c.from_residual-in_err-go_back-in-ImportTxg in
+    let q = err_from_is_err_and res.result res.ensures.1 in
+    let e = fault_same c.in_err-go_back-in-ImportTxg.field-0.0 q.0 r res.result q.1 q.2 is in
+    let was = c.in_err-go_back-in-ImportTxg.was ∙ ap Err e in
+    c.go_back.ensures.flushes told r was
+
+pub returns-in_err-import-in-Import-clause-unwritten : goal.returns-in_err-import-in-Import-clause-unwritten
+returns-in_err-import-in-Import-clause-unwritten g c = λ told r is. c.import.ensures.flushes told
+
+pub returns-in_err-named-in-Create-clause-unwritten : goal.returns-in_err-named-in-Create-clause-unwritten
+returns-in_err-named-in-Create-clause-unwritten g c = λ told r is. flushes_nothing _
+
+pub returns-in_err-named-in-CreateOld-clause-unwritten : goal.returns-in_err-named-in-CreateOld-clause-unwritten
+returns-in_err-named-in-CreateOld-clause-unwritten g c = λ told r is. flushes_nothing _
+
+pub returns-in_default-clause-unwritten : goal.returns-in_default-clause-unwritten
+returns-in_default-clause-unwritten g c = λ told r is. flushes_nothing _
+
+-- ---- wherever it stops
+
+pub returns-in_ok-made-in-Create-clause-stops : goal.returns-in_ok-made-in-Create-clause-stops
+returns-in_ok-made-in-Create-clause-stops g c = λ told.
+    let shelf = c.args.shelf.now in
+    subst (λ (command : Command). StopsInOpening (g.S.Shelf.sizes shelf) command (g.S.Shelf.world shelf) (g.S.Shelf.world c.make.new.shelf)) (sym c.in-Create.is) (c.make.ensures.stops told)
+
+pub returns-in_err-made-in-Create-clause-stops : goal.returns-in_err-made-in-Create-clause-stops
+returns-in_err-made-in-Create-clause-stops g c = λ told.
+    let shelf = c.args.shelf.now in
+    subst (λ (command : Command). StopsInOpening (g.S.Shelf.sizes shelf) command (g.S.Shelf.world shelf) (g.S.Shelf.world c.make.new.shelf)) (sym c.in-Create.is) (c.make.ensures.stops told)
+
+pub returns-in_err-named-in-Create-clause-stops : goal.returns-in_err-named-in-Create-clause-stops
+returns-in_err-named-in-Create-clause-stops g c = λ told.
+    let shelf = c.args.shelf.now in
+    subst (λ (command : Command). StopsInOpening (g.S.Shelf.sizes shelf) command (g.S.Shelf.world shelf) (g.S.Shelf.world shelf)) (sym c.in-Create.is) (inl (flushes_nothing (g.S.Shelf.world shelf)))
+
+pub returns-in_ok-made-in-CreateOld-clause-stops : goal.returns-in_ok-made-in-CreateOld-clause-stops
+returns-in_ok-made-in-CreateOld-clause-stops g c = λ told.
+    let shelf = c.args.shelf.now in
+    subst (λ (command : Command). StopsInOpening (g.S.Shelf.sizes shelf) command (g.S.Shelf.world shelf) (g.S.Shelf.world c.make-in-CreateOld.new.shelf)) (sym c.in-CreateOld.is) (c.make-in-CreateOld.ensures.stops told)
+
+pub returns-in_err-made-in-CreateOld-clause-stops : goal.returns-in_err-made-in-CreateOld-clause-stops
+returns-in_err-made-in-CreateOld-clause-stops g c = λ told.
+    let shelf = c.args.shelf.now in
+    subst (λ (command : Command). StopsInOpening (g.S.Shelf.sizes shelf) command (g.S.Shelf.world shelf) (g.S.Shelf.world c.make-in-CreateOld.new.shelf)) (sym c.in-CreateOld.is) (c.make-in-CreateOld.ensures.stops told)
+
+pub returns-in_err-named-in-CreateOld-clause-stops : goal.returns-in_err-named-in-CreateOld-clause-stops
+returns-in_err-named-in-CreateOld-clause-stops g c = λ told.
+    let shelf = c.args.shelf.now in
+    subst (λ (command : Command). StopsInOpening (g.S.Shelf.sizes shelf) command (g.S.Shelf.world shelf) (g.S.Shelf.world shelf)) (sym c.in-CreateOld.is) (inl (flushes_nothing (g.S.Shelf.world shelf)))
+
+pub returns-in_ok-import-in-Import-clause-stops : goal.returns-in_ok-import-in-Import-clause-stops
+returns-in_ok-import-in-Import-clause-stops g c = λ told.
+    let shelf = c.args.shelf.now in
+    subst (λ (command : Command). StopsInOpening (g.S.Shelf.sizes shelf) command (g.S.Shelf.world shelf) (g.S.Shelf.world c.import.new.shelf)) (sym c.in-Import.is) (c.import.ensures.flushes told)
+
+pub returns-in_err-import-in-Import-clause-stops : goal.returns-in_err-import-in-Import-clause-stops
+returns-in_err-import-in-Import-clause-stops g c = λ told.
+    let shelf = c.args.shelf.now in
+    subst (λ (command : Command). StopsInOpening (g.S.Shelf.sizes shelf) command (g.S.Shelf.world shelf) (g.S.Shelf.world c.import.new.shelf)) (sym c.in-Import.is) (c.import.ensures.flushes told)
+
+pub returns-in_ok-rewind-in-ImportRewind-clause-stops : goal.returns-in_ok-rewind-in-ImportRewind-clause-stops
+returns-in_ok-rewind-in-ImportRewind-clause-stops g c = λ told.
+    let shelf = c.args.shelf.now in
+    subst (λ (command : Command). StopsInOpening (g.S.Shelf.sizes shelf) command (g.S.Shelf.world shelf) (g.S.Shelf.world c.rewind.new.shelf)) (sym c.in-ImportRewind.is) (c.rewind.ensures.stops told)
+
+pub returns-in_err-rewind-in-ImportRewind-clause-stops : goal.returns-in_err-rewind-in-ImportRewind-clause-stops
+returns-in_err-rewind-in-ImportRewind-clause-stops g c = λ told.
+    let shelf = c.args.shelf.now in
+    subst (λ (command : Command). StopsInOpening (g.S.Shelf.sizes shelf) command (g.S.Shelf.world shelf) (g.S.Shelf.world c.rewind.new.shelf)) (sym c.in-ImportRewind.is) (c.rewind.ensures.stops told)
+
+pub returns-in_ok-go_back-in-ImportTxg-clause-stops : goal.returns-in_ok-go_back-in-ImportTxg-clause-stops
+returns-in_ok-go_back-in-ImportTxg-clause-stops g c = λ told.
+    let shelf = c.args.shelf.now in
+    subst (λ (command : Command). StopsInOpening (g.S.Shelf.sizes shelf) command (g.S.Shelf.world shelf) (g.S.Shelf.world c.go_back.new.shelf)) (sym c.in-ImportTxg.is) (c.go_back.ensures.stops told)
+
+pub returns-in_err-go_back-in-ImportTxg-clause-stops : goal.returns-in_err-go_back-in-ImportTxg-clause-stops
+returns-in_err-go_back-in-ImportTxg-clause-stops g c = λ told.
+    let shelf = c.args.shelf.now in
+    subst (λ (command : Command). StopsInOpening (g.S.Shelf.sizes shelf) command (g.S.Shelf.world shelf) (g.S.Shelf.world c.go_back.new.shelf)) (sym c.in-ImportTxg.is) (c.go_back.ensures.stops told)
+
+pub returns-in_default-clause-stops : goal.returns-in_default-clause-stops
+returns-in_default-clause-stops g c = λ told.
+    opening_nothing (g.S.Shelf.sizes c.args.shelf.now) c.args.command.now (g.S.Shelf.world c.args.shelf.now) (g.S.Shelf.world c.args.shelf.now) c.in_default.not-Create c.in_default.not-CreateOld c.in_default.not-ImportRewind c.in_default.not-ImportTxg (flushes_nothing _)

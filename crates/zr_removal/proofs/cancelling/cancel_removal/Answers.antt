@@ -1,8 +1,11 @@
-use Rattle.std.proofs.Common.{ℕ, List, subst}
+use Rattle.std.proofs.Common.{ℕ, List, inl, subst}
 use Rattle.std.specs.Prelude.{IfSome}
+use Rattle.zr_last.proofs.Ending.{leaves_by}
 use Rattle.zr_shelf.specs.Moments.{World}
-use Rattle.zr_sync.specs.Commits.{IsShownFrom}
 use Rattle.zr_sync.proofs.Disks.{works_more}
+use Rattle.zr_sync.specs.Commits.{IsShownFrom}
+use Rattle.zr_sync.specs.Heads.{IsSeen}
+use Rattle.zr_removal.proofs.Returning.{back_last, stops_back}
 use Rattle.zr_removal.proofs.cancelling.cancel_removal.Goals as goal
 
 pub returns-in_err-commit-clause-disks : goal.returns-in_err-commit-clause-disks
@@ -24,3 +27,46 @@ returns-clause-cancels g c = record {
       subst (λ (n : List ℕ). IfSome c.commit.new.pool.last (λ u. (before : World) × IsShownFrom n c.come_back.new.pool u before (g.S.Shelf.world c.commit.new.shelf))) c.come_back.ensures.sizes
       (c.in_ok-commit.ensures.shown (c.come_back.ensures.told t));
 }
+
+pub returns-clause-objects : goal.returns-clause-objects
+returns-clause-objects g c = λ objects h. c.in_ok-commit.ensures.stays objects (c.in_ok-dev.ensures.objects objects h)
+
+pub returns-clause-ends : goal.returns-clause-ends
+returns-clause-ends g c = λ objects h.
+    let mid = c.come_back.new.shelf in
+    let new = c.commit.new.shelf in
+    let back = c.come_back.new.pool in
+    let done = c.in_ok-commit.ensures in
+    let held = c.in_ok-dev.ensures.objects objects h in
+    let seen : IsSeen (g.S.Shelf.tells mid) (g.S.Shelf.world mid).now.seen back = record { told = held.held.told; read = held.held.read } in
+    leaves_by (g.S.Shelf.sizes mid) (g.S.Shelf.sizes new) back c.commit.new.pool (g.S.Shelf.world mid) (g.S.Shelf.world new) c.in_ok-dev.ensures.pool done.pool done.txg (done.written held.held.told) done.ends.ended.opened done.empty (done.stands seen) (done.safe seen)
+
+pub returns-clause-shown : goal.returns-clause-shown
+returns-clause-shown g c = λ told.
+    let old = c.args.shelf.now in
+    let mid = c.come_back.new.shelf in
+    let new = c.commit.new.shelf in
+    let first = c.in_ok-dev.ensures in
+    let done = c.in_ok-commit.ensures in
+    let still = c.come_back.ensures.told told in
+    back_last (g.S.Shelf.sizes old) (g.S.Shelf.sizes mid) (g.S.Shelf.sizes new) c.args.pool.now c.come_back.new.pool c.commit.new.pool c.in_ok-dev.dev (g.S.Shelf.world old) (g.S.Shelf.world mid) (g.S.Shelf.world new) c.requires.pool first.leaving first.comes
+    (g.S.Shelf.sound old told).sized (c.come_back.ensures.written told) first.pool done.pool (g.S.Shelf.sound mid still).sized done.txg done.last (done.written still) done.same
+
+-- ---- wherever it stops
+
+pub returns-in_err-dev-clause-stops : goal.returns-in_err-dev-clause-stops
+returns-in_err-dev-clause-stops g c = λ objects h. inl (c.come_back.ensures.written h.held.told)
+
+pub returns-in_err-commit-clause-stops : goal.returns-in_err-commit-clause-stops
+returns-in_err-commit-clause-stops g c = λ objects h.
+    let mid = c.come_back.new.shelf in
+    let first = c.in_ok-dev.ensures in
+    stops_back (g.S.Shelf.sizes c.args.shelf.now) (g.S.Shelf.sizes mid) objects c.args.pool.now c.come_back.new.pool c.in_ok-dev.dev (g.S.Shelf.world c.args.shelf.now) (g.S.Shelf.world mid) (g.S.Shelf.world c.commit.new.shelf) c.come_back.ensures.sizes
+    first.leaving first.pool first.comes (c.come_back.ensures.written h.held.told) (c.commit.ensures.leads objects (first.objects objects h))
+
+pub returns-clause-stops : goal.returns-clause-stops
+returns-clause-stops g c = λ objects h.
+    let mid = c.come_back.new.shelf in
+    let first = c.in_ok-dev.ensures in
+    stops_back (g.S.Shelf.sizes c.args.shelf.now) (g.S.Shelf.sizes mid) objects c.args.pool.now c.come_back.new.pool c.in_ok-dev.dev (g.S.Shelf.world c.args.shelf.now) (g.S.Shelf.world mid) (g.S.Shelf.world c.commit.new.shelf) c.come_back.ensures.sizes
+    first.leaving first.pool first.comes (c.come_back.ensures.written h.held.told) (c.commit.ensures.leads objects (first.objects objects h))

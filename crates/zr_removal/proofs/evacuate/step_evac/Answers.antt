@@ -2,8 +2,10 @@ use Rattle.std.proofs.Common.{◌≡◌, ◌∙◌, inl, inr, true, ap, subst, a
 use Rattle.zr_rules.specs.Places.{is_leaving, state_of_dev}
 use Rattle.zr_rules.specs.Space.{Space}
 use Rattle.zr_sync.proofs.Disks.{works_more}
+use Rattle.zr_vdev.specs.Caches.{AreRead}
 use Rattle.zr_removal.proofs.Ending.{cancels_before, ends_before}
-use Rattle.zr_removal.proofs.Outgoing.{copies_open, into_free, last_copied, objects_copied}
+use Rattle.zr_removal.proofs.Outgoing.{copies_open, into_free, last_copied, objects_copied, objects_tried}
+use Rattle.zr_removal.proofs.Returning.{stops_after}
 use Rattle.zr_removal.proofs.evacuate.step_evac.Goals as goal
 
 pub returns-in_err-finish_removal-in-Nothing-clause-disks : goal.returns-in_err-finish_removal-in-Nothing-clause-disks
@@ -82,3 +84,55 @@ returns-in-Units-clause-opens g c = λ n is d u.
     let x = c.args.pool.now in
     let old = c.args.shelf.now in
     copies_open c.args.pick.now.policy x.table.slots (g.S.Shelf.tells old) (g.S.Shelf.world old) (g.S.Shelf.world c.copy_next.new.shelf) x.space c.copy_next.new.pool.space c.in-Units.units (c.in_ok-units.ensures.units c.in-Units.units c.in-Units.is) d u
+
+-- ---- what a removal that is given up leaves
+
+pub returns-in_ok-cancel_removal-in-Fault-clause-back_shown : goal.returns-in_ok-cancel_removal-in-Fault-clause-back_shown
+returns-in_ok-cancel_removal-in-Fault-clause-back_shown g c = λ told d is h.
+    let old = c.args.shelf.now in
+    let mid = c.copy_next.new.shelf in
+    c.in_ok-cancel_removal-in-Fault.ensures.shown (c.copy_next.ensures.told told)
+    (last_copied (g.S.Shelf.sizes old) c.args.pool.now c.copy_next.new.pool (g.S.Shelf.world old) (g.S.Shelf.world mid) c.requires.pool (g.S.Shelf.sound old told).sized (c.copy_next.ensures.written told) c.copy_next.ensures.rest h)
+
+pub returns-in_ok-cancel_removal-in-Fault-clause-back_ends : goal.returns-in_ok-cancel_removal-in-Fault-clause-back_ends
+returns-in_ok-cancel_removal-in-Fault-clause-back_ends g c = λ objects h d is.
+    let x = c.args.pool.now in
+    let tried = c.copy_next.new.pool in
+    let old = c.args.shelf.now in
+    let mid = c.copy_next.new.shelf in
+    let space : tried.space ≡ x.space = c.in_ok-units.ensures.same (inr c.in-Fault.is) in
+    let same : tried ≡ record x { cache = tried.cache } = c.copy_next.ensures.rest ∙ ap (λ (s : Space). record x { space = s; cache = tried.cache }) space in
+    let told = h.held.told in
+    let held =
+    objects_tried x tried (g.S.Shelf.tells old) (g.S.Shelf.tells mid) (g.S.Shelf.world old) (g.S.Shelf.world mid) objects c.requires.pool.mounted.apart (c.copy_next.ensures.written told)
+    (λ read. subst (λ (s : Space). AreRead (g.S.Shelf.world mid).now.seen x.table.slots s tried.cache) space (c.copy_next.ensures.read told read)) same (c.copy_next.ensures.told told) h in
+    c.in_ok-cancel_removal-in-Fault.ensures.ends objects held
+
+pub returns-in_ok-cancel_removal-in-Fault-clause-back_objects : goal.returns-in_ok-cancel_removal-in-Fault-clause-back_objects
+returns-in_ok-cancel_removal-in-Fault-clause-back_objects g c = λ objects h d is.
+    let x = c.args.pool.now in
+    let tried = c.copy_next.new.pool in
+    let old = c.args.shelf.now in
+    let mid = c.copy_next.new.shelf in
+    let space : tried.space ≡ x.space = c.in_ok-units.ensures.same (inr c.in-Fault.is) in
+    let same : tried ≡ record x { cache = tried.cache } = c.copy_next.ensures.rest ∙ ap (λ (s : Space). record x { space = s; cache = tried.cache }) space in
+    let told = h.held.told in
+    let held =
+    objects_tried x tried (g.S.Shelf.tells old) (g.S.Shelf.tells mid) (g.S.Shelf.world old) (g.S.Shelf.world mid) objects c.requires.pool.mounted.apart (c.copy_next.ensures.written told)
+    (λ read. subst (λ (s : Space). AreRead (g.S.Shelf.world mid).now.seen x.table.slots s tried.cache) space (c.copy_next.ensures.read told read)) same (c.copy_next.ensures.told told) h in
+    c.in_ok-cancel_removal-in-Fault.ensures.objects objects held
+
+pub returns-in_ok-cancel_removal-in-Fault-clause-back_stops : goal.returns-in_ok-cancel_removal-in-Fault-clause-back_stops
+returns-in_ok-cancel_removal-in-Fault-clause-back_stops g c = λ objects h d is.
+    let x = c.args.pool.now in
+    let tried = c.copy_next.new.pool in
+    let old = c.args.shelf.now in
+    let mid = c.copy_next.new.shelf in
+    let space : tried.space ≡ x.space = c.in_ok-units.ensures.same (inr c.in-Fault.is) in
+    let same : tried ≡ record x { cache = tried.cache } = c.copy_next.ensures.rest ∙ ap (λ (s : Space). record x { space = s; cache = tried.cache }) space in
+    let told = h.held.told in
+    let held =
+    objects_tried x tried (g.S.Shelf.tells old) (g.S.Shelf.tells mid) (g.S.Shelf.world old) (g.S.Shelf.world mid) objects c.requires.pool.mounted.apart (c.copy_next.ensures.written told)
+    (λ read. subst (λ (s : Space). AreRead (g.S.Shelf.world mid).now.seen x.table.slots s tried.cache) space (c.copy_next.ensures.read told read)) same (c.copy_next.ensures.told told) h in
+    let wrote = into_free x.table.slots x.space (g.S.Shelf.world old) (g.S.Shelf.world mid) (c.copy_next.ensures.written told) in
+    stops_after (g.S.Shelf.sizes old) (g.S.Shelf.sizes mid) objects x tried (g.S.Shelf.world old) (g.S.Shelf.world mid) (g.S.Shelf.world c.cancel_removal.new.shelf) c.copy_next.ensures.sizes same wrote (c.cancel_removal.ensures.stops objects held)

@@ -5,10 +5,11 @@ use Rattle.zr_model.specs.State.{ShelfPart}
 use Rattle.zr_sync.specs.Pools.{IsOpen}
 use Rattle.zr_sync.specs.declared.open.OpenPool.{OpenPool}
 use Rattle.zr_pool.specs.Ends.{answer_of, is_closing}
-use Rattle.zr_pool.specs.Pools.{AreShown, IsBehind, StandsFor, no_device_state}
+use Rattle.zr_pool.specs.Pools.{AreShown, IsAsBegun, IsBehind, StandsFor, no_device_state}
 use Rattle.zr_command.specs.Meanings.{disks_of}
 use Rattle.zr_pool.specs.Replies.{TellsFault}
 use Rattle.zr_pool.proofs.Accounting.{Leads, closed_accounts, each_with_account, open_accounts}
+use Rattle.zr_pool.proofs.Beginning.{closed_begun, open_begun}
 use Rattle.zr_pool.proofs.Blaming.{blamed_answer, blamed_closed}
 use Rattle.zr_pool.proofs.Shown.{closed_lasts, open_lasts}
 use Rattle.zr_pool.proofs.Staying.{told_anew}
@@ -24,13 +25,13 @@ pub returns-in_default-clause-outside : goal.returns-in_default-clause-outside
 returns-in_default-clause-outside g c = λ told. keeps_outside _ _ (c.closed_line.ensures.disks told)
 
 pub returns-in_default-clause-may_damage : goal.returns-in_default-clause-may_damage
-returns-in_default-clause-may_damage g c = λ at expected found met. (record { shelf = record { paths = []; disks = [] }; state = no_device_state }, Sync, refusal.Damaged at expected found, tt)
+returns-in_default-clause-may_damage g c = λ at expected found met. (record { shelf = record { paths = []; disks = [] }; state = no_device_state (record { durable = []; writes = []; seen = [] }) }, Sync, refusal.Damaged at expected found, tt)
 
 pub returns-clause-outside : goal.returns-clause-outside
 returns-clause-outside g c = λ told. keeps_outside _ _ (c.open_line-done.ensures.disks told)
 
 pub returns-clause-may_damage : goal.returns-clause-may_damage
-returns-clause-may_damage g c = λ at expected found met. (record { shelf = record { paths = []; disks = [] }; state = no_device_state }, Sync, refusal.Damaged at expected found, tt)
+returns-clause-may_damage g c = λ at expected found met. (record { shelf = record { paths = []; disks = [] }; state = no_device_state (record { durable = []; writes = []; seen = [] }) }, Sync, refusal.Damaged at expected found, tt)
 
 pub returns-in_default-clause-step : goal.returns-in_default-clause-step
 returns-in_default-clause-step g c = λ told paths before stood.
@@ -49,7 +50,8 @@ returns-in_default-clause-step g c = λ told paths before stood.
     c.closed_line.ensures.done c.closed_line.ensures.turn (c.closed_line.ensures.last told) (c.closed_line.ensures.untouched told) c.closed_line.ensures.closed in
     subst (λ q. IfOk q (λ found. IfSome found (λ answer. Leads old new before c.args.command.now pool answer))) (sym c.answer_of.ensures)
     (each_with_account old (g.S.Shelf.world c.closed_line.new.shelf) before c.args.command.now pool (answer_of r) told_part account_part last_part
-    (λ part held. closed_behinds (g.S.Shelf.world shelf) (g.S.Shelf.world c.closed_line.new.shelf) before c.args.command.now (stood.account ∙ c.in_default.is) (subst (λ (o : Option OpenPool). IfSome before.behind (IsBehind o (disks_of old))) c.in_default.is stood.behind) part (g.S.Shelf.sizes c.closed_line.new.shelf) pool c.closed_line.ensures.pool (c.closed_line.ensures.ends told) (c.closed_line.ensures.leaves told) (c.closed_line.ensures.last told) (g.S.Shelf.sound c.closed_line.new.shelf behind).sized held (c.closed_line.ensures.flushes told) r c.closed_line.ensures.turn c.closed_line.ensures.done c.closed_line.ensures.closed))
+    (λ part held. closed_behinds (g.S.Shelf.world shelf) (g.S.Shelf.world c.closed_line.new.shelf) before c.args.command.now (stood.account ∙ c.in_default.is) (subst (λ (o : Option OpenPool). IfSome before.behind (IsBehind o (disks_of old))) c.in_default.is stood.behind) (subst (λ (o : Option OpenPool). IfSome before.begun (IsAsBegun o (disks_of old))) c.in_default.is stood.begun) part (g.S.Shelf.sizes c.closed_line.new.shelf) pool c.closed_line.ensures.pool (c.closed_line.ensures.ends told) (c.closed_line.ensures.leaves told) (c.closed_line.ensures.last told) (g.S.Shelf.sound c.closed_line.new.shelf behind).sized held r (c.closed_line.ensures.unwritten told) c.closed_line.ensures.turn c.closed_line.ensures.done c.closed_line.ensures.closed)
+    (closed_begun (g.S.Shelf.world shelf) (g.S.Shelf.world c.closed_line.new.shelf) before pool (subst (λ (o : Option OpenPool). IfSome before.begun (IsAsBegun o (disks_of old))) c.in_default.is stood.begun) r c.closed_line.ensures.done (c.closed_line.ensures.unwritten told) c.closed_line.ensures.closed))
 
 pub returns-clause-step : goal.returns-clause-step
 returns-clause-step g c = λ told paths before stood.
@@ -74,7 +76,7 @@ returns-clause-step g c = λ told paths before stood.
     let last_part = open_lasts old new before command x y there (λ shown. subst (λ (o : Option OpenPool). AreShown o old.seen before.told.shelf) c.in-Some.is (stood.shown shown)) (g.S.Shelf.sizes c.open_line-done.new.shelf) (g.S.Shelf.sound c.open_line-done.new.shelf behind).sized r
     c.open_line-done.ensures.done c.open_line-done.ensures.answer (c.open_line-done.ensures.shown told) (c.open_line-done.ensures.shown_no told) (λ exports p held. c.open_line-done.ensures.left exports p (told_anew (Unit {0}) (g.S.Shelf.tells shelf) old.seen x p told held)) c.open_line-done.ensures.pool in
     let behind_part = λ (now_told : ShelfPart). open_behinds (g.S.Shelf.world shelf) (g.S.Shelf.world c.open_line-done.new.shelf) before command x y (g.S.Shelf.sizes shelf) (subst (λ (o : Option OpenPool). IfSome o (IsOpen (g.S.Shelf.sizes shelf))) c.in-Some.is c.requires.fits.is_open) (g.S.Shelf.sound shelf told).sized ((g.S.Shelf.sound c.open_line-done.new.shelf behind).sized ∙ c.open_line-done.ensures.sizes)
-    there.part (stood.account ∙ c.in-Some.is) (λ shown. subst (λ (o : Option OpenPool). AreShown o old.seen before.told.shelf) c.in-Some.is (stood.shown shown)) (subst (λ (o : Option OpenPool). IfSome before.behind (IsBehind o (disks_of old))) c.in-Some.is stood.behind) now_told r c.open_line-done.ensures.done (subst (λ (n : List ℕ). OnOk r (IsOpen n y)) c.open_line-done.ensures.sizes c.open_line-done.ensures.pool)
+    there.part (stood.account ∙ c.in-Some.is) (λ shown. subst (λ (o : Option OpenPool). AreShown o old.seen before.told.shelf) c.in-Some.is (stood.shown shown)) (subst (λ (o : Option OpenPool). IfSome before.behind (IsBehind o (disks_of old))) c.in-Some.is stood.behind) (subst (λ (o : Option OpenPool). IfSome before.begun (IsAsBegun o (disks_of old))) c.in-Some.is stood.begun) now_told r c.open_line-done.ensures.done (subst (λ (n : List ℕ). OnOk r (IsOpen n y)) c.open_line-done.ensures.sizes c.open_line-done.ensures.pool)
     (c.open_line-done.ensures.shown told) (λ on p held. c.open_line-done.ensures.resets on p (told_anew (Unit {0}) (g.S.Shelf.tells shelf) old.seen x p told held))
     (λ group p held. c.open_line-done.ensures.one_group group p (told_anew (Unit {0}) (g.S.Shelf.tells shelf) old.seen x p told held))
     (λ p held. c.open_line-done.ensures.one_group_no p (told_anew (Unit {0}) (g.S.Shelf.tells shelf) old.seen x p told held))
@@ -82,7 +84,8 @@ returns-clause-step g c = λ told paths before stood.
     (λ ends p held. c.open_line-done.ensures.commits ends p (told_anew (Unit {0}) (g.S.Shelf.tells shelf) old.seen x p told held)) in
     subst (λ (o : Option OpenPool). IfOk c.answer_of-2.result (λ found. IfSome found (λ answer. Leads old new before command o answer))) (sym left)
     (subst (λ q. IfOk q (λ found. IfSome found (λ answer. Leads old new before command (left_of (is_closing command r) y) answer))) (sym c.answer_of-2.ensures)
-    (each_with_account old (g.S.Shelf.world c.open_line-done.new.shelf) before command (left_of (is_closing command r) y) (answer_of r) told_part account_part last_part (λ part held. behind_part part)))
+    (each_with_account old (g.S.Shelf.world c.open_line-done.new.shelf) before command (left_of (is_closing command r) y) (answer_of r) told_part account_part last_part (λ part held. behind_part part)
+    (open_begun (g.S.Shelf.world shelf) (g.S.Shelf.world c.open_line-done.new.shelf) before x (left_of (is_closing command r) y) (subst (λ (o : Option OpenPool). IfSome before.begun (IsAsBegun o (disks_of old))) c.in-Some.is stood.begun) r)))
 
 -- ---- what tells of a fault
 
@@ -105,7 +108,7 @@ returns-clause-blamed g c =
 
 pub returns-in_default-clause-moments : goal.returns-in_default-clause-moments
 returns-in_default-clause-moments g c = λ told paths before stood.
-    closed_within (g.S.Shelf.world c.args.shelf.now) _ before c.args.command.now (stood.account ∙ c.in_default.is) (subst (λ (o : Option OpenPool). IfSome before.behind (IsBehind o (disks_of (g.S.Shelf.world c.args.shelf.now).now))) c.in_default.is stood.behind) (c.closed_line.ensures.disks told) (c.closed_line.ensures.flushes told)
+    closed_within (g.S.Shelf.world c.args.shelf.now) _ before c.args.command.now (stood.account ∙ c.in_default.is) (subst (λ (o : Option OpenPool). IfSome before.behind (IsBehind o (disks_of (g.S.Shelf.world c.args.shelf.now).now))) c.in_default.is stood.behind) (subst (λ (o : Option OpenPool). IfSome before.begun (IsAsBegun o (disks_of (g.S.Shelf.world c.args.shelf.now).now))) c.in_default.is stood.begun) (g.S.Shelf.sizes c.args.shelf.now) (g.S.Shelf.sound c.args.shelf.now told).sized (c.closed_line.ensures.stops told)
 
 pub returns-clause-moments : goal.returns-clause-moments
 returns-clause-moments g c = λ told paths before stood.
@@ -115,7 +118,7 @@ returns-clause-moments g c = λ told paths before stood.
     let x = c.in-Some.pool in
     let there : StandsFor (Some x) old.seen before.told = subst (λ (o : Option OpenPool). StandsFor o old.seen before.told) c.in-Some.is stood.told in
     open_within (g.S.Shelf.world shelf) (g.S.Shelf.world c.open_line-done.new.shelf) before c.args.command.now x c.open_line-done.new.pool (g.S.Shelf.sizes shelf) (subst (λ (o : Option OpenPool). IfSome o (IsOpen (g.S.Shelf.sizes shelf))) c.in-Some.is c.requires.fits.is_open) (g.S.Shelf.sound shelf told).sized ((g.S.Shelf.sound c.open_line-done.new.shelf behind).sized ∙ c.open_line-done.ensures.sizes)
-    there.part (stood.account ∙ c.in-Some.is) (λ shown. subst (λ (o : Option OpenPool). AreShown o old.seen before.told.shelf) c.in-Some.is (stood.shown shown)) (subst (λ (o : Option OpenPool). IfSome before.behind (IsBehind o (disks_of old))) c.in-Some.is stood.behind)
+    there.part (stood.account ∙ c.in-Some.is) (λ shown. subst (λ (o : Option OpenPool). AreShown o old.seen before.told.shelf) c.in-Some.is (stood.shown shown)) (subst (λ (o : Option OpenPool). IfSome before.behind (IsBehind o (disks_of old))) c.in-Some.is stood.behind) (subst (λ (o : Option OpenPool). IfSome before.begun (IsAsBegun o (disks_of old))) c.in-Some.is stood.begun)
     (λ table. c.open_line-done.ensures.still told table (off_objects c.args.command.now table)) (c.open_line-done.ensures.disks told)
     (λ group p held. c.open_line-done.ensures.writes group p (told_anew (Unit {0}) (g.S.Shelf.tells shelf) old.seen x p told held))
     (λ once p held. c.open_line-done.ensures.stops_reset once p (told_anew (Unit {0}) (g.S.Shelf.tells shelf) old.seen x p told held))
