@@ -25,8 +25,10 @@ use Rattle.zr_shelf.specs.Counts.{Counts}
 use Rattle.zr_shelf.specs.Moments.{World}
 use Rattle.zr_sync.specs.declared.open.OpenPool.{OpenPool}
 use Rattle.zr_removal.specs.Steps.{StepsOn}
+use Rattle.zr_removal.specs.Turns.{CancelsRemoval}
 use Rattle.zr_removal.specs.declared.evacuate.Evacuated.{Evacuated}
 use Rattle.zr_removal.specs.declared.evacuate.Evacuated.TheVariants.{Copied, Gone, Cancelled}
+use Rattle.zr_pool.specs.Behind.{is_return}
 use Rattle.zr_pool.specs.Plain.{IsBeyond, IsDone, IsMissing, IsObjectCause, IsPlainOf, IsPlainOn, IsThere, is_copy, is_untold_behind}
 use Rattle.zr_pool.specs.Replies.{condense_reply, evac_reply}
 
@@ -133,29 +135,42 @@ module _ (Holds : PoolState → Type 0) (p : PoolState) where
 
 -- ---- replies to steps of a removal
 
--- a step that copies leaves the objects; of one that does not nothing is told
+-- a removal that was given up leaves how the checkpoint stands
+pub back_ckpt : (sizes : List ℕ) (told : Type 0) (now : World) (x y : OpenPool) (d : ℕ) → CancelsRemoval sizes told now x y d → y.space.parts.ckpt ≡ x.space.parts.ckpt
+back_ckpt sizes told now x y d h = h.same.ckpt ∙ (h.comes.streams.rows.ckpt ∙ h.comes.cancels.elsewhere.ckpt)
+
+-- a step that copies, or gives the removal up, leaves the objects; of one that ends it nothing is told
 pub evac_acts : (policy : Policy) (sizes : List ℕ) (told : Type 0) (c1 c2 : Counts) (w1 w2 : World) (x y : OpenPool) (Holds : PoolState → Type 0) (p : PoolState) (done : Evacuated) → StepsOn policy sizes told c1 c2 w1 w2 x y done
-    → (y.space.parts.ckpt ≡ x.space.parts.ckpt → (n : ℕ) → done ≡ Copied n → Holds p) → IsPlainOf Holds p cmd.StepEvac (evac_reply done)
-evac_acts policy sizes told c1 c2 w1 w2 x y Holds p (Copied n) steps holds =
+    → (y.space.parts.ckpt ≡ x.space.parts.ckpt → (n : ℕ) → done ≡ Copied n → Holds p) → (y.space.parts.ckpt ≡ x.space.parts.ckpt → (d : ℕ) → done ≡ Cancelled d → Holds p) → IsPlainOf Holds p cmd.StepEvac (evac_reply done)
+evac_acts policy sizes told c1 c2 w1 w2 x y Holds p (Copied n) steps holds returns =
     let plan = steps.plans.plan in
     let some = plan.some in
     let few = plan.few in
     let units = steps.units in
     record { after = p; holds = holds steps.makes.elsewhere.ckpt n refl; step = ((omega (arith, some, units), omega (arith, few, units), refl), refl) }
-evac_acts policy sizes told c1 c2 w1 w2 x y Holds p (Gone index) steps holds = tt
-evac_acts policy sizes told c1 c2 w1 w2 x y Holds p (Cancelled index) steps holds = tt
+evac_acts policy sizes told c1 c2 w1 w2 x y Holds p (Gone index) steps holds returns = tt
+evac_acts policy sizes told c1 c2 w1 w2 x y Holds p (Cancelled index) steps holds returns =
+    record { after = p; holds = returns (back_ckpt sizes told w2 steps.tried y index steps.cancels ∙ ap (λ (pool : OpenPool). pool.space.parts.ckpt) steps.same) index refl; step = (record { objects = refl; saved = refl; discarding = refl }, refl) }
 
 pub evac_copies : (P : Type 0) (done : Evacuated) → ((n : ℕ) → done ≡ Copied n → P) → is_copy cmd.StepEvac (evac_reply done) ≡ true → P
 evac_copies P (Copied n) copies on = copies n refl
 evac_copies P (Gone index) copies on = absurd (let no_way : false ≡ true = on in cc)
 evac_copies P (Cancelled index) copies on = absurd (let no_way : false ≡ true = on in cc)
 
-pub evac_shows : (P : Type 0) (done : Evacuated) → ((n : ℕ) → done ≡ Copied n → P) → is_untold_behind cmd.StepEvac (evac_reply done) ≡ false → P
-evac_shows P done shows off = evac_copies P done shows (by_test (is_copy cmd.StepEvac (evac_reply done)) off)
-  where
-    by_test : (b : Bool) → not b ≡ false → b ≡ true
-    by_test true is = refl
-    by_test false is = absurd (let no_way : true ≡ false = is in cc)
+pub evac_shows : (P : Type 0) (done : Evacuated) → ((n : ℕ) → done ≡ Copied n → P) → ((d : ℕ) → done ≡ Cancelled d → P) → is_untold_behind cmd.StepEvac (evac_reply done) ≡ false → P
+evac_shows P (Copied n) shows returns off = shows n refl
+evac_shows P (Gone index) shows returns off = absurd (let no_way : true ≡ false = off in cc)
+evac_shows P (Cancelled index) shows returns off = returns index refl
+
+pub evac_returns : (P : Type 0) (done : Evacuated) (command : Command) → ((d : ℕ) → done ≡ Cancelled d → P) → is_return (evac_reply done) command ≡ true → P
+evac_returns P (Copied n) command returns on = absurd (let no_way : false ≡ true = on in cc)
+evac_returns P (Gone index) command returns on = absurd (let no_way : false ≡ true = on in cc)
+evac_returns P (Cancelled index) command returns on = returns index refl
+
+pub condense_no_return : (done : Condensed) (command : Command) → is_return (condense_reply done) command ≡ true → ⊥
+condense_no_return (condensed.Kept entries) command on = let no_way : false ≡ true = on in cc
+condense_no_return condensed.Done command on = let no_way : false ≡ true = on in cc
+condense_no_return condensed.Nothing command on = let no_way : false ≡ true = on in cc
 
 pub condense_done : (done : Condensed) → IsDone (condense_reply done)
 condense_done (condensed.Kept entries) = tt

@@ -45,11 +45,11 @@ use Rattle.zr_open.specs.Shown.{Shows}
 use Rattle.zr_stops.proofs.Returning.{returns_either}
 use Rattle.zr_stops.proofs.Preparing.{settled_left}
 use Rattle.zr_pool.proofs.Closed.{StandsAs, closed_behind, closed_shows, flushes_keep, still_closed, stands_as}
-use Rattle.zr_pool.proofs.Groups.{acknowledged_commits, commits_in_group, copy_no_commit, copy_no_reset, not_resetting, opens_no_commit, opens_no_reset, resets_told, opening_stops}
+use Rattle.zr_pool.proofs.Groups.{acknowledged_commits, commits_in_group, copy_no_commit, copy_no_reset, ends_told, not_ending, opening_stops, opens_no_commit, opens_no_end}
 use Rattle.zr_pool.proofs.Outside.{keeps_outside}
 use Rattle.zr_pool.proofs.Resets.{behind_last, reset_behind}
 use Rattle.zr_pool.proofs.Turning.{left_of}
-use Rattle.zr_pool.specs.Behind.{ComesFrom, HasReset, IsBehindTurn, LeavesEither, LeavesOnly, StaysTold, StopsInReset, is_acknowledged, is_commit, is_create, is_import, is_in_group, is_known, is_refusal, is_resetting, leaves_told, may_stop, all_there, are_there, StopsInCreate, AreAllThere, OpensTo, StopsInOpening}
+use Rattle.zr_pool.specs.Behind.{ComesFrom, HasReset, IsBehindTurn, LeavesEither, LeavesOnly, StaysTold, StopsInReset, is_acknowledged, is_commit, is_create, is_import, is_in_group, is_known, is_refusal, is_resetting, leaves_told, may_stop, all_there, are_there, StopsInCreate, AreAllThere, OpensTo, StopsInOpening, ends_reset}
 use Rattle.zr_pool.specs.Behind.ComesFrom.{kept, committed, changed, made, found}
 use Rattle.zr_pool.specs.Ends.{answer_of, is_closing}
 use Rattle.zr_pool.specs.Plain.{IsDone, is_copy, is_untold_behind}
@@ -195,7 +195,7 @@ module _ (new : World) (before : DeviceState) (command : Command) (part : ShelfP
 
   -- nothing is told
   untold : (pool : Option OpenPool) (answer : Reply) → (before.account ≡ None → is_create command ≡ true → are_there pool ≡ true → ⊥) → (before.account ≡ None → is_import command ≡ true → are_there pool ≡ true → (p : PoolState) → part ≡ Is p → ⊥) → ((p : PoolState) → before.told.shelf ≡ Is p → is_some before.behind ≡ true → leaves_told before.account answer command ≡ true → ⊥)
-      → ((p : PoolState) → before.told.shelf ≡ Is p → is_known before ≡ true → is_resetting command ≡ true → is_refusal answer ≡ false → are_there pool ≡ true → ⊥) → ((p : PoolState) → before.told.shelf ≡ Is p → is_known before ≡ true → is_acknowledged answer command ≡ true → ⊥) → Behinds pool answer
+      → ((p : PoolState) → before.told.shelf ≡ Is p → is_known before ≡ true → ends_reset answer command ≡ true → are_there pool ≡ true → ⊥) → ((p : PoolState) → before.told.shelf ≡ Is p → is_known before ≡ true → is_acknowledged answer command ≡ true → ⊥) → Behinds pool answer
   untold pool answer makes opens keeps resets commits = record {
     behind = None;
     stands = tt;
@@ -204,14 +204,14 @@ module _ (new : World) (before : DeviceState) (command : Command) (part : ShelfP
       makes = λ none create done there. absurd (makes none create there);
       opens = λ none import done there p told. absurd (opens none import there p told);
       keeps = λ p told some leaves. absurd (keeps p told some leaves);
-      resets = λ p told known on done there. absurd (resets p told known on done there);
+      resets = λ p told known on there. absurd (resets p told known on there);
       commits = λ p told known acknowledged. absurd (commits p told known acknowledged);
     };
   }
 
   -- these are
   told_behind : (pool : Option OpenPool) (answer : Reply) (p : PoolState) (all : Objects) → (before.account ≡ None → is_create command ≡ true → answer ≡ reply.Done → ⊥) → (before.account ≡ None → is_import command ≡ true → answer ≡ reply.Done → ⊥) → before.told.shelf ≡ Is p → ComesFrom before command answer part all
-      → IsBehind pool (disks_of new.now) all → (is_resetting command ≡ true → is_refusal answer ≡ false → all ≡ p.objects) → (is_acknowledged answer command ≡ true → all ≡ p.objects) → Behinds pool answer
+      → IsBehind pool (disks_of new.now) all → (ends_reset answer command ≡ true → all ≡ p.objects) → (is_acknowledged answer command ≡ true → all ≡ p.objects) → Behinds pool answer
   told_behind pool answer p all not_made not_opened told comes stands reset_all committed_all = record {
     behind = Some all;
     stands = stands;
@@ -220,7 +220,7 @@ module _ (new : World) (before : DeviceState) (command : Command) (part : ShelfP
       makes = λ none create done there. absurd (not_made none create done);
       opens = λ none import done there q told_q. absurd (not_opened none import done);
       keeps = λ q told_q some leaves. refl;
-      resets = λ q told_q known on done there. let same : p ≡ q = (let both = sym told ∙ told_q in cc) in ap Some (reset_all on done ∙ ap (λ (r : PoolState). r.objects) same);
+      resets = λ q told_q known on there. let same : p ≡ q = (let both = sym told ∙ told_q in cc) in ap Some (reset_all on ∙ ap (λ (r : PoolState). r.objects) same);
       commits = λ q told_q known acknowledged. let same : p ≡ q = (let both = sym told ∙ told_q in cc) in ap Some (committed_all acknowledged ∙ ap (λ (r : PoolState). r.objects) same);
     };
   }
@@ -326,11 +326,11 @@ module _ (old new : World) (before : DeviceState) (command : Command) (x y : Ope
 
   module _ (now_told : ShelfPart) where
     -- a line that stays in one group
-    line_told : (answer : Reply) (p : PoolState) → before.told.shelf ≡ Is p → leaves_told before.account answer command ≡ true → (is_resetting command ≡ true → is_refusal answer ≡ false → ⊥) → (is_acknowledged answer command ≡ true → ⊥) → StaysTold sizes p.objects x y old new → Behinds new before command now_told (Some y) answer
+    line_told : (answer : Reply) (p : PoolState) → before.told.shelf ≡ Is p → leaves_told before.account answer command ≡ true → (ends_reset answer command ≡ true → ⊥) → (is_acknowledged answer command ≡ true → ⊥) → StaysTold sizes p.objects x y old new → Behinds new before command now_told (Some y) answer
     line_told answer p told leaves no_reset no_commit stays = by_last before.behind refl
       where
         by_last : (o : Option Objects) → before.behind ≡ o → Behinds new before command now_told (Some y) answer
-        by_last None is = untold new before command now_told (Some y) answer (not_made (Some y)) (not_opened now_told (Some y)) (λ q told_q some left. no_way (sym (ap (λ (o : Option Objects). is_some o) is) ∙ some)) (λ q told_q known on done there. no_reset on done) (λ q told_q known acknowledged. no_commit acknowledged)
+        by_last None is = untold new before command now_told (Some y) answer (not_made (Some y)) (not_opened now_told (Some y)) (λ q told_q some left. no_way (sym (ap (λ (o : Option Objects). is_some o) is) ∙ some)) (λ q told_q known on there. no_reset on) (λ q told_q known acknowledged. no_commit acknowledged)
         by_last (Some objects) is =
             let c = told_still sizes objects p.objects x old (stood objects is) lawful y new stays in
             told_behind new before command now_told (Some y) answer p c.all (λ none create done. is_open none) (λ none import done. is_open none) told
@@ -338,7 +338,7 @@ module _ (old new : World) (before : DeviceState) (command : Command) (x y : Ope
               | inl same ↦ kept p told leaves (is ∙ ap Some (sym same))
               | inr same ↦ committed leaves (p, told, sym same)
             ])
-            (to_disks sizes c.all y new.now sized_new c.behind) (λ on done. absurd (no_reset on done)) (λ acknowledged. absurd (no_commit acknowledged))
+            (to_disks sizes c.all y new.now sized_new c.behind) (λ on. absurd (no_reset on)) (λ acknowledged. absurd (no_commit acknowledged))
 
     -- a step that copies
     copied_told : (answer : Reply) (p : PoolState) → before.told.shelf ≡ Is p → is_copy command answer ≡ true → WritesIntoFree x old new → OpensNoUnit x y → Behinds new before command now_told (Some y) answer
@@ -346,34 +346,34 @@ module _ (old new : World) (before : DeviceState) (command : Command) (x y : Ope
       where
         by_last : (o : Option Objects) → before.behind ≡ o → Behinds new before command now_told (Some y) answer
         by_last None is =
-            untold new before command now_told (Some y) answer (not_made (Some y)) (not_opened now_told (Some y)) (λ q told_q some left. no_way (sym (ap (λ (o : Option Objects). is_some o) is) ∙ some)) (λ q told_q known on done there. copy_no_reset command answer copy on)
+            untold new before command now_told (Some y) answer (not_made (Some y)) (not_opened now_told (Some y)) (λ q told_q some left. no_way (sym (ap (λ (o : Option Objects). is_some o) is) ∙ some)) (λ q told_q known on there. copy_no_reset command answer copy on)
             (λ q told_q known acknowledged. copy_no_commit command answer copy acknowledged)
         by_last (Some objects) is =
             told_behind new before command now_told (Some y) answer p objects (λ none create done. is_open none) (λ none import done. is_open none) told (kept p told (copy_leaves answer copy) is)
-            (to_disks sizes objects y new.now sized_new (line_behind sizes objects x old (stood objects is) y new wrote opens.units opens.root.table opens.root.last opens.root.guid)) (λ on done. absurd (copy_no_reset command answer copy on))
+            (to_disks sizes objects y new.now sized_new (line_behind sizes objects x old (stood objects is) y new wrote opens.units opens.root.table opens.root.last opens.root.guid)) (λ on. absurd (copy_no_reset command answer copy on))
             (λ acknowledged. absurd (copy_no_commit command answer copy acknowledged))
 
     -- a `sync`, or an `export`, behind which the pool is closed
-    commit_told : (pool : Option OpenPool) (answer : Reply) (p : PoolState) → before.told.shelf ≡ Is p → leaves_told before.account answer command ≡ true → (is_resetting command ≡ true → ⊥) → EndsCommitted sizes false x y p.objects old new → (StandsBehind sizes p.objects y new.now → IsBehind pool (disks_of new.now) p.objects) → Behinds new before command now_told pool answer
+    commit_told : (pool : Option OpenPool) (answer : Reply) (p : PoolState) → before.told.shelf ≡ Is p → leaves_told before.account answer command ≡ true → (ends_reset answer command ≡ true → ⊥) → EndsCommitted sizes false x y p.objects old new → (StandsBehind sizes p.objects y new.now → IsBehind pool (disks_of new.now) p.objects) → Behinds new before command now_told pool answer
     commit_told pool answer p told leaves no_reset ends to = by_known (is_known before) refl
       where
         by_known : (b : Bool) → is_known before ≡ b → Behinds new before command now_told pool answer
-        by_known true known = told_behind new before command now_told pool answer p p.objects (λ none create done. is_open none) (λ none import done. is_open none) told (committed leaves (p, told, refl)) (to (commit_stands p known ends)) (λ on done. refl) (λ acknowledged. refl)
-        by_known false known = untold new before command now_told pool answer (not_made pool) (not_opened now_told pool) (λ q told_q some left. no_way (sym known ∙ known_some before some)) (λ q told_q knows on done there. no_reset on) (λ q told_q knows acknowledged. no_way (sym known ∙ knows))
+        by_known true known = told_behind new before command now_told pool answer p p.objects (λ none create done. is_open none) (λ none import done. is_open none) told (committed leaves (p, told, refl)) (to (commit_stands p known ends)) (λ on. refl) (λ acknowledged. refl)
+        by_known false known = untold new before command now_told pool answer (not_made pool) (not_opened now_told pool) (λ q told_q some left. no_way (sym known ∙ known_some before some)) (λ q told_q knows on there. no_reset on) (λ q told_q knows acknowledged. no_way (sym known ∙ knows))
 
-    pub open_behinds : (r : Result (Option Reply) Fault) → IfOk r (λ answered. IfSome answered IsDone) → OnOk r (IsOpen sizes y) → IfOk r (λ answered. IfSome answered (λ answer. is_untold_behind command answer ≡ false → KeepsLast old new x y)) → (is_resetting command ≡ true → (p : PoolState) → HoldsState (Unit {0}) old.now.seen x p → OnOk r (HasReset y new.now p.objects)) → (is_in_group command ≡ true → (p : PoolState) → HoldsState (Unit {0}) old.now.seen x p → OnOk r (StaysTold sizes p.objects x y old new))
+    pub open_behinds : (r : Result (Option Reply) Fault) → IfOk r (λ answered. IfSome answered IsDone) → OnOk r (IsOpen sizes y) → IfOk r (λ answered. IfSome answered (λ answer. is_untold_behind command answer ≡ false → KeepsLast old new x y)) → ((p : PoolState) → HoldsState (Unit {0}) old.now.seen x p → IfOk r (λ answered. IfSome answered (λ answer. ends_reset answer command ≡ true → HasReset y new.now p.objects))) → (is_in_group command ≡ true → (p : PoolState) → HoldsState (Unit {0}) old.now.seen x p → OnOk r (StaysTold sizes p.objects x y old new))
         → ((p : PoolState) → HoldsState (Unit {0}) old.now.seen x p → (n : Refusal) → r ≡ Err (No n) → StaysInOneGroup sizes p.objects x y old new) → IfOk r (λ answered. IfSome answered (λ answer. is_copy command answer ≡ true → WritesIntoFree x old new × OpensNoUnit x y))
         → (is_commit command ≡ true → (p : PoolState) → HoldsState (Unit {0}) old.now.seen x p → OnOk r (EndsCommitted sizes false x y p.objects old new))
         → IfOk (answer_of r) (λ answered. IfSome answered (λ answer. Behinds new before command now_told (left_of (is_closing command r) y) answer))
     open_behinds (Ok None) done ready keeps resets one one_no copied commits = tt
     open_behinds (Ok (Some answer)) done ready keeps resets one one_no copied commits = by_closing (is_closing command (Ok (Some answer))) refl
       where
-        untold_off : is_in_group command ≡ false → is_copy command answer ≡ false → ((p : PoolState) → before.told.shelf ≡ Is p → is_known before ≡ true → is_resetting command ≡ true → are_there (Some y) ≡ true → ⊥) → Behinds new before command now_told (Some y) answer
+        untold_off : is_in_group command ≡ false → is_copy command answer ≡ false → ((p : PoolState) → before.told.shelf ≡ Is p → is_known before ≡ true → ends_reset answer command ≡ true → are_there (Some y) ≡ true → ⊥) → Behinds new before command now_told (Some y) answer
         untold_off off no_copy none =
-            untold new before command now_told (Some y) answer (not_made (Some y)) (not_opened now_told (Some y)) (λ p told some leaves. no_way (sym (or_neither (is_in_group command) (is_copy command answer) off no_copy) ∙ done_leaves answer done leaves)) (λ p told known on is_done there. none p told known on there)
+            untold new before command now_told (Some y) answer (not_made (Some y)) (not_opened now_told (Some y)) (λ p told some leaves. no_way (sym (or_neither (is_in_group command) (is_copy command answer) off no_copy) ∙ done_leaves answer done leaves)) (λ p told known on there. none p told known on there)
             (λ p told known acknowledged. no_way (sym off ∙ commits_in_group command (acknowledged_commits answer command acknowledged)))
 
-        resets_no_copy : is_resetting command ≡ true → is_copy command answer ≡ false
+        resets_no_copy : ends_reset answer command ≡ true → is_copy command answer ≡ false
         resets_no_copy on = by_copy (is_copy command answer) refl
           where
             by_copy : (b : Bool) → is_copy command answer ≡ b → is_copy command answer ≡ false
@@ -381,31 +381,31 @@ module _ (old new : World) (before : DeviceState) (command : Command) (x y : Ope
             by_copy false none = none
 
         -- a line that ended with a reset
-        reset_told : is_in_group command ≡ false → is_resetting command ≡ true → (p : PoolState) → before.told.shelf ≡ Is p → is_known before ≡ true → are_there (Some y) ≡ true → Behinds new before command now_told (Some y) answer
+        reset_told : is_in_group command ≡ false → ends_reset answer command ≡ true → (p : PoolState) → before.told.shelf ≡ Is p → is_known before ≡ true → are_there (Some y) ≡ true → Behinds new before command now_told (Some y) answer
         reset_told off on p told known there =
-            told_behind new before command now_told (Some y) answer p p.objects (λ none create is_done. is_open none) (λ none import is_done. is_open none) told (changed on (no_refusal answer done) (p, told, refl))
-            (to_disks sizes p.objects y new.now sized_new (reset_behind sizes p.objects y new.now (keeps (resets_told command answer on) (known_last known)) ready sized_new (resets on p (held p told)) (devices_there y there))) (λ also is_done. refl) (λ acknowledged. refl)
+            told_behind new before command now_told (Some y) answer p p.objects (λ none create is_done. is_open none) (λ none import is_done. is_open none) told (changed on (p, told, refl))
+            (to_disks sizes p.objects y new.now sized_new (reset_behind sizes p.objects y new.now (keeps (ends_told answer command on) (known_last known)) ready sized_new (resets p (held p told) on) (devices_there y there))) (λ also. refl) (λ acknowledged. refl)
 
-        reset_known : is_in_group command ≡ false → is_resetting command ≡ true → (p : PoolState) → before.told.shelf ≡ Is p → (a b : Bool) → is_known before ≡ a → are_there (Some y) ≡ b → Behinds new before command now_told (Some y) answer
+        reset_known : is_in_group command ≡ false → ends_reset answer command ≡ true → (p : PoolState) → before.told.shelf ≡ Is p → (a b : Bool) → is_known before ≡ a → are_there (Some y) ≡ b → Behinds new before command now_told (Some y) answer
         reset_known off on p told true true known there = reset_told off on p told known there
         reset_known off on p told false b known there = untold_off off (resets_no_copy on) (λ q told_q knows also there_all. no_way (sym known ∙ knows))
         reset_known off on p told true false known out = untold_off off (resets_no_copy on) (λ q told_q knows also there_all. no_way (sym out ∙ there_all))
 
-        reset_part : is_in_group command ≡ false → is_resetting command ≡ true → (s : ShelfPart) → before.told.shelf ≡ s → Behinds new before command now_told (Some y) answer
+        reset_part : is_in_group command ≡ false → ends_reset answer command ≡ true → (s : ShelfPart) → before.told.shelf ≡ s → Behinds new before command now_told (Some y) answer
         reset_part off on (Is p) told = reset_known off on p told (is_known before) (are_there (Some y)) refl refl
         reset_part off on Empty told = untold_off off (resets_no_copy on) (λ p is known also there. let both = sym told ∙ is in absurd cc)
         reset_part off on (Refused r) told = untold_off off (resets_no_copy on) (λ p is known also there. let both = sym told ∙ is in absurd cc)
 
-        by_reset : (b : Bool) → is_resetting command ≡ b → is_in_group command ≡ false → is_copy command answer ≡ false → Behinds new before command now_told (Some y) answer
+        by_reset : (b : Bool) → ends_reset answer command ≡ b → is_in_group command ≡ false → is_copy command answer ≡ false → Behinds new before command now_told (Some y) answer
         by_reset true on off no_copy = reset_part off on before.told.shelf refl
         by_reset false not_on off no_copy = untold_off off no_copy (λ p told known on there. no_way (sym not_on ∙ on))
 
         untold_part : (pool : Option OpenPool) → ((p : PoolState) → before.told.shelf ≡ Is p → ⊥) → Behinds new before command now_told pool answer
-        untold_part pool none = untold new before command now_told pool answer (not_made pool) (not_opened now_told pool) (λ p told some leaves. none p told) (λ p told known on is_done there. none p told) (λ p told known acknowledged. none p told)
+        untold_part pool none = untold new before command now_told pool answer (not_made pool) (not_opened now_told pool) (λ p told some leaves. none p told) (λ p told known on there. none p told) (λ p told known acknowledged. none p told)
 
         by_commit : (b : Bool) → is_commit command ≡ b → is_in_group command ≡ true → (p : PoolState) → before.told.shelf ≡ Is p → Behinds new before command now_told (Some y) answer
-        by_commit true ends group p told = commit_told (Some y) answer p told (group_leaves answer group) (λ on. not_resetting command on group) (commits ends p (held p told)) (to_disks sizes p.objects y new.now sized_new)
-        by_commit false ends group p told = line_told answer p told (group_leaves answer group) (λ on is_done. not_resetting command on group) (λ acknowledged. no_way (sym ends ∙ acknowledged_commits answer command acknowledged)) (one group p (held p told))
+        by_commit true ends group p told = commit_told (Some y) answer p told (group_leaves answer group) (λ on. not_ending answer command on group) (commits ends p (held p told)) (to_disks sizes p.objects y new.now sized_new)
+        by_commit false ends group p told = line_told answer p told (group_leaves answer group) (λ on. not_ending answer command on group) (λ acknowledged. no_way (sym ends ∙ acknowledged_commits answer command acknowledged)) (one group p (held p told))
 
         by_part : (s : ShelfPart) → before.told.shelf ≡ s → is_in_group command ≡ true → Behinds new before command now_told (Some y) answer
         by_part (Is p) told group = by_commit (is_commit command) refl group p told
@@ -419,7 +419,7 @@ module _ (old new : World) (before : DeviceState) (command : Command) (x y : Ope
 
         by_copy : (b : Bool) → is_copy command answer ≡ b → is_in_group command ≡ false → Behinds new before command now_told (Some y) answer
         by_copy true copy off = copy_part before.told.shelf refl copy
-        by_copy false no_copy off = by_reset (is_resetting command) refl off no_copy
+        by_copy false no_copy off = by_reset (ends_reset answer command) refl off no_copy
 
         by_group : (b : Bool) → is_in_group command ≡ b → Behinds new before command now_told (Some y) answer
         by_group true group = by_part before.told.shelf refl group
@@ -429,7 +429,7 @@ module _ (old new : World) (before : DeviceState) (command : Command) (x y : Ope
         by_export exports (Is p) told =
             let ends = commits (subst (λ (c : Command). is_commit c ≡ true) (sym exports) refl) p (held p told) in
             let group = subst (λ (c : Command). is_in_group c ≡ true) (sym exports) refl in
-            commit_told None answer p told (group_leaves answer group) (λ on. not_resetting command on group) ends (λ stands. closed_behind sizes false x y p.objects old new lawful ends (to_disks sizes p.objects y new.now sized_new stands))
+            commit_told None answer p told (group_leaves answer group) (λ on. not_ending answer command on group) ends (λ stands. closed_behind sizes false x y p.objects old new lawful ends (to_disks sizes p.objects y new.now sized_new stands))
         by_export exports Empty told = untold_part None (λ p is. let both = sym told ∙ is in absurd cc)
         by_export exports (Refused r) told = untold_part None (λ p is. let both = sym told ∙ is in absurd cc)
 
@@ -439,10 +439,10 @@ module _ (old new : World) (before : DeviceState) (command : Command) (x y : Ope
     open_behinds (Err (No n)) done ready keeps resets one one_no copied commits = by_part before.told.shelf refl
       where
         untold_no : ((p : PoolState) → before.told.shelf ≡ Is p → ⊥) → Behinds new before command now_told (Some y) (reply.No n)
-        untold_no none = untold new before command now_told (Some y) (reply.No n) (not_made (Some y)) (not_opened now_told (Some y)) (λ p told some leaves. none p told) (λ p told known on is_done there. no_way (sym is_done)) (λ p told known acknowledged. no_way acknowledged)
+        untold_no none = untold new before command now_told (Some y) (reply.No n) (not_made (Some y)) (not_opened now_told (Some y)) (λ p told some leaves. none p told) (λ p told known on there. no_way on) (λ p told known acknowledged. no_way acknowledged)
 
         by_part : (s : ShelfPart) → before.told.shelf ≡ s → Behinds new before command now_told (Some y) (reply.No n)
-        by_part (Is p) told = line_told (reply.No n) p told (refused_leaves n) (λ on is_done. no_way (sym is_done)) (λ acknowledged. no_way acknowledged) (inl (one_no p (held p told) n refl))
+        by_part (Is p) told = line_told (reply.No n) p told (refused_leaves n) (λ on. no_way on) (λ acknowledged. no_way acknowledged) (inl (one_no p (held p told) n refl))
         by_part Empty told = untold_no (λ p is. let both = sym told ∙ is in absurd cc)
         by_part (Refused r) told = untold_no (λ p is. let both = sym told ∙ is in absurd cc)
     open_behinds (Err (Stops s)) done ready keeps resets one one_no copied commits = tt
@@ -529,7 +529,7 @@ module _ (old new : World) (before : DeviceState) (command : Command) (account :
       -- nothing is told behind a line that makes no pool, and opens none of which no device is gone
       closed_untold : (pool : Option OpenPool) → (is_create command ≡ true → are_there pool ≡ true → ⊥) → (is_import command ≡ true → are_there pool ≡ true → (p : PoolState) → now_told ≡ Is p → ⊥) → Behinds new before command now_told pool reply.Done
       closed_untold pool makes imports =
-          untold new before command now_told pool reply.Done (λ none create there. makes create there) (λ none import there p told. imports import there p told) (λ p told some leaves. none_left leaves) (λ p told known on done there. opens_no_reset command opens on) (λ p told known acknowledged. opens_no_commit command opens acknowledged)
+          untold new before command now_told pool reply.Done (λ none create there. makes create there) (λ none import there p told. imports import there p told) (λ p told some leaves. none_left leaves) (λ p told known on there. opens_no_end command opens on) (λ p told known acknowledged. opens_no_commit command opens acknowledged)
 
       was_made : (sizes : List ℕ) (y : OpenPool) → is_create command ≡ true → are_there (Some y) ≡ true → ComesCommitted sizes y map.empty new → ShowsLast new.now.seen y → map length new.now.seen ≡ sizes → Behinds new before command now_told (Some y) reply.Done
       was_made sizes y create there comes shows sized = record {
@@ -540,7 +540,7 @@ module _ (old new : World) (before : DeviceState) (command : Command) (account :
           makes = λ none also done there_all. refl;
           opens = λ none import done there_all p told. absurd (no_import command create import);
           keeps = λ p told some leaves. absurd (none_left leaves);
-          resets = λ p told known on done there_all. absurd (opens_no_reset command opens on);
+          resets = λ p told known on there_all. absurd (opens_no_end command opens on);
           commits = λ p told known acknowledged. absurd (opens_no_commit command opens acknowledged);
         };
       }
@@ -556,7 +556,7 @@ module _ (old new : World) (before : DeviceState) (command : Command) (account :
           makes = λ none create done there_all. absurd (no_import command create import);
           opens = λ none also done there_all q told_q. let same : p ≡ q = (let both = sym told ∙ told_q in cc) in ap (λ (r : PoolState). Some r.objects) same;
           keeps = λ q told_q some leaves_it. absurd (none_left leaves_it);
-          resets = λ q told_q known on done there_all. absurd (opens_no_reset command opens on);
+          resets = λ q told_q known on there_all. absurd (opens_no_end command opens on);
           commits = λ q told_q known acknowledged. absurd (opens_no_commit command opens acknowledged);
         };
       }
@@ -595,12 +595,12 @@ module _ (old new : World) (before : DeviceState) (command : Command) (account :
     -- a refusal writes nothing, and leaves what is told
     module _ (n : Refusal) (flushes : FlushesOnly old new) where
       untold_no : ((p : PoolState) → before.told.shelf ≡ Is p → is_some before.behind ≡ true → leaves_told before.account (reply.No n) command ≡ true → ⊥) → Behinds new before command now_told None (reply.No n)
-      untold_no none = untold new before command now_told None (reply.No n) (λ also create there. no_way there) (λ also import there p told. no_way there) none (λ p told known on done there. no_way there) (λ p told known acknowledged. no_way acknowledged)
+      untold_no none = untold new before command now_told None (reply.No n) (λ also create there. no_way there) (λ also import there p told. no_way there) none (λ p told known on there. no_way there) (λ p told known acknowledged. no_way acknowledged)
 
       refused_part : (objects : Objects) → before.behind ≡ Some objects → (s : ShelfPart) → before.told.shelf ≡ s → Behinds new before command now_told None (reply.No n)
       refused_part objects is (Is p) told =
           told_behind new before command now_told None (reply.No n) p objects (λ none create done. absurd (let e : reply.No n ≡ reply.Done = done in cc)) (λ none import done. absurd (let e : reply.No n ≡ reply.Done = done in cc)) told (kept p told (leaves_closed n) is)
-          (still_closed (disks_of old.now) new.now objects (flushes_keep old new objects (closed_at objects is) flushes).1 (closed_at objects is)) (λ on done. no_way (sym done)) (λ acknowledged. no_way acknowledged)
+          (still_closed (disks_of old.now) new.now objects (flushes_keep old new objects (closed_at objects is) flushes).1 (closed_at objects is)) (λ on. no_way on) (λ acknowledged. no_way acknowledged)
       refused_part objects is Empty told = untold_no (λ p also some leaves. let both = sym told ∙ also in absurd cc)
       refused_part objects is (Refused r) told = untold_no (λ p also some leaves. let both = sym told ∙ also in absurd cc)
 

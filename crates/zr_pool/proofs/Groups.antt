@@ -1,6 +1,6 @@
 -- Which lines work in the group that is open, and which end it.
 use Rattle.std.proofs.Common.{◌≡◌, ◌⊎◌, inl, inr, List, length, take, ℕ, ◌==◌, Bool, true, false, refl, sym, subst, ap}
-use Rattle.std.specs.Prelude.{MatchBool, if◌then◌else◌}
+use Rattle.std.specs.Prelude.{MatchBool, if◌then◌else◌, ◌||◌}
 use Rattle.zr_base.specs.declared.space.CkptPart.TheVariants.{Clear}
 use Rattle.zr_base.specs.declared.space.Extent.{Extent}
 use Rattle.zr_last.specs.Last.{KeepsRoot}
@@ -25,7 +25,7 @@ use Rattle.zr_sync.specs.declared.open.OpenPool.{OpenPool}
 use Rattle.zr_vdev.proofs.Follows.{others_itself}
 use Rattle.zr_vdev.specs.Stores.{IsWriteInto, KeepsOthers, is_open_role}
 use Rattle.zr_vdev.specs.declared.kind.Kind.TheVariants.{Block}
-use Rattle.zr_pool.specs.Behind.{StopsInOpening, is_acknowledged, is_commit, is_in_group, is_resetting, may_stop}
+use Rattle.zr_pool.specs.Behind.{StopsInOpening, ends_reset, is_acknowledged, is_commit, is_in_group, is_resetting, is_return, may_stop}
 use Rattle.zr_pool.specs.Plain.{is_copy, is_of_removal, is_untold_behind}
 use Rattle.zr_pool.specs.Turns.{is_on_objects, is_on_pool, is_opener, is_table}
 
@@ -97,6 +97,48 @@ resets_told cmd.Upgrade answer on = refl
 resets_told (cmd.Remove dev) answer on = refl
 resets_told command answer on = no_way on
 
+-- a line that ended with a reset is one that does, or a removal was given up
+pub resets_or_returns : (answer : Reply) (command : Command) → ends_reset answer command ≡ true → (is_resetting command ≡ true) ⊎ (is_return answer command ≡ true)
+resets_or_returns (reply.No r) command on = no_way on
+resets_or_returns answer command on = one_of (is_resetting command) (is_return answer command) on
+  where
+    one_of : (a b : Bool) → (a || b) ≡ true → (a ≡ true) ⊎ (b ≡ true)
+    one_of true b is = inl refl
+    one_of false b is = inr is
+
+pub not_returning : (answer : Reply) (command : Command) → is_return answer command ≡ true → is_in_group command ≡ true → ⊥
+not_returning (reply.Cancelled i) cmd.Cancel on group = no_way group
+not_returning (reply.Cancelled i) cmd.StepEvac on group = no_way group
+not_returning answer command on group = no_way on
+
+-- it works in no group
+pub not_ending : (answer : Reply) (command : Command) → ends_reset answer command ≡ true → is_in_group command ≡ true → ⊥
+not_ending answer command on group = elim (resets_or_returns answer command on) [
+  | inl resets ↦ not_resetting command resets group
+  | inr returns ↦ not_returning answer command returns group
+]
+
+pub returns_told : (answer : Reply) (command : Command) → is_return answer command ≡ true → is_untold_behind command answer ≡ false
+returns_told (reply.Cancelled i) cmd.Cancel on = refl
+returns_told (reply.Cancelled i) cmd.StepEvac on = refl
+returns_told answer command on = no_way on
+
+pub return_elsewhere : (answer : Reply) (command : Command) → is_return answer command ≡ true → (is_on_objects command ≡ true) ⊎ ((is_table command ≡ true) ⊎ (is_on_pool command ≡ true)) → ⊥
+return_elsewhere (reply.Cancelled i) cmd.Cancel on (inl is) = no_way is
+return_elsewhere (reply.Cancelled i) cmd.Cancel on (inr (inl is)) = no_way is
+return_elsewhere (reply.Cancelled i) cmd.Cancel on (inr (inr is)) = no_way is
+return_elsewhere (reply.Cancelled i) cmd.StepEvac on (inl is) = no_way is
+return_elsewhere (reply.Cancelled i) cmd.StepEvac on (inr (inl is)) = no_way is
+return_elsewhere (reply.Cancelled i) cmd.StepEvac on (inr (inr is)) = no_way is
+return_elsewhere answer command on which = no_way on
+
+-- the objects are told behind it
+pub ends_told : (answer : Reply) (command : Command) → ends_reset answer command ≡ true → is_untold_behind command answer ≡ false
+ends_told answer command on = elim (resets_or_returns answer command on) [
+  | inl resets ↦ resets_told command answer resets
+  | inr returns ↦ returns_told answer command returns
+]
+
 -- it is none of these
 pub resets_elsewhere : (command : Command) → is_resetting command ≡ true → (is_on_objects command ≡ true) ⊎ (is_table command ≡ true) → ⊥
 resets_elsewhere (cmd.Add dev) on (inl is) = no_way is
@@ -127,6 +169,12 @@ opens_no_reset cmd.Discard opens on = no_way opens
 opens_no_reset cmd.Upgrade opens on = no_way opens
 opens_no_reset (cmd.Remove dev) opens on = no_way opens
 opens_no_reset command opens on = no_way on
+
+pub opens_no_end : (command : Command) → is_opener command ≡ true → ends_reset reply.Done command ≡ true → ⊥
+opens_no_end command opens on = elim (resets_or_returns reply.Done command on) [
+  | inl resets ↦ opens_no_reset command opens resets
+  | inr returns ↦ no_way returns
+]
 
 pub acknowledged_commits : (answer : Reply) (command : Command) → is_acknowledged answer command ≡ true → is_commit command ≡ true
 acknowledged_commits (reply.Synced txg) cmd.Sync is = refl
@@ -209,8 +257,9 @@ pub copy_step : (command : Command) (answer : Reply) → is_copy command answer 
 copy_step cmd.StepEvac answer is = refl
 copy_step command answer is = no_way is
 
-pub copy_no_reset : (command : Command) (answer : Reply) → is_copy command answer ≡ true → is_resetting command ≡ true → ⊥
-copy_no_reset cmd.StepEvac answer copy on = no_way on
+pub copy_no_reset : (command : Command) (answer : Reply) → is_copy command answer ≡ true → ends_reset answer command ≡ true → ⊥
+copy_no_reset cmd.StepEvac (reply.Copied units) copy on = no_way on
+copy_no_reset cmd.StepEvac answer copy on = no_way copy
 copy_no_reset command answer copy on = no_way copy
 
 pub copy_no_commit : (command : Command) (answer : Reply) → is_copy command answer ≡ true → is_acknowledged answer command ≡ true → ⊥

@@ -1,5 +1,6 @@
 -- A pool behind a line that ended with a reset, what such a line wrote, and the root that is the newest before it.
-use Rattle.std.proofs.Common.{◌≡◌, inl, inr, ℕ, ◌<◌, true, List, length, map, subst}
+use Rattle.std.proofs.Common.{◌≡◌, inl, inr, ℕ, ◌<◌, true, List, length, map, Option, None, Some, Result, Ok, Err, subst, ⊎_elim}
+use Rattle.std.specs.Prelude.{IfOk, IfSome, OnOk}
 use Rattle.zr_base.specs.declared.space.DevState.TheVariants.{On}
 use Rattle.zr_last.specs.Last.{ShowsLast}
 use Rattle.zr_model.specs.Objects.{Objects}
@@ -9,6 +10,8 @@ use Rattle.zr_removal.specs.Turns.{BeginsInPart, LeavesPool}
 use Rattle.zr_rules.specs.Equation.{devices_in}
 use Rattle.zr_rules.specs.Places.{state_of_dev}
 use Rattle.zr_rules.specs.Roles.{Role}
+use Rattle.zr_script.specs.declared.command.Command.{Command}
+use Rattle.zr_script.specs.declared.reply.Reply.{Reply}
 use Rattle.zr_shelf.specs.Disks.{Stand}
 use Rattle.zr_shelf.specs.Moments.{World}
 use Rattle.zr_open.specs.There.{AreThere}
@@ -21,7 +24,9 @@ use Rattle.zr_stops.specs.Behind.{StandsBehind}
 use Rattle.zr_sync.specs.Pools.{IsOpen}
 use Rattle.zr_sync.specs.declared.open.OpenPool.{OpenPool}
 use Rattle.zr_vdev.specs.Stores.{is_open_role}
-use Rattle.zr_pool.specs.Behind.{HasReset}
+use Rattle.zr_sync.specs.declared.fault.Fault.{Fault}
+use Rattle.zr_pool.proofs.Groups.{resets_or_returns}
+use Rattle.zr_pool.specs.Behind.{HasReset, ends_reset, is_resetting, is_return}
 
 -- a pool in the group behind a commit goes on from the newest root
 pub behind_last : (sizes : List ℕ) (objects : Objects) (pool : OpenPool) (now : Stand) → StandsBehind sizes objects pool now → ShowsLast now.seen pool
@@ -46,3 +51,10 @@ leaves_in_place sizes old left d ready leaves on known = record {
 pub begun : (sizes : List ℕ) (objects : Objects) (old : OpenPool) (d : ℕ) (before now : World) → IsOpen sizes old → state_of_dev old.space.parts.devs d ≡ On → d < old.table.count → BeginsInPart sizes objects old d before now → WritesReset sizes objects old before now
 begun sizes objects old d before now ready on known (inl nothing) = inl (inl nothing)
 begun sizes objects old d before now ready on known (inr (left, open_left, leaves, commits)) = inl (inr (left, open_left, leaves_in_place sizes old left d ready leaves on known, commits))
+
+-- a line that ended with a reset left the pool committed, be it one that does so or a removal that was given up
+pub ends_or_returns : (command : Command) (pool : OpenPool) (now : Stand) (objects : Objects) (r : Result (Option Reply) Fault) → (is_resetting command ≡ true → OnOk r (HasReset pool now objects)) → IfOk r (λ answered. IfSome answered (λ answer. is_return answer command ≡ true → HasReset pool now objects))
+    → IfOk r (λ answered. IfSome answered (λ answer. ends_reset answer command ≡ true → HasReset pool now objects))
+ends_or_returns command pool now objects (Ok None) resets returns = tt
+ends_or_returns command pool now objects (Ok (Some answer)) resets returns = λ on. ⊎_elim resets returns (resets_or_returns answer command on)
+ends_or_returns command pool now objects (Err e) resets returns = tt

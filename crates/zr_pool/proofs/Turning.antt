@@ -157,11 +157,8 @@ module _ (old new : Stand) (told : Type 0) (y : OpenPool) (before : State) (is_o
   told_turns : (command : Command) (p : PoolState) (answer : Reply) → before.shelf ≡ Is p → IsOpenAnswer command answer → IsPlainOf (HoldsState told new.seen y) p command answer → Comes command answer
   told_turns cmd.Export p reply.Done shelf a on = by_parts old new told cmd.Export y before (exported p) (Is p) reply.Done None is_open shelf refl (a, refl) refl
   told_turns cmd.Export p answer shelf a on = absurd a
-  told_turns cmd.Cancel p (reply.No r) shelf a on = absurd on
-  told_turns cmd.Cancel p answer shelf a on = untold_open old new told cmd.Cancel y before (Is p) answer is_open shelf a refl (is_untold_so (work_of y.space))
-  told_turns cmd.StepEvac p (reply.No r) shelf a on = absurd on
-  told_turns cmd.StepEvac p (reply.Copied n) shelf a on = plain_open old new told cmd.StepEvac y before p (reply.Copied n) is_open shelf on a refl (on.after, on.step, is_opened_so y on.after)
-  told_turns cmd.StepEvac p answer shelf a on = untold_open old new told cmd.StepEvac y before (Is p) answer is_open shelf a refl (is_untold_so (work_of y.space))
+  told_turns cmd.StepEvac p (reply.No r) shelf a on = absurd on.step.0
+  told_turns cmd.StepEvac p (reply.Gone i) shelf a on = untold_open old new told cmd.StepEvac y before (Is p) (reply.Gone i) is_open shelf a refl (is_untold_so (work_of y.space))
   told_turns cmd.StepCondense p (reply.No r) shelf a on = absurd on
   told_turns cmd.StepCondense p answer shelf a on = untold_open old new told cmd.StepCondense y before (Is p) answer is_open shelf a refl (is_untold_so (work_of y.space))
   told_turns command p (reply.No r) shelf a on = absurd on.step.0

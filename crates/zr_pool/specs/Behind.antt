@@ -63,6 +63,17 @@ is_resetting cmd.Upgrade = true
 is_resetting (cmd.Remove dev) = true
 is_resetting _ = false
 
+-- a removal was given up
+abbrev pub is_return : Reply → Command → Bool
+is_return (reply.Cancelled i) cmd.Cancel = true
+is_return (reply.Cancelled i) cmd.StepEvac = true
+is_return answer command = false
+
+-- The line ended with a reset, and left the objects: one of those that do, or a removal was given up.
+abbrev pub ends_reset : Reply → Command → Bool
+ends_reset (reply.No r) command = false
+ends_reset answer command = is_resetting command || is_return answer command
+
 -- The line ended with a commit of a pool that holds these objects.
 pub record HasReset (pool : OpenPool) (now : Stand) (objects : Objects) : Type 0 where
   pub leaves : LeavesCommitted pool now
@@ -188,7 +199,7 @@ pub data ComesFrom (old : DeviceState) (command : Command) (answer : Reply) (tol
   -- they were told before it, and it committed them,
   committed : leaves_told old.account answer command ≡ true → TellsOf old.told.shelf objects → ComesFrom old command answer told objects
   -- a line that ended with a reset committed them,
-  changed : is_resetting command ≡ true → is_refusal answer ≡ false → TellsOf old.told.shelf objects → ComesFrom old command answer told objects
+  changed : ends_reset answer command ≡ true → TellsOf old.told.shelf objects → ComesFrom old command answer told objects
   -- a pool was made, which has none,
   made : is_create command ≡ true → answer ≡ reply.Done → objects ≡ map.empty → ComesFrom old command answer told objects
   -- or one was opened, and they are those that are told behind it.
@@ -204,6 +215,6 @@ pub record IsBehindTurn (old : DeviceState) (command : Command) (answer : Reply)
   -- a line that leaves them told does so
   pub keeps : (p : PoolState) → old.told.shelf ≡ Is p → is_some old.behind ≡ true → leaves_told old.account answer command ≡ true → is_some behind ≡ true
   -- behind one that ended with a reset they are those that were told before it, while no device is gone
-  pub resets : (p : PoolState) → old.told.shelf ≡ Is p → is_known old ≡ true → is_resetting command ≡ true → is_refusal answer ≡ false → are_there account ≡ true → behind ≡ Some p.objects
+  pub resets : (p : PoolState) → old.told.shelf ≡ Is p → is_known old ≡ true → ends_reset answer command ≡ true → are_there account ≡ true → behind ≡ Some p.objects
   -- behind a `sync` and an `export` they are those that were told before it
   pub commits : (p : PoolState) → old.told.shelf ≡ Is p → is_known old ≡ true → is_acknowledged answer command ≡ true → behind ≡ Some p.objects

@@ -88,9 +88,21 @@ IsOpeningCause shelf command r = Unit {0}
 abbrev pub exported : PoolState → State
 exported p = record { is_open = false; shelf = Is p; work = no_work }
 
--- a line that is done takes the step of plain objects, and needs no lost block
+-- the objects and the checkpoint are the same
+pub record KeepsObjects (p q : PoolState) : Type 0 where
+  pub objects : q.objects ≡ p.objects
+  pub saved : q.saved ≡ p.saved
+  pub discarding : q.discarding ≡ p.discarding
+
+-- The step of plain objects. Where a removal was given up the objects are told, and not yet which devices are in service then.
+abbrev pub TakesStep : PoolState → Command → Reply → PoolState → Type 0
+TakesStep p cmd.Cancel (reply.Cancelled i) q = KeepsObjects p q
+TakesStep p cmd.StepEvac (reply.Cancelled i) q = KeepsObjects p q
+TakesStep p command answer q = Acts p command answer q
+
+-- a line that is done takes its step, and needs no lost block
 abbrev pub IsStep : PoolState → Command → Reply → PoolState → Type 0
-IsStep p command answer q = Acts p command answer q × (needs_lost p command ≡ false)
+IsStep p command answer q = TakesStep p command answer q × (needs_lost p command ≡ false)
 
 -- a pool is open, of whose objects nothing is told
 pub record IsUntold (s : State) : Type 0 where
@@ -110,10 +122,9 @@ abbrev pub is_copy : Command → Reply → Bool
 is_copy cmd.StepEvac (reply.Copied units) = true
 is_copy command answer = false
 
--- What the objects are behind the line is not told yet: a removal was given up, a device is gone, or a mapping was condensed.
+-- What the objects are behind the line is not told yet: a device is gone, or a mapping was condensed.
 abbrev pub is_untold_behind : Command → Reply → Bool
-is_untold_behind cmd.Cancel answer = true
-is_untold_behind cmd.StepEvac answer = not (is_copy cmd.StepEvac answer)
+is_untold_behind cmd.StepEvac (reply.Gone i) = true
 is_untold_behind cmd.StepCondense answer = true
 is_untold_behind command answer = false
 

@@ -20,7 +20,7 @@ ghost use Rattle.zr_script.specs.declared.command.Command.TheVariants.{Export, I
 ghost use Rattle.zr_open.specs.Left.{IsLeftCommitted};
 ghost use Rattle.zr_pool.specs.Plain.{IsDone, IsMade, IsOpeningCause, IsPlainOf, IsPlainRefusal, is_copy, is_untold_behind, shelf_of};
 ghost use Rattle.zr_open.specs.Flushed.{FlushesOnly};
-ghost use Rattle.zr_pool.specs.Behind.{HasReset, StaysTold, StopsInReset, StopsInOpening, is_commit, is_create, is_import, is_in_group, is_resetting};
+ghost use Rattle.zr_pool.specs.Behind.{HasReset, StaysTold, StopsInReset, StopsInOpening, is_commit, is_create, is_import, is_in_group, is_resetting, is_return};
 ghost use Rattle.zr_pool.specs.Pools.{IsAtRest, IsOnShelf};
 ghost use Rattle.zr_pool.specs.Replies.{TellsFault};
 ghost use Rattle.zr_sync.specs.States.{HoldsState};
@@ -105,6 +105,7 @@ fn open_line<S: Shelf>(
     ensures one_group_no { (p : PoolState) → HoldsState (S.tells shelf.old) (S.world shelf.old).now.seen pool.old p → (r : Refusal) → IsErrOf result (No r) → StaysInOneGroup (S.sizes shelf.old) p.objects pool.old pool.new (S.world shelf.old) (S.world shelf.new) }
     ensures writes { is_in_group command.now ≡ true → (p : PoolState) → HoldsState (S.tells shelf.old) (S.world shelf.old).now.seen pool.old p → WritesInOneGroup (S.sizes shelf.old) p.objects pool.old (S.world shelf.old) (S.world shelf.new) }
     ensures commits { is_commit command.now ≡ true → (p : PoolState) → HoldsState (S.tells shelf.old) (S.world shelf.old).now.seen pool.old p → OnOk result (EndsCommitted (S.sizes shelf.old) false pool.old pool.new p.objects (S.world shelf.old) (S.world shelf.new)) }
+    ensures comes_back { (p : PoolState) → HoldsState (S.tells shelf.old) (S.world shelf.old).now.seen pool.old p → IfOk result (λ found. IfSome found (λ reply. is_return reply command.now ≡ true → HasReset pool.new (S.world shelf.new).now p.objects)) }
     ensures resets { is_resetting command.now ≡ true → (p : PoolState) → HoldsState (S.tells shelf.old) (S.world shelf.old).now.seen pool.old p → OnOk result (HasReset pool.new (S.world shelf.new).now p.objects) }
     ensures copies { S.tells shelf.old → IfOk result (λ found. IfSome found (λ reply. is_copy command.now reply ≡ true → WritesIntoFree pool.old (S.world shelf.old) (S.world shelf.new) × OpensNoUnit pool.old pool.new)) }
     ensures stops_reset { is_resetting command.now ≡ true → (p : PoolState) → HoldsState (S.tells shelf.old) (S.world shelf.old).now.seen pool.old p → StopsInReset (S.sizes shelf.old) p.objects pool.old (S.world shelf.old) (S.world shelf.new) }

@@ -80,8 +80,8 @@ module _ (p : Point DeviceState) (done : List (Turn DeviceState)) (t : Turn Devi
   by_acknowledged true is_so (committed leaves (q, told, same)) = held q told same is_so
   by_acknowledged false off (kept q told leaves was) = shorter (record { small = leaves_small old.account t.answer t.command leaves; unacknowledged = off }) (keeps objects was)
   by_acknowledged false off (committed leaves told) = shorter (record { small = leaves_small old.account t.answer t.command leaves; unacknowledged = off }) (told_now told)
-  by_acknowledged b which (changed on answered (q, told, same)) =
-      whole (subst (TellsOf t.point.state.told.shelf) same (reset_told t.command t.answer old.told.is_open old.told.shelf (end_of p done).shelf old.told t.point.state.told q told on answered turn.objects.0 turn.objects.1))
+  by_acknowledged b which (changed on (q, told, same)) =
+      whole (subst (TellsOf t.point.state.told.shelf) same (reset_told t.command t.answer old.told.is_open old.told.shelf (end_of p done).shelf old.told t.point.state.told q told on turn.objects.0 turn.objects.1))
   by_acknowledged b which (made create answered none) = whole (subst (TellsOf t.point.state.told.shelf) (sym none) (was_made create answered))
   by_acknowledged b which (found imports answered told) = whole told
 

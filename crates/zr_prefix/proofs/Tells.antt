@@ -6,11 +6,10 @@ use Rattle.zr_command.specs.Meanings.{Disks}
 use Rattle.zr_model.specs.Objects.{Objects}
 use Rattle.zr_model.specs.Runs.{Shelf}
 use Rattle.zr_model.specs.State.{State, PoolState, ShelfPart, Empty, Refused, Is, created}
-use Rattle.zr_moves.specs.Answers.{Acts}
-use Rattle.zr_pool.specs.Behind.{TellsOf, begun_behind, is_acknowledged, is_create, is_in_group, is_known, is_refusal, is_resetting, leaves_told, are_there}
+use Rattle.zr_pool.specs.Behind.{TellsOf, begun_behind, is_acknowledged, is_create, is_in_group, is_known, is_refusal, leaves_told, are_there, ends_reset}
 use Rattle.zr_pool.specs.Plain.{IsObjectsTurn, IsPlainTurn, is_copy}
 use Rattle.zr_pool.specs.Pools.{DeviceState}
-use Rattle.zr_pool.specs.Turns.{IsTurn}
+use Rattle.zr_pool.specs.Turns.{IsClosedAnswer, IsOpenAnswer, IsTurn}
 use Rattle.zr_script.specs.declared.command.Command.{Command}
 use Rattle.zr_script.specs.declared.command.Command.TheVariants as cmd
 use Rattle.zr_script.specs.declared.reply.Reply.{Reply}
@@ -32,62 +31,47 @@ acknowledged_told reply.Done cmd.Export true (Refused r) shelf old new q told is
 acknowledged_told reply.Done cmd.Export false part shelf old new q told is turn objects = no_way turn.0
 acknowledged_told answer command is_open part shelf old new q told is turn objects = no_way is
 
--- a line that ends with a reset is one to an open pool
-reset_done : (command : Command) (answer : Reply) (is_open after : Bool) → is_resetting command ≡ true → is_refusal answer ≡ false → IsTurn is_open command answer after → (is_open ≡ true) × (answer ≡ reply.Done)
-reset_done (cmd.Add dev) reply.Done true after on done turn = (refl, refl)
-reset_done (cmd.Add dev) reply.Done false after on done turn = no_way turn.0
-reset_done (cmd.Add dev) (reply.No r) is_open after on done turn = no_way (sym done)
-reset_done (cmd.Add dev) answer true after on done turn = absurd turn.0
-reset_done (cmd.Add dev) answer false after on done turn = absurd turn.0
-reset_done cmd.Checkpoint reply.Done true after on done turn = (refl, refl)
-reset_done cmd.Checkpoint reply.Done false after on done turn = no_way turn.0
-reset_done cmd.Checkpoint (reply.No r) is_open after on done turn = no_way (sym done)
-reset_done cmd.Checkpoint answer true after on done turn = absurd turn.0
-reset_done cmd.Checkpoint answer false after on done turn = absurd turn.0
-reset_done cmd.Discard reply.Done true after on done turn = (refl, refl)
-reset_done cmd.Discard reply.Done false after on done turn = no_way turn.0
-reset_done cmd.Discard (reply.No r) is_open after on done turn = no_way (sym done)
-reset_done cmd.Discard answer true after on done turn = absurd turn.0
-reset_done cmd.Discard answer false after on done turn = absurd turn.0
-reset_done cmd.Upgrade reply.Done true after on done turn = (refl, refl)
-reset_done cmd.Upgrade reply.Done false after on done turn = no_way turn.0
-reset_done cmd.Upgrade (reply.No r) is_open after on done turn = no_way (sym done)
-reset_done cmd.Upgrade answer true after on done turn = absurd turn.0
-reset_done cmd.Upgrade answer false after on done turn = absurd turn.0
-reset_done (cmd.Remove dev) reply.Done true after on done turn = (refl, refl)
-reset_done (cmd.Remove dev) reply.Done false after on done turn = no_way turn.0
-reset_done (cmd.Remove dev) (reply.No r) is_open after on done turn = no_way (sym done)
-reset_done (cmd.Remove dev) answer true after on done turn = absurd turn.0
-reset_done (cmd.Remove dev) answer false after on done turn = absurd turn.0
-reset_done command answer is_open after on done turn = no_way on
+-- a line that ended with a reset is one to an open pool
+reset_closed : (answer : Reply) (command : Command) → ends_reset answer command ≡ true → IsClosedAnswer command answer → ⊥
+reset_closed (reply.No r) command on is = no_way on
+reset_closed reply.Done (cmd.Add dev) on is = no_way is
+reset_closed reply.Done cmd.Checkpoint on is = no_way is
+reset_closed reply.Done cmd.Discard on is = no_way is
+reset_closed reply.Done cmd.Upgrade on is = no_way is
+reset_closed reply.Done (cmd.Remove dev) on is = no_way is
+reset_closed reply.Done command on is = no_way on
+reset_closed answer command on is = absurd is
+
+reset_open : (answer : Reply) (command : Command) (is_open after : Bool) → ends_reset answer command ≡ true → IsTurn is_open command answer after → is_open ≡ true
+reset_open answer command true after on turn = refl
+reset_open answer command false after on turn = absurd (reset_closed answer command on turn.0)
 
 -- it leaves the objects
-reset_step : (command : Command) (p q : PoolState) → is_resetting command ≡ true → Acts p command reply.Done q → q.objects ≡ p.objects
-reset_step (cmd.Add dev) p q on acts = ap (λ (r : PoolState). r.objects) acts
-reset_step cmd.Checkpoint p q on acts = ap (λ (r : PoolState). r.objects) acts
-reset_step cmd.Discard p q on acts = ap (λ (r : PoolState). r.objects) acts
-reset_step cmd.Upgrade p q on acts = ap (λ (r : PoolState). r.objects) acts
-reset_step (cmd.Remove dev) p q on acts = ap (λ (r : PoolState). r.objects) acts
-reset_step command p q on acts = no_way on
+reset_plain : (answer : Reply) (command : Command) (p : PoolState) (new : State) → ends_reset answer command ≡ true → IsOpenAnswer command answer → IsPlainTurn p command answer new → TellsOf new.shelf p.objects
+reset_plain (reply.No r) command p new on is turn = no_way on
+reset_plain (reply.Cancelled i) cmd.Cancel p new on is (q, step, opened) = (q, opened.shelf, step.0.objects)
+reset_plain (reply.Cancelled i) cmd.StepEvac p new on is (q, step, opened) = (q, opened.shelf, step.0.objects)
+reset_plain reply.Done (cmd.Add dev) p new on is (q, step, opened) = (q, opened.shelf, ap (λ (r : PoolState). r.objects) step.0)
+reset_plain reply.Done cmd.Checkpoint p new on is (q, step, opened) = (q, opened.shelf, ap (λ (r : PoolState). r.objects) step.0)
+reset_plain reply.Done cmd.Discard p new on is (q, step, opened) = (q, opened.shelf, ap (λ (r : PoolState). r.objects) step.0)
+reset_plain reply.Done cmd.Upgrade p new on is (q, step, opened) = (q, opened.shelf, ap (λ (r : PoolState). r.objects) step.0)
+reset_plain reply.Done (cmd.Remove dev) p new on is (q, step, opened) = (q, opened.shelf, ap (λ (r : PoolState). r.objects) step.0)
+reset_plain answer (cmd.Add dev) p new on is turn = absurd is
+reset_plain answer cmd.Checkpoint p new on is turn = absurd is
+reset_plain answer cmd.Discard p new on is turn = absurd is
+reset_plain answer cmd.Upgrade p new on is turn = absurd is
+reset_plain answer (cmd.Remove dev) p new on is turn = absurd is
+reset_plain answer command p new on is turn = no_way on
 
-reset_plain : (command : Command) (p : PoolState) (new : State) → is_resetting command ≡ true → IsPlainTurn p command reply.Done new → TellsOf new.shelf p.objects
-reset_plain (cmd.Add dev) p new on (q, step, opened) = (q, opened.shelf, reset_step (cmd.Add dev) p q on step.0)
-reset_plain cmd.Checkpoint p new on (q, step, opened) = (q, opened.shelf, reset_step cmd.Checkpoint p q on step.0)
-reset_plain cmd.Discard p new on (q, step, opened) = (q, opened.shelf, reset_step cmd.Discard p q on step.0)
-reset_plain cmd.Upgrade p new on (q, step, opened) = (q, opened.shelf, reset_step cmd.Upgrade p q on step.0)
-reset_plain (cmd.Remove dev) p new on (q, step, opened) = (q, opened.shelf, reset_step (cmd.Remove dev) p q on step.0)
-reset_plain command p new on turn = no_way on
+reset_part : (answer : Reply) (command : Command) (part : ShelfPart) (shelf : Shelf) (old new : State) (q : PoolState) → part ≡ Is q → ends_reset answer command ≡ true → IsOpenAnswer command answer → IsObjectsTurn true part shelf old command answer new → TellsOf new.shelf q.objects
+reset_part answer command (Is p) shelf old new q told on is turn = let same : p ≡ q = cc in subst (λ (r : PoolState). TellsOf new.shelf r.objects) same (reset_plain answer command p new on is turn)
+reset_part answer command Empty shelf old new q told on is turn = absurd cc
+reset_part answer command (Refused r) shelf old new q told on is turn = absurd turn
 
-reset_part : (command : Command) (part : ShelfPart) (shelf : Shelf) (old new : State) (q : PoolState) → part ≡ Is q → is_resetting command ≡ true → IsObjectsTurn true part shelf old command reply.Done new → TellsOf new.shelf q.objects
-reset_part command (Is p) shelf old new q told on turn = let same : p ≡ q = cc in subst (λ (r : PoolState). TellsOf new.shelf r.objects) same (reset_plain command p new on turn)
-reset_part command Empty shelf old new q told on turn = absurd cc
-reset_part command (Refused r) shelf old new q told on turn = absurd turn
-
-pub reset_told : (command : Command) (answer : Reply) (is_open : Bool) (part : ShelfPart) (shelf : Shelf) (old new : State) (q : PoolState) → part ≡ Is q → is_resetting command ≡ true → is_refusal answer ≡ false → IsTurn is_open command answer new.is_open → IsObjectsTurn is_open part shelf old command answer new
-    → TellsOf new.shelf q.objects
-reset_told command answer is_open part shelf old new q told on done turn objects =
-    let both = reset_done command answer is_open new.is_open on done turn in
-    reset_part command part shelf old new q told on (subst (λ (a : Reply). IsObjectsTurn true part shelf old command a new) both.1 (subst (λ (b : Bool). IsObjectsTurn b part shelf old command answer new) both.0 objects))
+pub reset_told : (command : Command) (answer : Reply) (is_open : Bool) (part : ShelfPart) (shelf : Shelf) (old new : State) (q : PoolState) → part ≡ Is q → ends_reset answer command ≡ true → IsTurn is_open command answer new.is_open → IsObjectsTurn is_open part shelf old command answer new → TellsOf new.shelf q.objects
+reset_told command answer is_open part shelf old new q told on turn objects =
+    let same = reset_open answer command is_open new.is_open on turn in
+    reset_part answer command part shelf old new q told on (subst (λ (b : Bool). IsTurn b command answer new.is_open) same turn).0 (subst (λ (b : Bool). IsObjectsTurn b part shelf old command answer new) same objects)
 
 -- a pool that was made is told without objects
 pub made_told : (command : Command) (is_open : Bool) (part : ShelfPart) (shelf : Shelf) (old new : State) → is_create command ≡ true → IsTurn is_open command reply.Done new.is_open → IsObjectsTurn is_open part shelf old command reply.Done new → TellsOf new.shelf map.empty

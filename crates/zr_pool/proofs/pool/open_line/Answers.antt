@@ -7,7 +7,7 @@ use Rattle.zr_script.specs.declared.command.Command.{Command}
 use Rattle.zr_vdev.specs.Stores.{IsWriteInto}
 use Rattle.zr_vdev.specs.declared.kind.Kind.TheVariants.{Block}
 use Rattle.zr_lines.proofs.Stopping.{in_group_itself}
-use Rattle.zr_pool.proofs.Groups.{commit_alone, commits_in_group, copy_step, none_of_them, not_of_removal, not_opener, no_way, opens_no_reset, pool_commits, refused_stays, resets_elsewhere, resets_somewhere, same_world}
+use Rattle.zr_pool.proofs.Groups.{commit_alone, commits_in_group, copy_step, none_of_them, not_of_removal, not_opener, no_way, opens_no_reset, pool_commits, refused_stays, resets_elsewhere, resets_somewhere, return_elsewhere, same_world}
 use Rattle.zr_pool.proofs.Leavings.{opener_refused}
 use Rattle.zr_pool.proofs.Refused.{fault_same}
 use Rattle.zr_pool.proofs.Shown.{same_root, still_last}
@@ -209,6 +209,17 @@ returns-then-is_table-clause-resets g c = λ on p h. absurd (resets_elsewhere c.
 
 pub returns-clause-resets : goal.returns-clause-resets
 returns-clause-resets g c = λ on p h. absurd (resets_somewhere c.args.command.now on (sym c.is_on_pool.ensures ∙ c.if-is_on_pool.false) (sym c.is_of_removal.ensures ∙ c.if-is_of_removal.false))
+
+-- ---- a removal is given up by a line of one
+
+pub returns-then-is_on_objects-clause-comes_back : goal.returns-then-is_on_objects-clause-comes_back
+returns-then-is_on_objects-clause-comes_back g c = λ p h on. absurd (return_elsewhere _ c.args.command.now on (inl (sym c.is_on_objects.ensures ∙ c.if-is_on_objects.true)))
+
+pub returns-then-is_table-clause-comes_back : goal.returns-then-is_table-clause-comes_back
+returns-then-is_table-clause-comes_back g c = λ p h on. absurd (return_elsewhere _ c.args.command.now on (inr (inl (sym c.is_table.ensures ∙ c.if-is_table.true))))
+
+pub returns-then-is_on_pool-clause-comes_back : goal.returns-then-is_on_pool-clause-comes_back
+returns-then-is_on_pool-clause-comes_back g c = λ p h on. absurd (return_elsewhere _ c.args.command.now on (inr (inr (sym c.is_on_pool.ensures ∙ c.if-is_on_pool.true))))
 
 pub returns-then-is_on_objects-clause-stops_reset : goal.returns-then-is_on_objects-clause-stops_reset
 returns-then-is_on_objects-clause-stops_reset g c = λ on p h. absurd (resets_elsewhere c.args.command.now on (inl (sym c.is_on_objects.ensures ∙ c.if-is_on_objects.true)))

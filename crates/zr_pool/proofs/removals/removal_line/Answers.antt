@@ -14,10 +14,10 @@ use Rattle.zr_last.specs.Last.{KeepsRoot}
 use Rattle.zr_lines.specs.Stops.{OpensNoUnit}
 use Rattle.zr_sync.specs.Writes.{WritesIntoFree}
 use Rattle.zr_sync.specs.declared.open.OpenPool.{OpenPool}
-use Rattle.zr_pool.specs.Behind.{is_resetting}
+use Rattle.zr_pool.specs.Behind.{HasReset, is_resetting, is_return}
 use Rattle.zr_pool.specs.Plain.{IsDone, IsPlainOf, is_copy, is_untold_behind}
 use Rattle.zr_pool.specs.Replies.{TellsFault}
-use Rattle.zr_pool.proofs.Acting.{condense_done, evac_acts, evac_copies, evac_shows, removed_as}
+use Rattle.zr_pool.proofs.Acting.{back_ckpt, condense_done, condense_no_return, evac_acts, evac_copies, evac_returns, evac_shows, removed_as}
 use Rattle.zr_pool.proofs.Blaming.{step_blames}
 use Rattle.zr_pool.proofs.Groups.{no_way}
 use Rattle.zr_pool.proofs.Staying.{same_state}
@@ -185,7 +185,12 @@ returns-in_ok-remove-in-Remove-clause-acts g c = λ p h.
 pub returns-in_ok-cancel-in-Cancel-clause-acts : goal.returns-in_ok-cancel-in-Cancel-clause-acts
 returns-in_ok-cancel-in-Cancel-clause-acts g c = λ p h.
     let new = c.cancel.new.shelf in
-    subst (λ (command : Command). IsPlainOf (HoldsState (g.S.Shelf.tells new) (g.S.Shelf.world new).now.seen c.cancel.new.pool) p command (reply.Cancelled c.in_ok-cancel-in-Cancel.field-0)) (sym c.in-Cancel.is) tt
+    subst (λ (command : Command). IsPlainOf (HoldsState (g.S.Shelf.tells new) (g.S.Shelf.world new).now.seen c.cancel.new.pool) p command (reply.Cancelled c.in_ok-cancel-in-Cancel.field-0)) (sym c.in-Cancel.is)
+    (record {
+      after = p;
+      holds = same_state (g.S.Shelf.tells new) (g.S.Shelf.world new).now.seen c.args.pool.now c.cancel.new.pool p p h.checkpoint (back_ckpt (g.S.Shelf.sizes c.args.shelf.now) (g.S.Shelf.tells c.args.shelf.now) (g.S.Shelf.world new) c.args.pool.now c.cancel.new.pool c.in_ok-cancel-in-Cancel.field-0 c.in_ok-cancel-in-Cancel.ensures.cancels) refl refl (c.in_ok-cancel-in-Cancel.ensures.objects p.objects h.objects);
+      step = (record { objects = refl; saved = refl; discarding = refl }, refl);
+    })
 
 pub returns-in_ok-step_evac-in-StepEvac-clause-acts : goal.returns-in_ok-step_evac-in-StepEvac-clause-acts
 returns-in_ok-step_evac-in-StepEvac-clause-acts g c = λ p h.
@@ -199,7 +204,8 @@ returns-in_ok-step_evac-in-StepEvac-clause-acts g c = λ p h.
     subst (λ (command : Command). IsPlainOf Holds p command c.evac_reply.result) (sym c.in-StepEvac.is)
     (subst (λ (answer : Reply). IsPlainOf Holds p cmd.StepEvac answer) (sym c.evac_reply.ensures)
     (evac_acts c.args.pick.now.policy (g.S.Shelf.sizes shelf) (g.S.Shelf.tells shelf) (g.S.Shelf.counts shelf) (g.S.Shelf.counts new) (g.S.Shelf.world shelf) (g.S.Shelf.world new) x y Holds p done step.steps
-    (λ ckpt n is. same_state (g.S.Shelf.tells new) (g.S.Shelf.world new).now.seen x y p p h.checkpoint ckpt refl refl (step.objects p.objects h.objects n is))))
+    (λ ckpt n is. same_state (g.S.Shelf.tells new) (g.S.Shelf.world new).now.seen x y p p h.checkpoint ckpt refl refl (step.objects p.objects h.objects n is))
+    (λ ckpt d is. same_state (g.S.Shelf.tells new) (g.S.Shelf.world new).now.seen x y p p h.checkpoint ckpt refl refl (step.back_objects p.objects h.objects d is))))
 
 pub returns-in_ok-step_condense-in-StepCondense-clause-acts : goal.returns-in_ok-step_condense-in-StepCondense-clause-acts
 returns-in_ok-step_condense-in-StepCondense-clause-acts g c = λ p h.
@@ -213,11 +219,11 @@ pub returns-in_ok-remove-in-Remove-clause-shown : goal.returns-in_ok-remove-in-R
 returns-in_ok-remove-in-Remove-clause-shown g c = λ told off. c.in_ok-remove-in-Remove.ensures.shown told
 
 pub returns-in_ok-cancel-in-Cancel-clause-shown : goal.returns-in_ok-cancel-in-Cancel-clause-shown
-returns-in_ok-cancel-in-Cancel-clause-shown g c = λ told off. no_way (sym (subst (λ (command : Command). is_untold_behind command (reply.Cancelled c.in_ok-cancel-in-Cancel.field-0) ≡ false) c.in-Cancel.is off))
+returns-in_ok-cancel-in-Cancel-clause-shown g c = λ told off. c.in_ok-cancel-in-Cancel.ensures.shown told
 
 pub returns-in_ok-step_evac-in-StepEvac-clause-shown : goal.returns-in_ok-step_evac-in-StepEvac-clause-shown
 returns-in_ok-step_evac-in-StepEvac-clause-shown g c = λ told off.
-    evac_shows _ c.in_ok-step_evac-in-StepEvac.field-0 (c.in_ok-step_evac-in-StepEvac.ensures.shown told)
+    evac_shows _ c.in_ok-step_evac-in-StepEvac.field-0 (c.in_ok-step_evac-in-StepEvac.ensures.shown told) (c.in_ok-step_evac-in-StepEvac.ensures.back_shown told)
     (subst (λ (answer : Reply). is_untold_behind cmd.StepEvac answer ≡ false) c.evac_reply.ensures (subst (λ (command : Command). is_untold_behind command c.evac_reply.result ≡ false) c.in-StepEvac.is off))
 
 pub returns-in_ok-step_condense-in-StepCondense-clause-shown : goal.returns-in_ok-step_condense-in-StepCondense-clause-shown
@@ -237,6 +243,29 @@ returns-in_ok-step_evac-in-StepEvac-clause-resets g c = λ on p h. no_way (subst
 
 pub returns-in_ok-step_condense-in-StepCondense-clause-resets : goal.returns-in_ok-step_condense-in-StepCondense-clause-resets
 returns-in_ok-step_condense-in-StepCondense-clause-resets g c = λ on p h. no_way (subst (λ (command : Command). is_resetting command ≡ true) c.in-StepCondense.is on)
+
+-- ---- a removal that was given up
+
+pub returns-in_ok-remove-in-Remove-clause-comes_back : goal.returns-in_ok-remove-in-Remove-clause-comes_back
+returns-in_ok-remove-in-Remove-clause-comes_back g c = λ p h on. no_way on
+
+pub returns-in_ok-cancel-in-Cancel-clause-comes_back : goal.returns-in_ok-cancel-in-Cancel-clause-comes_back
+returns-in_ok-cancel-in-Cancel-clause-comes_back g c = λ p h on.
+    let new = c.cancel.new.shelf in
+    let done = c.in_ok-cancel-in-Cancel.ensures in
+    record { leaves = done.ends p.objects h.objects; holds = untold (g.S.Shelf.tells new) (g.S.Shelf.world new).now.seen c.cancel.new.pool p.objects (done.objects p.objects h.objects) }
+
+pub returns-in_ok-step_evac-in-StepEvac-clause-comes_back : goal.returns-in_ok-step_evac-in-StepEvac-clause-comes_back
+returns-in_ok-step_evac-in-StepEvac-clause-comes_back g c = λ p h on.
+    let new = c.step_evac.new.shelf in
+    let y = c.step_evac.new.pool in
+    let done = c.in_ok-step_evac-in-StepEvac.ensures in
+    evac_returns (HasReset y (g.S.Shelf.world new).now p.objects) c.in_ok-step_evac-in-StepEvac.field-0 c.args.command.now
+    (λ d is. record { leaves = done.back_ends p.objects h.objects d is; holds = untold (g.S.Shelf.tells new) (g.S.Shelf.world new).now.seen y p.objects (done.back_objects p.objects h.objects d is) })
+    (subst (λ (answer : Reply). is_return answer c.args.command.now ≡ true) c.evac_reply.ensures on)
+
+pub returns-in_ok-step_condense-in-StepCondense-clause-comes_back : goal.returns-in_ok-step_condense-in-StepCondense-clause-comes_back
+returns-in_ok-step_condense-in-StepCondense-clause-comes_back g c = λ p h on. absurd (condense_no_return c.in_ok-step_condense-in-StepCondense.field-0 c.args.command.now (subst (λ (answer : Reply). is_return answer c.args.command.now ≡ true) c.condense_reply.ensures on))
 
 -- ---- a step that copies
 

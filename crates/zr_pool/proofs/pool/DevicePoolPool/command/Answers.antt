@@ -10,6 +10,7 @@ use Rattle.zr_command.specs.Meanings.{disks_of}
 use Rattle.zr_pool.specs.Replies.{TellsFault}
 use Rattle.zr_pool.proofs.Accounting.{Leads, closed_accounts, each_with_account, open_accounts}
 use Rattle.zr_pool.proofs.Beginning.{closed_begun, open_begun}
+use Rattle.zr_pool.proofs.Resets.{ends_or_returns}
 use Rattle.zr_pool.proofs.Blaming.{blamed_answer, blamed_closed}
 use Rattle.zr_pool.proofs.Shown.{closed_lasts, open_lasts}
 use Rattle.zr_pool.proofs.Staying.{told_anew}
@@ -77,7 +78,7 @@ returns-clause-step g c = λ told paths before stood.
     c.open_line-done.ensures.done c.open_line-done.ensures.answer (c.open_line-done.ensures.shown told) (c.open_line-done.ensures.shown_no told) (λ exports p held. c.open_line-done.ensures.left exports p (told_anew (Unit {0}) (g.S.Shelf.tells shelf) old.seen x p told held)) c.open_line-done.ensures.pool in
     let behind_part = λ (now_told : ShelfPart). open_behinds (g.S.Shelf.world shelf) (g.S.Shelf.world c.open_line-done.new.shelf) before command x y (g.S.Shelf.sizes shelf) (subst (λ (o : Option OpenPool). IfSome o (IsOpen (g.S.Shelf.sizes shelf))) c.in-Some.is c.requires.fits.is_open) (g.S.Shelf.sound shelf told).sized ((g.S.Shelf.sound c.open_line-done.new.shelf behind).sized ∙ c.open_line-done.ensures.sizes)
     there.part (stood.account ∙ c.in-Some.is) (λ shown. subst (λ (o : Option OpenPool). AreShown o old.seen before.told.shelf) c.in-Some.is (stood.shown shown)) (subst (λ (o : Option OpenPool). IfSome before.behind (IsBehind o (disks_of old))) c.in-Some.is stood.behind) (subst (λ (o : Option OpenPool). IfSome before.begun (IsAsBegun o (disks_of old))) c.in-Some.is stood.begun) now_told r c.open_line-done.ensures.done (subst (λ (n : List ℕ). OnOk r (IsOpen n y)) c.open_line-done.ensures.sizes c.open_line-done.ensures.pool)
-    (c.open_line-done.ensures.shown told) (λ on p held. c.open_line-done.ensures.resets on p (told_anew (Unit {0}) (g.S.Shelf.tells shelf) old.seen x p told held))
+    (c.open_line-done.ensures.shown told) (λ p held. ends_or_returns command y (g.S.Shelf.world c.open_line-done.new.shelf).now p.objects r (λ on. c.open_line-done.ensures.resets on p (told_anew (Unit {0}) (g.S.Shelf.tells shelf) old.seen x p told held)) (c.open_line-done.ensures.comes_back p (told_anew (Unit {0}) (g.S.Shelf.tells shelf) old.seen x p told held)))
     (λ group p held. c.open_line-done.ensures.one_group group p (told_anew (Unit {0}) (g.S.Shelf.tells shelf) old.seen x p told held))
     (λ p held. c.open_line-done.ensures.one_group_no p (told_anew (Unit {0}) (g.S.Shelf.tells shelf) old.seen x p told held))
     (c.open_line-done.ensures.copies told)
