@@ -1,5 +1,5 @@
 -- Trees that stand beside each other in one store.
-use Rattle.std.specs.Prelude.{ℕ, List, All}
+use Rattle.std.specs.Prelude.{ℕ, zero, suc, List, [], ◌++◌, All}
 use Rattle.std.specs.List.{flat_map}
 use Rattle.zr_base.specs.Words.{words}
 use Rattle.zr_bptr.specs.declared.Bptr.{Bptr}
@@ -35,3 +35,8 @@ pub record StandBeside (s : Stored) (all : List Standing) : Type 0 where
   pub stored : AreStored (blocks_of s all) s
   pub once : IsOnce s
   pub stand : All (Stands s) all
+
+-- the trees of the first so many rows, one row after another
+abbrev pub rows_of : (ℕ → List Standing) → ℕ → List Standing
+rows_of row zero = []
+rows_of row (suc n) = rows_of row n ++ row n

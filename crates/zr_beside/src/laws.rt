@@ -1,5 +1,5 @@
 //! The laws, as calls that do nothing: a caller learns them by their contracts.
-ghost use Rattle.std.specs.Prelude.{◌≡◌, ◌<◌, ℕ, List, [], ◌∷◌, ◌++◌, All};
+ghost use Rattle.std.specs.Prelude.{◌≡◌, ◌≢◌, ◌<◌, ℕ, List, [], ◌∷◌, ◌++◌, All};
 ghost use Rattle.zr_bptr.specs.declared.Bptr.{Bptr};
 ghost use Rattle.zr_bptr.specs.declared.Tree.{Tree};
 ghost use Rattle.zr_store.specs.Store.{Stored, AreStored, IsOnce, Swaps, hits};
@@ -7,7 +7,7 @@ ghost use Rattle.zr_tree.specs.Trees.{tree_reach};
 ghost use Rattle.zr_meta.specs.declared.Stream.{Stream};
 ghost use Rattle.zr_root.specs.Streams.{HasBytes, StoresBytes, StoresWords};
 ghost use Rattle.zr_commit.specs.Logs.{Rewrites};
-ghost use Rattle.zr_beside.specs.Beside.{Standing, StandBeside, Stands, blocks_of, of_stream, of_tree};
+ghost use Rattle.zr_beside.specs.Beside.{Standing, StandBeside, Stands, blocks_of, of_stream, of_tree, rows_of};
 
 /// Of trees beside each other the blocks of each one are stored, and its bytes stand in it.
 pub fn one_stands()
@@ -61,4 +61,15 @@ pub fn a_stream_comes()
 /// In which order the trees are told does not matter: some may change places with those that follow them.
 pub fn another_order()
     ensures { (s : Stored) (front a b back : List Standing) → StandBeside s (front ++ (a ++ (b ++ back))) → StandBeside s (front ++ (b ++ (a ++ back))) }
+{}
+
+/// Of trees in rows one row may change: trees of it come in the place of others, and all other trees stand as they stood.
+pub fn a_row_changes()
+    ensures { (s n : Stored) (f g : ℕ → List Standing) (count d : ℕ) (first gone came last rest : List Standing) → d < count → ((i : ℕ) → i ≢ d → g i ≡ f i) → f d ≡ first ++ (gone ++ last) → g d ≡ first ++ (came ++ last)
+        → StandBeside s (rows_of f count ++ rest) → IsOnce n → Swaps s n (blocks_of s gone) (blocks_of n came) → All (Stands n) came → StandBeside n (rows_of g count ++ rest) }
+{}
+
+/// The blocks of each tree of a row are stored, and its bytes stand in it.
+pub fn one_of_a_row_stands()
+    ensures { (s : Stored) (f : ℕ → List Standing) (count d : ℕ) (first last rest : List Standing) (w : Standing) → d < count → f d ≡ first ++ w ∷ last → StandBeside s (rows_of f count ++ rest) → AreStored (tree_reach s w.tree) s × HasBytes s w.tree w.bytes }
 {}

@@ -34,6 +34,7 @@ pub fn write_head<B: Blocks>(
     requires head { IsHead table.now h.now }
     requires devices { length table.now ≤ 32 }
     ensures follows { (start : B) → B.follows start store.old → B.follows start store.new }
+    ensures adds { (start : B) → B.adds start store.old → OnOk result (B.adds start store.new) }
     ensures costs { Costs (tree_units (div_ceil (head_words h.now) 512)) 0 (B.account store.old) (B.account store.new) }
     ensures cause { HasCause (tree_units (div_ceil (head_words h.now) 512)) (B.account store.old) (B.account store.new) result }
     ensures errors { (s : Stored) → TellsOf s [] result }

@@ -1,7 +1,7 @@
 //! Strings of bytes.
 //!
 //! The time is linear in the bytes.
-ghost use Rattle.std.specs.Prelude.{◌≡◌, ◌+◌, ◌*◌, ◌-◌, ◌/◌, ◌^◌, ◌<◌, ◌≤◌, ◌++◌, List, [], ◌∷◌, ℕ, length, map, All, IfOk};
+ghost use Rattle.std.specs.Prelude.{◌≡◌, ◌+◌, ◌*◌, ◌-◌, ◌/◌, ◌^◌, ◌<◌, ◌≤◌, ◌++◌, List, [], ◌∷◌, ℕ, length, map, All, IfOk, OnOk};
 ghost use Rattle.std.specs.Int.{div_ceil};
 ghost use Rattle.zr_base.specs.Trees.{IsHeight, tree_units};
 ghost use Rattle.zr_base.specs.Words.{zeros};
@@ -35,6 +35,7 @@ pub(crate) fn padded(alloc: Global, bytes: &[u8]) -> Result<Vec<u8>, AllocError>
 
 fn put_leaf<B: Blocks>(alloc: Global, store: &mut B, bytes: &[u8; 4096]) -> Result<Bptr, StoreErr>
     ensures follows { (start : B) → B.follows start store.old → B.follows start store.new }
+    ensures adds { (start : B) → B.adds start store.old → OnOk result (B.adds start store.new) }
     ensures costs { Costs 1 0 (B.account store.old) (B.account store.new) }
     ensures cause { HasCause 1 (B.account store.old) (B.account store.new) result }
     ensures errors { (s : Stored) → TellsOf s [] result }
@@ -53,6 +54,7 @@ pub(crate) fn put_leaves<B: Blocks>(
     pieces: &[[u8; 4096]],
 ) -> Result<Vec<Bptr>, StoreErr>
     ensures follows { (start : B) → B.follows start store.old → B.follows start store.new }
+    ensures adds { (start : B) → B.adds start store.old → OnOk result (B.adds start store.new) }
     ensures costs { Costs (length pieces.now) 0 (B.account store.old) (B.account store.new) }
     ensures cause { HasCause (length pieces.now) (B.account store.old) (B.account store.new) result }
     ensures errors { (s : Stored) → TellsOf s [] result }
@@ -73,6 +75,7 @@ pub fn write_bytes<B: Blocks>(alloc: Global, store: &mut B, bytes: &[u8]) -> Res
     requires some { 0 < length bytes.now }
     requires most { length bytes.now ≤ 2 ^ 37 }
     ensures follows { (start : B) → B.follows start store.old → B.follows start store.new }
+    ensures adds { (start : B) → B.adds start store.old → OnOk result (B.adds start store.new) }
     ensures costs { Costs (tree_units (div_ceil (length bytes.now) 4096)) 0 (B.account store.old) (B.account store.new) }
     ensures cause { HasCause (tree_units (div_ceil (length bytes.now) 4096)) (B.account store.old) (B.account store.new) result }
     ensures errors { (s : Stored) → TellsOf s [] result }
@@ -92,6 +95,7 @@ pub fn write_root<B: Blocks>(alloc: Global, store: &mut B, bytes: &[u8]) -> Resu
     requires some { 0 < length bytes.now }
     requires most { length bytes.now ≤ 2 ^ 37 }
     ensures follows { (start : B) → B.follows start store.old → B.follows start store.new }
+    ensures adds { (start : B) → B.adds start store.old → OnOk result (B.adds start store.new) }
     ensures costs { Costs (tree_units (div_ceil (length bytes.now) 4096)) 0 (B.account store.old) (B.account store.new) }
     ensures cause { HasCause (tree_units (div_ceil (length bytes.now) 4096)) (B.account store.old) (B.account store.new) result }
     ensures errors { (s : Stored) → TellsOf s [] result }

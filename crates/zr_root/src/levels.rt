@@ -1,7 +1,7 @@
 //! Writing the blocks of a tree, level by level from its leaves up.
 //!
 //! The pointers of a level are cut into blocks of 32, and the last block is filled up with holes.
-ghost use Rattle.std.specs.Prelude.{◌≡◌, ◌+◌, ◌*◌, ◌-◌, ◌/◌, ◌^◌, ◌<◌, ◌≤◌, ◌++◌, List, [], ◌∷◌, ℕ, length, map, replicate, All, IfOk};
+ghost use Rattle.std.specs.Prelude.{◌≡◌, ◌+◌, ◌*◌, ◌-◌, ◌/◌, ◌^◌, ◌<◌, ◌≤◌, ◌++◌, List, [], ◌∷◌, ℕ, length, map, replicate, All, IfOk, OnOk};
 ghost use Rattle.std.specs.List.{flat_map};
 ghost use Rattle.std.specs.Int.{div_ceil};
 ghost use Rattle.zr_base.specs.Trees.{IsHeight, tree_units};
@@ -60,6 +60,7 @@ fn put_group<B: Blocks>(
     requires count { length pointers.now ≡ 32 }
     requires group { IsGroup below pointers.now }
     ensures follows { (start : B) → B.follows start store.old → B.follows start store.new }
+    ensures adds { (start : B) → B.adds start store.old → OnOk result (B.adds start store.new) }
     ensures costs { Costs 1 0 (B.account store.old) (B.account store.new) }
     ensures cause { HasCause 1 (B.account store.old) (B.account store.new) result }
     ensures errors { (s : Stored) → TellsOf s [] result }
@@ -81,6 +82,7 @@ fn put_groups<B: Blocks>(
     requires low { below < 5 }
     requires groups { All (IsGroup below) pieces.now }
     ensures follows { (start : B) → B.follows start store.old → B.follows start store.new }
+    ensures adds { (start : B) → B.adds start store.old → OnOk result (B.adds start store.new) }
     ensures costs { Costs (length pieces.now) 0 (B.account store.old) (B.account store.new) }
     ensures cause { HasCause (length pieces.now) (B.account store.old) (B.account store.new) result }
     ensures errors { (s : Stored) → TellsOf s [] result }
@@ -108,6 +110,7 @@ pub(crate) fn join<B: Blocks>(
     requires small { length bs.now ≤ 32 ^ (5 - level) }
     requires fit { All (IsUnitAt level) bs.now }
     ensures follows { (start : B) → B.follows start store.old → B.follows start store.new }
+    ensures adds { (start : B) → B.adds start store.old → OnOk result (B.adds start store.new) }
     ensures costs { Costs (tree_units (length bs.now) - length bs.now) 0 (B.account store.old) (B.account store.new) }
     ensures cause { HasCause (tree_units (length bs.now) - length bs.now) (B.account store.old) (B.account store.new) result }
     ensures errors { (s : Stored) → TellsOf s [] result }

@@ -1,7 +1,7 @@
 //! Streams of words: a number of words, and the tree of their bytes.
 //!
 //! A word is eight bytes, the lowest first, so a leaf has 512 words. The time is linear in the words.
-ghost use Rattle.std.specs.Prelude.{◌≡◌, ◌+◌, ◌*◌, ◌-◌, ◌/◌, ◌^◌, ◌<◌, ◌≤◌, List, [], ℕ, length, map, IfOk};
+ghost use Rattle.std.specs.Prelude.{◌≡◌, ◌+◌, ◌*◌, ◌-◌, ◌/◌, ◌^◌, ◌<◌, ◌≤◌, List, [], ℕ, length, map, IfOk, OnOk};
 ghost use Rattle.std.specs.Int.{div_ceil};
 ghost use Rattle.zr_base.specs.Trees.{tree_units};
 ghost use Rattle.zr_base.specs.Words.{words};
@@ -36,6 +36,7 @@ pub(crate) fn bytes_of(alloc: Global, ns: &[u64]) -> Result<Vec<u8>, AllocError>
 pub fn write_stream<B: Blocks>(alloc: Global, store: &mut B, ns: &[u64]) -> Result<Stream, StoreErr>
     requires most { length ns.now ≤ 2 ^ 34 }
     ensures follows { (start : B) → B.follows start store.old → B.follows start store.new }
+    ensures adds { (start : B) → B.adds start store.old → OnOk result (B.adds start store.new) }
     ensures costs { Costs (tree_units (div_ceil (length ns.now) 512)) 0 (B.account store.old) (B.account store.new) }
     ensures cause { HasCause (tree_units (div_ceil (length ns.now) 512)) (B.account store.old) (B.account store.new) result }
     ensures errors { (s : Stored) → TellsOf s [] result }

@@ -11,14 +11,16 @@ use Rattle.zr_rules.specs.Places.{is_leaving}
 use Rattle.zr_rules.specs.Roles.{aged, cleared}
 use Rattle.zr_base.specs.declared.space.DevRow.{DevRow}
 use Rattle.zr_rules.specs.Mappings.{end_of_last}
-use Rattle.zr_rules.specs.Space.{nothing_opened, IsSet}
+use Rattle.zr_rules.specs.Space.{OpenSets, nothing_opened, IsSet}
+use Rattle.zr_base.specs.declared.space.LateRun.{LateRun}
 use Rattle.zr_indirect.specs.Mapped.{Mapped, IsLeaving, IsGone}
 use Rattle.zr_space.proofs.Synced.{synced_is, leaving_state}
 use Rattle.zr_rules.specs.Steps as steps
 use Rattle.zr_metaslab.specs.Devices.{Devices, free_at, count_at}
 use Rattle.zr_units.specs.Uses.{Uses, IsAccount, IsSameUses, freed_count}
 use Rattle.zr_units.specs.Changes.{TakesBack, aged_uses, cleared_uses, has_freed}
-use Rattle.zr_space.specs.Views.{Kept, EndsWithin, kept_of, nothing_kept, part_in, opened_in, space_of, role_in, IsMoved, IsTied, IsSpace, IsSameKept, AreTurned, settled, meta_from, saved_from, addresses}
+use Rattle.zr_space.specs.Views.{Kept, EndsWithin, kept_of, nothing_kept, part_in, opened_in, space_of, role_in, IsMoved, IsTied, IsSpace, IsSameKept, AreTurned, settled, meta_from, saved_from, addresses, late_runs}
+use Rattle.zr_space.specs.Turning.{TurnsParts, waiting_runs}
 use Rattle.zr_space.proofs.Views.{part_is, opened_is}
 use Rattle.zr_space.proofs.Turning.{TurnedBelow, turned_all, turned_next}
 use Rattle.zr_space.proofs.Roles.{roles_are}
@@ -193,4 +195,31 @@ commits reset whole s t devs next turned old new = record {
       ∙ (((old.moved d).leaving (leaving_state (kept_of devs d).row.state is)).marks.frontier
       ∙ ap end_of_last (sym (ap (λ (p : DevPart). p.entries) (part_is devs d)))));
   lawful = λ was. lawful whole t next new;
+}
+
+-- ---- what a root records behind it
+
+settled_held : (reset : Bool) (k : Kept) → (settled reset k).uses.held ≡ k.uses.held
+settled_held true k = refl
+settled_held false k = refl
+
+settled_kept : (reset : Bool) (k : Kept) → (settled reset k).uses.kept ≡ k.uses.kept
+settled_kept true k = refl
+settled_kept false k = refl
+
+settled_first : (reset : Bool) (k : Kept) → late_runs (settled reset k).uses.late1 ≡ (if reset then [] else waiting_runs (opened_in k))
+settled_first true k = refl
+settled_first false k = refl
+
+settled_second : (reset : Bool) (k : Kept) → late_runs (settled reset k).uses.late2 ≡ (if reset then [] else late_runs k.uses.late1)
+settled_second true k = refl
+settled_second false k = refl
+
+pub turns_parts : (reset : Bool) (whole : Whole) (devs next : List Kept) → AreTurned (settled reset) devs next → TurnsParts reset (space_of whole devs) (space_of whole next)
+turns_parts reset whole devs next turned = record {
+  held = λ d. ap (λ (p : DevPart). p.held) (part_is next d) ∙ (ap (λ (k : Kept). k.uses.held) (turned.each d) ∙ (settled_held reset (kept_of devs d) ∙ sym (ap (λ (p : DevPart). p.held) (part_is devs d))));
+  kept = λ d. ap (λ (p : DevPart). p.kept) (part_is next d) ∙ (ap (λ (k : Kept). k.uses.kept) (turned.each d) ∙ (settled_kept reset (kept_of devs d) ∙ sym (ap (λ (p : DevPart). p.kept) (part_is devs d))));
+  fresh = λ d. ap (λ (p : DevPart). p.fresh) (part_is next d) ∙ (ap (λ (k : Kept). k.moves.fresh) (turned.each d) ∙ sym (ap (λ (p : DevPart). p.fresh) (part_is devs d)));
+  first = λ d. ap (λ (p : DevPart). p.late1) (part_is next d) ∙ (ap (λ (k : Kept). late_runs k.uses.late1) (turned.each d) ∙ (settled_first reset (kept_of devs d) ∙ ap (λ (o : OpenSets). if reset then [] else waiting_runs o) (sym (opened_is whole devs d))));
+  second = λ d. ap (λ (p : DevPart). p.late2) (part_is next d) ∙ (ap (λ (k : Kept). late_runs k.uses.late2) (turned.each d) ∙ (settled_second reset (kept_of devs d) ∙ ap (λ (p : DevPart). if reset then [] else p.late1) (sym (part_is devs d))));
 }

@@ -17,3 +17,4 @@ pub mod Leavings
 pub mod Condensing
 pub mod FreeVisits
 pub mod Metadata
+pub mod Turning

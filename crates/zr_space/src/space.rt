@@ -7,6 +7,7 @@ ghost use Rattle.zr_rules.specs.Places.{state_of_dev, units_of_dev};
 ghost use Rattle.zr_space.specs.Drops.{IsMeta, KeepsParts};
 ghost use Rattle.zr_rules.specs.Frees.{Allocates, AllocatesMeta, DropsMeta};
 ghost use Rattle.zr_rules.specs.Steps.{AddsDevice, Commits};
+ghost use Rattle.zr_space.specs.Turning.{TurnsParts};
 ghost use Rattle.zr_space.specs.Live.{IsLive};
 ghost use Rattle.zr_metaslab.specs.Devices.{extent_of};
 ghost use Rattle.zr_space.specs.Views.{space_of, serving, fresh_device};
@@ -240,6 +241,7 @@ impl Space {
     /// a release for each extent that becomes free.
     pub fn commit_done(&mut self, reset: bool)
         ensures commits { Commits reset self.old self.new }
+        ensures parts { TurnsParts reset self.old self.new }
         ensures live { (a : Dva) → IsLive self.old a → IsLive self.new a }
         ensures metadata { (a : Dva) → IsMeta self.old a → IsMeta self.new a }
         ensures meta { self.new.meta ≡ self.old.meta }

@@ -95,6 +95,9 @@ pub trait Blocks {
     /// it of all that was done since some start, so that calls in a row add up by themselves.
     ghost follows: { Self → Self → Type 0 };
 
+    /// What puts do to it besides that were all done, one after another: they give nothing back.
+    ghost adds: { Self → Self → Type 0 };
+
     /// Stores a block, and answers its pointer. A level above 0 takes the bytes of one tree block of pointers of the
     /// level below. After an error what is held is as before, but the units may stay taken where no run was missing.
     fn put(&mut self, alloc: Global, bytes: &[u8], level: u8) -> Result<Bptr, StoreErr>
@@ -103,6 +106,7 @@ pub trait Blocks {
         requires one_unit { 0 < level → length bytes.now ≡ 4096 }
         requires block { 0 < level → IsBlockOf (level - 1) bytes.now }
         ensures follows { (start : Self) → follows start self.old → follows start self.new }
+        ensures adds { (start : Self) → adds start self.old → OnOk result (adds start self.new) }
         ensures costs { Spends (length bytes.now / 4096) 1 0 (account self.old) (account self.new) }
         ensures failed { IsErrOf result Failed → HasRisen (account self.old).faults (account self.new).faults }
         ensures no_run { (needed longest : ℕ) → IsErrOf result (NoRun needed longest) → IsNoRun (length bytes.now / 4096) (account self.old) needed longest }

@@ -98,6 +98,8 @@ impl Blocks for MemBlocks {
 
     ghost follows = { λ start now. now.units ≡ start.units };
 
+    ghost adds = { λ start now. now.units ≡ start.units };
+
     ghost once = { λ m s held. held_once m.units m.next m.kept.items s held };
 
     ghost resolved = { λ m s held. held_resolved m.units m.next m.kept.items s held };

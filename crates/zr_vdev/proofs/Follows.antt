@@ -26,10 +26,10 @@ use Rattle.zr_shelf.proofs.Doings.{writes_nothing, writes_more, writes_still}
 use Rattle.zr_shelf.proofs.Runs.{still_trans}
 use Rattle.zr_rules.specs.Places.{is_fresh, in_address, part_of, units_of_dev}
 use Rattle.zr_rules.specs.Devices.{Devices}
-use Rattle.zr_rules.specs.Roles.{Role, is_free_role, freed, kept_of, dropped}
-use Rattle.zr_rules.specs.Roles.Role.{Free}
+use Rattle.zr_rules.specs.Roles.{Role, is_free_role, is_held_role, is_deferred_role, freed, kept_of, dropped}
+use Rattle.zr_rules.specs.Roles.Role.{Free, FreshLive, Meta as MetaRole}
 use Rattle.zr_rules.specs.Space.{Space, role_at}
-use Rattle.zr_rules.specs.Frees.{IsSamePart, IsSameFrame, marks}
+use Rattle.zr_rules.specs.Frees.{IsSamePart, IsSameFrame, IsSameRoot, marks}
 use Rattle.zr_rules.specs.Resolve.{is_resolved}
 use Rattle.zr_rules.specs.Columns.{free_units, free_of}
 use Rattle.zr_rules.specs.Equation.{devices_in}
@@ -38,7 +38,7 @@ use Rattle.zr_cache.specs.declared.table.Cache.{Cache}
 use Rattle.zr_vdev.specs.declared.kind.Kind.{Kind}
 use Rattle.zr_vdev.specs.declared.kind.Kind.TheVariants as kinds
 use Rattle.zr_vdev.specs.Puts.{Takes, GivesBack, MayTake, MayPut, IsWriteOf}
-use Rattle.zr_vdev.specs.Stores.{GivesBackLost, may_write, may_change, is_open_role, IsWriteInto, KeepsRows, KeepsMarks, KeepsOthers, Continues, GoesOnReading}
+use Rattle.zr_vdev.specs.Stores.{GivesBackLost, may_write, may_change, is_open_role, IsWriteInto, KeepsRows, KeepsMarks, KeepsHeld, KeepsOthers, Continues, GivesNothing, GoesOnReading}
 use Rattle.zr_vdev.proofs.Taking.{takes_frame, takes_place}
 use Rattle.zr_vdev.proofs.Rooms.{room_taken, room_kept, is_short, no_room}
 use Rattle.zr_vdev.proofs.Held.{read_same}
@@ -103,13 +103,82 @@ gives_marks : (kind : Kind) (old new : Space) (a : Dva) (birth : ℕ) → GivesB
 gives_marks kinds.Block old new a birth gives = λ d u is. gives.fresh d u ∙ or_true (is_fresh old.parts.devs d u) (marks old a d u) is
 gives_marks kinds.Meta old new a birth gives = λ d u. gives.0.fresh d u
 
+root_itself : (s : Space) → IsSameRoot s s
+root_itself s = record { held = λ d u. refl; kept = λ d u. refl; fresh = λ d u. refl }
+
+root_more : (a b c : Space) → IsSameRoot a b → IsSameRoot b c → IsSameRoot a c
+root_more a b c p q = record { held = λ d u. q.held d u ∙ p.held d u; kept = λ d u. q.kept d u ∙ p.kept d u; fresh = λ d u. q.fresh d u ∙ p.fresh d u }
+
+gives_root : (kind : Kind) (old new : Space) (a : Dva) (birth : ℕ) → GivesBack kind old new a birth → IsSameRoot old new
+gives_root kinds.Block old new a birth gives = gives.frame.root
+gives_root kinds.Meta old new a birth gives = gives.1.root
+
+held_itself : (kind : Kind) (s : Space) → KeepsHeld kind s s
+held_itself kinds.Block s = tt
+held_itself kinds.Meta s = λ d u. refl
+
+held_more : (kind : Kind) (a b c : Space) → KeepsHeld kind a b → KeepsHeld kind b c → KeepsHeld kind a c
+held_more kinds.Block a b c p q = tt
+held_more kinds.Meta a b c p q = λ d u. q d u ∙ p d u
+
+if_yes : {A : Type 0} (b : Bool) (x y : A) → b ≡ true → (if b then x else y) ≡ x
+if_yes true x y h = refl
+if_yes false x y h = cc
+
+-- what a block takes, and what metadata takes
+abbrev role_taken : Kind → Role
+role_taken kinds.Block = FreshLive
+role_taken kinds.Meta = MetaRole
+
+taken_role : (kind : Kind) (policy : Policy) (want : ℕ) (old new : Space) (at : Dva) → Takes kind policy want old new at → (d u : ℕ) → in_address at d u ≡ true → role_at new d u ≡ role_taken kind
+taken_role kinds.Block policy want old new at takes d u is = takes.roles d u ∙ if_yes (in_address at d u) FreshLive (role_at old d u) is
+taken_role kinds.Meta policy want old new at takes d u is = takes.roles d u ∙ if_yes (in_address at d u) MetaRole (role_at old d u) is
+
+takes_held : (kind : Kind) (policy : Policy) (want : ℕ) (old new : Space) (at : Dva) → Takes kind policy want old new at → KeepsHeld kind old new
+takes_held kinds.Block policy want old new at takes = tt
+takes_held kinds.Meta policy want old new at takes = λ d u. (elim (in_address at d u) as (λ (b : Bool). in_address at d u ≡ b → is_held_role (role_at new d u) ≡ is_held_role (role_at old d u)) [
+    | true ↦ λ is. ap is_held_role (taken_role kinds.Meta policy want old new at takes d u is) ∙ sym (ap is_held_role (taken_was_free kinds.Meta policy want old new at takes d u is))
+    | false ↦ λ is. ap is_held_role (take_keeps kinds.Meta policy want old new at takes d u is)
+  ]) refl
+
+dropped_held : (r : Role) → is_held_role (dropped r) ≡ is_held_role r
+dropped_held r = grind (arith, nat_tests)
+
+given_held : (old new : Role) → IsGiven kinds.Meta old new → is_held_role new ≡ is_held_role old
+given_held old new (inl same) = ap is_held_role same
+given_held old new (inr is) = ap is_held_role is ∙ dropped_held old
+
+gives_held : (kind : Kind) (old new : Space) (a : Dva) (birth : ℕ) → GivesBack kind old new a birth → KeepsHeld kind old new
+gives_held kinds.Block old new a birth gives = tt
+gives_held kinds.Meta old new a birth gives = λ d u. given_held (role_at old d u) (role_at new d u) (given_roles kinds.Meta old new a birth gives d u)
+
+-- what is taken waits for no group
+role_taken_waits : (kind : Kind) → is_deferred_role (role_taken kind) ≡ true → ⊥
+role_taken_waits kinds.Block h = cc
+role_taken_waits kinds.Meta h = cc
+
+takes_waits : (kind : Kind) (policy : Policy) (want : ℕ) (old new : Space) (at : Dva) → Takes kind policy want old new at → (d u : ℕ) → is_deferred_role (role_at new d u) ≡ true → is_deferred_role (role_at old d u) ≡ true
+takes_waits kind policy want old new at takes d u waits = (elim (in_address at d u) as (λ (b : Bool). in_address at d u ≡ b → is_deferred_role (role_at old d u) ≡ true) [
+    | true ↦ λ is. absurd (role_taken_waits kind (sym (ap is_deferred_role (taken_role kind policy want old new at takes d u is)) ∙ waits))
+    | false ↦ λ is. sym (ap is_deferred_role (take_keeps kind policy want old new at takes d u is)) ∙ waits
+  ]) refl
+
+-- a put that is done gives nothing back, where none failed before
+pub put_gives_nothing : (kind : Kind) (policy : Policy) (want : ℕ) (start old mid new : Space) (lost_start lost : Option Dva) (txg : ℕ) (at : Dva) → GivesNothing lost_start lost start old → GivesBackLost kind old mid lost txg → Takes kind policy want mid new at → GivesNothing lost_start None start new
+put_gives_nothing kind policy want start old mid new lost_start lost txg at so_far gives takes none =
+    let before = so_far none in
+    let same : mid ≡ old = subst (λ (l : Option Dva). GivesBackLost kind old mid l txg) before.0 gives in
+    (refl, λ d u waits. before.1 d u (sym (ap (λ (s : Space). is_deferred_role (role_at s d u)) same) ∙ takes_waits kind policy want mid new at takes d u waits))
+
 pub others_itself : (kind : Kind) (s : Space) → KeepsOthers kind s s
-others_itself kind s = record { rows = rows_itself s; marks = marks_itself kind s; stays = λ d u may. refl; writable = λ d u may. may }
+others_itself kind s = record { rows = rows_itself s; root = root_itself s; marks = marks_itself kind s; held = held_itself kind s; stays = λ d u may. refl; writable = λ d u may. may }
 
 pub others_more : (kind : Kind) (a b c : Space) → KeepsOthers kind a b → KeepsOthers kind b c → KeepsOthers kind a c
 others_more kind a b c p q = record {
   rows = rows_more a b c p.rows q.rows;
+  root = root_more a b c p.root q.root;
   marks = marks_more kind a b c p.marks q.marks;
+  held = held_more kind a b c p.held q.held;
   stays = λ d u may. let first = p.stays d u may in q.stays d u (ap (may_change kind) first ∙ may) ∙ first;
   writable = λ d u may. p.writable d u (q.writable d u may);
 }
@@ -174,7 +243,9 @@ if_true false x y h = cc
 pub takes_others : (kind : Kind) (policy : Policy) (want : ℕ) (old new : Space) (at : Dva) → Takes kind policy want old new at → KeepsOthers kind old new
 takes_others kind policy want old new at takes = record {
   rows = frame_rows old new (takes_frame kind policy want old new at takes);
+  root = (takes_frame kind policy want old new at takes).root;
   marks = takes_marks kind policy want old new at takes;
+  held = takes_held kind policy want old new at takes;
   stays = λ d u may. (elim (in_address at d u) as (λ (b : Bool). in_address at d u ≡ b → role_at new d u ≡ role_at old d u) [
     | true ↦ λ is. absurd (true_false (sym (ap (may_change kind) (taken_was_free kind policy want old new at takes d u is) ∙ free_changed kind) ∙ may))
     | false ↦ λ is. take_keeps kind policy want old new at takes d u is
@@ -192,7 +263,9 @@ give_rows kinds.Meta old new a birth gives = parts_rows old new gives.1
 pub gives_others : (kind : Kind) (old new : Space) (a : Dva) (birth : ℕ) → GivesBack kind old new a birth → KeepsOthers kind old new
 gives_others kind old new a birth gives = record {
   rows = give_rows kind old new a birth gives;
+  root = gives_root kind old new a birth gives;
   marks = gives_marks kind old new a birth gives;
+  held = gives_held kind old new a birth gives;
   stays = λ d u may. unchanged kind (role_at old d u) (role_at new d u) (given_roles kind old new a birth gives d u) may;
   writable = λ d u may. written_before kind (role_at old d u) (role_at new d u) (given_roles kind old new a birth gives d u) may;
 }

@@ -10,12 +10,12 @@ use Rattle.zr_chain.specs.declared.visit.Visited.{Visited}
 use Rattle.zr_chain.specs.declared.visit.Visited.TheVariants.{Piece}
 use Rattle.zr_rules.specs.Places.{is_on, is_fresh, in_address, part_of, state_of_dev}
 use Rattle.zr_rules.specs.Devices.{Devices}
-use Rattle.zr_rules.specs.Roles.{Role, is_live_role, is_copy_role, is_meta_role, is_free_role}
+use Rattle.zr_rules.specs.Roles.{Role, is_live_role, is_copy_role, is_meta_role, is_free_role, is_held_role, is_deferred_role}
 use Rattle.zr_rules.specs.Roles.Role.{Free, FreshLive, FreshCopy}
 use Rattle.zr_rules.specs.Space.{Space, role_at, IsLawful}
 use Rattle.zr_rules.specs.Equation.{devices_in, live_hits, Spends}
 use Rattle.zr_rules.specs.Resolve.{is_resolved, leads_to}
-use Rattle.zr_rules.specs.Frees.{IsSamePart, MarksNothing}
+use Rattle.zr_rules.specs.Frees.{IsSamePart, IsSameRoot, MarksNothing}
 use Rattle.zr_space.specs.Live.{IsFreeable}
 use Rattle.zr_space.specs.Freeing.{is_shared}
 use Rattle.zr_space.specs.Drops.{IsMeta}
@@ -142,12 +142,27 @@ abbrev pub KeepsMarks : Kind → Space → Space → Type 0
 KeepsMarks Block old new = (d u : ℕ) → is_fresh old.parts.devs d u ≡ true → is_fresh new.parts.devs d u ≡ true
 KeepsMarks Meta old new = MarksNothing old new
 
--- Roles that are none of the store's stay. What it may write now it might write before, so what was written lies there.
+-- for metadata the same units are held by blocks
+abbrev pub KeepsHeld : Kind → Space → Space → Type 0
+KeepsHeld Block old new = Unit {0}
+KeepsHeld Meta old new = (d u : ℕ) → is_held_role (role_at new d u) ≡ is_held_role (role_at old d u)
+
+-- Roles that are none of the store's stay, and what the current root has. What it may write now it might write before, so what was written lies there.
 pub record KeepsOthers (kind : Kind) (old new : Space) : Type 0 where
   pub rows : KeepsRows old new
+  pub root : IsSameRoot old new
   pub marks : KeepsMarks kind old new
+  pub held : KeepsHeld kind old new
   pub stays : (d u : ℕ) → may_change kind (role_at old d u) ≡ false → role_at new d u ≡ role_at old d u
   pub writable : (d u : ℕ) → may_write kind (role_at new d u) ≡ true → may_write kind (role_at old d u) ≡ true
+
+-- no more units wait to be free: none was given back
+abbrev pub WaitsStill : Space → Space → Type 0
+WaitsStill old new = (d u : ℕ) → is_deferred_role (role_at new d u) ≡ true → is_deferred_role (role_at old d u) ≡ true
+
+-- Where no put had failed at the start none has failed since, and nothing was given back.
+abbrev pub GivesNothing : Option Dva → Option Dva → Space → Space → Type 0
+GivesNothing lost_old lost_new old new = lost_old ≡ None → (lost_new ≡ None) × WaitsStill old new
 
 -- What calls did since some start: no size changed and no count fell, the shelf is told still, and nothing was written but units that might be written at the
 -- start. What is cached stays the bytes of its address.

@@ -59,6 +59,8 @@ impl<S: Shelf> Blocks for Reader<'_, S> {
         (now.shelf.ghost_name ≡ start.shelf.ghost_name) × (now.cache.ghost_name ≡ start.cache.ghost_name) × (now.space ≡ start.space) × (now.slots ≡ start.slots)
         × GoesOnReading start.slots.now start.space.now (S.sizes start.shelf.now) (S.sizes now.shelf.now) (S.counts start.shelf.now) (S.counts now.shelf.now) (S.tells start.shelf.now) (S.tells now.shelf.now) (S.world start.shelf.now) (S.world now.shelf.now) start.cache.now now.cache.now };
 
+    ghost adds = { λ start now. now.space ≡ start.space };
+
     ghost once = { λ v s held. held.alone };
 
     ghost resolved = { λ v s held. held.resolves };

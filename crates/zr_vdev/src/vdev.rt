@@ -12,7 +12,7 @@ ghost use Rattle.zr_rules.specs.Resolve.{is_resolved};
 ghost use Rattle.zr_vdev.specs.Mounts.{AreMounted, HaveDisks};
 ghost use Rattle.zr_vdev.specs.Puts.{GivesBack};
 ghost use Rattle.zr_vdev.specs.Runs.{account_of};
-ghost use Rattle.zr_vdev.specs.Stores.{IsInUse, IsApart, IsStoredAt, HoldsBlocks, Continues, GivesBackLost, shares};
+ghost use Rattle.zr_vdev.specs.Stores.{IsInUse, IsApart, IsStoredAt, HoldsBlocks, Continues, GivesBackLost, GivesNothing, shares};
 
 use crate::cached::{free_block, get_block, put_block};
 use crate::kind::{Kind, Mount, Place};
@@ -191,6 +191,8 @@ impl<S: Shelf, P: Place> Blocks for Vdev<'_, S, P> {
         (now.space.ghost_name ≡ start.space.ghost_name) × (now.shelf.ghost_name ≡ start.shelf.ghost_name) × (now.cache.ghost_name ≡ start.cache.ghost_name)
         × (now.mount ≡ start.mount)
         × Continues start.mount.kind start.mount.slots.now (S.sizes start.shelf.now) (S.sizes now.shelf.now) (S.counts start.shelf.now) (S.counts now.shelf.now) (S.tells start.shelf.now) (S.tells now.shelf.now) (S.world start.shelf.now) (S.world now.shelf.now) start.space.now now.space.now start.cache.now now.cache.now };
+
+    ghost adds = { λ start now. GivesNothing start.lost now.lost start.space.now now.space.now };
 
     ghost once = { λ v s held. held.alone };
 

@@ -12,6 +12,7 @@ use Rattle.zr_root.proofs.bytes.put_leaves.Goals as goal
 pub loop-piece-init : goal.loop-piece-init
 loop-piece-init g c = record {
   follows = λ start so_far. so_far;
+  adds = λ start so_far. so_far;
   costs = search rules;
   count = search rules;
   units = search rules;
@@ -24,6 +25,7 @@ loop-piece-preserved g c =
     let items = c.in_ok-push.ensures.items in
     record {
       follows = λ start so_far. c.put_leaf.ensures.follows start (c.loop-piece.invariant.follows start so_far);
+      adds = λ start so_far. c.in_ok-b.ensures.adds start (c.loop-piece.invariant.adds start so_far);
       costs = costs_then c.loop-piece.invariant.costs c.put_leaf.ensures.costs;
       count = search rules;
       units = subst (All (IsUnitAt 0)) (sym items) (All-push (IsUnitAt 0) leaves c.in_ok-b.b c.loop-piece.invariant.units c.in_ok-b.ensures.unit);

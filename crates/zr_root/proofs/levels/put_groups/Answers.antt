@@ -12,6 +12,7 @@ use Rattle.zr_root.proofs.levels.put_groups.Goals as goal
 pub loop-piece-init : goal.loop-piece-init
 loop-piece-init g c = record {
   follows = λ start so_far. so_far;
+  adds = λ start so_far. so_far;
   costs = search rules;
   count = search rules;
   fit = search rules;
@@ -24,6 +25,7 @@ loop-piece-preserved g c =
     let items = c.in_ok-push.ensures.items in
     record {
       follows = λ start so_far. c.put_group.ensures.follows start (c.loop-piece.invariant.follows start so_far);
+      adds = λ start so_far. c.in_ok-b.ensures.adds start (c.loop-piece.invariant.adds start so_far);
       costs = costs_then c.loop-piece.invariant.costs c.put_group.ensures.costs;
       count = search rules;
       fit = subst (All (IsUnitAt (c.args.below + 1))) (sym items) (All-push (IsUnitAt (c.args.below + 1)) tops c.in_ok-b.b c.loop-piece.invariant.fit c.in_ok-b.ensures.fits);

@@ -8,6 +8,7 @@ use Rattle.zr_root.proofs.levels.put_groups.Given as goal
 abbrev pub invariant-loop-piece : goal.invariant-loop-piece
 invariant-loop-piece g l = record {
   follows : (start : g.row.B.Denot) → g.B.Blocks.follows start l.fn.store → g.B.Blocks.follows start l.store;
+  adds : (start : g.row.B.Denot) → g.B.Blocks.adds start l.fn.store → g.B.Blocks.adds start l.store;
   costs : Costs l.piece-index 0 (g.B.Blocks.account l.fn.store) (g.B.Blocks.account l.store);
   count : length l.tops.items ≡ l.piece-index;
   fit : All (IsUnitAt (l.below + 1)) l.tops.items;

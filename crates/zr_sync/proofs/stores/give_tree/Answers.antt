@@ -16,3 +16,11 @@ returns-clause-gives g c = λ s h stored.
     (now_given _ _ s (tree_reach s c.args.t.now)
     (λ m held. begins_held store.mount.kind store.mount.slots.now (g.S.Shelf.tells store.shelf.now) (g.S.Shelf.world store.shelf.now).now.seen store.space.now store.lost store.cache.now m held)
     (c.in_ok-give_blocks.ensures.gives s (rw (v.space, v.shelf, v.cache, v.lost, v.mount) h) stored))
+
+pub returns-in_err-give_blocks-clause-continues : goal.returns-in_err-give_blocks-clause-continues
+returns-in_err-give_blocks-clause-continues g c =
+    let v = c.new-store.ensures in
+    let f = c.give_blocks.ensures.follows c.new-store.result (refl, refl, refl, refl, continues_itself _ _ _ _ _ _ _ _) in
+    let mount = f.3 ∙ v.mount in
+    let goes = f.4 in
+    search (rules, goes, v, mount)

@@ -33,3 +33,11 @@ returns-clause-continues g c =
     let mount = f.3 ∙ v.mount in
     let goes = f.4 in
     search (rules, goes, v, mount)
+
+pub returns-in_err-write_head-clause-continues : goal.returns-in_err-write_head-clause-continues
+returns-in_err-write_head-clause-continues g c =
+    let v = c.new-store.ensures in
+    let f = c.write_head.ensures.follows c.new-store.result (refl, refl, refl, refl, continues_itself _ _ _ _ _ _ _ _) in
+    let mount = f.3 ∙ v.mount in
+    let goes = f.4 in
+    search (rules, goes, v, mount)

@@ -2,12 +2,13 @@ use Rattle.std.proofs.Common.{◌≡◌, ◌∙◌, ◌<◌, sym, arith, length,
 use Rattle.std.proofs.lemmas.List.{length-set}
 use Rattle.zr_rules.specs.Steps.{Commits}
 use Rattle.zr_space.specs.Live.{IsLive}
+use Rattle.zr_space.specs.Turning.{TurnsParts}
 use Rattle.zr_space.specs.Drops.{IsMeta}
 use Rattle.zr_space.proofs.Lives.{stays_live, stays_meta}
 use Rattle.zr_space.specs.Views.{Kept, kept_of, settled, AreTurned, space_of}
 use Rattle.zr_space.proofs.Views.{kept_read}
 use Rattle.zr_space.proofs.Turning.{TurnedBelow}
-use Rattle.zr_space.proofs.Commits.{IsNext, age_space, clear_space, settled_next, settled_all, commits, meta_turned, saved_turned}
+use Rattle.zr_space.proofs.Commits.{IsNext, age_space, clear_space, settled_next, settled_all, commits, turns_parts, meta_turned, saved_turned}
 use Rattle.zr_space.proofs.space.Space.commit_done.Goals as goal
 
 pub loop-dev-preserved-then-reset : goal.loop-dev-preserved-then-reset
@@ -50,6 +51,16 @@ returns-clause-commits c =
     rw (← c.self.view_is)
     (subst (λ w. Commits c.args.reset (space_of c.self.inside.whole first) (space_of w devs)) (sym i.whole)
     (commits c.args.reset c.self.inside.whole c.self.inside.slabs c.loop-dev.self-inside.slabs first devs turned c.self.invariant i.space))
+
+pub returns-clause-parts : goal.returns-clause-parts
+returns-clause-parts c =
+    let first : List Kept = c.self.inside.devs.items in
+    let devs : List Kept = c.loop-dev.self-inside.devs.items in
+    let i = c.loop-dev.invariant in
+    let n : c.loop-dev.dev ≡ length devs = let e = i.end in let l = i.devices in let t = c.loop-dev-test.false in let a = c.loop-dev.auto.dev-end in omega (arith, e, l, t, a) in
+    let turned : AreTurned (settled c.args.reset) first devs = settled_all c.args.reset first devs i.devices (subst (λ k. TurnedBelow (settled c.args.reset) first devs k) n i.so_far) in
+    rw (← c.self.view_is)
+    (subst (λ w. TurnsParts c.args.reset (space_of c.self.inside.whole first) (space_of w devs)) (sym i.whole) (turns_parts c.args.reset c.self.inside.whole first devs turned))
 
 pub returns-clause-meta : goal.returns-clause-meta
 returns-clause-meta c =

@@ -5,7 +5,7 @@ use Rattle.zr_vdev.specs.declared.kind.Mount.{Mount}
 use Rattle.zr_vdev.proofs.Held.{lost_held, failed_held}
 use Rattle.zr_vdev.proofs.Mounting.{have_disks}
 use Rattle.zr_vdev.proofs.Moves.{put_held}
-use Rattle.zr_vdev.proofs.Follows.{continues_on, lost_step, put_step, put_room, may_devices, spends, missing, some_units, taken_within}
+use Rattle.zr_vdev.proofs.Follows.{put_gives_nothing, continues_on, lost_step, put_step, put_room, may_devices, spends, missing, some_units, taken_within}
 use Rattle.zr_vdev.proofs.vdev.VdevBlocks.put.Goals as goal
 
 pub returns-in-Ok-clause-follows : goal.returns-in-Ok-clause-follows
@@ -33,6 +33,12 @@ returns-in-Ok-clause-follows g c = λ start h.
     let kind_of = λ (m : Mount g.row.P.Denot). m.kind in
     let slots_of = λ (m : Mount g.row.P.Denot). m.slots.now in
     (h.0, h.1, h.2, h.3, continues_on kind_of slots_of start.mount v.mount h.3 (continues_on kind_of slots_of start.mount v.mount h.3 h.4 lost) step)
+
+pub returns-in-Ok-clause-adds : goal.returns-in-Ok-clause-adds
+returns-in-Ok-clause-adds g c = λ start h.
+    let v = c.args.self.now in
+    put_gives_nothing v.mount.kind (g.P.Place.policy v.mount.pick.now) (length c.args.bytes.now / 4096) start.space.now v.space.now c.give_back_lost.new.space c.put_block.new.space start.lost v.lost v.mount.txg c.in-Ok.b.at h
+    c.in_ok-give_back_lost.ensures.ok c.in-Ok.ensures.taken
 
 pub returns-in-Ok-clause-costs : goal.returns-in-Ok-clause-costs
 returns-in-Ok-clause-costs g c =
