@@ -45,9 +45,9 @@ lower_row f g n d lt same below = record {
 pub around : (f g : ℕ → List Standing) (n d : ℕ) → d < n → ((i : ℕ) → i ≢ d → g i ≡ f i) → Around f g n d
 around f g zero d lt same = absurd (omega (arith, lt))
 around f g (suc n) d lt same = (elim (nat_lt d n) as (λ (b : Bool). nat_lt d n ≡ b → Around f g (suc n) d) [
-    | true ↦ λ is. let below : d < n = grind (arith, nat_tests, is) in lower_row f g n d below same (around f g n d below same)
-    | false ↦ λ is. last_row f g n d (grind (arith, nat_tests, is, lt)) same
-  ]) refl
+  | true ↦ λ is. let below : d < n = grind (arith, nat_tests, is) in lower_row f g n d below same (around f g n d below same)
+  | false ↦ λ is. last_row f g n d (grind (arith, nat_tests, is, lt)) same
+]) refl
 
 -- the rows, with some trees of one of them between what stands before these and what stands behind them
 between : (rows front row back first some last rest : List Standing) → rows ≡ front ++ (row ++ back) → row ≡ first ++ (some ++ last) → rows ++ rest ≡ (front ++ first) ++ (some ++ (last ++ (back ++ rest)))

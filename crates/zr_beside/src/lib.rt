@@ -9,5 +9,6 @@ mod laws;
 
 pub use laws::{
     a_row_changes, a_stream_comes, a_stream_is_rewritten, a_tree_comes, a_tree_is_replaced,
-    another_order, one_of_a_row_stands, one_stands, others_stay, their_blocks_stay, they_stay, trees_are_given_back,
+    another_order, one_of_a_row_stands, one_stands, others_stay, their_blocks_stay, they_stay,
+    trees_are_given_back,
 };

@@ -24,6 +24,7 @@ use Rattle.zr_space.specs.Live.{IsFreeable}
 use Rattle.zr_store.specs.Store.{Stored, Swaps, Now}
 use Rattle.zr_vdev.specs.Runs.{view_of}
 use Rattle.zr_vdev.specs.Stores.{HoldsBlocks, addresses_of}
+use Rattle.zr_vdev.specs.declared.kind.Kind.{Kind}
 use Rattle.zr_vdev.specs.declared.kind.Kind.TheVariants.{Block}
 use Rattle.zr_vdev.proofs.Back.{spends_same}
 use Rattle.zr_vdev.proofs.Frames.{held_beside}
@@ -68,9 +69,9 @@ below_labels sizes pool o d slot lt is =
     subst (λ (r : DevRow). unit_at r.units ≤ label_at (slice_index sizes slot) 2) (sym (o.rows d inside)) (units_below (slice_index sizes slot) _ (o.disks d slot inside is))
 
 -- what is held where each address has its bytes
-pub same_holds : (slots : List (Option ℕ)) (t1 t2 : Type 0) (before now : List (List ℕ)) (x : Space) (c : Cache) (s : Stored) → t2 → ((a : Dva) → address_bytes (view_of now slots x) a ≡ address_bytes (view_of before slots x) a)
-    → HoldsBlocks Block slots t1 before x None c s → HoldsBlocks Block slots t2 now x None c s
-same_holds slots t1 t2 before now x c s told same held = record {
+pub same_holds : (kind : Kind) (slots : List (Option ℕ)) (t1 t2 : Type 0) (before now : List (List ℕ)) (x : Space) (c : Cache) (s : Stored) → t2 → ((a : Dva) → address_bytes (view_of now slots x) a ≡ address_bytes (view_of before slots x) a)
+    → HoldsBlocks kind slots t1 before x None c s → HoldsBlocks kind slots t2 now x None c s
+same_holds kind slots t1 t2 before now x c s told same held = record {
   told = told;
   taken = held.taken;
   read = λ e among. let was = held.read e among in record { runs_of = was.runs_of; same = was.same ∙ sym (same e.0.pointer.at) };
@@ -93,7 +94,7 @@ published_bytes sizes both all u r a b pool o lawful published =
 pub published_holds : (sizes both all : List ℕ) (u : Uber) (r : Result (Unit {0}) ScanErr) (a b : World) (pool : OpenPool) (t1 t2 : Type 0) (s : Stored) → IsOpen sizes pool → IsUber u → Publishes sizes both all u r a b → t2
     → HasBlocks t1 a.now.seen pool s → HasBlocks t2 b.now.seen pool s
 published_holds sizes both all u r a b pool t1 t2 s o lawful published told held =
-    same_holds pool.table.slots t1 t2 a.now.seen b.now.seen pool.space pool.cache s told
+    same_holds Block pool.table.slots t1 t2 a.now.seen b.now.seen pool.space pool.cache s told
     (published_keeps sizes pool.table.slots (devices_in pool.space) (below_labels sizes pool o) u lawful both all r a b published) held
 
 -- ---- the end of a group

@@ -29,7 +29,7 @@ use Rattle.zr_sync.proofs.Stays.{objects_written, trees_stored}
 -- ---- what is held, whether it is told or not
 
 pub untold : (t : Type 0) (disks : List (List ℕ)) (x : OpenPool) (objects : Objects) → HoldsObjects t disks x objects → HoldsObjects (Unit {0}) disks x objects
-untold t disks x objects h = record { stored = h.stored; held = same_holds x.table.slots t (Unit {0}) disks disks x.space x.cache h.stored tt (λ a. refl) h.held; has = h.has }
+untold t disks x objects h = record { stored = h.stored; held = same_holds Block x.table.slots t (Unit {0}) disks disks x.space x.cache h.stored tt (λ a. refl) h.held; has = h.has }
 
 -- ---- a commit that stops before its root is published
 

@@ -20,3 +20,13 @@ pub mod SetsFrom
 pub mod Safe
 pub mod Leading
 pub mod Ending
+pub mod KeptSets
+pub mod TreeRows
+pub mod Stages
+pub mod Steps
+pub mod Progress
+pub mod Recording
+pub mod Regrouping
+pub mod LateTrees
+pub mod HeadTrees
+pub mod CondTrees

@@ -13,3 +13,4 @@ pub mod Anew
 pub mod Mappings
 pub mod Leads
 pub mod Ends
+pub mod Trees

@@ -3,7 +3,7 @@
 //! Nothing that the last root leads to is written over, so until the new root is durable a crash finds the last one whole.
 //! What the metadata says of the space is said behind the last block that is given back, so the old head and the old late
 //! sets go before the new ones are written.
-ghost use Rattle.std.specs.Prelude.{◌≡◌, ◌<◌, ◌≤◌, ◌+◌, ◌%◌, ℕ, List, [], true, length, IfSome, IsErrOf, IfOk, OnOk};
+ghost use Rattle.std.specs.Prelude.{◌≡◌, ◌<◌, ◌≤◌, ◌+◌, ◌%◌, ℕ, List, [], true, length, false, IfSome, IsErrOf, IfOk, OnOk};
 ghost use Rattle.zr_base.specs.Counts.{HasRisen};
 ghost use Rattle.zr_label.specs.Blocks.{IsMetaRoot};
 ghost use Rattle.zr_rules.specs.Space.{Space};
@@ -25,6 +25,12 @@ ghost use Rattle.zr_sync.specs.Pools.{IsOpen, IsSamePool, none_turned};
 ghost use Rattle.zr_sync.specs.Writes.{WorksOnDisks, WritesAll, WritesIntoFree, WritesMetadata};
 ghost use Rattle.zr_sync.specs.declared.logs.Logs.TheVariants.{Anew};
 ghost use Rattle.zr_sync.specs.declared.stop.Stop.TheVariants.{DiskFault};
+ghost use Rattle.zr_beside.specs.Beside.{Standing};
+ghost use Rattle.zr_bptr.specs.declared.Tree.{Tree};
+ghost use Rattle.zr_root.specs.Streams.{IsTreeFor};
+ghost use Rattle.zr_sync.specs.Trees.{HoldsStreams, Place, Stage, giving, head_tree, one_stage, recorded, settling, writing};
+ghost use Rattle.zr_sync.specs.Trees.Stage.{Had, Recorded, Written};
+ghost use Rattle.zr_sync.specs.declared.mappings.MappingStream.{MappingStream};
 
 use crate::device_streams::write_streams;
 use crate::ends::end_group;
@@ -55,6 +61,7 @@ fn write_late_sets<S: Shelf, P: Place>(
     ensures pool { OnOk result (IsOpen (S.sizes shelf.new) pool.new) }
     ensures fault { IsErrOf result DiskFault → HasRisen (S.counts shelf.old).disk (S.counts shelf.new).disk }
     ensures none { reset ≡ true → pool.new.streams ≡ pool.old.streams }
+    ensures trees { (cond : MappingStream → Stage) (others : List Standing) → HoldsStreams (giving pool.old.table.count) cond others (S.tells shelf.old) (S.world shelf.old).now.seen pool.old → OnOk result (HoldsStreams (settling reset pool.old.table.count) cond others (S.tells shelf.new) (S.world shelf.new).now.seen pool.new) }
 {
     if reset {
         return Ok(());
@@ -74,6 +81,7 @@ fn turn_metadata<S: Shelf, P: Place>(
     ensures wrote { WritesMetadata (S.sizes shelf.old) (S.sizes shelf.new) (S.counts shelf.old) (S.counts shelf.new) (S.tells shelf.old) (S.tells shelf.new) (S.world shelf.old) (S.world shelf.new) pool.old pool.new }
     ensures pool { OnOk result (IsOpen (S.sizes shelf.new) pool.new) }
     ensures fault { IsErrOf result DiskFault → HasRisen (S.counts shelf.old).disk (S.counts shelf.new).disk }
+    ensures trees { (bytes : List ℕ) → HoldsStreams (writing 0) (one_stage Had) (head_tree pool.old.head bytes) (S.tells shelf.old) (S.world shelf.old).now.seen pool.old → OnOk result (HoldsStreams (giving pool.old.table.count) (one_stage Written) [] (S.tells shelf.new) (S.world shelf.new).now.seen pool.new) }
     ensures anew { logs ≡ Anew → OnOk result (AreRenewed pool.old.version pool.old.space pool.new.streams.items pool.old.table.count) }
 {
     write_streams(alloc, pool, shelf, pick, logs)?;
@@ -99,6 +107,7 @@ fn leave_devices(pool: &mut OpenPool, moving: bool) -> Result<(), NoMemory>
     requires pool { (sizes : List ℕ) × IsOpen sizes pool.old }
     ensures others { KeepsOthers Meta pool.old.space pool.new.space }
     ensures rest { pool.new ≡ record pool.old { space = pool.new.space } }
+    ensures stays { moving ≡ false → pool.new ≡ pool.old }
 {
     if !moving {
         return Ok(());
@@ -131,6 +140,7 @@ fn write_metadata<S: Shelf, P: Place>(
     ensures short { IfOk result (λ head. head.1 ≤ 35016) }
     ensures stands { IsSeen (S.tells shelf.old) (S.world shelf.old).now.seen pool.old → IfOk result (λ head. HasHead (S.world shelf.new).now.seen pool.new head.0 head.1) }
     ensures safe { IsSeen (S.tells shelf.old) (S.world shelf.old).now.seen pool.old → IfOk result (λ head. HasSafeHead (S.world shelf.new).now.seen pool.new head.0 head.1) }
+    ensures trees { moving ≡ false → (bytes : List ℕ) → HoldsStreams (writing 0) (one_stage Had) (head_tree pool.old.head bytes) (S.tells shelf.old) (S.world shelf.old).now.seen pool.old → IfOk result (λ head. (next : List ℕ) × ((t : Tree) → IsTreeFor head.1 head.0 t → HoldsStreams (settling reset pool.old.table.count) (one_stage Written) (head_tree t next) (S.tells shelf.new) (S.world shelf.new).now.seen pool.new)) }
     ensures anew { reset ≡ true → logs ≡ Anew → OnOk result (AreRenewed pool.old.version pool.old.space pool.new.streams.items pool.old.table.count) }
 {
     turn_metadata(alloc, pool, shelf, pick, logs)?;
@@ -159,6 +169,7 @@ fn write_all<S: Shelf, P: Place>(
     ensures short { IfOk result (λ head. head.1 ≤ 35016) }
     ensures stands { IsSeen (S.tells shelf.old) (S.world shelf.old).now.seen pool.old → IfOk result (λ head. HasHead (S.world shelf.new).now.seen pool.new head.0 head.1) }
     ensures safe { IsSeen (S.tells shelf.old) (S.world shelf.old).now.seen pool.old → IfOk result (λ head. HasSafeHead (S.world shelf.new).now.seen pool.new head.0 head.1) }
+    ensures trees { moving ≡ false → (bytes : List ℕ) → HoldsStreams (writing 0) (one_stage Had) (head_tree pool.old.head bytes) (S.tells shelf.old) (S.world shelf.old).now.seen pool.old → IfOk result (λ head. (next : List ℕ) × ((t : Tree) → IsTreeFor head.1 head.0 t → HoldsStreams (settling reset pool.old.table.count) (one_stage Written) (head_tree t next) (S.tells shelf.new) (S.world shelf.new).now.seen pool.new)) }
     ensures seen { IsSeen (S.tells shelf.old) (S.world shelf.old).now.seen pool.old → OnOk result (IsSeen (S.tells shelf.new) (S.world shelf.new).now.seen pool.new) }
     ensures objects { (s : Stored) → HasBlocks (S.tells shelf.old) (S.world shelf.old).now.seen pool.old s → AreTreesStored pool.old s → OnOk result (HasWritten (S.tells shelf.new) (S.world shelf.new).now.seen pool.old pool.new s) }
     ensures anew { reset ≡ true → logs ≡ Anew → OnOk result (RenewsLogs pool.old pool.new) }
@@ -199,6 +210,7 @@ fn commit_with<S: Shelf, P: Place>(
     ensures ends { OnOk result (EndsGroup reset pool.old.space pool.new.space) }
     ensures anew { reset ≡ true → logs ≡ Anew → OnOk result (RenewsLogs pool.old pool.new) }
     ensures empty { OnOk result (pool.new.group.objects ≡ []) }
+    ensures trees { moving ≡ false → (bytes : List ℕ) → HoldsStreams (writing 0) (one_stage Had) (head_tree pool.old.head bytes) (S.tells shelf.old) (S.world shelf.old).now.seen pool.old → OnOk result ((next : List ℕ) × HoldsStreams recorded (one_stage Recorded) (head_tree pool.new.head next) (S.tells shelf.new) (S.world shelf.new).now.seen pool.new) }
     ensures turned { OnOk result (pool.new.turned ≡ none_turned) }
     ensures txg { OnOk result (pool.new.group.txg ≡ pool.old.group.txg + 1) }
     ensures objects { (s : Stored) → HasBlocks (S.tells shelf.old) (S.world shelf.old).now.seen pool.old s → AreTreesStored pool.old s → OnOk result (HasWritten (S.tells shelf.new) (S.world shelf.new).now.seen pool.old pool.new s) }
@@ -248,6 +260,7 @@ pub fn commit<S: Shelf, P: Place>(
     ensures space { OnOk result ((before : Space) × Commits reset before pool.new.space) }
     ensures ends { OnOk result (EndsGroup reset pool.old.space pool.new.space) }
     ensures empty { OnOk result (pool.new.group.objects ≡ []) }
+    ensures trees { (bytes : List ℕ) → HoldsStreams (writing 0) (one_stage Had) (head_tree pool.old.head bytes) (S.tells shelf.old) (S.world shelf.old).now.seen pool.old → OnOk result ((next : List ℕ) × HoldsStreams recorded (one_stage Recorded) (head_tree pool.new.head next) (S.tells shelf.new) (S.world shelf.new).now.seen pool.new) }
     ensures turned { OnOk result (pool.new.turned ≡ none_turned) }
     ensures txg { OnOk result (pool.new.group.txg ≡ pool.old.group.txg + 1) }
     ensures objects { (s : Stored) → HasBlocks (S.tells shelf.old) (S.world shelf.old).now.seen pool.old s → AreTreesStored pool.old s → OnOk result (HasWritten (S.tells shelf.new) (S.world shelf.new).now.seen pool.old pool.new s) }

@@ -3,7 +3,10 @@ ghost use Rattle.std.specs.Prelude.{◌≡◌, ◌+◌, ◌<◌, ◌≤◌, ◌^
 ghost use Rattle.zr_base.specs.declared.space.Dva.{Dva};
 ghost use Rattle.zr_label.specs.Blocks.{IsUber};
 ghost use Rattle.zr_rules.specs.Steps.{Commits};
+ghost use Rattle.zr_root.specs.Streams.{IsTreeFor};
+ghost use Rattle.zr_space.specs.Drops.{IsMeta};
 ghost use Rattle.zr_space.specs.Live.{IsLive};
+ghost use Rattle.zr_space.specs.Turning.{TurnsParts};
 ghost use Rattle.zr_sync.specs.Commits.{IsNextRoot};
 ghost use Rattle.zr_sync.specs.Pools.{IsOpen, IsSamePool, none_turned};
 
@@ -31,7 +34,10 @@ pub fn end_group(alloc: Global, pool: &mut OpenPool, root: Uber, reset: bool)
     ensures turned { pool.new.turned ≡ none_turned }
     ensures saved { pool.new.saved ≡ pool.old.saved }
     ensures live { (a : Dva) → IsLive pool.old.space a → IsLive pool.new.space a }
+    ensures metadata { (a : Dva) → IsMeta pool.old.space a → IsMeta pool.new.space a }
+    ensures tall { IsTreeFor root.len root.root pool.new.head }
     ensures space { Commits reset pool.old.space pool.new.space }
+    ensures parts { TurnsParts reset pool.old.space pool.new.space }
     ensures empty { pool.new.group.objects ≡ [] }
     ensures txg { pool.new.group.txg ≡ pool.old.group.txg + 1 }
 {

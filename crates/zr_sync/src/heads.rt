@@ -8,6 +8,11 @@ ghost use Rattle.zr_sync.specs.Heads.{HasHead, HasSafeHead, IsSeen, cond_at, con
 ghost use Rattle.zr_sync.specs.Pools.{AreCondStreams, AreStreams, IsOpen, saved_block};
 ghost use Rattle.zr_sync.specs.Writes.{WritesMetadata};
 ghost use Rattle.zr_sync.specs.declared.stop.Stop.TheVariants.{DiskFault};
+ghost use Rattle.zr_beside.specs.Beside.{Standing, of_tree};
+ghost use Rattle.zr_bptr.specs.declared.Tree.{Tree};
+ghost use Rattle.zr_root.specs.Streams.{IsTreeFor};
+ghost use Rattle.zr_sync.specs.Trees.{HoldsStreams, Place, Stage};
+ghost use Rattle.zr_sync.specs.declared.mappings.MappingStream.{MappingStream};
 
 use crate::open::{Checkpoint, CondStreams, DeviceStreams, OpenPool};
 use crate::stop::Stop;
@@ -154,6 +159,7 @@ pub fn write_head<S: Shelf, P: Place>(
     ensures pool { OnOk result (IsOpen (S.sizes shelf.new) pool.new) }
     ensures fault { IsErrOf result DiskFault → HasRisen (S.counts shelf.old).disk (S.counts shelf.new).disk }
     ensures streams { pool.new.streams ≡ pool.old.streams }
+    ensures trees { (stage : ℕ → Place → Stage) (cond : MappingStream → Stage) (others : List Standing) → HoldsStreams stage cond others (S.tells shelf.old) (S.world shelf.old).now.seen pool.old → IfOk result (λ head. (bytes : List ℕ) × ((t : Tree) → IsTreeFor head.1 head.0 t → HoldsStreams stage cond (of_tree t bytes ∷ others) (S.tells shelf.new) (S.world shelf.new).now.seen pool.new)) }
     ensures root { IfOk result (λ head. IsMetaRoot head.0 head.1) }
     ensures whole { IfOk result (λ head. head.1 % 8 ≡ 0) }
     ensures least { IfOk result (λ head. 8 ≤ head.1) }

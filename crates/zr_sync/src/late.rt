@@ -14,6 +14,11 @@ ghost use Rattle.zr_sync.specs.Pools.{IsOpen};
 ghost use Rattle.zr_sync.specs.Streams.{HasMeta, HasNoLates, WritesLates, late_streams, streams_at};
 ghost use Rattle.zr_sync.specs.Writes.{WritesMetadata};
 ghost use Rattle.zr_sync.specs.declared.stop.Stop.TheVariants.{DiskFault};
+ghost use Rattle.std.specs.Prelude.{◌+◌, ℕ, List};
+ghost use Rattle.zr_beside.specs.Beside.{Standing};
+ghost use Rattle.zr_vdev.specs.Stores.{WaitsStill};
+ghost use Rattle.zr_sync.specs.Trees.{HasNoLateYet, HoldsStreams, Place, Stage, giving, head_tree, laying};
+ghost use Rattle.zr_sync.specs.declared.mappings.MappingStream.{MappingStream};
 
 use crate::open::{EMPTY, OpenPool};
 use crate::stop::Stop;
@@ -37,6 +42,7 @@ pub fn give_head<S: Shelf, P: Place>(
     ensures fault { IsErrOf result DiskFault → HasRisen (S.counts shelf.old).disk (S.counts shelf.new).disk }
     ensures streams { pool.new.streams ≡ pool.old.streams }
     ensures gives { (s : Stored) → HasMeta (S.tells shelf.old) (S.world shelf.old).now.seen pool.old s → AreStored (tree_reach s pool.old.head) s → OnOk result (Now (HasMeta (S.tells shelf.new) (S.world shelf.new).now.seen pool.new) (λ n. Swaps s n (tree_reach s pool.old.head) [])) }
+    ensures trees { (stage : ℕ → Place → Stage) (cond : MappingStream → Stage) (bytes : List ℕ) → HasNoLateYet stage → HoldsStreams stage cond (head_tree pool.old.head bytes) (S.tells shelf.old) (S.world shelf.old).now.seen pool.old → OnOk result (HoldsStreams stage cond [] (S.tells shelf.new) (S.world shelf.new).now.seen pool.new) }
 {
     let mount = Mount {
         slots: &pool.table.slots,
@@ -69,6 +75,7 @@ fn give_late<S: Shelf, P: Place>(
     ensures fault { IsErrOf result DiskFault → HasRisen (S.counts shelf.old).disk (S.counts shelf.new).disk }
     ensures gives { (s : Stored) → HasMeta (S.tells shelf.old) (S.world shelf.old).now.seen pool.old s → AreStored (streams_reach s (late_streams (streams_at pool.old dev))) s → OnOk result (Now (HasMeta (S.tells shelf.new) (S.world shelf.new).now.seen pool.new) (λ n. Swaps s n (streams_reach s (late_streams (streams_at pool.old dev))) [])) }
     ensures none { OnOk result (HasNoLates pool.old pool.new dev) }
+    ensures trees { (cond : MappingStream → Stage) (others : List Standing) → HoldsStreams (giving dev) cond others (S.tells shelf.old) (S.world shelf.old).now.seen pool.old → OnOk result (HoldsStreams (giving (dev + 1)) cond others (S.tells shelf.new) (S.world shelf.new).now.seen pool.new) }
 {
     let index = dev as usize;
     let old = pool.streams[index];
@@ -104,6 +111,7 @@ pub fn give_lates<S: Shelf, P: Place>(
     ensures pool { OnOk result (IsOpen (S.sizes shelf.new) pool.new) }
     ensures fault { IsErrOf result DiskFault → HasRisen (S.counts shelf.old).disk (S.counts shelf.new).disk }
     ensures counts { OnOk result (KeepsCounts pool.old pool.new) }
+    ensures trees { (cond : MappingStream → Stage) (others : List Standing) → HoldsStreams (giving 0) cond others (S.tells shelf.old) (S.world shelf.old).now.seen pool.old → OnOk result (HoldsStreams (giving pool.old.table.count) cond others (S.tells shelf.new) (S.world shelf.new).now.seen pool.new) }
 {
     for dev in 0..pool.table.count {
         give_late(alloc, pool, shelf, pick, dev)?;
@@ -125,6 +133,8 @@ fn write_late<S: Shelf, P: Place>(
     ensures pool { OnOk result (IsOpen (S.sizes shelf.new) pool.new) }
     ensures fault { IsErrOf result DiskFault → HasRisen (S.counts shelf.old).disk (S.counts shelf.new).disk }
     ensures writes { (s : Stored) → HasMeta (S.tells shelf.old) (S.world shelf.old).now.seen pool.old s → OnOk result (Now (HasMeta (S.tells shelf.new) (S.world shelf.new).now.seen pool.new) (λ n. WritesLates s n pool.old pool.new dev)) }
+    ensures waits { OnOk result (WaitsStill pool.old.space pool.new.space) }
+    ensures trees { (cond : MappingStream → Stage) (others : List Standing) → HoldsStreams (laying dev) cond others (S.tells shelf.old) (S.world shelf.old).now.seen pool.old → OnOk result (HoldsStreams (laying (dev + 1)) cond others (S.tells shelf.new) (S.world shelf.new).now.seen pool.new) }
 {
     let first = first_late_words(alloc, &pool.space, dev, pool.version)?;
     let second = second_late_words(alloc, &pool.space, dev, pool.version)?;
@@ -151,7 +161,9 @@ fn write_words<S: Shelf, P: Place>(
     ensures fault { IsErrOf result DiskFault → HasRisen (S.counts shelf.old).disk (S.counts shelf.new).disk }
     ensures stream { IfOk result IsStream }
     ensures same { pool.new.streams ≡ pool.old.streams }
+    ensures cond { pool.new.cond ≡ pool.old.cond }
     ensures stores { (s : Stored) → HasMeta (S.tells shelf.old) (S.world shelf.old).now.seen pool.old s → IfOk result (λ now. Now (HasMeta (S.tells shelf.new) (S.world shelf.new).now.seen pool.new) (λ n. StoresWords s n now words.now)) }
+    ensures waits { OnOk result (WaitsStill pool.old.space pool.new.space) }
 {
     let mount = Mount {
         slots: &pool.table.slots,
@@ -173,6 +185,7 @@ pub fn write_lates<S: Shelf, P: Place>(
     ensures wrote { WritesMetadata (S.sizes shelf.old) (S.sizes shelf.new) (S.counts shelf.old) (S.counts shelf.new) (S.tells shelf.old) (S.tells shelf.new) (S.world shelf.old) (S.world shelf.new) pool.old pool.new }
     ensures pool { OnOk result (IsOpen (S.sizes shelf.new) pool.new) }
     ensures fault { IsErrOf result DiskFault → HasRisen (S.counts shelf.old).disk (S.counts shelf.new).disk }
+    ensures trees { (cond : MappingStream → Stage) (others : List Standing) → HoldsStreams (laying 0) cond others (S.tells shelf.old) (S.world shelf.old).now.seen pool.old → OnOk result (HoldsStreams (laying pool.old.table.count) cond others (S.tells shelf.new) (S.world shelf.new).now.seen pool.new) }
 {
     for dev in 0..pool.table.count {
         write_late(alloc, pool, shelf, pick, dev)?;

@@ -12,6 +12,7 @@ mod ends;
 mod fault;
 mod heads;
 mod late;
+mod laws;
 mod logs;
 mod mappings;
 mod open;
@@ -24,6 +25,7 @@ mod words;
 pub use checkpoints::{checkpoint, discard_some, give_up_checkpoint};
 pub use commits::{commit, commit_anew, commit_moving};
 pub use fault::Fault;
+pub use laws::{a_group_begins_with_what_is_recorded, blocks_leave_the_streams};
 pub use logs::Logs;
 pub use mappings::{MappingStream, cond_grows, mapping_grows};
 pub use open::{

@@ -15,6 +15,10 @@ ghost use Rattle.zr_sync.specs.Streams.{HasMeta, WritesLog, log_stream, streams_
 ghost use Rattle.zr_sync.specs.Words.{HasRoomFor, IsLastLog, IsLogNow, words_then};
 ghost use Rattle.zr_sync.specs.Writes.{WritesMetadata};
 ghost use Rattle.zr_sync.specs.declared.stop.Stop.TheVariants.{DiskFault};
+ghost use Rattle.zr_beside.specs.Beside.{Standing};
+ghost use Rattle.zr_sync.specs.Trees.{HasNoLateYet, HoldsStreams, Place, Stage, WritesPlace};
+ghost use Rattle.zr_sync.specs.Trees.Place.{OfLog};
+ghost use Rattle.zr_sync.specs.declared.mappings.MappingStream.{MappingStream};
 
 use crate::open::{DeviceStreams, OpenPool};
 use crate::stop::Stop;
@@ -111,6 +115,7 @@ pub fn write_log<S: Shelf, P: Place>(
     ensures fault { IsErrOf result DiskFault → HasRisen (S.counts shelf.old).disk (S.counts shelf.new).disk }
     ensures writes { (s : Stored) (had : List ℕ) → HasMeta (S.tells shelf.old) (S.world shelf.old).now.seen pool.old s → AreStored (tree_reach s (log_stream log (streams_at pool.old dev)).tree) s → HasWords s (log_stream log (streams_at pool.old dev)) had → IsLastLog pool.old.version pool.old.space dev log had
         → OnOk result (Now (HasMeta (S.tells shelf.new) (S.world shelf.new).now.seen pool.new) (λ n. WritesLog s n pool.old pool.new dev log)) }
+    ensures trees { (stage next : ℕ → Place → Stage) (cond : MappingStream → Stage) (others : List Standing) → WritesPlace stage next dev (OfLog log) → HasNoLateYet stage → HoldsStreams stage cond others (S.tells shelf.old) (S.world shelf.old).now.seen pool.old → OnOk result (HoldsStreams next cond others (S.tells shelf.new) (S.world shelf.new).now.seen pool.new) }
     ensures anew { logs ≡ Logs.Anew → OnOk result (RenewsLog pool.old pool.new dev log) }
 {
     let index = dev as usize;

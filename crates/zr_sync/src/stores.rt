@@ -16,7 +16,8 @@ ghost use Rattle.zr_store.specs.declared.StoreErr.TheVariants.{Failed};
 ghost use Rattle.zr_tree.specs.Trees.{tree_reach};
 ghost use Rattle.zr_vdev.specs.Mounts.{AreMounted};
 ghost use Rattle.zr_vdev.specs.Runs.{view_of};
-ghost use Rattle.zr_vdev.specs.Stores.{Continues, HoldsBlocks};
+ghost use Rattle.zr_commit.specs.Heads.{StoresHead};
+ghost use Rattle.zr_vdev.specs.Stores.{Continues, HoldsBlocks, WaitsStill};
 ghost use Rattle.zr_vdev.specs.declared.kind.Kind.TheVariants.{Meta};
 ghost use Rattle.zr_sync.specs.Anew.{HasCountOf};
 ghost use Rattle.zr_sync.specs.Heads.{LiesInMetadata, StandsHead};
@@ -124,6 +125,7 @@ pub fn put_words<S: Shelf, P: Place>(
     ensures continues { Continues mount.entry.kind mount.entry.slots.now (S.sizes shelf.old) (S.sizes shelf.new) (S.counts shelf.old) (S.counts shelf.new) (S.tells shelf.old) (S.tells shelf.new) (S.world shelf.old) (S.world shelf.new) space.old space.new cache.old cache.new }
     ensures fault { IsErrOf result DiskFault → HasRisen (S.counts shelf.old).disk (S.counts shelf.new).disk }
     ensures stream { IfOk result IsStream }
+    ensures waits { OnOk result (WaitsStill space.old space.new) }
     ensures stores { (s : Stored) → HoldsBlocks mount.entry.kind mount.entry.slots.now (S.tells shelf.old) (S.world shelf.old).now.seen space.old None cache.old s → IfOk result (λ now. Now (HoldsBlocks mount.entry.kind mount.entry.slots.now (S.tells shelf.new) (S.world shelf.new).now.seen space.new None cache.new) (λ n. StoresWords s n now words.now)) }
 {
     let mut store = Vdev::new(space, shelf, cache, mount);
@@ -211,6 +213,8 @@ pub fn put_head<S: Shelf, P: Place>(
     ensures short { IfOk result (λ head. head.1 ≤ 35016) }
     ensures stands { (s : Stored) → HoldsBlocks mount.entry.kind mount.entry.slots.now (S.tells shelf.old) (S.world shelf.old).now.seen space.old None cache.old s → IfOk result (λ root. StandsHead rows.now (view_of (S.world shelf.new).now.seen mount.entry.slots.now space.new) head.now root.0 root.1) }
     ensures safe { mount.entry.kind ≡ Meta → (s : Stored) → HoldsBlocks mount.entry.kind mount.entry.slots.now (S.tells shelf.old) (S.world shelf.old).now.seen space.old None cache.old s → IfOk result (λ root. LiesInMetadata space.new (view_of (S.world shelf.new).now.seen mount.entry.slots.now space.new) root.0 root.1) }
+    ensures waits { OnOk result (WaitsStill space.old space.new) }
+    ensures stores { (s : Stored) → HoldsBlocks mount.entry.kind mount.entry.slots.now (S.tells shelf.old) (S.world shelf.old).now.seen space.old None cache.old s → IfOk result (λ root. Now (HoldsBlocks mount.entry.kind mount.entry.slots.now (S.tells shelf.new) (S.world shelf.new).now.seen space.new None cache.new) (λ n. StoresHead rows.now s n head.now root.0 root.1)) }
 {
     let mut store = Vdev::new(space, shelf, cache, mount);
     Ok(write_head(alloc, &mut store, head, rows)?)

@@ -137,9 +137,9 @@ taken_role kinds.Meta policy want old new at takes d u is = takes.roles d u ∙ 
 takes_held : (kind : Kind) (policy : Policy) (want : ℕ) (old new : Space) (at : Dva) → Takes kind policy want old new at → KeepsHeld kind old new
 takes_held kinds.Block policy want old new at takes = tt
 takes_held kinds.Meta policy want old new at takes = λ d u. (elim (in_address at d u) as (λ (b : Bool). in_address at d u ≡ b → is_held_role (role_at new d u) ≡ is_held_role (role_at old d u)) [
-    | true ↦ λ is. ap is_held_role (taken_role kinds.Meta policy want old new at takes d u is) ∙ sym (ap is_held_role (taken_was_free kinds.Meta policy want old new at takes d u is))
-    | false ↦ λ is. ap is_held_role (take_keeps kinds.Meta policy want old new at takes d u is)
-  ]) refl
+  | true ↦ λ is. ap is_held_role (taken_role kinds.Meta policy want old new at takes d u is) ∙ sym (ap is_held_role (taken_was_free kinds.Meta policy want old new at takes d u is))
+  | false ↦ λ is. ap is_held_role (take_keeps kinds.Meta policy want old new at takes d u is)
+]) refl
 
 dropped_held : (r : Role) → is_held_role (dropped r) ≡ is_held_role r
 dropped_held r = grind (arith, nat_tests)
@@ -159,9 +159,9 @@ role_taken_waits kinds.Meta h = cc
 
 takes_waits : (kind : Kind) (policy : Policy) (want : ℕ) (old new : Space) (at : Dva) → Takes kind policy want old new at → (d u : ℕ) → is_deferred_role (role_at new d u) ≡ true → is_deferred_role (role_at old d u) ≡ true
 takes_waits kind policy want old new at takes d u waits = (elim (in_address at d u) as (λ (b : Bool). in_address at d u ≡ b → is_deferred_role (role_at old d u) ≡ true) [
-    | true ↦ λ is. absurd (role_taken_waits kind (sym (ap is_deferred_role (taken_role kind policy want old new at takes d u is)) ∙ waits))
-    | false ↦ λ is. sym (ap is_deferred_role (take_keeps kind policy want old new at takes d u is)) ∙ waits
-  ]) refl
+  | true ↦ λ is. absurd (role_taken_waits kind (sym (ap is_deferred_role (taken_role kind policy want old new at takes d u is)) ∙ waits))
+  | false ↦ λ is. sym (ap is_deferred_role (take_keeps kind policy want old new at takes d u is)) ∙ waits
+]) refl
 
 -- a put that is done gives nothing back, where none failed before
 pub put_gives_nothing : (kind : Kind) (policy : Policy) (want : ℕ) (start old mid new : Space) (lost_start lost : Option Dva) (txg : ℕ) (at : Dva) → GivesNothing lost_start lost start old → GivesBackLost kind old mid lost txg → Takes kind policy want mid new at → GivesNothing lost_start None start new

@@ -1,4 +1,4 @@
-use Rattle.std.proofs.Common.{◌≡◌, List, ℕ, Option, inl, refl, sym, subst}
+use Rattle.std.proofs.Common.{◌≡◌, List, ℕ, Option, inl, refl, sym, ap, subst}
 use Rattle.zr_bptr.specs.declared.Ptr.{Ptr}
 use Rattle.std.specs.Prelude.{IfSome, take}
 use Rattle.zr_label.specs.declared.root.Uber.{Uber}
@@ -9,6 +9,11 @@ use Rattle.zr_sync.specs.Commits.{IsShownFrom}
 use Rattle.zr_sync.specs.Heads.{HasHead, HasSafeHead, head_of}
 use Rattle.zr_sync.specs.Pools.{IsOpen}
 use Rattle.zr_sync.specs.Writes.{WritesIntoFree}
+use Rattle.zr_root.specs.Streams.{IsTreeFor}
+use Rattle.zr_sync.specs.Trees.{HoldsStreams, head_tree, one_stage, settling}
+use Rattle.zr_sync.specs.Trees.Stage.{Written}
+use Rattle.zr_sync.specs.declared.open.OpenPool.{OpenPool}
+use Rattle.zr_sync.proofs.Recording.{records}
 use Rattle.zr_sync.proofs.Anew.{renewed_last}
 use Rattle.zr_sync.proofs.Disks.{works_more}
 use Rattle.zr_sync.proofs.Groups.{commits_devices, publishes_then, shown_before, stops_early}
@@ -157,3 +162,18 @@ returns-clause-written g c = λ t.
 
 pub returns-clause-anew : goal.returns-clause-anew
 returns-clause-anew g c = λ reset is. renewed_last c.args.pool.now c.write_all.new.pool c.end_group.new.pool c.end_group.ensures.streams (c.in_ok-root.ensures.anew reset is)
+
+pub returns-clause-trees : goal.returns-clause-trees
+returns-clause-trees g c = λ still bytes h.
+    let all = c.write_all.new in
+    let last = c.publish_root.new.shelf in
+    let now = c.end_group.new.pool in
+    let next = c.next_root-next in
+    let wrote = c.in_ok-root.ensures.trees still bytes h in
+    let tall : IsTreeFor c.in_ok-root.len c.in_ok-root.root now.head = subst (λ (n : ℕ). IsTreeFor n c.in_ok-root.root now.head) next.ensures.len_is (subst (λ (r : Ptr). IsTreeFor next.result.len r now.head) next.ensures.root_is c.end_group.ensures.tall) in
+    let count : all.pool.table.count ≡ c.args.pool.now.table.count = ap (λ (o : OpenPool). o.table.count) c.write_all.ensures.wrote.rest in
+    let held = subst (λ (k : ℕ). HoldsStreams (settling c.args.reset k) (one_stage Written) (head_tree now.head wrote.0) (g.S.Shelf.tells all.shelf) (g.S.Shelf.world all.shelf).now.seen all.pool) (sym count) (wrote.1 now.head tall) in (
+      wrote.0,
+      records c.args.reset (head_tree now.head wrote.0) (g.S.Shelf.tells all.shelf) (g.S.Shelf.tells last) (g.S.Shelf.world all.shelf).now.seen (g.S.Shelf.world last).now.seen all.pool now (λ told. c.publish_root.ensures.told told) (λ told a. c.publish_root.ensures.bytes told a)
+          c.end_group.ensures.same.version c.end_group.ensures.table c.end_group.ensures.cache c.end_group.ensures.streams c.end_group.ensures.cond c.end_group.ensures.space c.end_group.ensures.parts (λ a is. c.end_group.ensures.metadata a is) held,
+    )

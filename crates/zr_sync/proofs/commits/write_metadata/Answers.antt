@@ -1,8 +1,11 @@
+use Rattle.zr_sync.specs.Trees.{HoldsStreams, giving, one_stage, settling}
+use Rattle.zr_sync.specs.Trees.Stage.{Written}
+use Rattle.zr_sync.specs.declared.open.Table.{Table}
 use Rattle.zr_sync.proofs.Anew.{renewed_still, streams_counts}
-use Rattle.std.proofs.Common.{ap}
+use Rattle.std.proofs.Common.{◌≡◌, ◌∙◌, ℕ, [], sym, ap, subst}
 use Rattle.zr_sync.proofs.Holding.{on_ok_of}
 use Rattle.zr_sync.proofs.Moving.{space_open, space_wrote}
-use Rattle.zr_sync.proofs.Pools.{metadata_then}
+use Rattle.zr_sync.proofs.Pools.{metadata_then, metadata_table}
 use Rattle.zr_sync.proofs.Standing.{seen_metadata}
 use Rattle.zr_sync.specs.declared.open.OpenPool.{OpenPool}
 use Rattle.zr_sync.proofs.commits.write_metadata.Goals as goal
@@ -62,3 +65,19 @@ returns-clause-anew g c = λ reset is.
     let moved = renewed_still was.version was.space turned left was.table.count (streams_counts turned left (ap (λ (o : OpenPool). o.streams) c.leave_devices.ensures.rest)) wrote in
     let same = renewed_still was.version was.space left late was.table.count (streams_counts left late (c.write_late_sets.ensures.none reset)) moved in
     on_ok_of c.write_head.result (renewed_still was.version was.space late c.write_head.new.pool was.table.count (streams_counts late c.write_head.new.pool c.write_head.ensures.streams) same)
+
+pub returns-clause-trees : goal.returns-clause-trees
+returns-clause-trees g c = λ still bytes h.
+    let n = c.args.pool.now.table.count in
+    let turned = c.turn_metadata.new in
+    let left = c.leave_devices.new.pool in
+    let late = c.write_late_sets.new in
+    let one = c.in_ok-turn_metadata.ensures.trees bytes h in
+    let same : left ≡ turned.pool = c.leave_devices.ensures.stays still in
+    let two = subst (λ (o : OpenPool). HoldsStreams (giving n) (one_stage Written) [] (g.S.Shelf.tells turned.shelf) (g.S.Shelf.world turned.shelf).now.seen o) (sym same) one in
+    let count : left.table.count ≡ n = ap (λ (o : OpenPool). o.table.count) same ∙ ap (λ (t : Table). t.count) (metadata_table c.turn_metadata.ensures.wrote) in
+    let three =
+    c.in_ok-write_late_sets.ensures.trees (one_stage Written) []
+    (subst (λ (k : ℕ). HoldsStreams (giving k) (one_stage Written) [] (g.S.Shelf.tells turned.shelf) (g.S.Shelf.world turned.shelf).now.seen left) (sym count) two) in
+    c.write_head.ensures.trees (settling c.args.reset n) (one_stage Written) []
+    (subst (λ (k : ℕ). HoldsStreams (settling c.args.reset k) (one_stage Written) [] (g.S.Shelf.tells late.shelf) (g.S.Shelf.world late.shelf).now.seen late.pool) count three)

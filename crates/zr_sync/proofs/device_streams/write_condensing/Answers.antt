@@ -1,6 +1,9 @@
-use Rattle.std.proofs.Common.{◌∙◌}
+use Rattle.std.proofs.Common.{◌∙◌, refl}
 use Rattle.std.proofs.lemmas.Result.{on_ok_weaker}
+use Rattle.zr_sync.specs.Trees.{one_stage}
+use Rattle.zr_sync.specs.Trees.Stage.{Had, Written}
 use Rattle.zr_sync.proofs.Anew.{streams_counts}
+use Rattle.zr_sync.proofs.CondTrees.{all_more, half, half_more, none_done}
 use Rattle.zr_sync.proofs.Pools.{metadata_then}
 use Rattle.zr_sync.proofs.device_streams.write_condensing.Goals as goal
 
@@ -13,3 +16,10 @@ returns-clause-wrote g c = metadata_then c.give_done.ensures.wrote (metadata_the
 pub returns-clause-counts : goal.returns-clause-counts
 returns-clause-counts g c =
     on_ok_weaker c.write_cond-2.result (λ same. streams_counts c.args.pool.now c.write_cond-2.new.pool (same ∙ (c.in_ok-write_cond.ensures.streams ∙ c.give_done.ensures.streams))) c.write_cond-2.ensures.streams
+
+pub returns-clause-trees : goal.returns-clause-trees
+returns-clause-trees g c = λ stage others none h.
+    let given = c.in_ok-give_done.ensures.trees stage others none h in
+    let goes_on = none_done c.args.pool.now.cond c.give_done.new.pool.cond c.in_ok-give_done.ensures.none in
+    let first = c.in_ok-write_cond.ensures.trees stage (one_stage Had) half others refl refl half_more goes_on none given in
+    c.write_cond-2.ensures.trees stage half (one_stage Written) others refl refl all_more (c.in_ok-write_cond.ensures.done ∙ goes_on) none first

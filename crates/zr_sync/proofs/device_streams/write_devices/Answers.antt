@@ -10,6 +10,7 @@ loop-dev-init g c = record {
   wrote = metadata_itself (g.S.Shelf.sizes c.args.shelf.now) (g.S.Shelf.counts c.args.shelf.now) (g.S.Shelf.tells c.args.shelf.now) (g.S.Shelf.world c.args.shelf.now) c.args.pool.now;
   pool = c.requires.pool;
   anew = λ is dev log lt. absurd (omega (arith, lt));
+  trees = λ cond others h. h;
 }
 
 pub write_device-requires-clause-dev : goal.write_device-requires-clause-dev
@@ -30,4 +31,5 @@ loop-dev-preserved g c = record {
       let same = ap (λ (t : Table). t.count) (metadata_table wrote) in
       renewed_next c.args.pool.now.version c.args.pool.now.space c.loop-dev.pool c.write_device.new.pool c.loop-dev.dev (omega (arith, same, count, c.loop-dev-test.true)) (ap (λ (o : OpenPool). o.version) wrote.rest) wrote.goes.space
       (c.in_ok-write_device.ensures.anew is) (c.loop-dev.invariant.anew is);
+  trees = λ cond others h. c.in_ok-write_device.ensures.trees cond others (c.loop-dev.invariant.trees cond others h);
 }

@@ -12,9 +12,13 @@ use Rattle.zr_commit.specs.Logs.{Rewrites}
 use Rattle.zr_sync.specs.Checkpoints.{no_streams}
 use Rattle.zr_sync.specs.Mappings.{HasFirst, IsSpelled, mapping_stream, mapping_words, with_mapping, words_at}
 use Rattle.zr_sync.specs.Streams.{streams_at as device_streams}
+use Rattle.zr_sync.specs.Trees.{IsAt, Stage}
+use Rattle.zr_sync.specs.Trees.Place.{OfMapping}
 use Rattle.zr_sync.specs.Words.{words_then}
 use Rattle.zr_sync.specs.declared.open.DeviceStreams.{DeviceStreams}
 use Rattle.zr_sync.proofs.Pools.{step_open, streams_at, streams_set}
+use Rattle.zr_sync.proofs.Steps.{mapping_written}
+use Rattle.zr_sync.proofs.TreeRows.{place_stands}
 use Rattle.zr_sync.proofs.device_streams.write_mapping.Goals as goal
 
 pub stream_of-old-requires : goal.stream_of-old-requires
@@ -71,3 +75,16 @@ returns-clause-writes g c = λ spelled s had held stored has first.
         streams = ap (λ (x : DeviceStreams). slice_set pool.streams.items dev x) now_is;
       };
     }
+
+pub returns-clause-trees : goal.returns-clause-trees
+returns-clause-trees g c = λ stage next cond others turn none h.
+    let x = c.args.pool.now in
+    let dev = c.args.dev in
+    let which = c.args.which in
+    let place = OfMapping which in
+    let count = c.requires.pool.count in
+    let stands = place_stands stage cond others (g.S.Shelf.tells c.args.shelf.now) (g.S.Shelf.world c.args.shelf.now).now.seen x h dev place c.requires.dev in
+    let had = subst (λ (s : Stage). IsAt s x dev place (h.words dev place)) turn.was (h.are dev place c.requires.dev) in
+    let wrote = returns-clause-writes g c had.1 h.stored (h.words dev place) h.held stands.0 stands.1 had.0 in
+    let o = returns-clause-pool g c in
+    mapping_written stage next cond others (g.S.Shelf.tells c.args.shelf.now) _ (g.S.Shelf.world c.args.shelf.now).now.seen _ x _ (record { version = refl; turned = refl; lawful_old = c.requires.pool.lawful; lawful = o.lawful }) c.put_log.ensures.continues.space refl refl dev c.requires.dev (omega (arith, count, c.requires.dev)) none h which turn wrote

@@ -12,3 +12,6 @@ returns-clause-pool c = λ sizes o.
     c.new.ensures.empty
     refl
     refl
+
+pub returns-clause-tall : goal.returns-clause-tall
+returns-clause-tall c = (refl, subst (λ (n : ℕ). IsHeight n c.height.result) c.div_ceil.ensures c.height.ensures.height)

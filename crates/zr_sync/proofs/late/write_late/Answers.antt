@@ -6,7 +6,9 @@ use Rattle.zr_root.specs.Streams.{StoresWords}
 use Rattle.zr_sync.specs.Checkpoints.{no_streams}
 use Rattle.zr_sync.specs.Streams.{streams_at as device_streams}
 use Rattle.zr_sync.specs.declared.open.DeviceStreams.{DeviceStreams}
+use Rattle.zr_sync.specs.declared.open.OpenPool.{OpenPool}
 use Rattle.zr_sync.specs.declared.open.Table.{Table}
+use Rattle.zr_sync.proofs.LateTrees.{lates_written}
 use Rattle.zr_sync.proofs.Pools.{small_device, metadata_then, metadata_table, streams_step, streams_open, streams_at, streams_set}
 use Rattle.zr_sync.proofs.late.write_late.Goals as goal
 
@@ -70,3 +72,15 @@ returns-clause-writes g c = λ s held.
         streams = ap (λ (ts : List DeviceStreams). slice_set ts dev (record was { late1 = late1; late2 = late2 })) same ∙ ap (λ (x : DeviceStreams). slice_set pool.streams.items dev (record x { late1 = late1; late2 = late2 })) is;
       };
     }
+
+pub returns-clause-trees : goal.returns-clause-trees
+returns-clause-trees g c = λ cond others h.
+    let x = c.args.pool.now in
+    let dev = c.args.dev in
+    let count = c.requires.pool.count in
+    let goes = metadata_then c.write_words.ensures.wrote c.write_words-2.ensures.wrote in
+    let o = returns-clause-pool g c in
+    lates_written cond others (g.S.Shelf.tells c.args.shelf.now) _ (g.S.Shelf.world c.args.shelf.now).now.seen _ x _
+    (record { version = ap (λ (p : OpenPool). p.version) goes.rest; turned = ap (λ (p : OpenPool). p.turned) goes.rest; lawful_old = c.requires.pool.lawful; lawful = o.lawful }) goes.goes.space
+    (λ d u waits. c.in_ok-late1.ensures.waits d u (c.in_ok-late2.ensures.waits d u waits)) (c.write_words-2.ensures.cond ∙ c.write_words.ensures.cond) (ap (λ (p : OpenPool). p.table.count) goes.rest) dev c.requires.dev (omega (arith, count, c.requires.dev)) c.requires.pool.streams h
+    (returns-clause-writes g c h.stored h.held)

@@ -7,6 +7,7 @@ pub loop-dev-init : goal.loop-dev-init
 loop-dev-init g c = record {
   wrote = metadata_itself (g.S.Shelf.sizes c.args.shelf.now) (g.S.Shelf.counts c.args.shelf.now) (g.S.Shelf.tells c.args.shelf.now) (g.S.Shelf.world c.args.shelf.now) c.args.pool.now;
   pool = c.requires.pool;
+  trees = λ cond others h. h;
 }
 
 pub write_late-requires-clause-dev : goal.write_late-requires-clause-dev
@@ -21,4 +22,5 @@ pub loop-dev-preserved : goal.loop-dev-preserved
 loop-dev-preserved g c = record {
   wrote = metadata_then c.loop-dev.invariant.wrote c.write_late.ensures.wrote;
   pool = c.in_ok-write_late.ensures.pool;
+  trees = λ cond others h. c.in_ok-write_late.ensures.trees cond others (c.loop-dev.invariant.trees cond others h);
 }

@@ -23,3 +23,10 @@ returns-in_err-write_stream-clause-continues g c =
     let mount = f.3 ∙ v.mount in
     let goes = f.4 in
     search (rules, goes, v, mount)
+
+pub returns-clause-waits : goal.returns-clause-waits
+returns-clause-waits g c =
+    let v = c.new-store.ensures in
+    let f = c.write_stream.ensures.follows c.new-store.result (refl, refl, refl, refl, continues_itself _ _ _ _ _ _ _ _) in
+    let still = (c.in_ok-write_stream.ensures.adds c.new-store.result (λ none. (none, λ d u waits. waits)) v.lost).1 in
+    λ d u waits. search (rules, still, v, f, waits)
