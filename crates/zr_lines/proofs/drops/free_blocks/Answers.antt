@@ -1,4 +1,4 @@
-use Rattle.std.proofs.Common.{rules, ◌≡◌, None, [], refl, sym}
+use Rattle.std.proofs.Common.{rules, ◌≡◌, ◌∙◌, None, [], refl, sym}
 use Rattle.zr_tree.proofs.Raise.{joined}
 use Rattle.zr_vdev.proofs.Follows.{continues_itself}
 use Rattle.zr_vdev.proofs.Moves.{begins_held}
@@ -25,3 +25,19 @@ returns-clause-swaps g c = λ s has stored.
           last_kind last_slots (search rules) (search rules) refl (search rules) anew.held;
       is = joined s n.stored anew.stored c.args.blocks.now [] [] n.is anew.is n.held.alone;
     }
+
+pub returns-in_err-drop_object-clause-continues : goal.returns-in_err-drop_object-clause-continues
+returns-in_err-drop_object-clause-continues g c =
+    let v = c.new-store.ensures in
+    let f = c.drop_object.ensures.follows c.new-store.result (refl, refl, refl, refl, continues_itself _ _ _ _ _ _ _ _) in
+    let mount = f.3 ∙ v.mount in
+    let goes = f.4 in
+    search (rules, goes, v, mount)
+
+pub returns-clause-continues : goal.returns-clause-continues
+returns-clause-continues g c =
+    let v = c.new-store.ensures in
+    let f = c.drop_object.ensures.follows c.new-store.result (refl, refl, refl, refl, continues_itself _ _ _ _ _ _ _ _) in
+    let mount = f.3 ∙ v.mount in
+    let goes = f.4 in
+    search (rules, goes, v, mount)

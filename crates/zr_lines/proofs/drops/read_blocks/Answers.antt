@@ -14,3 +14,11 @@ returns-clause-held g c = λ s h.
     now_held (λ n held. search (rules, held, f, mount))
     (begins_held store.mount.kind store.mount.slots.now (g.S.Shelf.tells store.shelf.now) (g.S.Shelf.world store.shelf.now).now.seen store.space.now store.lost store.cache.now s
     (call.ensures.same s (rw (v.space, v.shelf, v.cache, v.lost, v.mount) h)))
+
+pub returns-clause-continues : goal.returns-clause-continues
+returns-clause-continues g c =
+    let v = c.new-store.ensures in
+    let f = c.blocks_present.ensures.follows c.new-store.result (refl, refl, refl, refl, continues_itself _ _ _ _ _ _ _ _) in
+    let mount = f.3 ∙ v.mount in
+    let goes = f.4 in
+    search (rules, goes, v, mount)

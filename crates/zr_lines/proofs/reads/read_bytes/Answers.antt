@@ -19,3 +19,11 @@ pub returns-clause-damaged : goal.returns-clause-damaged
 returns-clause-damaged g c = λ s h at expected found is.
     let v = c.new-store.ensures in
     c.bytes_present.ensures.damaged s (rw (v.space, v.shelf, v.cache, v.lost, v.mount) h) at expected found is
+
+pub returns-clause-continues : goal.returns-clause-continues
+returns-clause-continues g c =
+    let v = c.new-store.ensures in
+    let f = c.bytes_present.ensures.follows c.new-store.result (refl, refl, refl, refl, continues_itself _ _ _ _ _ _ _ _) in
+    let mount = f.3 ∙ v.mount in
+    let goes = f.4 in
+    search (rules, goes, v, mount)

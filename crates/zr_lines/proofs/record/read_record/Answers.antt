@@ -31,3 +31,11 @@ returns-in_err-record_of-clause-continues g c =
     let mount = f.3 ∙ v.mount in
     let goes = f.4 in
     search (rules, goes, v, mount)
+
+pub returns-clause-continues : goal.returns-clause-continues
+returns-clause-continues g c =
+    let v = c.new-store.ensures in
+    let f = c.record_of.ensures.follows c.new-store.result (refl, refl, refl, refl, continues_itself _ _ _ _ _ _ _ _) in
+    let mount = f.3 ∙ v.mount in
+    let goes = f.4 in
+    search (rules, goes, v, mount)
