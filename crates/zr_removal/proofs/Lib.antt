@@ -7,3 +7,4 @@ pub mod Ending
 pub mod Alike
 pub mod Outgoing
 pub mod Returning
+pub mod Uncopied

@@ -1,6 +1,6 @@
 -- A device that comes back into service is read as before, and no more is given back than copies and metadata: the disks hold the same objects, and show the last root.
-use Rattle.std.proofs.Common.{◌≡◌, ◌∙◌, inl, inr, ℕ, ◌+◌, ◌<◌, true, false, List, [], map, length, Option, Some, None, refl, sym, ap, subst, arith}
-use Rattle.std.specs.Prelude.{IfSome, slice_index_or}
+use Rattle.std.proofs.Common.{◌≡◌, ◌∙◌, inl, inr, ℕ, ◌+◌, ◌<◌, Bool, true, false, List, [], map, length, Option, Some, None, refl, sym, ap, subst, arith}
+use Rattle.std.specs.Prelude.{◌||◌, IfSome, slice_index_or}
 use Rattle.std.proofs.lemmas.Bool.Decides.{nat_tests}
 use Rattle.zr_base.specs.Extents.{has_unit}
 use Rattle.zr_base.specs.declared.space.DevRow.{DevRow}
@@ -12,7 +12,7 @@ use Rattle.zr_last.proofs.Lasting.{units_last}
 use Rattle.zr_last.specs.Last.{KeepsDevices, KeepsLast}
 use Rattle.zr_model.specs.Objects.{Objects}
 use Rattle.zr_rules.specs.Places.{is_gone, is_leaving, state_of_dev}
-use Rattle.zr_rules.specs.Roles.{Role, given_up, is_free_role, is_live_role}
+use Rattle.zr_rules.specs.Roles.{Role, given_up, is_free_role, is_held_role, is_live_role, is_meta_role}
 use Rattle.zr_rules.specs.Space.{Space, role_at}
 use Rattle.zr_rules.specs.Steps.{Cancels}
 use Rattle.zr_shelf.proofs.Doings.{writes_more}
@@ -30,14 +30,16 @@ use Rattle.zr_sync.specs.declared.open.OpenPool.{OpenPool}
 use Rattle.zr_sync.specs.declared.open.Table.{Table}
 use Rattle.zr_vdev.proofs.Follows.{widen}
 use Rattle.zr_vdev.proofs.Frames.{held_beside}
+use Rattle.zr_vdev.specs.Caches.{AreRead}
+use Rattle.zr_vdev.specs.Copies.{IsWriteIntoFree}
 use Rattle.zr_vdev.specs.Puts.{IsWriteOf}
-use Rattle.zr_vdev.specs.Stores.{HoldsBlocks, IsWriteInto, is_open_role}
+use Rattle.zr_vdev.specs.Stores.{HoldsBlocks, IsWriteInto, KeepsOthers, is_open_role}
 use Rattle.zr_vdev.specs.declared.kind.Kind.TheVariants.{Block, Meta}
 use Rattle.zr_view.specs.Views.{slot_of}
 use Rattle.zr_removal.specs.Rows.{with_row}
 use Rattle.zr_removal.specs.Streams.{GivesStreams}
 use Rattle.zr_removal.specs.Turns.{CancelsInPart, CancelsSpace, ComesBack}
-use Rattle.zr_removal.proofs.Outgoing.{TurnsOne, objects_turned, turned_devices, turned_last}
+use Rattle.zr_removal.proofs.Outgoing.{TurnsOne, into_free, objects_tried, objects_turned, turned_devices, turned_last}
 use Rattle.zr_removal.proofs.Turned.{leaving_is, leaving_there}
 
 -- ---- roles
@@ -109,6 +111,30 @@ pub back_devices : (sizes : List ℕ) (x y : OpenPool) (d : ℕ) → IsOpen size
 back_devices sizes x y d was leaving h =
     turned_devices sizes x y d On h.table (sym (there_still (state_of_dev x.space.parts.devs d) leaving)) (leaving_known sizes x d was leaving) was (ap (λ (p : OpenPool). p.last) h.rest) (ap (λ (p : OpenPool). p.guid) h.rest)
 
+-- ---- what may be written
+
+-- where metadata is given back, no unit may be written that might not before
+still_open : (r q : Role) → ((is_free_role r || is_meta_role r) ≡ false → q ≡ r) → is_held_role q ≡ is_held_role r → (is_free_role q ≡ true → is_free_role r ≡ true) → is_open_role q ≡ true → is_open_role r ≡ true
+still_open r q stays held free is = by_change (is_free_role r || is_meta_role r) refl
+  where
+    free_open : (t : Role) → is_free_role t ≡ true → is_open_role t ≡ true
+    free_open t was = grind (arith, nat_tests, was)
+
+    by_free : (b : Bool) → is_free_role q ≡ b → (is_free_role r || is_meta_role r) ≡ true → is_open_role r ≡ true
+    by_free true now changes = free_open r (free now)
+    by_free false now changes = grind (arith, nat_tests, now, is, held, changes)
+
+    by_change : (b : Bool) → (is_free_role r || is_meta_role r) ≡ b → is_open_role r ≡ true
+    by_change false same = ap is_open_role (sym (stays same)) ∙ is
+    by_change true changes = by_free (is_free_role q) refl changes
+
+given_open : (s t : Space) → KeepsOthers Meta s t → (e u : ℕ) → is_open_role (role_at t e u) ≡ true → is_open_role (role_at s e u) ≡ true
+given_open s t h e u is = still_open (role_at s e u) (role_at t e u) (h.stays e u) (h.held e u) (h.writable e u) is
+
+-- so it is where the device has come back
+pub back_open : (x y : OpenPool) (d : ℕ) → ComesBack x y d → (e u : ℕ) → is_open_role (role_at y.space e u) ≡ true → is_open_role (role_at x.space e u) ≡ true
+back_open x y d h e u is = open_before (role_at x.space e u) (subst (λ (r : Role). is_open_role r ≡ true) (h.cancels.roles e u) (given_open h.back y.space h.streams e u is))
+
 -- ---- the last root
 
 -- a commit behind which the device is back in service shows its root, where the last one was the newest
@@ -153,3 +179,12 @@ stops_after sizes first objects x y before mid now sized same wrote (inr b) =
     stops_back sizes first objects x b.back b.dev before b.start now sized
     (subst (λ (p : OpenPool). is_leaving (state_of_dev p.space.parts.devs b.dev) ≡ true) same b.leaving) b.ready (comes_uncached x y b.back b.dev same b.comes)
     (writes_more (IsWriteInto Block x.table.slots x.space) before mid b.start wrote (subst (λ (p : OpenPool). WritesOnly (IsWriteInto Block p.table.slots p.space) mid b.start) same b.written)) b.commits
+
+-- so where a copy failed before it, and nothing of the pool changed but its cache
+pub stops_tried : (sizes first : List ℕ) (t1 t2 : Type 0) (objects : Objects) (x tried : OpenPool) (before mid now : World) → IsOpen sizes x → first ≡ sizes → tried.space ≡ x.space → tried ≡ record x { space = tried.space; cache = tried.cache } → (t1 → WritesOnly (IsWriteIntoFree x.table.slots x.space) before mid)
+    → (t1 → AreRead before.now.seen x.table.slots x.space x.cache → AreRead mid.now.seen x.table.slots tried.space tried.cache) → (t1 → t2) → HoldsObjects t1 before.now.seen x objects → (HoldsObjects t2 mid.now.seen tried objects → CancelsInPart first objects tried mid now) → CancelsInPart sizes objects x before now
+stops_tried sizes first t1 t2 objects x tried before mid now ready sized space rest wrote read tells h stops =
+    let told = h.held.told in
+    let same : tried ≡ record x { cache = tried.cache } = rest ∙ ap (λ (s : Space). record x { space = s; cache = tried.cache }) space in
+    let held = objects_tried x tried t1 t2 before mid objects ready.mounted.apart (wrote told) (λ are. subst (λ (s : Space). AreRead mid.now.seen x.table.slots s tried.cache) space (read told are)) same (tells told) h in
+    stops_after sizes first objects x tried before mid now sized same (into_free x.table.slots x.space before mid (wrote told)) (stops held)

@@ -5,6 +5,7 @@
 ghost use Rattle.std.specs.Prelude.{◌≡◌, ◌<◌, ◌⊎◌, ℕ, List, true, false, IsErrOf, IfErr, IfOk, IfSome, OnOk};
 ghost use Rattle.zr_base.specs.Counts.{HasRisen};
 ghost use Rattle.zr_base.specs.declared.refusal.Refusal.{Refusal};
+ghost use Rattle.zr_rules.specs.Columns.{uncopied_units};
 ghost use Rattle.zr_rules.specs.Places.{is_gone, is_leaving, state_of_dev};
 ghost use Rattle.zr_rules.specs.Space.{role_at};
 ghost use Rattle.zr_shelf.specs.Counts.{NoneFell};
@@ -227,7 +228,8 @@ fn finish_removal<S: Shelf>(
 
 /// Makes a step of the removal that goes on: copies the next units, at most 256, or ends the removal where none is left.
 /// A copy costs one read and one write, and an end costs a commit, and a walk over the mapping and its marks. Behind a copy, and
-/// behind a removal that was given up, the pool holds the objects that it held.
+/// behind a removal that was given up, the pool holds the objects that it held. While units are left to copy, and where no
+/// device is leaving, it has written, wherever it stops, what the giving up of a removal may have written.
 ///
 /// For now want of memory is also the answer where fewer units are free than are left to copy: the room that is asked for
 /// when a removal begins rules that out, and no law says so yet.
@@ -255,6 +257,7 @@ pub fn step_evac<S: Shelf>(
     ensures back_ends { (objects : Objects) → HoldsObjects (S.tells shelf.old) (S.world shelf.old).now.seen pool.old objects → IfOk result (λ done. (d : ℕ) → done ≡ evacuated.Cancelled d → LeavesCommitted pool.new (S.world shelf.new).now) }
     ensures back_objects { (objects : Objects) → HoldsObjects (S.tells shelf.old) (S.world shelf.old).now.seen pool.old objects → IfOk result (λ done. (d : ℕ) → done ≡ evacuated.Cancelled d → HoldsObjects (S.tells shelf.new) (S.world shelf.new).now.seen pool.new objects) }
     ensures back_stops { (objects : Objects) → HoldsObjects (S.tells shelf.old) (S.world shelf.old).now.seen pool.old objects → IfOk result (λ done. (d : ℕ) → done ≡ evacuated.Cancelled d → CancelsInPart (S.sizes shelf.old) objects pool.old (S.world shelf.old) (S.world shelf.new)) }
+    ensures stops { (HasRemoval pool.old.space → 0 < uncopied_units pool.old.space) → (objects : Objects) → HoldsObjects (S.tells shelf.old) (S.world shelf.old).now.seen pool.old objects → CancelsInPart (S.sizes shelf.old) objects pool.old (S.world shelf.old) (S.world shelf.new) }
     ensures refused { (r : Refusal) → IsErrOf result (No r) → IsStepRefusal pool.old.space r }
     ensures unchanged { (r : Refusal) → IsErrOf result (No r) → pool.new ≡ pool.old }
     ensures untouched { (r : Refusal) → IsErrOf result (No r) → S.world shelf.new ≡ S.world shelf.old }

@@ -1,11 +1,15 @@
 use Rattle.std.proofs.Common.{◌≡◌, ◌∙◌, inl, inr, true, ap, subst, arith}
 use Rattle.zr_rules.specs.Places.{is_leaving, state_of_dev}
 use Rattle.zr_rules.specs.Space.{Space}
+use Rattle.zr_shelf.proofs.Doings.{writes_nothing}
 use Rattle.zr_sync.proofs.Disks.{works_more}
 use Rattle.zr_vdev.specs.Caches.{AreRead}
+use Rattle.zr_vdev.specs.Stores.{IsWriteInto}
+use Rattle.zr_vdev.specs.declared.kind.Kind.TheVariants.{Block}
 use Rattle.zr_removal.proofs.Ending.{cancels_before, ends_before}
 use Rattle.zr_removal.proofs.Outgoing.{copies_open, into_free, last_copied, objects_copied, objects_tried}
-use Rattle.zr_removal.proofs.Returning.{stops_after}
+use Rattle.zr_removal.proofs.Returning.{stops_tried}
+use Rattle.zr_removal.proofs.Uncopied.{not_copied}
 use Rattle.zr_removal.proofs.evacuate.step_evac.Goals as goal
 
 pub returns-in_err-finish_removal-in-Nothing-clause-disks : goal.returns-in_err-finish_removal-in-Nothing-clause-disks
@@ -124,15 +128,40 @@ returns-in_ok-cancel_removal-in-Fault-clause-back_objects g c = λ objects h d i
 
 pub returns-in_ok-cancel_removal-in-Fault-clause-back_stops : goal.returns-in_ok-cancel_removal-in-Fault-clause-back_stops
 returns-in_ok-cancel_removal-in-Fault-clause-back_stops g c = λ objects h d is.
-    let x = c.args.pool.now in
-    let tried = c.copy_next.new.pool in
     let old = c.args.shelf.now in
     let mid = c.copy_next.new.shelf in
-    let space : tried.space ≡ x.space = c.in_ok-units.ensures.same (inr c.in-Fault.is) in
-    let same : tried ≡ record x { cache = tried.cache } = c.copy_next.ensures.rest ∙ ap (λ (s : Space). record x { space = s; cache = tried.cache }) space in
-    let told = h.held.told in
-    let held =
-    objects_tried x tried (g.S.Shelf.tells old) (g.S.Shelf.tells mid) (g.S.Shelf.world old) (g.S.Shelf.world mid) objects c.requires.pool.mounted.apart (c.copy_next.ensures.written told)
-    (λ read. subst (λ (s : Space). AreRead (g.S.Shelf.world mid).now.seen x.table.slots s tried.cache) space (c.copy_next.ensures.read told read)) same (c.copy_next.ensures.told told) h in
-    let wrote = into_free x.table.slots x.space (g.S.Shelf.world old) (g.S.Shelf.world mid) (c.copy_next.ensures.written told) in
-    stops_after (g.S.Shelf.sizes old) (g.S.Shelf.sizes mid) objects x tried (g.S.Shelf.world old) (g.S.Shelf.world mid) (g.S.Shelf.world c.cancel_removal.new.shelf) c.copy_next.ensures.sizes same wrote (c.cancel_removal.ensures.stops objects held)
+    stops_tried (g.S.Shelf.sizes old) (g.S.Shelf.sizes mid) (g.S.Shelf.tells old) (g.S.Shelf.tells mid) objects c.args.pool.now c.copy_next.new.pool (g.S.Shelf.world old) (g.S.Shelf.world mid) (g.S.Shelf.world c.cancel_removal.new.shelf) c.requires.pool c.copy_next.ensures.sizes
+    (c.in_ok-units.ensures.same (inr c.in-Fault.is)) c.copy_next.ensures.rest c.copy_next.ensures.written c.copy_next.ensures.read c.copy_next.ensures.told h (c.cancel_removal.ensures.stops objects)
+
+-- ---- wherever it stops, while units are left to copy or no device is leaving
+
+pub returns-in_err-demand_to_step-clause-stops : goal.returns-in_err-demand_to_step-clause-stops
+returns-in_err-demand_to_step-clause-stops g c = λ left objects h. inl (writes_nothing (IsWriteInto Block c.args.pool.now.table.slots c.args.pool.now.space) (g.S.Shelf.world c.args.shelf.now))
+
+pub returns-in_err-units-clause-stops : goal.returns-in_err-units-clause-stops
+returns-in_err-units-clause-stops g c = λ left objects h.
+    inl (into_free c.args.pool.now.table.slots c.args.pool.now.space (g.S.Shelf.world c.args.shelf.now) (g.S.Shelf.world c.copy_next.new.shelf) (c.copy_next.ensures.written h.held.told))
+
+pub returns-in-Units-clause-stops : goal.returns-in-Units-clause-stops
+returns-in-Units-clause-stops g c = λ left objects h.
+    inl (into_free c.args.pool.now.table.slots c.args.pool.now.space (g.S.Shelf.world c.args.shelf.now) (g.S.Shelf.world c.copy_next.new.shelf) (c.copy_next.ensures.written h.held.told))
+
+pub returns-in_err-finish_removal-in-Nothing-clause-stops : goal.returns-in_err-finish_removal-in-Nothing-clause-stops
+returns-in_err-finish_removal-in-Nothing-clause-stops g c = λ left objects h. absurd (not_copied c.args.pool.now.space (left c.in_ok-demand_to_step.ensures.leaving) (c.in_ok-units.ensures.nothing c.in-Nothing.is))
+
+pub returns-in_ok-finish_removal-in-Nothing-clause-stops : goal.returns-in_ok-finish_removal-in-Nothing-clause-stops
+returns-in_ok-finish_removal-in-Nothing-clause-stops g c = λ left objects h. absurd (not_copied c.args.pool.now.space (left c.in_ok-demand_to_step.ensures.leaving) (c.in_ok-units.ensures.nothing c.in-Nothing.is))
+
+pub returns-in_err-cancel_removal-in-Fault-clause-stops : goal.returns-in_err-cancel_removal-in-Fault-clause-stops
+returns-in_err-cancel_removal-in-Fault-clause-stops g c = λ left objects h.
+    let old = c.args.shelf.now in
+    let mid = c.copy_next.new.shelf in
+    stops_tried (g.S.Shelf.sizes old) (g.S.Shelf.sizes mid) (g.S.Shelf.tells old) (g.S.Shelf.tells mid) objects c.args.pool.now c.copy_next.new.pool (g.S.Shelf.world old) (g.S.Shelf.world mid) (g.S.Shelf.world c.cancel_removal.new.shelf) c.requires.pool c.copy_next.ensures.sizes
+    (c.in_ok-units.ensures.same (inr c.in-Fault.is)) c.copy_next.ensures.rest c.copy_next.ensures.written c.copy_next.ensures.read c.copy_next.ensures.told h (c.cancel_removal.ensures.stops objects)
+
+pub returns-in_ok-cancel_removal-in-Fault-clause-stops : goal.returns-in_ok-cancel_removal-in-Fault-clause-stops
+returns-in_ok-cancel_removal-in-Fault-clause-stops g c = λ left objects h.
+    let old = c.args.shelf.now in
+    let mid = c.copy_next.new.shelf in
+    stops_tried (g.S.Shelf.sizes old) (g.S.Shelf.sizes mid) (g.S.Shelf.tells old) (g.S.Shelf.tells mid) objects c.args.pool.now c.copy_next.new.pool (g.S.Shelf.world old) (g.S.Shelf.world mid) (g.S.Shelf.world c.cancel_removal.new.shelf) c.requires.pool c.copy_next.ensures.sizes
+    (c.in_ok-units.ensures.same (inr c.in-Fault.is)) c.copy_next.ensures.rest c.copy_next.ensures.written c.copy_next.ensures.read c.copy_next.ensures.told h (c.cancel_removal.ensures.stops objects)
