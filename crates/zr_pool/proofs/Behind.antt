@@ -25,6 +25,8 @@ use Rattle.zr_shelf.proofs.Runs.{joined, weaker}
 use Rattle.zr_shelf.specs.Disks.{Stand, IsAtRest}
 use Rattle.zr_shelf.specs.Moments.{IsStill, Throughout, World}
 use Rattle.zr_open.specs.There.{AreThere, IsStillThere}
+use Rattle.zr_removal.proofs.Returning.{back_devices, back_open}
+use Rattle.zr_removal.specs.Turns.{CancelsInPart}
 use Rattle.zr_stops.proofs.Joining.{adds_show}
 use Rattle.zr_stops.proofs.Behind.{behind_shows, commit_behind, commit_shows, line_behind, line_shows, left_behind, made_behind, shown_behind, stop_shows, turn_shows}
 use Rattle.zr_stops.proofs.Within.{left_by, same_behind}
@@ -49,7 +51,7 @@ use Rattle.zr_pool.proofs.Groups.{acknowledged_commits, commits_in_group, copy_n
 use Rattle.zr_pool.proofs.Outside.{keeps_outside}
 use Rattle.zr_pool.proofs.Resets.{behind_last, reset_behind}
 use Rattle.zr_pool.proofs.Turning.{left_of}
-use Rattle.zr_pool.specs.Behind.{ComesFrom, HasReset, IsBehindTurn, LeavesEither, LeavesOnly, StaysTold, StopsInReset, is_acknowledged, is_commit, is_create, is_import, is_in_group, is_known, is_refusal, is_resetting, leaves_told, may_stop, all_there, are_there, StopsInCreate, AreAllThere, OpensTo, StopsInOpening, ends_reset}
+use Rattle.zr_pool.specs.Behind.{ComesFrom, HasReset, IsBehindTurn, LeavesEither, LeavesOnly, StaysTold, StopsInReset, is_acknowledged, is_commit, is_create, is_import, is_in_group, is_known, is_refusal, is_resetting, leaves_told, may_stop, all_there, are_there, StopsInCreate, AreAllThere, OpensTo, StopsInOpening, ends_no_removal, ends_reset}
 use Rattle.zr_pool.specs.Behind.ComesFrom.{kept, committed, changed, made, found}
 use Rattle.zr_pool.specs.Ends.{answer_of, is_closing}
 use Rattle.zr_pool.specs.Plain.{IsDone, is_copy, is_untold_behind}
@@ -184,6 +186,17 @@ module _ (sizes : List ℕ) (objects told : Objects) (x : OpenPool) (old : World
   stop_in_reset : (new : World) → StopsInReset sizes told x old new → Throughout (ShowsEither objects told) old new
   stop_in_reset new (inl resets) = reset_shows new resets
   stop_in_reset new (inr (slot, adds)) = adds_show sizes objects told slot x lawful old new h adds
+
+  -- or a removal that is given up: free units are written, and the pool to which the device has come back is committed
+  only_last : (new : World) → WritesIntoFree x old new → Throughout (ShowsEither objects told) old new
+  only_last new wrote = weaker (ShowsOnly objects) (ShowsEither objects told) old new (first_of objects told) (line_shows sizes objects x old h new wrote)
+
+  return_shows : (new : World) → CancelsInPart sizes told x old new → Throughout (ShowsEither objects told) old new
+  return_shows new (inl wrote) = only_last new wrote
+  return_shows new (inr b) =
+      let later = line_behind sizes objects x old h x b.start b.written (λ d u is. is) refl refl refl in
+      joined (ShowsEither objects told) old b.start new (only_last b.start b.written)
+      (turn_shows sizes objects x b.start later b.back (back_devices sizes x b.back b.dev lawful b.leaving b.comes) (back_open x b.back b.dev b.comes) b.ready true told new b.commits)
 
 -- ---- what is told behind a line
 
@@ -456,14 +469,15 @@ module _ (old new : World) (before : DeviceState) (command : Command) (x y : Ope
   at_table s h = subst (λ (o : Option OpenPool). IfSome o (λ pool. is_table command ≡ true → s.seen ≡ old.now.seen)) (sym account) h
 
   pub open_within : (is_table command ≡ true → IsStill old new) → WorksOnDisks old new → (is_in_group command ≡ true → (p : PoolState) → HoldsState (Unit {0}) old.now.seen x p → WritesInOneGroup sizes p.objects x old new)
-      → (is_resetting command ≡ true → (p : PoolState) → HoldsState (Unit {0}) old.now.seen x p → StopsInReset sizes p.objects x old new) → Throughout Within old new
-  open_within nothing_done works writes resets = by_table (is_table command) refl
+      → (is_resetting command ≡ true → (p : PoolState) → HoldsState (Unit {0}) old.now.seen x p → StopsInReset sizes p.objects x old new)
+      → (ends_no_removal (Some x) command ≡ true → (p : PoolState) → HoldsState (Unit {0}) old.now.seen x p → CancelsInPart sizes p.objects x old new) → Throughout Within old new
+  open_within nothing_done works writes resets returns = by_table (is_table command) refl
     where
       -- what was committed shows all the time
       still_shows : (objects : Objects) (q : PoolState) → before.behind ≡ Some objects → LeavesEither objects q.objects (disks_of old.now)
       still_shows objects q is = leaves_there objects q.objects old.now (first_of objects q.objects old.now (behind_shows sizes objects x old.now (stood objects is)))
 
-      nothing : is_table command ≡ false → ((objects : Objects) (q : PoolState) → before.behind ≡ Some objects → before.told.shelf ≡ Is q → may_stop command ≡ true → ⊥) → Throughout Within old new
+      nothing : is_table command ≡ false → ((objects : Objects) (q : PoolState) → before.behind ≡ Some objects → before.told.shelf ≡ Is q → may_stop before.account command ≡ true → ⊥) → Throughout Within old new
       nothing off none = weaker _ Within old new (λ s _. record { tables = at_table s (λ on. no_way (sym off ∙ on)); shows = λ objects q is told group. absurd (none objects q is told group); opens = λ objects closed is off_making. absurd (is_open closed); begins = λ first is. absurd (not_begun first is) }) (keeps_outside old new works).since
 
       by_part : (o : Option Objects) (s : ShelfPart) → before.behind ≡ o → before.told.shelf ≡ s → is_table command ≡ false → ((objects : Objects) → before.behind ≡ Some objects → (p : PoolState) → before.told.shelf ≡ Is p → Throughout (ShowsEither objects p.objects) old new) → Throughout Within old new
@@ -483,9 +497,16 @@ module _ (old new : World) (before : DeviceState) (command : Command) (x y : Ope
       by_part (Some objects) Empty is told off shown = nothing off (λ all q also told_q on. let both = sym told ∙ told_q in absurd cc)
       by_part (Some objects) (Refused r) is told off shown = nothing off (λ all q also told_q on. let both = sym told ∙ told_q in absurd cc)
 
+      by_return : (b : Bool) → ends_no_removal before.account command ≡ b → is_in_group command ≡ false → is_resetting command ≡ false → is_table command ≡ false → Throughout Within old new
+      by_return true on out none off =
+          by_part before.behind before.told.shelf refl refl off
+          (λ objects is p told. return_shows sizes objects p.objects x old (stood objects is) lawful new (returns (subst (λ (o : Option OpenPool). ends_no_removal o command ≡ true) account on) p (held p told)))
+      by_return false ends out none off =
+          nothing off (λ objects q is told may. no_way (sym ends ∙ or_first (is_resetting command) (ends_no_removal before.account command) none (or_first (is_in_group command) (is_resetting command || ends_no_removal before.account command) out may)))
+
       by_reset : (b : Bool) → is_resetting command ≡ b → is_in_group command ≡ false → is_table command ≡ false → Throughout Within old new
       by_reset true once out off = by_part before.behind before.told.shelf refl refl off (λ objects is p told. stop_in_reset sizes objects p.objects x old (stood objects is) lawful new (resets once p (held p told)))
-      by_reset false none out off = nothing off (λ objects q is told may. no_way (sym none ∙ or_first (is_in_group command) (is_resetting command) out may))
+      by_reset false none out off = by_return (ends_no_removal before.account command) refl out none off
 
       by_group : (b : Bool) → is_in_group command ≡ b → is_table command ≡ false → Throughout Within old new
       by_group true group off = by_part before.behind before.told.shelf refl refl off (λ objects is p told. writes_show sizes objects p.objects x old (stood objects is) lawful new (writes group p (held p told)))
@@ -673,7 +694,7 @@ module _ (old new : World) (before : DeviceState) (command : Command) (account :
       either_within : (s : Stand) → ShowsEither p.objects after s → ClosedWithin s
       either_within s shows = record {
         tables = no_table s;
-        shows = λ all q also told may. absurd (opening_stops command opener may);
+        shows = λ all q also told may. absurd (opening_stops before.account command opener may);
         opens = λ all closed also all_there image left paths q is. ⊎_elim (λ same. inl (same ∙ showed_last p shown all also)) (λ same. inr (subst (OpensTo (point old.now before).shelf command) (sym same) opens)) (shows image (left_by s (stand_of (disks_of s)) (same_disks s) image left) paths q is);
         begins = λ first begun all_there image left. inr (λ paths q is. ⊎_elim (λ same. inl (p, shown, sym same)) (λ same. inr (subst (OpensTo (point old.now before).shelf command) (sym same) opens)) (shows image (left_by s (stand_of (disks_of s)) (same_disks s) image left) paths q is));
       }
@@ -682,7 +703,7 @@ module _ (old new : World) (before : DeviceState) (command : Command) (account :
       gone_within : WorksOnDisks read new → (AreAllThere (point old.now before).shelf command → ⊥) → Throughout ClosedWithin read new
       gone_within works out = weaker _ ClosedWithin read new (λ s _. record {
         tables = no_table s;
-        shows = λ all q also told may. absurd (opening_stops command opener may);
+        shows = λ all q also told may. absurd (opening_stops before.account command opener may);
         opens = λ all closed also all_there. absurd (out all_there);
         begins = λ first begun all_there. absurd (out all_there);
       }) (keeps_outside read new works).since

@@ -1,6 +1,7 @@
 -- Which lines work in the group that is open, and which end it.
-use Rattle.std.proofs.Common.{◌≡◌, ◌⊎◌, inl, inr, List, length, take, ℕ, ◌==◌, Bool, true, false, refl, sym, subst, ap}
-use Rattle.std.specs.Prelude.{MatchBool, if◌then◌else◌, ◌||◌}
+use Rattle.std.proofs.Common.{◌≡◌, ◌⊎◌, inl, inr, List, length, take, ℕ, ◌==◌, ◌<◌, Bool, true, false, Option, Some, refl, sym, subst, ap, arith}
+use Rattle.std.specs.Prelude.{MatchBool, if◌then◌else◌, nat_lt, not, ◌||◌}
+use Rattle.std.proofs.lemmas.Bool.Decides.{nat_tests}
 use Rattle.zr_base.specs.declared.space.CkptPart.TheVariants.{Clear}
 use Rattle.zr_base.specs.declared.space.Extent.{Extent}
 use Rattle.zr_last.specs.Last.{KeepsRoot}
@@ -9,6 +10,8 @@ use Rattle.zr_sync.specs.Ends.{EndsCommitted}
 use Rattle.zr_lines.specs.Stops.{OpensNoUnit, StaysInGroup, StaysInOneGroup}
 use Rattle.zr_model.specs.Objects.{Objects}
 use Rattle.zr_open.specs.Flushed.{FlushesOnly}
+use Rattle.zr_removal.specs.Refusals.{HasRemoval}
+use Rattle.zr_rules.specs.Columns.{uncopied_units}
 use Rattle.zr_rules.specs.Roles.{Role, discarded}
 use Rattle.zr_rules.specs.Roles.Role.{Kept}
 use Rattle.zr_rules.specs.Space.{Space, role_at}
@@ -25,8 +28,10 @@ use Rattle.zr_sync.specs.declared.open.OpenPool.{OpenPool}
 use Rattle.zr_vdev.proofs.Follows.{others_itself}
 use Rattle.zr_vdev.specs.Stores.{IsWriteInto, KeepsOthers, is_open_role}
 use Rattle.zr_vdev.specs.declared.kind.Kind.TheVariants.{Block}
-use Rattle.zr_pool.specs.Behind.{StopsInOpening, ends_reset, is_acknowledged, is_commit, is_in_group, is_resetting, is_return, may_stop}
+use Rattle.zr_pool.specs.Behind.{StopsInOpening, ends_no_removal, ends_reset, is_acknowledged, is_commit, is_in_group, is_resetting, is_return, may_stop}
+use Rattle.zr_pool.proofs.Working.{removal_works}
 use Rattle.zr_pool.specs.Plain.{is_copy, is_of_removal, is_untold_behind}
+use Rattle.zr_pool.specs.Pools.{is_evacuating}
 use Rattle.zr_pool.specs.Turns.{is_on_objects, is_on_pool, is_opener, is_table}
 
 pub no_way : {P : Type 0} → false ≡ true → P
@@ -64,13 +69,13 @@ not_opener (cmd.ImportTxg txg) on group = no_way group
 not_opener command on group = no_way on
 
 -- a line that makes a pool or goes back stops in no group
-pub opening_stops : (command : Command) → is_opener command ≡ true → may_stop command ≡ true → ⊥
-opening_stops (cmd.Create name guid devs) on may = no_way may
-opening_stops (cmd.CreateOld name guid devs) on may = no_way may
-opening_stops cmd.Import on may = no_way may
-opening_stops cmd.ImportRewind on may = no_way may
-opening_stops (cmd.ImportTxg txg) on may = no_way may
-opening_stops command on may = no_way on
+pub opening_stops : (account : Option OpenPool) (command : Command) → is_opener command ≡ true → may_stop account command ≡ true → ⊥
+opening_stops account (cmd.Create name guid devs) on may = no_way may
+opening_stops account (cmd.CreateOld name guid devs) on may = no_way may
+opening_stops account cmd.Import on may = no_way may
+opening_stops account cmd.ImportRewind on may = no_way may
+opening_stops account (cmd.ImportTxg txg) on may = no_way may
+opening_stops account command on may = no_way on
 
 -- what a line wrote that makes no pool and does not go back is nothing
 pub opening_nothing : (sizes : List ℕ) (command : Command) (before now : World) → ((name : List ℕ) (guid : ℕ) (devs : List (List ℕ)) → command ≡ cmd.Create name guid devs → ⊥) → ((name : List ℕ) (guid : ℕ) (devs : List (List ℕ)) → command ≡ cmd.CreateOld name guid devs → ⊥) → (command ≡ cmd.ImportRewind → ⊥) → ((txg : ℕ) → command ≡ cmd.ImportTxg txg → ⊥)
@@ -266,3 +271,26 @@ pub copy_no_commit : (command : Command) (answer : Reply) → is_copy command an
 copy_no_commit cmd.StepEvac (reply.Copied units) copy is = no_way is
 copy_no_commit cmd.StepEvac answer copy is = no_way copy
 copy_no_commit command answer copy is = no_way copy
+
+-- ---- a line that ends no removal, and may give one up
+
+-- it is a line of a removal or of condensing, and none of the others
+pub record IsOfRemoval (command : Command) : Type 0 where
+  pub removal : is_of_removal command ≡ true
+  pub objects : is_on_objects command ≡ false
+  pub table : is_table command ≡ false
+  pub pool : is_on_pool command ≡ false
+
+pub ends_none : (account : Option OpenPool) (command : Command) → ends_no_removal account command ≡ true → IsOfRemoval command
+ends_none account cmd.Cancel on = record { removal = refl; objects = refl; table = refl; pool = refl }
+ends_none account cmd.StepEvac on = record { removal = refl; objects = refl; table = refl; pool = refl }
+ends_none account cmd.StepCondense on = record { removal = refl; objects = refl; table = refl; pool = refl }
+ends_none account command on = no_way on
+
+-- where a device is leaving units are left to copy, so a step does not end its removal
+pub left_to_copy : (pool : OpenPool) (command : Command) → command ≡ cmd.StepEvac → ends_no_removal (Some pool) command ≡ true → HasRemoval pool.space → 0 < uncopied_units pool.space
+left_to_copy pool command is on removal = some_left (is_evacuating pool.space) (uncopied_units pool.space) (removal_works pool.space removal) (subst (λ (k : Command). ends_no_removal (Some pool) k ≡ true) is on)
+  where
+    some_left : (leaving : Bool) (n : ℕ) → leaving ≡ true → (not leaving || nat_lt 0 n) ≡ true → 0 < n
+    some_left true n removing some = grind (arith, nat_tests, some)
+    some_left false n removing some = no_way removing

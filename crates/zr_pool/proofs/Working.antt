@@ -8,7 +8,7 @@ use Rattle.zr_base.specs.declared.space.DevPart.{DevPart}
 use Rattle.zr_image.specs.StateOf.{is_discarding}
 use Rattle.zr_model.specs.declared.actor.Actor.{Actor}
 use Rattle.zr_model.specs.declared.actor.Actor.TheVariants.{Evac, Discard, Condense}
-use Rattle.zr_removal.specs.Refusals.{HasWork}
+use Rattle.zr_removal.specs.Refusals.{HasRemoval, HasWork}
 use Rattle.zr_rules.specs.Places.{is_leaving, state_of_dev}
 use Rattle.zr_rules.specs.Space.{Space}
 use Rattle.zr_rules.specs.Steps.{has_condensing}
@@ -38,6 +38,10 @@ any_leaving : (ps : List DevPart) (d : ℕ) → is_leaving (state_of_dev ps d) �
 any_leaving [] d is = absurd (false_true is)
 any_leaving (p ∷ ps) zero is = ap (λ (b : Bool). b || list_any is_leaving_part ps) is
 any_leaving (p ∷ ps) (suc d) is = or_right (is_leaving_part p) (list_any is_leaving_part ps) (any_leaving ps d is)
+
+-- a removal goes on
+pub removal_works : (s : Space) → HasRemoval s → is_evacuating s ≡ true
+removal_works s (d, leaving) = any_leaving s.parts.devs d leaving
 
 one_leaving : (ps : List DevPart) → list_any is_leaving_part ps ≡ true → (d : ℕ) × (is_leaving (state_of_dev ps d) ≡ true)
 one_leaving [] is = absurd (false_true is)

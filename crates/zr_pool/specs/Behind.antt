@@ -1,5 +1,5 @@
 -- What a stop leaves of the pool on devices, in the group that is open and while it is committed.
-use Rattle.std.specs.Prelude.{◌≡◌, ◌⊎◌, ℕ, All, IfSome, Bool, true, false, not, ◌&&◌, ◌||◌, List, [], ◌∷◌, Option, Some, None, is_some, if◌then◌else◌}
+use Rattle.std.specs.Prelude.{◌≡◌, ◌⊎◌, ℕ, All, IfSome, Bool, true, false, not, ◌&&◌, ◌||◌, List, [], ◌∷◌, Option, Some, None, is_some, if◌then◌else◌, nat_lt}
 use Rattle.std.specs.FinMap as map
 use Rattle.zr_base.specs.declared.space.DevPart.{DevPart}
 use Rattle.zr_command.specs.Meanings.{Disks}
@@ -15,6 +15,7 @@ use Rattle.zr_open.specs.Flushed.{FlushesOnly}
 use Rattle.zr_open.specs.Going.{GoesBackInPart, RewindsInPart}
 use Rattle.zr_open.specs.Shown.{Shows, ShowsGroup}
 use Rattle.zr_open.specs.There.{IsStillThere}
+use Rattle.zr_rules.specs.Columns.{uncopied_units}
 use Rattle.zr_rules.specs.Places.{is_gone}
 use Rattle.zr_script.specs.declared.command.Command.{Command}
 use Rattle.zr_script.specs.declared.command.Command.TheVariants as cmd
@@ -27,7 +28,7 @@ use Rattle.zr_stops.specs.Either.{ShowsEither}
 use Rattle.zr_sync.specs.Objects.{HoldsObjects}
 use Rattle.zr_sync.specs.declared.open.OpenPool.{OpenPool}
 use Rattle.zr_pool.specs.Plain.{is_copy}
-use Rattle.zr_pool.specs.Pools.{DeviceState, settled, stand_of}
+use Rattle.zr_pool.specs.Pools.{DeviceState, is_evacuating, settled, stand_of}
 
 -- The lines that work in the group that is open, or end it by a commit: those on objects, tables, `step discard`, `sync` and `export`.
 abbrev pub is_in_group : Command → Bool
@@ -83,9 +84,21 @@ pub record HasReset (pool : OpenPool) (now : Stand) (objects : Objects) : Type 0
 abbrev pub StopsInReset : List ℕ → Objects → OpenPool → World → World → Type 0
 StopsInReset sizes objects old before now = WritesReset sizes objects old before now ⊎ ((slot : ℕ) × AddsInPart sizes objects slot old before now)
 
--- What a crash shows is told at each moment of the line.
-abbrev pub may_stop : Command → Bool
-may_stop command = is_in_group command || is_resetting command
+-- a step would end no removal: no device is leaving, or units of one are left to copy
+abbrev pub is_no_end : Option OpenPool → Bool
+is_no_end None = true
+is_no_end (Some pool) = not (is_evacuating pool.space) || nat_lt 0 (uncopied_units pool.space)
+
+-- The line is a `remove -s`, a step of a removal that does not end it, or a step of condensing: it may give a removal up, and ends none.
+abbrev pub ends_no_removal : Option OpenPool → Command → Bool
+ends_no_removal account cmd.Cancel = true
+ends_no_removal account cmd.StepEvac = is_no_end account
+ends_no_removal account cmd.StepCondense = true
+ends_no_removal account _ = false
+
+-- What a crash shows is told at each moment of the line: it works in the group that is open, or commits it, or ends with a reset, or is one of a removal or of condensing that ends no removal.
+abbrev pub may_stop : Option OpenPool → Command → Bool
+may_stop account command = is_in_group command || (is_resetting command || ends_no_removal account command)
 
 -- The line stayed in one group: it did nothing to the disks, or wrote units of the group that is open, or of the next one behind a commit of that.
 abbrev pub StaysTold : List ℕ → Objects → OpenPool → OpenPool → World → World → Type 0

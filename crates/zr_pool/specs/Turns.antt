@@ -266,7 +266,7 @@ pub record RestsOn (p : Point DeviceState) (disks : Disks) : Type 0 where
 -- the line, which it commits. Where no pool is open they are the former, or those that the line opens to; and where nothing was written yet, it is what a crash would have left at the beginning, or what is shown has the objects that were shown before the line, or those that it opens to.
 pub record IsWithin (p : Point DeviceState) (command : Command) (disks : Disks) : Type 0 where
   pub tables : IfSome p.state.account (λ pool. is_table command ≡ true → disks.seen ≡ p.shelf.disks)
-  pub shows : (objects : Objects) (q : PoolState) → p.state.behind ≡ Some objects → p.state.told.shelf ≡ Is q → may_stop command ≡ true → LeavesEither objects q.objects disks
+  pub shows : (objects : Objects) (q : PoolState) → p.state.behind ≡ Some objects → p.state.told.shelf ≡ Is q → may_stop p.state.account command ≡ true → LeavesEither objects q.objects disks
   pub opens : (objects : Objects) → p.state.account ≡ None → p.state.behind ≡ Some objects → AreAllThere p.shelf command → LeavesOpened p.shelf command objects disks
   pub begins : (first : Disks) → p.state.begun ≡ Some first → AreAllThere p.shelf command → LeavesBegun p.shelf command first disks
 

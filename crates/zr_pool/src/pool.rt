@@ -1,6 +1,6 @@
 //! The pool on the devices of the words, as a run over lines knows it.
 ghost use Rattle.std.specs.FinMap as map;
-ghost use Rattle.std.specs.Prelude.{◌≡◌, ◌≤◌, ℕ, List, Option, None, true, false, is_some, IfOk, IfSome, IfNone, IsErrOf, OnOk, OnErr, length};
+ghost use Rattle.std.specs.Prelude.{◌≡◌, ◌≤◌, ℕ, List, Option, Some, None, true, false, is_some, IfOk, IfSome, IfNone, IsErrOf, OnOk, OnErr, length};
 ghost use Rattle.zr_base.specs.Counts.{HasRisen};
 ghost use Rattle.zr_base.specs.declared.refusal.Refusal.{Refusal};
 ghost use Rattle.zr_script.specs.Grammar.{IsLine};
@@ -20,8 +20,9 @@ ghost use Rattle.zr_script.specs.declared.command.Command.TheVariants.{Export, I
 ghost use Rattle.zr_open.specs.Left.{IsLeftCommitted};
 ghost use Rattle.zr_pool.specs.Plain.{IsDone, IsMade, IsOpeningCause, IsPlainOf, IsPlainRefusal, is_copy, is_untold_behind, shelf_of};
 ghost use Rattle.zr_open.specs.Flushed.{FlushesOnly};
-ghost use Rattle.zr_pool.specs.Behind.{HasReset, StaysTold, StopsInReset, StopsInOpening, is_commit, is_create, is_import, is_in_group, is_resetting, is_return};
+ghost use Rattle.zr_pool.specs.Behind.{HasReset, StaysTold, StopsInReset, StopsInOpening, ends_no_removal, is_commit, is_create, is_import, is_in_group, is_resetting, is_return};
 ghost use Rattle.zr_pool.specs.Pools.{IsAtRest, IsOnShelf};
+ghost use Rattle.zr_removal.specs.Turns.{CancelsInPart};
 ghost use Rattle.zr_pool.specs.Replies.{TellsFault};
 ghost use Rattle.zr_sync.specs.States.{HoldsState};
 ghost use Rattle.zr_pool.specs.Ends.{is_closing};
@@ -109,6 +110,7 @@ fn open_line<S: Shelf>(
     ensures resets { is_resetting command.now ≡ true → (p : PoolState) → HoldsState (S.tells shelf.old) (S.world shelf.old).now.seen pool.old p → OnOk result (HasReset pool.new (S.world shelf.new).now p.objects) }
     ensures copies { S.tells shelf.old → IfOk result (λ found. IfSome found (λ reply. is_copy command.now reply ≡ true → WritesIntoFree pool.old (S.world shelf.old) (S.world shelf.new) × OpensNoUnit pool.old pool.new)) }
     ensures stops_reset { is_resetting command.now ≡ true → (p : PoolState) → HoldsState (S.tells shelf.old) (S.world shelf.old).now.seen pool.old p → StopsInReset (S.sizes shelf.old) p.objects pool.old (S.world shelf.old) (S.world shelf.new) }
+    ensures stops_back { ends_no_removal (Some pool.old) command.now ≡ true → (p : PoolState) → HoldsState (S.tells shelf.old) (S.world shelf.old).now.seen pool.old p → CancelsInPart (S.sizes shelf.old) p.objects pool.old (S.world shelf.old) (S.world shelf.new) }
     ensures account { S.tells shelf.old → IfOk result (λ found. IfSome found (λ reply. Turns paths.now (S.sizes shelf.old) (S.world shelf.old).now.seen pool.old command.now reply (S.world shelf.new).now.seen pool.new)) }
     ensures account_no { S.tells shelf.old → (r : Refusal) → IsErrOf result (No r) → Refuses paths.now (S.sizes shelf.old) (S.world shelf.old).now.seen pool.old command.now r pool.new }
     ensures blamed { IfOk result (λ found. IfSome found (λ reply. TellsFault command.now reply → HasRisen (S.counts shelf.old).disk (S.counts shelf.new).disk)) }

@@ -14,6 +14,7 @@ ghost use Rattle.zr_model.specs.State.{PoolState};
 ghost use Rattle.zr_create.specs.Names.{slot_named};
 ghost use Rattle.zr_removal.specs.Devices.{IsDeviceOn, IsOnlyOne, copy_pieces};
 ghost use Rattle.zr_removal.specs.Refusals.{HasNoRemoval};
+ghost use Rattle.zr_removal.specs.Turns.{CancelsInPart};
 ghost use Rattle.zr_rules.specs.Places.{part_of, state_of_dev};
 ghost use Rattle.zr_shelf.specs.Counts.{NoneFell};
 ghost use Rattle.zr_sync.specs.Pools.{IsOpen};
@@ -21,7 +22,7 @@ ghost use Rattle.zr_sync.specs.States.{HasCheckpoint, HoldsState};
 ghost use Rattle.zr_sync.specs.Writes.{WorksOnDisks, WritesIntoFree};
 ghost use Rattle.zr_sync.specs.declared.fault.Fault.TheVariants.{No, Stops};
 ghost use Rattle.zr_sync.specs.declared.stop.Stop.TheVariants.{DiskFault};
-ghost use Rattle.zr_pool.specs.Behind.{HasReset, StopsInReset, is_resetting, is_return};
+ghost use Rattle.zr_pool.specs.Behind.{HasReset, StopsInReset, ends_no_removal, is_resetting, is_return};
 ghost use Rattle.zr_pool.specs.Plain.{IsCheckpointCause, IsDone, IsPlainOf, IsPlainRefusal, is_copy, is_of_removal, is_untold_behind};
 ghost use Rattle.zr_pool.specs.Accounts.{IsRemovable, IsRemovalCause, Refuses, Turns};
 ghost use Rattle.zr_pool.specs.Replies.{TellsFault, condense_reply, evac_reply};
@@ -136,6 +137,7 @@ pub fn removal_line<S: Shelf>(
     ensures comes_back { (p : PoolState) → HoldsState (S.tells shelf.old) (S.world shelf.old).now.seen pool.old p → IfOk result (λ reply. is_return reply command.now ≡ true → HasReset pool.new (S.world shelf.new).now p.objects) }
     ensures resets { is_resetting command.now ≡ true → (p : PoolState) → HoldsState (S.tells shelf.old) (S.world shelf.old).now.seen pool.old p → OnOk result (HasReset pool.new (S.world shelf.new).now p.objects) }
     ensures stops_reset { is_resetting command.now ≡ true → (p : PoolState) → HoldsState (S.tells shelf.old) (S.world shelf.old).now.seen pool.old p → StopsInReset (S.sizes shelf.old) p.objects pool.old (S.world shelf.old) (S.world shelf.new) }
+    ensures stops_back { ends_no_removal (Some pool.old) command.now ≡ true → (p : PoolState) → HoldsState (S.tells shelf.old) (S.world shelf.old).now.seen pool.old p → CancelsInPart (S.sizes shelf.old) p.objects pool.old (S.world shelf.old) (S.world shelf.new) }
     ensures account { S.tells shelf.old → IfOk result (λ reply. Turns paths.now (S.sizes shelf.old) (S.world shelf.old).now.seen pool.old command.now reply (S.world shelf.new).now.seen pool.new) }
     ensures account_no { S.tells shelf.old → (r : Refusal) → IsErrOf result (No r) → Refuses paths.now (S.sizes shelf.old) (S.world shelf.old).now.seen pool.old command.now r pool.new }
     ensures blamed { IfOk result (λ reply. TellsFault command.now reply → HasRisen (S.counts shelf.old).disk (S.counts shelf.new).disk) }

@@ -1,4 +1,4 @@
-use Rattle.std.proofs.Common.{◌≡◌, true, ◌∙◌, inl, inr, ap, refl, subst, sym, Err}
+use Rattle.std.proofs.Common.{◌≡◌, true, ◌∙◌, inl, inr, ap, refl, subst, sym, Some, Err}
 use Rattle.std.proofs.lemmas.Result.{err_from_is_err_and}
 use Rattle.zr_shelf.proofs.Doings.{writes_still}
 use Rattle.zr_shelf.specs.Moments.{World}
@@ -7,7 +7,7 @@ use Rattle.zr_script.specs.declared.command.Command.{Command}
 use Rattle.zr_vdev.specs.Stores.{IsWriteInto}
 use Rattle.zr_vdev.specs.declared.kind.Kind.TheVariants.{Block}
 use Rattle.zr_lines.proofs.Stopping.{in_group_itself}
-use Rattle.zr_pool.proofs.Groups.{commit_alone, commits_in_group, copy_step, none_of_them, not_of_removal, not_opener, no_way, opens_no_reset, pool_commits, refused_stays, resets_elsewhere, resets_somewhere, return_elsewhere, same_world}
+use Rattle.zr_pool.proofs.Groups.{commit_alone, commits_in_group, copy_step, ends_none, none_of_them, not_of_removal, not_opener, no_way, opens_no_reset, pool_commits, refused_stays, resets_elsewhere, resets_somewhere, return_elsewhere, same_world}
 use Rattle.zr_pool.proofs.Leavings.{opener_refused}
 use Rattle.zr_pool.proofs.Refused.{fault_same}
 use Rattle.zr_pool.proofs.Shown.{same_root, still_last}
@@ -255,3 +255,35 @@ returns-then-is_table-clause-copies g c = λ told copy. no_way (subst (λ (k : C
 
 pub returns-then-is_on_pool-clause-copies : goal.returns-then-is_on_pool-clause-copies
 returns-then-is_on_pool-clause-copies g c = λ told copy. no_way (subst (λ (k : Command). is_on_pool k ≡ true) (copy_step _ _ copy) (sym c.is_on_pool.ensures ∙ c.if-is_on_pool.true))
+
+-- ---- a line that ends no removal is one of a removal, or of condensing
+
+pub returns-then-is_on_objects-clause-stops_back : goal.returns-then-is_on_objects-clause-stops_back
+returns-then-is_on_objects-clause-stops_back g c = λ on p h. no_way (sym (ends_none (Some c.args.pool.now) c.args.command.now on).objects ∙ (sym c.is_on_objects.ensures ∙ c.if-is_on_objects.true))
+
+pub returns-in_err-object_line-clause-stops_back : goal.returns-in_err-object_line-clause-stops_back
+returns-in_err-object_line-clause-stops_back g c = λ on p h. no_way (sym (ends_none (Some c.args.pool.now) c.args.command.now on).objects ∙ (sym c.is_on_objects.ensures ∙ c.if-is_on_objects.true))
+
+pub returns-then-is_table-clause-stops_back : goal.returns-then-is_table-clause-stops_back
+returns-then-is_table-clause-stops_back g c = λ on p h. no_way (sym (ends_none (Some c.args.pool.now) c.args.command.now on).table ∙ (sym c.is_table.ensures ∙ c.if-is_table.true))
+
+pub returns-in_err-table_line-clause-stops_back : goal.returns-in_err-table_line-clause-stops_back
+returns-in_err-table_line-clause-stops_back g c = λ on p h. no_way (sym (ends_none (Some c.args.pool.now) c.args.command.now on).table ∙ (sym c.is_table.ensures ∙ c.if-is_table.true))
+
+pub returns-then-is_on_pool-clause-stops_back : goal.returns-then-is_on_pool-clause-stops_back
+returns-then-is_on_pool-clause-stops_back g c = λ on p h. no_way (sym (ends_none (Some c.args.pool.now) c.args.command.now on).pool ∙ (sym c.is_on_pool.ensures ∙ c.if-is_on_pool.true))
+
+pub returns-in_err-pool_line-clause-stops_back : goal.returns-in_err-pool_line-clause-stops_back
+returns-in_err-pool_line-clause-stops_back g c = λ on p h. no_way (sym (ends_none (Some c.args.pool.now) c.args.command.now on).pool ∙ (sym c.is_on_pool.ensures ∙ c.if-is_on_pool.true))
+
+pub returns-then-is_of_removal-clause-stops_back : goal.returns-then-is_of_removal-clause-stops_back
+returns-then-is_of_removal-clause-stops_back g c = λ on p h. c.removal_line.ensures.stops_back on p h
+
+pub returns-in_err-removal_line-clause-stops_back : goal.returns-in_err-removal_line-clause-stops_back
+returns-in_err-removal_line-clause-stops_back g c = λ on p h. c.removal_line.ensures.stops_back on p h
+
+pub returns-then-is_opener-clause-stops_back : goal.returns-then-is_opener-clause-stops_back
+returns-then-is_opener-clause-stops_back g c = λ on p h. no_way (sym (sym c.is_of_removal.ensures ∙ c.if-is_of_removal.false) ∙ (ends_none (Some c.args.pool.now) c.args.command.now on).removal)
+
+pub returns-clause-stops_back : goal.returns-clause-stops_back
+returns-clause-stops_back g c = λ on p h. no_way (sym (sym c.is_of_removal.ensures ∙ c.if-is_of_removal.false) ∙ (ends_none (Some c.args.pool.now) c.args.command.now on).removal)

@@ -1,4 +1,4 @@
-use Rattle.std.proofs.Common.{◌≡◌, ◌∙◌, inl, inr, true, false, map, Err, refl, ap, sym, subst}
+use Rattle.std.proofs.Common.{◌≡◌, ◌∙◌, inl, inr, true, false, map, Some, Err, refl, ap, sym, subst}
 use Rattle.std.proofs.lemmas.Result.{err_from_is_err_and}
 use Rattle.zr_base.specs.declared.refusal.Refusal.{Refusal}
 use Rattle.zr_moves.specs.Answers.{leave_at, with_devs}
@@ -14,17 +14,20 @@ use Rattle.zr_last.specs.Last.{KeepsRoot}
 use Rattle.zr_lines.specs.Stops.{OpensNoUnit}
 use Rattle.zr_sync.specs.Writes.{WritesIntoFree}
 use Rattle.zr_sync.specs.declared.open.OpenPool.{OpenPool}
-use Rattle.zr_pool.specs.Behind.{HasReset, is_resetting, is_return}
+use Rattle.zr_pool.specs.Behind.{HasReset, ends_no_removal, is_resetting, is_return}
 use Rattle.zr_pool.specs.Plain.{IsDone, IsPlainOf, is_copy, is_untold_behind}
 use Rattle.zr_pool.specs.Replies.{TellsFault}
 use Rattle.zr_pool.proofs.Acting.{back_ckpt, condense_done, condense_no_return, evac_acts, evac_copies, evac_returns, evac_shows, removed_as}
 use Rattle.zr_pool.proofs.Blaming.{step_blames}
-use Rattle.zr_pool.proofs.Groups.{no_way}
+use Rattle.zr_pool.proofs.Groups.{left_to_copy, no_way}
 use Rattle.zr_pool.proofs.Staying.{same_state}
 use Rattle.zr_pool.proofs.Leavings.{back_told, begins_told, condense_turn, evac_turn, evacuates_told, refusal_same, removal_more}
 use Rattle.zr_pool.proofs.Refused.{fault_same}
 use Rattle.zr_pool.proofs.Resets.{begun}
+use Rattle.zr_shelf.proofs.Doings.{writes_nothing}
 use Rattle.zr_shelf.proofs.Runs.{still}
+use Rattle.zr_vdev.specs.Stores.{IsWriteInto}
+use Rattle.zr_vdev.specs.declared.kind.Kind.TheVariants.{Block}
 use Rattle.zr_pool.proofs.removals.removal_line.Goals as goal
 
 pub returns-in_ok-step_condense-in-StepCondense-clause-pool : goal.returns-in_ok-step_condense-in-StepCondense-clause-pool
@@ -323,3 +326,32 @@ returns-in_ok-step_condense-in-StepCondense-clause-stops_reset g c = λ on p h. 
 
 pub returns-in_err-step_condense-in-StepCondense-clause-stops_reset : goal.returns-in_err-step_condense-in-StepCondense-clause-stops_reset
 returns-in_err-step_condense-in-StepCondense-clause-stops_reset g c = λ on p h. no_way (subst (λ (command : Command). is_resetting command ≡ true) c.in-StepCondense.is on)
+
+-- ---- a line that ends no removal, wherever it stops
+
+pub returns-in_err-dev-in-Remove-clause-stops_back : goal.returns-in_err-dev-in-Remove-clause-stops_back
+returns-in_err-dev-in-Remove-clause-stops_back g c = λ on p h. no_way (subst (λ (command : Command). ends_no_removal (Some c.args.pool.now) command ≡ true) c.in-Remove.is on)
+
+pub returns-in_ok-remove-in-Remove-clause-stops_back : goal.returns-in_ok-remove-in-Remove-clause-stops_back
+returns-in_ok-remove-in-Remove-clause-stops_back g c = λ on p h. no_way (subst (λ (command : Command). ends_no_removal (Some c.args.pool.now) command ≡ true) c.in-Remove.is on)
+
+pub returns-in_err-remove-in-Remove-clause-stops_back : goal.returns-in_err-remove-in-Remove-clause-stops_back
+returns-in_err-remove-in-Remove-clause-stops_back g c = λ on p h. no_way (subst (λ (command : Command). ends_no_removal (Some c.args.pool.now) command ≡ true) c.in-Remove.is on)
+
+pub returns-in_ok-cancel-in-Cancel-clause-stops_back : goal.returns-in_ok-cancel-in-Cancel-clause-stops_back
+returns-in_ok-cancel-in-Cancel-clause-stops_back g c = λ on p h. c.cancel.ensures.stops p.objects h.objects
+
+pub returns-in_err-cancel-in-Cancel-clause-stops_back : goal.returns-in_err-cancel-in-Cancel-clause-stops_back
+returns-in_err-cancel-in-Cancel-clause-stops_back g c = λ on p h. c.cancel.ensures.stops p.objects h.objects
+
+pub returns-in_ok-step_evac-in-StepEvac-clause-stops_back : goal.returns-in_ok-step_evac-in-StepEvac-clause-stops_back
+returns-in_ok-step_evac-in-StepEvac-clause-stops_back g c = λ on p h. c.step_evac.ensures.stops (left_to_copy c.args.pool.now c.args.command.now c.in-StepEvac.is on) p.objects h.objects
+
+pub returns-in_err-step_evac-in-StepEvac-clause-stops_back : goal.returns-in_err-step_evac-in-StepEvac-clause-stops_back
+returns-in_err-step_evac-in-StepEvac-clause-stops_back g c = λ on p h. c.step_evac.ensures.stops (left_to_copy c.args.pool.now c.args.command.now c.in-StepEvac.is on) p.objects h.objects
+
+pub returns-in_ok-step_condense-in-StepCondense-clause-stops_back : goal.returns-in_ok-step_condense-in-StepCondense-clause-stops_back
+returns-in_ok-step_condense-in-StepCondense-clause-stops_back g c = λ on p h. inl (writes_nothing (IsWriteInto Block c.args.pool.now.table.slots c.args.pool.now.space) (g.S.Shelf.world c.args.shelf.now))
+
+pub returns-in_err-step_condense-in-StepCondense-clause-stops_back : goal.returns-in_err-step_condense-in-StepCondense-clause-stops_back
+returns-in_err-step_condense-in-StepCondense-clause-stops_back g c = λ on p h. inl (writes_nothing (IsWriteInto Block c.args.pool.now.table.slots c.args.pool.now.space) (g.S.Shelf.world c.args.shelf.now))

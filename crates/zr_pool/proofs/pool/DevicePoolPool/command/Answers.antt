@@ -123,3 +123,4 @@ returns-clause-moments g c = λ told paths before stood.
     (λ table. c.open_line-done.ensures.still told table (off_objects c.args.command.now table)) (c.open_line-done.ensures.disks told)
     (λ group p held. c.open_line-done.ensures.writes group p (told_anew (Unit {0}) (g.S.Shelf.tells shelf) old.seen x p told held))
     (λ once p held. c.open_line-done.ensures.stops_reset once p (told_anew (Unit {0}) (g.S.Shelf.tells shelf) old.seen x p told held))
+    (λ on p held. c.open_line-done.ensures.stops_back on p (told_anew (Unit {0}) (g.S.Shelf.tells shelf) old.seen x p told held))
