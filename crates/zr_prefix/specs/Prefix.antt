@@ -46,7 +46,7 @@ pub data ComesOf (p : Point DeviceState) (turns : List (Turn DeviceState)) (due 
 abbrev pub ShowsPrefix : Point DeviceState → List (Turn DeviceState) → Option Command → Disks → Type 0
 ShowsPrefix p turns due disks = (image : List (List ℕ)) → IsLeft (stand_of disks) image → (paths : List (List ℕ)) (q : PoolState) → Shows paths image q → ComesOf p turns due image q.objects
 
--- What a crash shows is told at each moment of the line: of a pool that is told it works in the group that is open, or ends it with one commit; or no pool is open, and where it goes back no device is removed.
+-- What a crash shows is told at each moment of the line: of a pool that is told it works in the group that is open, or ends it by a commit, and ends no removal; or no pool is open, and where it goes back no device is removed.
 pub data IsCovered (p : Point DeviceState) (command : Command) : Type 0 where
-  while_open : is_some p.state.behind ≡ true → (q : PoolState) → p.state.told.shelf ≡ Is q → may_stop command ≡ true → IsCovered p command
+  while_open : is_some p.state.behind ≡ true → (q : PoolState) → p.state.told.shelf ≡ Is q → may_stop p.state.account command ≡ true → IsCovered p command
   while_closed : p.state.account ≡ None → AreAllThere p.shelf command → IsCovered p command

@@ -27,8 +27,8 @@ pub fn a_rest_shows_a_prefix()
     ensures { (p : Point DeviceState) (turns : List (Turn DeviceState)) (disks : Disks) → p.state.behind ≡ None → Run on_devices p turns → IsTold (end_of p turns) → RestsOn (end_of p turns) disks → (due : Option Command) → ShowsPrefix p turns due disks }
 {}
 
-/// So it does at each moment of a line behind them that works in the group that is open or commits it, and of one where no pool
-/// is open: while a pool is made, or gone back to, it may show that pool too.
+/// So it does at each moment of a line behind them that works in the group that is open or commits it, and ends no removal, and of one
+/// where no pool is open: while a pool is made, or gone back to, it may show that pool too.
 pub fn a_line_shows_a_prefix()
     ensures { (p : Point DeviceState) (turns : List (Turn DeviceState)) (command : Command) (disks : Disks) → p.state.behind ≡ None → Run on_devices p turns → IsTold (end_of p turns) → IsCovered (end_of p turns) command → IsWithin (end_of p turns) command disks → ShowsPrefix p turns (Some command) disks }
 {}
