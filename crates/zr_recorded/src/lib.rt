@@ -1,0 +1,13 @@
+//! What a commit records in the streams of a pool, as an import reads it.
+//!
+//! An open pool knows of its streams that their trees stand beside each other in the units of metadata, and which words each of
+//! them has. An import knows nothing of the units yet: it follows the pointers of the root's head over the bare devices. As
+//! long as no device is gone both lead to the same bytes. So the words that a commit wrote are those that an import reads, and
+//! they record the very parts of the space that the pool has: the disks show the pool.
+#![tactic(auto)]
+
+mod laws;
+
+pub use laws::{
+    a_condensing_is_read, a_pool_is_shown, a_stream_is_read, recorded_streams_record_parts,
+};
