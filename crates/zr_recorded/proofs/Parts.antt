@@ -20,7 +20,7 @@ use Rattle.zr_open.proofs.Recorded.{streams_record}
 use Rattle.zr_open.specs.Left.{LeavesRoot, RecordsDevice, RecordsDevices, RecordsParts, root_left}
 use Rattle.zr_open.specs.Shown.{IsShownBeside, Shows}
 use Rattle.zr_open.specs.There.{AreThere}
-use Rattle.zr_recorded.proofs.Reading.{stream_read}
+use Rattle.zr_recorded.proofs.Reading.{ReadsMetadata, stream_read}
 use Rattle.zr_recorded.proofs.Spelled.{spelled}
 use Rattle.zr_recorded.specs.Service.{AreInService}
 use Rattle.zr_roots.proofs.Rows.{taken_is}
@@ -56,9 +56,9 @@ each_records s version ckpt dev (r ∷ rows) (t ∷ streams) (p ∷ devs) one tw
   each_records s version ckpt (dev + 1) rows streams devs (omega (arith, one)) (omega (arith, two)) (λ i e lt is. each (suc i) e (omega (arith, lt)) (omega (arith, is))),
 )
 
-module _ (disks : List (List ℕ)) (sizes : List ℕ) (u : Uber) (pool : OpenPool) (others : List Standing) (tells : Type 0) (ready : IsOpen sizes pool) (from : GoesOnFrom u pool) (serves : AreInService u pool) (h : HoldsStreams recorded (one_stage Recorded) others tells disks pool) where
+module _ (disks image : List (List ℕ)) (sizes : List ℕ) (u : Uber) (pool : OpenPool) (others : List Standing) (tells : Type 0) (ready : IsOpen sizes pool) (from : GoesOnFrom u pool) (serves : AreInService u pool) (same : ReadsMetadata disks image pool) (h : HoldsStreams recorded (one_stage Recorded) others tells disks pool) where
   -- a device in service is not gone
-  there : AreThere (devices_in pool.space)
+  pub there : AreThere (devices_in pool.space)
   there d = elim (cases_lt d pool.table.count) [
     | inl lt ↦ ap is_gone (serves.serve d lt).on
     | inr ge ↦ let many = ready.devices in ap (λ (p : DevPart). is_gone p.row.state) (get_or-eq_default pool.space.parts.devs no_part {n = d} (omega (arith, many, ge)))
@@ -75,12 +75,12 @@ module _ (disks : List (List ℕ)) (sizes : List ℕ) (u : Uber) (pool : OpenPoo
       let n = from.count in
       ready.rows d (omega (arith, below, n)) ∙ (ap (λ (rs : List DevRow). slice_index_or rs d no_row) from.rows ∙ sym (get_or-take u.count u.rows d no_row below))
 
-  device : (d : ℕ) → d < u.count → RecordsDevice (image_of disks pool.table.slots u) u.version d pool.space.parts.ckpt (get_or (rows_of u) d no_row) (streams_at pool d) (part_of pool.space.parts.devs d)
+  device : (d : ℕ) → d < u.count → RecordsDevice (image_of image pool.table.slots u) u.version d pool.space.parts.ckpt (get_or (rows_of u) d no_row) (streams_at pool d) (part_of pool.space.parts.devs d)
   device d below =
       let n = from.count in
       let here : d < pool.table.count = omega (arith, below, n) in
       let whole = serves.serve d here in
-      let reads = stream_read disks sizes u pool recorded (one_stage Recorded) others tells ready there from h d in
+      let reads = stream_read disks image sizes u pool recorded (one_stage Recorded) others tells ready there from same h d in
       let part : DevPart = part_of pool.space.parts.devs d in
       record {
         on = sym (ap (λ (r : DevRow). r.state) (row_is d below)) ∙ whole.on;
@@ -99,32 +99,36 @@ module _ (disks : List (List ℕ)) (sizes : List ℕ) (u : Uber) (pool : OpenPoo
             (subst (λ (v : ℕ). IsLate v d (h.words d SecondLate) part.late2) serves.version (h.are d SecondLate here));
       }
 
-  devices : RecordsDevices (image_of disks pool.table.slots u) u.version pool.space.parts.ckpt 0 (rows_of u) pool.streams.items pool.space.parts.devs
+  devices : RecordsDevices (image_of image pool.table.slots u) u.version pool.space.parts.ckpt 0 (rows_of u) pool.streams.items pool.space.parts.devs
   devices =
       let n = from.count in let many_streams = ready.count in let many_parts = ready.devices in let rows = many in
-      each_records (image_of disks pool.table.slots u) u.version pool.space.parts.ckpt 0 (rows_of u) pool.streams.items pool.space.parts.devs (omega (arith, n, many_streams, rows)) (omega (arith, n, many_parts, rows))
+      each_records (image_of image pool.table.slots u) u.version pool.space.parts.ckpt 0 (rows_of u) pool.streams.items pool.space.parts.devs (omega (arith, n, many_streams, rows)) (omega (arith, n, many_parts, rows))
       (λ i e below is.
-      let same : i ≡ e = omega (arith, is) in
-      subst (λ (k : ℕ). RecordsDevice (image_of disks pool.table.slots u) u.version k pool.space.parts.ckpt (get_or (rows_of u) i no_row) (streams_at pool i) (part_of pool.space.parts.devs i)) same (device i (omega (arith, below, rows))))
+      let one : i ≡ e = omega (arith, is) in
+      subst (λ (k : ℕ). RecordsDevice (image_of image pool.table.slots u) u.version k pool.space.parts.ckpt (get_or (rows_of u) i no_row) (streams_at pool i) (part_of pool.space.parts.devs i)) one (device i (omega (arith, below, rows))))
 
-  pub parts_recorded : (r : RecordsParts disks u pool) × (r.parts ≡ pool.space.parts)
-  parts_recorded = streams_record disks u pool pool.space.parts from serves.cond (ready.spelled ∙ serves.version) refl serves.cond devices
+  pub parts_recorded : (r : RecordsParts image u pool) × (r.parts ≡ pool.space.parts)
+  parts_recorded = streams_record image u pool pool.space.parts from serves.cond (ready.spelled ∙ serves.version) refl serves.cond devices
 
-  -- ---- the pool that is shown
+-- ---- the pool that is shown
 
-  module _ (paths : List (List ℕ)) (objects : Objects) (unsaved : pool.saved ≡ None) (empty : pool.group.objects ≡ []) (slots : IsShownFor disks u pool) (head : HasHead disks pool u.root u.len) (held : HoldsObjects (Unit {0}) disks pool objects) where
-    left : LeavesRoot paths disks u pool
-    left = record {
-      from = from;
-      empty = empty;
-      slots = slots;
-      head = head;
-      records = parts_recorded.0;
-      saved = None;
-      beside = subst (λ (c : Option Checkpoint). IsShownBeside disks (slots_of u slots.seen) (root_left u pool parts_recorded.0.parts) (saved_block c) None) (sym unsaved) tt;
-      state = None;
-      means = refl;
-    }
+module _ (paths disks : List (List ℕ)) (sizes : List ℕ) (u : Uber) (pool : OpenPool) (objects : Objects) (others : List Standing) (tells : Type 0) (ready : IsOpen sizes pool) (from : GoesOnFrom u pool) (serves : AreInService u pool) (unsaved : pool.saved ≡ None) (empty : pool.group.objects ≡ []) (slots : IsShownFor disks u pool)
+    (head : HasHead disks pool u.root u.len) (h : HoldsStreams recorded (one_stage Recorded) others tells disks pool) (held : HoldsObjects (Unit {0}) disks pool objects) where
+  records : (r : RecordsParts disks u pool) × (r.parts ≡ pool.space.parts)
+  records = parts_recorded disks disks sizes u pool others tells ready from serves (λ b is. refl) h
 
-    pub pool_shown : (p : PoolState) × Shows paths disks p × HoldsState (Unit {0}) disks pool p × (p.objects ≡ objects)
-    pool_shown = left_is_shown (Unit {0}) paths disks sizes u pool objects ready there left held
+  left : LeavesRoot paths disks u pool
+  left = record {
+    from = from;
+    empty = empty;
+    slots = slots;
+    head = head;
+    records = records.0;
+    saved = None;
+    beside = subst (λ (c : Option Checkpoint). IsShownBeside disks (slots_of u slots.seen) (root_left u pool records.0.parts) (saved_block c) None) (sym unsaved) tt;
+    state = None;
+    means = refl;
+  }
+
+  pub pool_shown : (p : PoolState) × Shows paths disks p × HoldsState (Unit {0}) disks pool p × (p.objects ≡ objects)
+  pool_shown = left_is_shown (Unit {0}) paths disks sizes u pool objects ready (there disks disks sizes u pool others tells ready from serves (λ b is. refl) h) left held

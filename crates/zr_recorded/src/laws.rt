@@ -8,10 +8,13 @@ ghost use Rattle.zr_model.specs.State.{PoolState};
 ghost use Rattle.zr_open.specs.Left.{RecordsParts};
 ghost use Rattle.zr_open.specs.Shown.{Shows};
 ghost use Rattle.zr_open.specs.There.{AreThere};
+ghost use Rattle.zr_recorded.specs.Crashes.{ShowsPool};
 ghost use Rattle.zr_recorded.specs.Service.{AreInService};
 ghost use Rattle.zr_root.specs.Streams.{HasWords};
 ghost use Rattle.zr_roots.specs.Standing.{image_of};
 ghost use Rattle.zr_rules.specs.Equation.{devices_in};
+ghost use Rattle.zr_shelf.specs.Moments.{Throughout, World};
+ghost use Rattle.zr_stops.specs.Last.{IsCommitted};
 ghost use Rattle.zr_sync.specs.Heads.{HasHead};
 ghost use Rattle.zr_sync.specs.Mappings.{cond_stream};
 ghost use Rattle.zr_sync.specs.Objects.{HoldsObjects};
@@ -20,6 +23,7 @@ ghost use Rattle.zr_sync.specs.States.{HoldsState};
 ghost use Rattle.zr_sync.specs.Streams.{streams_at};
 ghost use Rattle.zr_sync.specs.Trees.{HoldsStreams, Place, Stage, one_stage, recorded, stream_in};
 ghost use Rattle.zr_sync.specs.Trees.Stage.{Recorded};
+ghost use Rattle.zr_sync.specs.Writes.{WritesIntoFree};
 ghost use Rattle.zr_sync.specs.declared.mappings.MappingStream.{MappingStream};
 ghost use Rattle.zr_sync.specs.declared.open.OpenPool.{OpenPool};
 
@@ -50,4 +54,12 @@ pub fn a_pool_is_shown<S: Shelf>()
     ensures { (shelf : S) (paths disks : List (List ℕ)) (sizes : List ℕ) (u : Uber) (pool : OpenPool) (objects : Objects) (others : List Standing) → IsOpen sizes pool → GoesOnFrom u pool → AreInService u pool → pool.saved ≡ None → pool.group.objects ≡ []
         → IsShownFor disks u pool → HasHead disks pool u.root u.len → HoldsStreams recorded (one_stage Recorded) others (S.tells shelf) disks pool → HoldsObjects (Unit {0}) disks pool objects
         → (p : PoolState) × Shows paths disks p × HoldsState (Unit {0}) disks pool p × (p.objects ≡ objects) }
+{}
+
+/// While the group of such a pool is open, whatever a crash leaves at any moment shows a pool with the objects of the last root:
+/// after a stop there is a pool to import.
+pub fn a_crash_shows_the_pool<S: Shelf>()
+    ensures { (shelf : S) (paths : List (List ℕ)) (sizes : List ℕ) (u : Uber) (pool : OpenPool) (objects : Objects) (others : List Standing) (before now : World) → IsCommitted sizes before.now u pool objects → GoesOnFrom u pool → AreInService u pool → pool.saved ≡ None
+        → IsShownFor before.now.seen u pool → HasHead before.now.seen pool u.root u.len → HoldsStreams recorded (one_stage Recorded) others (S.tells shelf) before.now.seen pool → WritesIntoFree pool before now
+        → Throughout (ShowsPool paths objects) before now }
 {}

@@ -9,5 +9,6 @@
 mod laws;
 
 pub use laws::{
-    a_condensing_is_read, a_pool_is_shown, a_stream_is_read, recorded_streams_record_parts,
+    a_condensing_is_read, a_crash_shows_the_pool, a_pool_is_shown, a_stream_is_read,
+    recorded_streams_record_parts,
 };
