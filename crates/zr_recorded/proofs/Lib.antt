@@ -2,3 +2,4 @@ pub mod Reading
 pub mod Spelled
 pub mod Parts
 pub mod Crashes
+pub mod Behind

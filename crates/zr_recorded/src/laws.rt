@@ -1,10 +1,11 @@
 //! The laws, as calls that do nothing: a caller learns them by their contracts.
-ghost use Rattle.std.specs.Prelude.{◌≡◌, ℕ, ◌<◌, List, [], None};
+ghost use Rattle.std.specs.Prelude.{◌≡◌, ℕ, ◌<◌, Bool, List, [], length, map, None};
 ghost use Rattle.zr_beside.specs.Beside.{Standing};
 ghost use Rattle.zr_current.specs.Current.{GoesOnFrom, IsShownFor};
 ghost use Rattle.zr_label.specs.declared.root.Uber.{Uber};
 ghost use Rattle.zr_model.specs.Objects.{Objects};
 ghost use Rattle.zr_model.specs.State.{PoolState};
+ghost use Rattle.zr_newest.specs.Newest.{IsNewestOn};
 ghost use Rattle.zr_open.specs.Left.{RecordsParts};
 ghost use Rattle.zr_open.specs.Shown.{Shows};
 ghost use Rattle.zr_open.specs.There.{AreThere};
@@ -15,6 +16,7 @@ ghost use Rattle.zr_roots.specs.Standing.{image_of};
 ghost use Rattle.zr_rules.specs.Equation.{devices_in};
 ghost use Rattle.zr_shelf.specs.Moments.{Throughout, World};
 ghost use Rattle.zr_stops.specs.Last.{IsCommitted};
+ghost use Rattle.zr_sync.specs.Ends.{EndsCommitted};
 ghost use Rattle.zr_sync.specs.Heads.{HasHead};
 ghost use Rattle.zr_sync.specs.Mappings.{cond_stream};
 ghost use Rattle.zr_sync.specs.Objects.{HoldsObjects};
@@ -62,4 +64,12 @@ pub fn a_crash_shows_the_pool<S: Shelf>()
     ensures { (shelf : S) (paths : List (List ℕ)) (sizes : List ℕ) (u : Uber) (pool : OpenPool) (objects : Objects) (others : List Standing) (before now : World) → IsCommitted sizes before.now u pool objects → GoesOnFrom u pool → AreInService u pool → pool.saved ≡ None
         → IsShownFor before.now.seen u pool → HasHead before.now.seen pool u.root u.len → HoldsStreams recorded (one_stage Recorded) others (S.tells shelf) before.now.seen pool → WritesIntoFree pool before now
         → Throughout (ShowsPool paths objects) before now }
+{}
+
+/// Behind a commit that has recorded the streams, whatever a crash leaves while the next group is open shows a pool with the objects
+/// that were committed.
+pub fn a_commit_is_shown_after_a_crash<S: Shelf>()
+    ensures { (shelf : S) (paths : List (List ℕ)) (sizes : List ℕ) (reset : Bool) (last : Uber) (old new : OpenPool) (objects : Objects) (others : List Standing) (before after now : World) → IsOpen sizes old → GoesOnFrom last old → map length before.now.seen ≡ sizes → IsNewestOn before.now.seen last old.table.slots
+        → IsShownFor before.now.seen last old → EndsCommitted sizes reset old new objects before after → ((u : Uber) → GoesOnFrom u new → AreInService u new) → new.saved ≡ None → HoldsStreams recorded (one_stage Recorded) others (S.tells shelf) after.now.seen new → WritesIntoFree new after now
+        → Throughout (ShowsPool paths objects) after now }
 {}
