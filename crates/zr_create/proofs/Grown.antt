@@ -1,4 +1,4 @@
--- What the disks hold of blocks once a pool has a device more: all that they held before.
+-- What the disks hold of blocks and of metadata once a pool has a device more: all that they held before.
 use Rattle.std.proofs.Common.{◌≡◌, ◌∙◌, ◌⊎◌, inl, inr, ℕ, zero, suc, ◌+◌, ◌<◌, ◌≤◌, Bool, true, false, nat_lt, List, [], ◌∷◌, ◌++◌, length, map, Option, None, Some, refl, sym, ap, subst, arith}
 use Rattle.std.specs.Prelude.{◌&&◌, ◌==◌, All, if◌then◌else◌, is_some, option_and_then, slice_index}
 use Rattle.std.specs.List.{flat_map, list_all, list_any, range_with_len, sum_by}
@@ -24,14 +24,16 @@ use Rattle.zr_rules.specs.Roles.{Role, is_live_role}
 use Rattle.zr_rules.specs.Roles.Role.{Free}
 use Rattle.zr_rules.specs.Space.{Space, role_at}
 use Rattle.zr_rules.specs.Steps as steps
+use Rattle.zr_space.specs.Drops.{IsMeta}
 use Rattle.zr_space.specs.Live.{IsFreeable}
 use Rattle.zr_space.proofs.Paths.{part_past}
 use Rattle.zr_store.specs.Store.{Stored, Swaps, Now}
 use Rattle.zr_store.proofs.Meeting.{at_each}
 use Rattle.zr_vdev.specs.Caches.{AreRead}
 use Rattle.zr_vdev.specs.Runs.{view_of}
-use Rattle.zr_vdev.specs.Stores.{HoldsBlocks, IsStoredAt, addresses_of}
-use Rattle.zr_vdev.specs.declared.kind.Kind.TheVariants.{Block}
+use Rattle.zr_vdev.specs.Stores.{HoldsBlocks, IsInUse, IsStoredAt, MayGoBack, addresses_of}
+use Rattle.zr_vdev.specs.declared.kind.Kind.{Kind}
+use Rattle.zr_vdev.specs.declared.kind.Kind.TheVariants.{Block, Meta}
 use Rattle.zr_vdev.proofs.Moves.{bytes_now, each_resolves, holds_all}
 use Rattle.zr_view.specs.Views.{slot_of, unit_bytes, place_bytes, address_bytes}
 use Rattle.zr_create.proofs.Taken.{new_part}
@@ -68,7 +70,7 @@ module _ (s t : Space) (units txg : ℕ) (adds : steps.AddsDevice s t units txg)
   more : length t.parts.devs ≡ length s.parts.devs + 1
   more = ap (λ (ps : List DevPart). length ps) adds.devs ∙ length-append s.parts.devs (new_part units txg ∷ [])
 
-  part_stays : (d : ℕ) → d < length s.parts.devs → part_of t.parts.devs d ≡ part_of s.parts.devs d
+  pub part_stays : (d : ℕ) → d < length s.parts.devs → part_of t.parts.devs d ≡ part_of s.parts.devs d
   part_stays d lt = ap (λ (ps : List DevPart). part_of ps d) adds.devs ∙ get_or_append_left s.parts.devs (new_part units txg ∷ []) no_part d lt
 
   -- a device that is gone was there before
@@ -302,8 +304,31 @@ module _ (s t : Space) (units txg : ℕ) (adds : steps.AddsDevice s t units txg)
         spends = spends_still (a ∷ []) (All-cons Leads a [] h.resolves (All-nil Leads)) h.spends;
       }
 
-  stored_still : (a : Dva) → IsStoredAt Block s None a → IsStoredAt Block t None a
-  stored_still a h = record { used = used_still a h.used; whole = tt }
+  role_before : (d u : ℕ) → d < length s.parts.devs → role_at t d u ≡ role_at s d u
+  role_before d u lt =
+      let old : ((d == length s.parts.devs) && nat_lt u units) ≡ false = grind (arith, nat_tests, lt) in
+      adds.roles d u ∙ if_false ((d == length s.parts.devs) && nat_lt u units) Free (role_at s d u) old
+
+  meta_still : (a : Dva) → IsMeta s a → IsMeta t a
+  meta_still a h =
+      let known = h.known in
+      record {
+        known = omega (arith, known, more);
+        some = h.some;
+        within = subst (λ (p : DevPart). a.start + a.len ≤ p.row.units) (sym (part_stays a.dev known)) h.within;
+        used = elim h.used [ inl all ↦ inl (λ u is. role_before a.dev u known ∙ all u is) | inr all ↦ inr (λ u is. role_before a.dev u known ∙ all u is) ];
+      }
+
+  in_use_still : (kind : Kind) (a : Dva) → IsInUse kind s a → IsInUse kind t a
+  in_use_still Block a h = used_still a h
+  in_use_still Meta a h = meta_still a h
+
+  stored_still : (kind : Kind) (a : Dva) → IsStoredAt kind s None a → IsStoredAt kind t None a
+  stored_still kind a h = record { used = in_use_still kind a h.used; whole = tt }
+
+  back_still : (kind : Kind) (list : List Dva) → All Leads list → MayGoBack kind s list → MayGoBack kind t list
+  back_still Block list all h = spends_still list all h
+  back_still Meta list all h = tt
 
   -- ---- bytes
 
@@ -340,20 +365,20 @@ module _ (s t : Space) (units txg : ℕ) (adds : steps.AddsDevice s t units txg)
         }
 
     -- where each address of before reads the same, all blocks are held
-    pub held_still : (told is_told : Type 0) (c : Cache) (st : Stored) → is_told → HoldsBlocks Block slots told before s None c st → Now (HoldsBlocks Block now_slots is_told now t None c) (λ n. Swaps st n [] [])
-    held_still told is_told c st tells held =
-        let all : All (λ (b : Bptr). IsStoredAt Block t None b.at) st.pointers = λ i e lt. stored_still _ (held.stored i e lt) in
-        let lead = each_resolves Block s None st.pointers held.stored in
+    pub held_still : (kind : Kind) (told is_told : Type 0) (c : Cache) (st : Stored) → is_told → HoldsBlocks kind slots told before s None c st → Now (HoldsBlocks kind now_slots is_told now t None c) (λ n. Swaps st n [] [])
+    held_still kind told is_told c st tells held =
+        let all : All (λ (b : Bptr). IsStoredAt kind t None b.at) st.pointers = λ i e lt. stored_still kind _ (held.stored i e lt) in
+        let lead = each_resolves kind s None st.pointers held.stored in
         let next =
-        holds_all Block now_slots is_told now t None c st.pointers tells (read_still c held.read) (λ at is. absurd (none_some at is)) all
-        (λ d u. let same = live_hits_still (addresses_of st.pointers) d u lead in let few = held.once d u in omega (arith, same, few)) (spends_still (addresses_of st.pointers) lead held.back) in
+        holds_all kind now_slots is_told now t None c st.pointers tells (read_still c held.read) (λ at is. absurd (none_some at is)) all
+        (λ d u. let same = live_hits_still (addresses_of st.pointers) d u lead in let few = held.once d u in omega (arith, same, few)) (back_still kind (addresses_of st.pointers) lead held.back) in
         record {
-          stored = record { pointers = st.pointers; bytes = bytes_now Block now_slots now t None };
+          stored = record { pointers = st.pointers; bytes = bytes_now kind now_slots now t None };
           held = next;
           is = record {
             stored = λ weight. refl;
             kept = λ b free met.
-                let was = at_each (IsStoredAt Block s None) st.pointers b.at held.stored met in
-                next.there b (stored_still b.at was) ∙ reads b.at (held.resolves b.at met) ∙ sym (held.there b was);
+                let was = at_each (IsStoredAt kind s None) st.pointers b.at held.stored met in
+                next.there b (stored_still kind b.at was) ∙ reads b.at (held.resolves b.at met) ∙ sym (held.there b was);
           };
         }

@@ -13,12 +13,13 @@ use Rattle.zr_shelf.specs.Disks.{Stand}
 use Rattle.zr_shelf.specs.Moments.{World, IsStill}
 use Rattle.zr_store.specs.Store.{Stored, Swaps, Now}
 use Rattle.zr_vdev.specs.Runs.{view_of}
-use Rattle.zr_vdev.specs.declared.kind.Kind.TheVariants.{Block}
+use Rattle.zr_vdev.specs.declared.kind.Kind.TheVariants.{Block, Meta}
 use Rattle.zr_vdev.proofs.Moves.{retold}
 use Rattle.zr_view.specs.Views.{slot_of, address_bytes}
 use Rattle.zr_sync.specs.Holds.{HasBlocks}
 use Rattle.zr_sync.specs.Objects.{HoldsObjects, account_of}
 use Rattle.zr_sync.specs.Pools.{IsPool}
+use Rattle.zr_sync.specs.Streams.{HasMeta}
 use Rattle.zr_sync.specs.declared.open.DeviceStreams.{DeviceStreams}
 use Rattle.zr_sync.specs.declared.open.OpenPool.{OpenPool}
 use Rattle.zr_sync.specs.declared.open.Table.{Table}
@@ -50,7 +51,10 @@ module _ (sizes : List ℕ) (x : OpenPool) (slot units : ℕ) (o : IsPool 0 size
         ∙ address_beside x.table.slots slot free (devices_in x.space) before now kept a
 
     blocks_stay : (told is_told : Type 0) (s : Stored) → is_told → HasBlocks told before x s → Now (HasBlocks is_told now y) (λ n. Swaps s n [] [])
-    blocks_stay told is_told s tells held = held_still x.space space units txg adds x.table.slots table.slots before now reads told is_told x.cache s tells held
+    blocks_stay told is_told s tells held = held_still x.space space units txg adds x.table.slots table.slots before now reads Block told is_told x.cache s tells held
+
+    pub meta_stays : (told is_told : Type 0) (s : Stored) → is_told → HasMeta told before x s → Now (HasMeta is_told now y) (λ n. Swaps s n [] [])
+    meta_stays told is_told s tells held = held_still x.space space units txg adds x.table.slots table.slots before now reads Meta told is_told x.cache s tells held
 
     pub objects_kept : (told is_told : Type 0) (objects : Objects) → is_told → HoldsObjects told before x objects → HoldsObjects is_told now y objects
     objects_kept told is_told objects tells h =

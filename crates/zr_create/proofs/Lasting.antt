@@ -1,19 +1,19 @@
 -- The disks show the last root of a new pool, and of one that has a device more.
-use Rattle.std.proofs.Common.{◌≡◌, ◌≢◌, inl, inr, ℕ, ◌+◌, ◌<◌, ◌≤◌, Bool, true, false, List, get_or, length, map, Option, None, Some, Result, Ok, Err, refl, sym, ◌∙◌, ap, subst, arith}
-use Rattle.std.specs.Prelude.{Contains, IfSome, IsSomeAnd, slice_index, slice_set}
+use Rattle.std.proofs.Common.{◌≡◌, ◌≢◌, inl, inr, ℕ, ◌+◌, ◌<◌, ◌≤◌, true, false, List, get_or, length, map, Option, None, Some, Ok, Err, refl, sym, ◌∙◌, ap, subst, arith}
+use Rattle.std.specs.Prelude.{IfSome, IsSomeAnd, slice_index, slice_set}
 use Rattle.std.proofs.lemmas.List.{get_or_default, length-map}
 use Rattle.zr_base.specs.declared.space.DevRow.{DevRow}
-use Rattle.zr_image.specs.Current.{IsInUse, IsShownAt, ShowsAll, seen_at}
+use Rattle.zr_image.specs.Current.{ShowsAll, seen_at}
 use Rattle.zr_label.specs.declared.root.Label.{Label}
 use Rattle.zr_label.specs.declared.root.Seen.{Seen}
 use Rattle.zr_label.specs.declared.root.Uber.{Uber}
 use Rattle.zr_last.proofs.Lasting.{commit_labels, commit_last, commit_places}
-use Rattle.zr_last.specs.Last.{KeepsLast, ShowsLast}
+use Rattle.zr_last.specs.Last.{ShowsLast}
 use Rattle.zr_newest.proofs.Kept.{first_back}
 use Rattle.zr_newest.proofs.Newest.{above_newest}
 use Rattle.zr_newest.proofs.Prepared.{devices_joined, joins_next, labels_with, newest_beside, other_label, with_label}
-use Rattle.zr_newest.proofs.Seen.{long_seen, seen_labels, shown_of_root}
-use Rattle.zr_newest.specs.Newest.{IsAbove, JoinsDevice, PreparesSlot, ShowsRoot}
+use Rattle.zr_newest.proofs.Seen.{seen_labels, shown_of_root}
+use Rattle.zr_newest.specs.Newest.{JoinsDevice, PreparesSlot, ShowsRoot}
 use Rattle.zr_scan.proofs.Fresh.{same_label}
 use Rattle.zr_scan.specs.Scan.{IsFirstLabel}
 use Rattle.zr_shelf.specs.Disks.{disk}

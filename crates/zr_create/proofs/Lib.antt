@@ -12,3 +12,4 @@ pub mod Staying
 pub mod Labelled
 pub mod Prepared
 pub mod Lasting
+pub mod Trees

@@ -9,6 +9,7 @@ use Rattle.zr_rules.specs.Roles.{is_deferred_role}
 use Rattle.zr_rules.specs.Space.{Space, role_at}
 use Rattle.zr_space.specs.Views.{space_of}
 use Rattle.zr_view.specs.Views.{slot_of}
+use Rattle.zr_sync.specs.Empty.{no_cond}
 use Rattle.zr_sync.specs.declared.open.OpenPool.{OpenPool}
 
 -- the pool has this name, identity and version
@@ -17,7 +18,7 @@ pub record IsNamed (name : Name) (guid version : ℕ) (pool : OpenPool) : Type 0
   pub guid_is : pool.guid ≡ guid
   pub version_is : pool.version ≡ version
 
--- a pool without devices and without a directory, whose first group is open and has changed nothing, of which no block is cached and no root saved
+-- a pool without devices, without a directory and without a head, whose first group is open and has changed nothing, of which no block is cached and no root saved, and no condensing goes on
 pub record IsBlank (pool : OpenPool) : Type 0 where
   pub count : pool.table.count ≡ 0
   pub slots : (d : ℕ) → slot_of pool.table.slots d ≡ None
@@ -28,6 +29,9 @@ pub record IsBlank (pool : OpenPool) : Type 0 where
   pub dir : pool.dir ≡ no_tree
   pub cache : entries pool.cache ≡ []
   pub saved : pool.saved ≡ None
+  pub head : pool.head ≡ no_tree
+  pub streams : pool.streams.items ≡ []
+  pub cond : pool.cond ≡ no_cond
 
 -- the last root is of this group, which was a reset
 abbrev pub IsResetAt : ℕ → Option Uber → Type 0

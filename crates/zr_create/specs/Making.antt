@@ -55,7 +55,7 @@ pub record CommitsFirst (sizes named : List ℕ) (before now : World) : Type 0 w
   pub first : pool.last ≡ None
   pub service : AreInService (devices_in pool.space)
   pub names : NamesDevices labelled.now.seen pool
-  pub commits : CommitsObjects sizes pool true map.empty labelled now
+  pub commits : CommitsObjects ⊥ sizes pool true map.empty labelled now
 
 -- no slot showed a root, and then slots were being prepared, or the pool was being committed on them
 pub record MakesBehind (sizes named : List ℕ) (before now : World) : Type 0 where

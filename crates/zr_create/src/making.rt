@@ -12,6 +12,8 @@ ghost use Rattle.zr_shelf.specs.Moments.{IsStill};
 ghost use Rattle.zr_slots.specs.Checks.{AreNamed};
 ghost use Rattle.zr_sync.specs.Objects.{HoldsObjects};
 ghost use Rattle.zr_sync.specs.Pools.{IsOpen};
+ghost use Rattle.zr_sync.specs.Trees.{HasTrees};
+ghost use Rattle.zr_sync.specs.Trees.Stage.{Had, Recorded};
 ghost use Rattle.zr_sync.specs.Writes.{WorksOnDisks};
 ghost use Rattle.zr_sync.specs.declared.fault.Fault.TheVariants.{No, Stops};
 ghost use Rattle.zr_sync.specs.declared.stop.Stop.TheVariants.{DiskFault};
@@ -93,6 +95,8 @@ pub fn create<S: Shelf, P: Place>(
     ensures ends { S.tells shelf.old → IfOk result (λ pool. ComesCommitted (S.sizes shelf.new) pool map.empty (S.world shelf.new)) }
     ensures stops { S.tells shelf.old → MakesInPart (S.sizes shelf.old) named.now (S.world shelf.old) (S.world shelf.new) }
     ensures objects { S.tells shelf.old → IfOk result (λ pool. HoldsObjects (S.tells shelf.new) (S.world shelf.new).now.seen pool map.empty) }
+    ensures trees { S.tells shelf.old → IfOk result (λ pool. HasTrees Had (S.tells shelf.new) (S.world shelf.new).now.seen pool) }
+    ensures recorded { S.tells shelf.old → IfOk result (λ pool. HasTrees Recorded (S.tells shelf.new) (S.world shelf.new).now.seen pool) }
     ensures refused { (r : Refusal) → IsErrOf result (No r) → ChecksNew (S.sizes shelf.old) (S.tells shelf.old) (S.world shelf.old).now.seen version guid named.now (Err r) }
     ensures allowed { OnOk result (ChecksNew (S.sizes shelf.old) (S.tells shelf.old) (S.world shelf.old).now.seen version guid named.now (Ok tt)) }
     ensures untouched { S.tells shelf.old → (r : Refusal) → IsErrOf result (No r) → IsStill (S.world shelf.old) (S.world shelf.new) }

@@ -1,7 +1,7 @@
 //! Taking slots on as devices of the open group.
 //!
 //! A slot loses its old roots before it gets a label, and the pool has the device only once its labels are durable.
-ghost use Rattle.std.specs.Prelude.{◌≡◌, ◌≢◌, ◌<◌, ◌≤◌, ◌⊎◌, ◌+◌, ℕ, All, Option, Some, IsErrOf, IsTrue, OnOk, length, slice_index};
+ghost use Rattle.std.specs.Prelude.{◌≡◌, ◌≢◌, ◌<◌, ◌≤◌, ◌⊎◌, ◌+◌, [], ◌∷◌, ◌++◌, ℕ, All, Option, Some, IsErrOf, IsTrue, OnOk, length, slice_index};
 ghost use Rattle.zr_base.specs.Counts.{HasRisen};
 ghost use Rattle.zr_label.specs.Blocks.{IsLabel, IsName};
 ghost use Rattle.zr_label.specs.Geometry.{is_disk_size, units_of_size};
@@ -10,8 +10,11 @@ ghost use Rattle.zr_newest.specs.Newest.{PreparesSlot};
 ghost use Rattle.zr_shelf.specs.Counts.{NoneFell};
 ghost use Rattle.zr_slots.specs.Checks.{AreNamed};
 ghost use Rattle.zr_slots.specs.Phases.{IsPrepared};
+ghost use Rattle.zr_sync.specs.Empty.{no_streams};
 ghost use Rattle.zr_sync.specs.Objects.{HoldsObjects};
 ghost use Rattle.zr_sync.specs.Pools.{AreStreams, IsPool, IsOpen};
+ghost use Rattle.zr_sync.specs.Trees.{HasTrees};
+ghost use Rattle.zr_sync.specs.Trees.Stage.{Had};
 ghost use Rattle.zr_sync.specs.Writes.{WorksOnDisks};
 ghost use Rattle.zr_sync.specs.declared.stop.Stop.TheVariants.{DiskFault};
 ghost use Rattle.zr_view.specs.Views.{slot_of};
@@ -45,6 +48,7 @@ fn push_streams(streams: &mut Vec<DeviceStreams>) -> Result<(), NoMemory>
     requires { All AreStreams streams.old.items }
     ensures lawful { OnOk result (All AreStreams streams.new.items) }
     ensures count { OnOk result (length streams.new.items ≡ length streams.old.items + 1) }
+    ensures items { OnOk result (streams.new.items ≡ streams.old.items ++ no_streams ∷ []) }
 {
     streams.push(DeviceStreams {
         held: EMPTY,
@@ -102,6 +106,7 @@ pub fn take_on<S: Shelf>(
     ensures pool { OnOk result (IsOpen (S.sizes shelf.new) pool.new) }
     ensures taken { OnOk result (TakesOn slot units pool.old pool.new) }
     ensures stays { (objects : Objects) → HoldsObjects (S.tells shelf.old) (S.world shelf.old).now.seen pool.old objects → OnOk result (HoldsObjects (S.tells shelf.new) (S.world shelf.new).now.seen pool.new objects) }
+    ensures trees { HasTrees Had (S.tells shelf.old) (S.world shelf.old).now.seen pool.old → OnOk result (HasTrees Had (S.tells shelf.new) (S.world shelf.new).now.seen pool.new) }
 {
     let txg = pool.group.txg();
     let label = label_of(pool.guid, pool.table.count, txg, units, pool.name);
@@ -143,6 +148,7 @@ pub fn take_all<S: Shelf>(
     ensures prepares { S.tells shelf.old → PreparesInPart (S.sizes shelf.old) named.now (S.world shelf.old) (S.world shelf.new) }
     ensures prepared { S.tells shelf.old → OnOk result (PreparesFirst (S.sizes shelf.old) named.now (length named.now) (S.world shelf.old) (S.world shelf.new)) }
     ensures same { OnOk result (KeepsRest pool.old pool.new) }
+    ensures trees { HasTrees Had (S.tells shelf.old) (S.world shelf.old).now.seen pool.old → OnOk result (HasTrees Had (S.tells shelf.new) (S.world shelf.new).now.seen pool.new) }
 {
     for i in 0..named.len() {
         let slot = named[i];

@@ -1,6 +1,6 @@
 -- A new object at the level of objects.
-use Rattle.std.proofs.Common.{◌≡◌, ◌<◌, ℕ, List, [], Option, Some, None, Result, Ok, Err, refl, sym, ap, subst, ◌∙◌}
-use Rattle.std.specs.Prelude.{OnOk, is_some, true, false}
+use Rattle.std.proofs.Common.{◌≡◌, ◌<◌, ℕ, List, Option, Some, None, refl, sym, subst, ◌∙◌}
+use Rattle.std.specs.Prelude.{is_some, true, false}
 use Rattle.zr_base.specs.declared.refusal.Refusal.TheVariants.{ObjectExists}
 use Rattle.zr_held.specs.Steps.{IsObjectOf}
 use Rattle.zr_lines.specs.Sought.{IsRecordIn}

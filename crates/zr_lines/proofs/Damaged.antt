@@ -13,7 +13,7 @@ use Rattle.zr_store.specs.declared.StoreErr.{StoreErr}
 use Rattle.zr_store.specs.declared.StoreErr.TheVariants as store
 use Rattle.zr_sync.specs.Stops.{fault_of}
 use Rattle.zr_sync.specs.declared.fault.Fault.{Fault}
-use Rattle.zr_sync.specs.declared.fault.Fault.TheVariants.{No, Stops}
+use Rattle.zr_sync.specs.declared.fault.Fault.TheVariants.{No}
 use Rattle.zr_tree.specs.Trees.{own, tree_at, tree_blocks, tree_reach, TellsOf}
 use Rattle.zr_txg.specs.Changes.{Changes}
 

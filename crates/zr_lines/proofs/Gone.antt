@@ -1,5 +1,5 @@
 -- A drop at the level of objects.
-use Rattle.std.proofs.Common.{◌≡◌, ◌<◌, ℕ, List, [], Some, None, Result, Ok, Err, refl, sym, subst}
+use Rattle.std.proofs.Common.{◌≡◌, ◌<◌, ℕ, List, [], Some, None, Result, Ok, Err, sym, subst}
 use Rattle.std.specs.Prelude.{OnOk}
 use Rattle.std.specs.FinMap as map
 use Rattle.zr_bptr.specs.declared.Bptr.{Bptr}
@@ -8,7 +8,7 @@ use Rattle.zr_txg.specs.Changes.{Changes}
 use Rattle.zr_lookup.specs.Objects.{record_now, AreObjectBlocks}
 use Rattle.zr_held.proofs.Same.{same}
 use Rattle.zr_change.specs.Changes.{SetsObject}
-use Rattle.zr_store.specs.Store.{Stored, AreStored, Now, Swaps}
+use Rattle.zr_store.specs.Store.{Now, Swaps}
 use Rattle.zr_model.specs.Objects.{Objects}
 use Rattle.zr_held.specs.Steps.{IsObjectOf}
 use Rattle.zr_held.proofs.Again.{found_again, blocks_again}

@@ -1,7 +1,6 @@
 -- What is read of an object's blocks is read of the object.
-use Rattle.std.proofs.Common.{◌≡◌, ℕ, List, None, true, false, refl, sym, ap, subst, ◌∙◌}
+use Rattle.std.proofs.Common.{◌≡◌, ℕ, List, None, true, false, sym, subst}
 use Rattle.std.specs.FinMap as map
-use Rattle.zr_bptr.specs.declared.ObjRec.{ObjRec}
 use Rattle.zr_lookup.proofs.Touching.{some_units}
 use Rattle.zr_model.specs.Objects.{Objects, has_lost, object_sum}
 use Rattle.zr_held.specs.Steps.{IsObjectOf}

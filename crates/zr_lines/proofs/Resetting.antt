@@ -1,8 +1,7 @@
 -- What a line that ends with a reset wrote, wherever it stopped.
-use Rattle.std.proofs.Common.{◌≡◌, ◌⊎◌, inl, inr, ℕ, Bool, true, false, List, refl, sym, ◌∙◌, ap, subst}
+use Rattle.std.proofs.Common.{◌≡◌, ◌⊎◌, inl, inr, ℕ, true, false, List, refl, sym, ap, subst}
 use Rattle.zr_base.specs.declared.space.CkptPart.TheVariants.{Discarding}
 use Rattle.zr_last.proofs.Lasting.{same_devices}
-use Rattle.zr_last.specs.Last.{KeepsRoot}
 use Rattle.zr_model.specs.Objects.{Objects}
 use Rattle.zr_rules.specs.Roles.{Role, saved}
 use Rattle.zr_rules.specs.Roles.Role.{DeferredMeta, Meta, SavedMeta}
@@ -13,6 +12,7 @@ use Rattle.zr_sync.proofs.SavedRoots.{ckpt_role}
 use Rattle.zr_sync.specs.Checkpoints.{DropsRoot, GivesSavedMeta, GivesUpInPart, SavesRoot, TakesInPart}
 use Rattle.zr_sync.specs.Leads.{CommitsObjects}
 use Rattle.zr_sync.specs.Pools.{IsOpen}
+use Rattle.zr_sync.specs.Trees.{HasLastTrees}
 use Rattle.zr_sync.specs.declared.open.OpenPool.{OpenPool}
 use Rattle.zr_vdev.specs.Stores.{is_open_role}
 use Rattle.zr_lines.proofs.Versions.{version_role}
@@ -38,7 +38,7 @@ dropped_opens old new h = record {
   units = λ d u is. subst (λ (r : Role). is_open_role r ≡ true) (ckpt_role old.space Discarding d u) (gives_open (with_ckpt old.space Discarding) new.space h.gives d u is);
 }
 
-pub given_up : (sizes : List ℕ) (objects : Objects) (old : OpenPool) (before now : World) → GivesUpInPart sizes objects old before now → WritesReset sizes objects old before now
+pub given_up : (sizes : List ℕ) (objects : Objects) (old : OpenPool) (before now : World) → GivesUpInPart sizes objects old before now → WritesReset ⊥ sizes objects old before now
 given_up sizes objects old before now (inl nothing) = inl (inl nothing)
 given_up sizes objects old before now (inr (dropped, ready, drops, commits)) = inl (inr (dropped, ready, in_place old dropped (dropped_opens old dropped drops), commits))
 
@@ -55,7 +55,7 @@ held_opens old new h = record {
   units = λ d u is. gives_open old.space h.given h.gives d u (saved_open (role_at h.given d u) (subst (λ (r : Role). is_open_role r ≡ true) (h.holds.roles d u) is));
 }
 
-pub taken : (sizes : List ℕ) (objects : Objects) (old : OpenPool) (before now : World) → TakesInPart sizes objects old before now → WritesReset sizes objects old before now
+pub taken : (sizes : List ℕ) (objects : Objects) (old : OpenPool) (before now : World) → TakesInPart sizes objects old before now → WritesReset (HasLastTrees before.now.seen old) sizes objects old before now
 taken sizes objects old before now (inl commits) = inr (inl commits)
 taken sizes objects old before now (inr more) = inr (inr (record { next = more.ended; start = more.mid; commits = more.first; resets = inr (more.held, more.ready, in_place more.ended more.held (held_opens more.ended more.held more.saves), more.second) }))
 
@@ -67,5 +67,5 @@ renewed_opens old = record {
   units = λ d u is. subst (λ (r : Role). is_open_role r ≡ true) (version_role old.space 2 d u) is;
 }
 
-pub upgraded : (sizes : List ℕ) (objects : Objects) (old changed : OpenPool) (before now : World) → changed ≡ renewed old → IsOpen sizes changed → CommitsObjects sizes changed true objects before now → WritesReset sizes objects old before now
-upgraded sizes objects old changed before now is ready commits = inl (inr (changed, ready, in_place old changed (subst (OpensNoUnit old) (sym is) (renewed_opens old)), commits))
+pub upgraded : (Told : Type 0) (sizes : List ℕ) (objects : Objects) (old changed : OpenPool) (before now : World) → changed ≡ renewed old → IsOpen sizes changed → CommitsObjects Told sizes changed true objects before now → WritesReset Told sizes objects old before now
+upgraded Told sizes objects old changed before now is ready commits = inl (inr (changed, ready, in_place old changed (subst (OpensNoUnit old) (sym is) (renewed_opens old)), commits))

@@ -1,5 +1,5 @@
 -- A line works in one group, step by step.
-use Rattle.std.proofs.Common.{◌≡◌, ℕ, ◌+◌, Bool, false, List, [], Option, Some, None, inl, inr, refl, sym, ◌∙◌, ap, subst}
+use Rattle.std.proofs.Common.{◌≡◌, ℕ, ◌+◌, Bool, false, List, Option, Some, None, inl, inr, refl, sym, ◌∙◌, ap, subst}
 use Rattle.std.specs.Prelude.{IfSome, if◌then◌else◌}
 use Rattle.zr_label.specs.declared.root.Uber.{Uber}
 use Rattle.zr_model.specs.Objects.{Objects}
@@ -7,12 +7,13 @@ use Rattle.zr_shelf.proofs.Doings.{writes_more, writes_nothing}
 use Rattle.zr_shelf.specs.Counts.{Counts}
 use Rattle.zr_shelf.specs.Doings.{WritesOnly}
 use Rattle.zr_shelf.specs.Moments.{World}
-use Rattle.zr_sync.proofs.Leading.{untold}
-use Rattle.zr_sync.specs.Commits.{EndsGroup, IsNextRoot, IsShownFrom, IsShownInPart, PublishesRoot, last_reset}
-use Rattle.zr_sync.specs.Heads.{HasHead, HasSafeHead, IsSeen}
+use Rattle.zr_sync.proofs.Regrouping.{blocks_leave}
+use Rattle.zr_sync.proofs.Retelling.{group_leaves, trees_told}
+use Rattle.zr_sync.specs.Commits.{IsNextRoot, IsShownFrom, IsShownInPart, PublishesRoot, last_reset}
 use Rattle.zr_sync.specs.Leads.{CommitsObjects, LeadsTo}
-use Rattle.zr_sync.specs.Objects.{HoldsObjects}
-use Rattle.zr_sync.specs.Pools.{IsOpen, IsSamePool}
+use Rattle.zr_sync.specs.Pools.{IsOpen}
+use Rattle.zr_sync.specs.Trees.{HasLastTrees}
+use Rattle.zr_sync.specs.Trees.Stage.{Had}
 use Rattle.zr_sync.specs.Writes.{WritesBlocks, WritesIntoFree}
 use Rattle.zr_sync.specs.declared.open.OpenPool.{OpenPool}
 use Rattle.zr_sync.specs.declared.open.Table.{Table}
@@ -33,20 +34,24 @@ into_more x y w1 w2 w3 table keeps first second =
 
 -- nothing is done
 pub in_group_itself : (x : OpenPool) (w : World) → StaysInGroup x x w w
-in_group_itself x w = record { written = writes_nothing (IsWriteInto Block x.table.slots x.space) w; space = others_itself Block x.space; root = record { last = refl; guid = refl; table = refl } }
+in_group_itself x w = record { written = writes_nothing (IsWriteInto Block x.table.slots x.space) w; space = others_itself Block x.space; root = record { last = refl; guid = refl; table = refl }; trees = λ h. h }
 
 -- the group alone changes
 pub in_group_alone : {x y : OpenPool} (w : World) → y ≡ record x { group = y.group } → StaysInGroup x y w w
-in_group_alone {x} {y} w rest =
-    subst (λ (o : OpenPool). StaysInGroup x o w w) (sym rest)
-    (record { written = writes_nothing (IsWriteInto Block x.table.slots x.space) w; space = others_itself Block x.space; root = record { last = refl; guid = refl; table = refl } })
+in_group_alone {x} {y} w rest = record {
+  written = writes_nothing (IsWriteInto Block x.table.slots x.space) w;
+  space = subst (λ (o : OpenPool). KeepsOthers Block x.space o.space) (sym rest) (others_itself Block x.space);
+  root = record { last = ap (λ (o : OpenPool). o.last) rest; guid = ap (λ (o : OpenPool). o.guid) rest; table = ap (λ (o : OpenPool). o.table) rest };
+  trees = group_leaves (Unit {0}) w.now.seen x y rest;
+}
 
 -- blocks of objects are read, put or freed
-pub in_group_by : {n1 n2 : List ℕ} {c1 c2 : Counts} {t1 t2 : Type 0} {w1 w2 : World} {x y : OpenPool} → WritesBlocks n1 n2 c1 c2 t1 t2 w1 w2 x y → t1 → StaysInGroup x y w1 w2
-in_group_by p told = record {
+pub in_group_by : {n1 n2 : List ℕ} {c1 c2 : Counts} {t1 t2 : Type 0} {w1 w2 : World} {x y : OpenPool} → IsOpen n1 x → WritesBlocks n1 n2 c1 c2 t1 t2 w1 w2 x y → t1 → StaysInGroup x y w1 w2
+in_group_by {n1} {n2} {c1} {c2} {t1} {t2} {w1} {w2} {x} {y} ready p told = record {
   written = p.goes.written told;
   space = p.goes.space;
   root = record { last = ap (λ (o : OpenPool). o.last) p.rest; guid = ap (λ (o : OpenPool). o.guid) p.rest; table = ap (λ (o : OpenPool). o.table) p.rest };
+  trees = λ h. trees_told Had t2 (Unit {0}) w2.now.seen y tt (blocks_leave n1 n2 c1 c2 t1 t2 w1 w2 x y ready p (trees_told Had (Unit {0}) t1 w1.now.seen x told h));
 }
 
 pub in_group_more : {x y z : OpenPool} {w1 w2 w3 : World} → StaysInGroup x y w1 w2 → StaysInGroup y z w2 w3 → StaysInGroup x z w1 w3
@@ -54,6 +59,7 @@ in_group_more {x} {y} {z} {w1} {w2} {w3} p q = record {
   written = into_more x y w1 w2 w3 p.root.table p.space p.written q.written;
   space = others_more Block x.space y.space z.space p.space q.space;
   root = record { last = q.root.last ∙ p.root.last; guid = q.root.guid ∙ p.root.guid; table = q.root.table ∙ p.root.table };
+  trees = λ h. q.trees (p.trees h);
 }
 
 -- ---- in one group
@@ -85,7 +91,7 @@ each_some : {A : Type 0} (P Q : A → Type 0) (o : Option A) → ((a : A) → P 
 each_some P Q None goes h = tt
 each_some P Q (Some a) goes h = goes a h
 
-module _ {n1 n2 : List ℕ} {c1 c2 : Counts} {t1 t2 : Type 0} {w1 w2 : World} {x y : OpenPool} (p : WritesBlocks n1 n2 c1 c2 t1 t2 w1 w2 x y) where
+module _ {n1 n2 : List ℕ} {c1 c2 : Counts} {t1 t2 : Type 0} {w1 w2 : World} {x y : OpenPool} (ready : IsOpen n1 x) (p : WritesBlocks n1 n2 c1 c2 t1 t2 w1 w2 x y) where
   shown_before : (u : Uber) (a b : World) → IsShownFrom n2 y u a b → IsShownFrom n1 x u a b
   shown_before u a b h =
       let is : IsShownFrom n1 (record x { space = y.space; cache = y.cache; group = y.group }) u a b =
@@ -119,8 +125,8 @@ module _ {n1 n2 : List ℕ} {c1 c2 : Counts} {t1 t2 : Type 0} {w1 w2 : World} {x
   into_before : t1 → (w : World) → WritesIntoFree y w2 w → WritesIntoFree x w1 w
   into_before told w wrote = into_more x y w1 w2 w (ap (λ (o : OpenPool). o.table) p.rest) p.goes.space (p.goes.written told) wrote
 
-  leads_before : (disks : List (List ℕ)) (u : Uber) (objects : Objects) → LeadsTo n2 disks y u objects → LeadsTo n1 disks x u objects
-  leads_before disks u objects h = record {
+  leads_before : (A B : Type 0) → (B → A) → (disks : List (List ℕ)) (u : Uber) (objects : Objects) → LeadsTo A n2 disks y u objects → LeadsTo B n1 disks x u objects
+  leads_before A B more disks u objects h = record {
     next = h.next;
     ready = subst (λ (n : List ℕ). IsOpen n h.next) p.goes.sizes h.ready;
     same = same_more x y h.next (same_by p) h.same;
@@ -128,13 +134,15 @@ module _ {n1 n2 : List ℕ} {c1 c2 : Counts} {t1 t2 : Type 0} {w1 w2 : World} {x
     empty = h.empty;
     head = h.head;
     holds = h.holds;
+    moves = λ told. h.moves (more told);
   }
 
   -- a commit that stopped
-  pub commits_before : t1 → {reset : Bool} {objects : Objects} {w : World} → CommitsObjects n2 y reset objects w2 w → CommitsObjects n1 x reset objects w1 w
+  pub commits_before : t1 → {reset : Bool} {objects : Objects} {w : World} → CommitsObjects (HasLastTrees w2.now.seen y) n2 y reset objects w2 w → CommitsObjects (HasLastTrees w1.now.seen x) n1 x reset objects w1 w
   commits_before told (mid, wrote, inl unmoved) = (mid, into_before told mid wrote, inl unmoved)
   commits_before told {reset} {objects} {w} (mid, wrote, inr (u, lawful, next, leads, published)) =
-      (mid, into_before told mid wrote, inr (u, lawful, next_before reset u next, leads_before mid.now.seen u objects leads, publishes_before u mid w published))
+      let leads_now = leads_before (HasLastTrees w2.now.seen y) (HasLastTrees w1.now.seen x) (in_group_by ready p told).trees mid.now.seen u objects leads in
+      (mid, into_before told mid wrote, inr (u, lawful, next_before reset u next, leads_now, publishes_before u mid w published))
 
   -- one that is done
   ends_before : t1 → {reset : Bool} {z : OpenPool} {objects : Objects} {w : World} → EndsCommitted n2 reset y z objects w2 w → EndsCommitted n1 reset x z objects w1 w
@@ -150,10 +158,12 @@ module _ {n1 n2 : List ℕ} {c1 c2 : Counts} {t1 t2 : Type 0} {w1 w2 : World} {x
     stands = h.stands;
     safe = h.safe;
     stays = h.stays;
+    trees = λ stood. h.trees ((in_group_by ready p told).trees stood);
+    moves = λ stood. h.moves ((in_group_by ready p told).trees stood);
   }
 
   pub one_group_before : t1 → {z : OpenPool} {objects : Objects} {w : World} → StaysInOneGroup n2 objects y z w2 w → StaysInOneGroup n1 objects x z w1 w
-  one_group_before told (inl stays) = inl (in_group_more (in_group_by p told) stays)
+  one_group_before told (inl stays) = inl (in_group_more (in_group_by ready p told) stays)
   one_group_before told (inr behind) = next_group (ends_before told behind.commits) behind.stays
 
   pub writes_before : t1 → {objects : Objects} {w : World} → WritesInOneGroup n2 objects y w2 w → WritesInOneGroup n1 objects x w1 w

@@ -15,8 +15,11 @@ use Rattle.zr_sync.specs.Anew.{RenewsLogs}
 use Rattle.zr_sync.specs.Commits.{EndsGroup, IsNextRoot, IsShownFrom}
 use Rattle.zr_sync.specs.Objects.{HoldsObjects}
 use Rattle.zr_sync.specs.Pools.{IsOpen}
+use Rattle.zr_sync.specs.Trees.{HasTrees}
+use Rattle.zr_sync.specs.Trees.Stage.{Had, Untold}
 use Rattle.zr_sync.specs.declared.open.OpenPool.{OpenPool}
 use Rattle.zr_sync.proofs.Holding.{StaysLive}
+use Rattle.zr_sync.proofs.Retelling.{StaysMeta, untold_trees}
 use Rattle.zr_sync.proofs.SavedRoots.{live_objects}
 use Rattle.zr_lines.specs.Upgrades.{Upgrades, renewed}
 
@@ -114,3 +117,12 @@ upgrades_from sizes told now old mid new is root resets shown logs saved = recor
   logs = subst (λ (x : OpenPool). RenewsLogs x new) is logs;
   saved = saved ∙ ap (λ (x : OpenPool). x.saved) is;
 }
+
+-- ---- the trees of its streams
+
+version_meta : (s : Space) (v : ℕ) → StaysMeta s (with_version s v)
+version_meta s v = record { devices = refl; meta = λ d u r. version_role s v d u ∙ r; saved = λ d u r. version_role s v d u ∙ r }
+
+-- they stand, and what their words are is told no more, since the other version spells it otherwise
+pub renewed_trees : (t : Type 0) (disks : List (List ℕ)) (x : OpenPool) → HasTrees Had t disks x → HasTrees Untold t disks (renewed x)
+renewed_trees t disks x h = untold_trees t disks x (renewed x) (version_meta x.space 2) (λ d. refl) (λ d. refl) refl refl refl refl refl refl h

@@ -1,6 +1,5 @@
 -- The blocks that a drop gives back.
-use Rattle.std.specs.Prelude.{◌≡◌, ℕ, List, [], Option, Some}
-use Rattle.zr_base.specs.declared.space.Dva.{Dva}
+use Rattle.std.specs.Prelude.{◌≡◌, ℕ, List, [], Some}
 use Rattle.zr_bptr.specs.declared.Bptr.{Bptr}
 use Rattle.zr_bptr.specs.declared.ObjRec.{ObjRec}
 use Rattle.zr_bptr.specs.declared.Tree.{Tree}
@@ -11,8 +10,6 @@ use Rattle.zr_lines.specs.Counts.{new_object}
 use Rattle.zr_store.specs.Store.{Stored, AreStored, Now, Swaps}
 use Rattle.zr_sync.specs.declared.open.OpenPool.{OpenPool}
 use Rattle.zr_txg.specs.Changes.{Changes}
-use Rattle.zr_vdev.specs.Stores.{HoldsBlocks}
-use Rattle.zr_vdev.specs.declared.kind.Kind.TheVariants.{Block}
 
 -- the object is there, and these are its blocks and the tree blocks that lead to them
 pub record AreBlocksOf (s : Stored) (dir : Tree) (g : Changes) (id : ℕ) (blocks : List Bptr) : Type 0 where

@@ -1,5 +1,5 @@
 //! The calls of the lines on a checkpoint, each with what it is refused for.
-ghost use Rattle.std.specs.Prelude.{◌≡◌, ◌+◌, ◌==◌, if◌then◌else◌, ◌≤◌, ℕ, List, IsOk, IfOk, IfErr, IsErrOf, OnOk};
+ghost use Rattle.std.specs.Prelude.{◌≡◌, ◌+◌, ◌==◌, if◌then◌else◌, ◌≤◌, ℕ, List, IsOk, IfOk, IfErr, IsErrOf, OnOk, IfSome};
 ghost use Rattle.zr_base.specs.Counts.{HasRisen};
 ghost use Rattle.zr_base.specs.declared.refusal.Refusal.{Refusal};
 ghost use Rattle.zr_base.specs.declared.space.CkptPart.TheVariants.{Clear, Held, Discarding};
@@ -10,10 +10,13 @@ ghost use Rattle.zr_shelf.specs.Counts.{NoneFell};
 ghost use Rattle.zr_sync.specs.Checkpoints.{GivesUpCheckpoint, TakesCheckpoint};
 ghost use Rattle.zr_sync.specs.Objects.{HoldsObjects};
 ghost use Rattle.zr_sync.specs.Pools.{IsOpen};
+ghost use Rattle.zr_sync.specs.Trees.{HasLastTrees, HasTrees};
+ghost use Rattle.zr_sync.specs.Trees.Stage.{Had, Recorded};
 ghost use Rattle.zr_sync.specs.Writes.{WorksOnDisks};
 ghost use Rattle.zr_sync.specs.declared.fault.Fault.TheVariants.{No, Stops};
 ghost use Rattle.zr_sync.specs.declared.stop.Stop.TheVariants.{DiskFault};
 ghost use Rattle.zr_sync.specs.Ends.{LeavesCommitted};
+ghost use Rattle.zr_sync.specs.Moves.{TellsMoves};
 ghost use Rattle.zr_last.specs.Last.{KeepsLast, KeepsRoot};
 ghost use Rattle.zr_lines.specs.Stops.{WritesReset};
 ghost use Rattle.zr_lines.specs.Refusals.{AllStay, IsGiveRefusal, IsRemovalRefusal, IsStepRefusal, IsTakeRefusal, checkpoint_needs};
@@ -106,9 +109,11 @@ pub fn take<S: Shelf>(
     ensures held { OnOk result (pool.new.space.parts.ckpt ≡ Held pool.old.group.txg) }
     ensures takes { OnOk result (TakesCheckpoint (S.sizes shelf.old) (S.tells shelf.old) (S.world shelf.new) pool.old pool.new) }
     ensures shown { S.tells shelf.old → OnOk result (KeepsLast (S.world shelf.old) (S.world shelf.new) pool.old pool.new) }
-    ensures stops { (objects : Objects) → HoldsObjects (S.tells shelf.old) (S.world shelf.old).now.seen pool.old objects → WritesReset (S.sizes shelf.old) objects pool.old (S.world shelf.old) (S.world shelf.new) }
+    ensures stops { (objects : Objects) → HoldsObjects (S.tells shelf.old) (S.world shelf.old).now.seen pool.old objects → WritesReset (HasLastTrees (S.world shelf.old).now.seen pool.old) (S.sizes shelf.old) objects pool.old (S.world shelf.old) (S.world shelf.new) }
     ensures ends { (objects : Objects) → HoldsObjects (S.tells shelf.old) (S.world shelf.old).now.seen pool.old objects → OnOk result (LeavesCommitted pool.new (S.world shelf.new).now) }
     ensures objects { (objects : Objects) → HoldsObjects (S.tells shelf.old) (S.world shelf.old).now.seen pool.old objects → OnOk result (HoldsObjects (S.tells shelf.new) (S.world shelf.new).now.seen pool.new objects) }
+    ensures trees { HasTrees Had (S.tells shelf.old) (S.world shelf.old).now.seen pool.old → OnOk result (HasTrees Recorded (S.tells shelf.new) (S.world shelf.new).now.seen pool.new) }
+    ensures moves { HasTrees Had (S.tells shelf.old) (S.world shelf.old).now.seen pool.old → OnOk result (IfSome pool.new.last (λ u. TellsMoves (S.world shelf.new).now.seen pool.new u.root u.len)) }
     ensures refused { (r : Refusal) → IsErrOf result (No r) → IsTakeRefusal pool.old pool.old.space.parts.ckpt r }
     ensures unchanged { (r : Refusal) → IsErrOf result (No r) → pool.new ≡ pool.old }
     ensures untouched { (r : Refusal) → IsErrOf result (No r) → S.world shelf.new ≡ S.world shelf.old }
@@ -135,7 +140,7 @@ pub fn give_up<S: Shelf>(
     ensures discarding { OnOk result (pool.new.space.parts.ckpt ≡ Discarding) }
     ensures gives { OnOk result (GivesUpCheckpoint (S.sizes shelf.old) (S.tells shelf.old) (S.world shelf.new) pool.old pool.new) }
     ensures shown { S.tells shelf.old → OnOk result (KeepsLast (S.world shelf.old) (S.world shelf.new) pool.old pool.new) }
-    ensures stops { (objects : Objects) → HoldsObjects (S.tells shelf.old) (S.world shelf.old).now.seen pool.old objects → WritesReset (S.sizes shelf.old) objects pool.old (S.world shelf.old) (S.world shelf.new) }
+    ensures stops { (objects : Objects) → HoldsObjects (S.tells shelf.old) (S.world shelf.old).now.seen pool.old objects → WritesReset ⊥ (S.sizes shelf.old) objects pool.old (S.world shelf.old) (S.world shelf.new) }
     ensures ends { (objects : Objects) → HoldsObjects (S.tells shelf.old) (S.world shelf.old).now.seen pool.old objects → OnOk result (LeavesCommitted pool.new (S.world shelf.new).now) }
     ensures objects { (objects : Objects) → HoldsObjects (S.tells shelf.old) (S.world shelf.old).now.seen pool.old objects → OnOk result (HoldsObjects (S.tells shelf.new) (S.world shelf.new).now.seen pool.new objects) }
     ensures refused { (r : Refusal) → IsErrOf result (No r) → IsGiveRefusal pool.old pool.old.space.parts.ckpt r }
@@ -157,6 +162,7 @@ pub fn step(pool: &mut OpenPool) -> Result<u64, Fault>
     ensures steps { IfOk result (λ units. DiscardsSome pool.old.space units pool.new.space) }
     ensures pool { (sizes : List ℕ) → IsOpen sizes pool.old → OnOk result (IsOpen sizes pool.new) }
     ensures objects { (disks : List (List ℕ)) (objects : Objects) → HoldsObjects (Unit {0}) disks pool.old objects → OnOk result (HoldsObjects (Unit {0}) disks pool.new objects) }
+    ensures trees { (disks : List (List ℕ)) → HasTrees Had (Unit {0}) disks pool.old → OnOk result (HasTrees Had (Unit {0}) disks pool.new) }
     ensures refused { (r : Refusal) → IsErrOf result (No r) → IsStepRefusal pool.old.space.parts.ckpt r }
     ensures unchanged { (r : Refusal) → IsErrOf result (No r) → pool.new ≡ pool.old }
     ensures fault { IsErrOf result (Stops DiskFault) → ⊥ }

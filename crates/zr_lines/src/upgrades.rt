@@ -1,15 +1,18 @@
 //! The call of the line, with what it is refused for.
-ghost use Rattle.std.specs.Prelude.{◌≡◌, ℕ, List, IfErr, IsErrOf, OnOk};
+ghost use Rattle.std.specs.Prelude.{◌≡◌, ℕ, List, IfErr, IsErrOf, OnOk, IfSome};
 ghost use Rattle.zr_base.specs.Counts.{HasRisen};
 ghost use Rattle.zr_base.specs.declared.refusal.Refusal.{Refusal};
 ghost use Rattle.zr_model.specs.Objects.{Objects};
 ghost use Rattle.zr_shelf.specs.Counts.{NoneFell};
 ghost use Rattle.zr_sync.specs.Objects.{HoldsObjects};
 ghost use Rattle.zr_sync.specs.Pools.{IsOpen};
+ghost use Rattle.zr_sync.specs.Trees.{HasLastTrees, HasTrees};
+ghost use Rattle.zr_sync.specs.Trees.Stage.{Had, Recorded};
 ghost use Rattle.zr_sync.specs.Writes.{WorksOnDisks};
 ghost use Rattle.zr_sync.specs.declared.fault.Fault.TheVariants.{No, Stops};
 ghost use Rattle.zr_sync.specs.declared.stop.Stop.TheVariants.{DiskFault};
 ghost use Rattle.zr_sync.specs.Ends.{LeavesCommitted};
+ghost use Rattle.zr_sync.specs.Moves.{TellsMoves};
 ghost use Rattle.zr_last.specs.Last.{KeepsLast};
 ghost use Rattle.zr_lines.specs.Stops.{WritesReset};
 ghost use Rattle.zr_lines.specs.Upgrades.{IsUpgradeRefusal, Upgrades, renewed};
@@ -68,9 +71,11 @@ pub fn upgrade<S: Shelf>(
     ensures ckpt { OnOk result (pool.new.space.parts.ckpt ≡ pool.old.space.parts.ckpt) }
     ensures upgrades { OnOk result (Upgrades (S.sizes shelf.old) (S.tells shelf.old) (S.world shelf.new) pool.old pool.new) }
     ensures shown { S.tells shelf.old → OnOk result (KeepsLast (S.world shelf.old) (S.world shelf.new) pool.old pool.new) }
-    ensures stops { (objects : Objects) → HoldsObjects (S.tells shelf.old) (S.world shelf.old).now.seen pool.old objects → WritesReset (S.sizes shelf.old) objects pool.old (S.world shelf.old) (S.world shelf.new) }
+    ensures stops { (objects : Objects) → HoldsObjects (S.tells shelf.old) (S.world shelf.old).now.seen pool.old objects → WritesReset (HasLastTrees (S.world shelf.old).now.seen pool.old) (S.sizes shelf.old) objects pool.old (S.world shelf.old) (S.world shelf.new) }
     ensures ends { (objects : Objects) → HoldsObjects (S.tells shelf.old) (S.world shelf.old).now.seen pool.old objects → OnOk result (LeavesCommitted pool.new (S.world shelf.new).now) }
     ensures objects { (objects : Objects) → HoldsObjects (S.tells shelf.old) (S.world shelf.old).now.seen pool.old objects → OnOk result (HoldsObjects (S.tells shelf.new) (S.world shelf.new).now.seen pool.new objects) }
+    ensures trees { HasTrees Had (S.tells shelf.old) (S.world shelf.old).now.seen pool.old → OnOk result (HasTrees Recorded (S.tells shelf.new) (S.world shelf.new).now.seen pool.new) }
+    ensures moves { HasTrees Had (S.tells shelf.old) (S.world shelf.old).now.seen pool.old → OnOk result (IfSome pool.new.last (λ u. TellsMoves (S.world shelf.new).now.seen pool.new u.root u.len)) }
     ensures refused { (r : Refusal) → IsErrOf result (No r) → IsUpgradeRefusal pool.old.version r }
     ensures unchanged { (r : Refusal) → IsErrOf result (No r) → pool.new ≡ pool.old }
     ensures untouched { (r : Refusal) → IsErrOf result (No r) → S.world shelf.new ≡ S.world shelf.old }

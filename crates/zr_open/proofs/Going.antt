@@ -38,7 +38,7 @@ use Rattle.zr_open.proofs.Beside.{beside_moved, saved_moved}
 use Rattle.zr_open.proofs.Flushing.{flushes_read, flushes_still}
 use Rattle.zr_open.proofs.Grouping as grouping
 use Rattle.zr_open.proofs.Grouping.{as_reset, stands_back}
-use Rattle.zr_open.proofs.Lasting.{all_there, fresh_from, saved_at, saved_own}
+use Rattle.zr_open.proofs.Lasting.{fresh_from, saved_at, saved_own}
 use Rattle.zr_open.proofs.Looking.{looked_by, scanned_moved, whole_moved}
 use Rattle.zr_open.proofs.Resting.{leaves_there}
 use Rattle.zr_open.proofs.Rewinding as rewinding
@@ -85,7 +85,7 @@ module _ (sizes : List ℕ) (paths : List (List ℕ)) (read : World) (sized : ma
       ready = h.at.ready;
       from = fresh_from l.found.root l.pool h.at.fresh;
       holds = holds (Unit {0}) tt read.now.seen sizes sized l.found.root l.pool l.root (meta_of l.saved) h.at.uber h.at.ready h.at.fresh h.at.parts h.at.mapped own_stands;
-      leaves = λ on. leaves_there read.now.seen sizes l.found.root l.pool l.root (meta_of l.saved) h.at.uber h.at.ready h.at.fresh h.at.head h.at.parts own_stands on read.now refl rest;
+      leaves = leaves_there read.now.seen sizes l.found.root l.pool l.root (meta_of l.saved) h.at.uber h.at.ready h.at.fresh h.at.head h.at.parts own_stands read.now refl rest;
     }
 
   -- ---- its saved root, put behind it
@@ -112,9 +112,9 @@ module _ (sizes : List ℕ) (paths : List (List ℕ)) (read : World) (sized : ma
       ready = ready;
       from = fresh_from (rewound s.uber txg) pool fresh_back;
       holds = saved_held (Unit {0}) tt read.now.seen sizes sized l.found.slots l.found.root l.root block s txg pool saved past cut lawful_back ready fresh_back parts;
-      leaves = λ on.
+      leaves =
           leaves_there read.now.seen sizes (rewound s.uber txg) pool (rewinding.back (Unit {0}) tt read.now.seen sizes sized l.found.slots l.found.root l.root block s txg pool saved past cut lawful_back ready fresh_back parts) [] lawful_back ready fresh_back saved.head
-          parts (rewinding.stands (Unit {0}) tt read.now.seen sizes sized l.found.slots l.found.root l.root block s txg pool saved past cut lawful_back ready fresh_back parts) on read.now refl rest;
+          parts (rewinding.stands (Unit {0}) tt read.now.seen sizes sized l.found.slots l.found.root l.root block s txg pool saved past cut lawful_back ready fresh_back parts) read.now refl rest;
     }
 
     -- the disks show it as what was saved
@@ -160,8 +160,6 @@ module _ (sizes : List ℕ) (paths : List (List ℕ)) (read : World) (sized : ma
         saved = record { objects = back_objects; devs = devices_at paths these s.uber };
         saved_is = refl;
         puts = puts_saved;
-        there = λ all. all_there paths read.now.seen sizes l.found.root l.pool h.at.ready (fresh_from l.found.root l.pool h.at.fresh) these all;
-        there_back = λ all. all_there paths read.now.seen sizes (rewound s.uber txg) pool ready (fresh_from (rewound s.uber txg) pool fresh_back) these all;
       })
 
 -- ---- a root that was looked at, put behind another
@@ -179,9 +177,9 @@ resets sizes read now sized rest l h current next below next_is lawful pool read
       fresh = own;
       placed = slots;
       holds = as_reset (Unit {0}) tt read.now.seen sizes sized l h txg le pool is ready own parts slots;
-      leaves = λ on.
+      leaves =
           leaves_there read.now.seen sizes (rewound l.found.root txg) pool (grouping.back (Unit {0}) tt read.now.seen sizes sized l h txg le pool is ready own parts slots) (meta_of l.saved) is ready own h.head parts
-          (stands_back (Unit {0}) tt read.now.seen sizes sized l h txg le pool is ready own parts slots) on read.now refl rest;
+          (stands_back (Unit {0}) tt read.now.seen sizes sized l h txg le pool is ready own parts slots) read.now refl rest;
       puts = subst (λ (x : Uber). PublishesRoot sizes (record pool { last = Some current }) x read now) next_is puts;
     })
 
@@ -247,8 +245,6 @@ module _ (sizes : List ℕ) (paths : List (List ℕ)) (read : World) (sized : ma
           group = held.state;
           group_shown = subst (λ (ps : List (List ℕ)). ShowsGroup ps before.now.seen txg held.state) (sym named) (subst (λ (ds : List (List ℕ)). ShowsGroup paths ds txg held.state) same held.shown);
           puts = puts_group;
-          there = λ all. all_there paths read.now.seen sizes l.found.root l.pool looked.ready (fresh_from l.found.root l.pool looked.fresh) own_these all;
-          there_back = λ all. all_there paths read.now.seen sizes (rewound old.found.root (l.found.root.txg + 1)) again.back again.ready (fresh_from (rewound old.found.root (l.found.root.txg + 1)) again.back again.fresh) (slots_of old.found.root s.seen) all;
         }
 
   pub goes_back : ResetsInPart sizes s.found.root old read now → (before : World) → before.now.paths ≡ paths → FlushesOnly before read → GoesBackInPart sizes txg before now

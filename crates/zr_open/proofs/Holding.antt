@@ -44,7 +44,7 @@ use Rattle.zr_roots.proofs.Parts.{part_lawful}
 
 -- ---- what is held
 
-nothing_cached : (disks : List (List ℕ)) (slots : List (Option ℕ)) (s : Space) (c : Cache) → entries c ≡ [] → AreRead disks slots s c
+pub nothing_cached : (disks : List (List ℕ)) (slots : List (Option ℕ)) (s : Space) (c : Cache) → entries c ≡ [] → AreRead disks slots s c
 nothing_cached disks slots s c none e has =
     let at : Contains [] e = subst (λ (es : List Entry). Contains es e) none has in
     let lt = at.1 in

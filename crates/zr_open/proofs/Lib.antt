@@ -20,3 +20,7 @@ pub mod Backing
 pub mod Lasting
 pub mod Resting
 pub mod Going
+pub mod Planted
+pub mod Parted
+pub mod OwnTrees
+pub mod Telling

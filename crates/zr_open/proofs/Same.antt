@@ -44,7 +44,7 @@ use Rattle.zr_open.specs.Shown.{Shows}
 -- ---- one head
 
 -- pointers that are the same at each place
-leaves_same : (xs ys : List Bptr) → ((i : ℕ) → slot (map At xs) i ≡ slot (map At ys) i) → xs ≡ ys
+pub leaves_same : (xs ys : List Bptr) → ((i : ℕ) → slot (map At xs) i ≡ slot (map At ys) i) → xs ≡ ys
 leaves_same [] [] same = refl
 leaves_same [] (y ∷ ys) same = absurd (let e = same 0 in cc)
 leaves_same (x ∷ xs) [] same = absurd (let e = same 0 in cc)

@@ -12,7 +12,8 @@ use Rattle.zr_label.specs.Blocks.{no_row}
 use Rattle.zr_meta.specs.Heads.{IsHead, stream_count, stream_total}
 use Rattle.zr_meta.specs.declared.Head.{Head}
 use Rattle.zr_meta.specs.declared.Stream.{Stream}
-use Rattle.zr_open.specs.Streams.{told_in, told_of}
+use Rattle.zr_open.specs.Streams.{untold_in, untold_of}
+use Rattle.zr_sync.specs.Heads.{told_in, told_of}
 use Rattle.zr_sync.specs.declared.open.DeviceStreams.{DeviceStreams}
 
 -- ---- the streams of one device
@@ -46,6 +47,12 @@ pub with_late : (form : ℕ) (state : DevState) (d : DeviceStreams) (first late 
 with_late form state d first late own x other there are split long =
     late_last form state d (get_or late 0 x) (get_or late 1 x) own other there
     (ap (λ (xs : List Stream). xs ++ (get_or late 0 x ∷ get_or late 1 x ∷ [])) are ∙ (ap (λ (xs : List Stream). first ++ xs) (two late x long) ∙ split))
+
+-- what the late sets of a device that is there have is told
+pub late_untold : (state : DevState) (d : DeviceStreams) (a b : Stream) → (state ≡ Gone → ⊥) → untold_in state d ≡ 0 → untold_in state (record d { late1 = a; late2 = b }) ≡ 0
+late_untold On d a b there none = none
+late_untold Leaving d a b there none = refl
+late_untold Gone d a b there none = absurd (there refl)
 
 -- ---- those of all devices
 
@@ -84,6 +91,20 @@ step_each form rows i all d own others rest streams lt count is split each =
     ∙ (ap (λ (xs : List Stream). xs ++ others) (one_more form (take i rows) all (get_or rows i no_row) d (omega (arith, count, long)))
     ∙ (append_assoc front (told_in form (get_or rows i no_row).state d) others
     ∙ (ap (λ (xs : List Stream). front ++ (xs ++ others)) is ∙ (ap (λ (xs : List Stream). front ++ xs) split ∙ each))))
+
+-- what is not told of one device more
+more_untold : (rows : List DevRow) (all : List DeviceStreams) (r : DevRow) (d : DeviceStreams) → length all ≡ length rows → untold_of (rows ++ r ∷ []) (all ++ d ∷ []) ≡ untold_of rows all + untold_in r.state d
+more_untold [] [] r d same = omega (arith)
+more_untold [] (x ∷ all) r d same = absurd (omega (arith, same))
+more_untold (q ∷ rows) [] r d same = absurd (omega (arith, same))
+more_untold (q ∷ rows) (x ∷ all) r d same = let rest = more_untold rows all r d (omega (arith, same)) in omega (arith, rest)
+
+pub step_untold : (rows : List DevRow) (i : ℕ) (all : List DeviceStreams) (d : DeviceStreams) → i < length rows → length all ≡ i → untold_in (get_or rows i no_row).state d ≡ 0 → untold_of (take i rows) all ≡ 0 → untold_of (take (i + 1) rows) (all ++ d ∷ []) ≡ 0
+step_untold rows i all d lt count one none =
+    let long = length-take-le i rows (omega (arith, lt)) in
+    let more = more_untold (take i rows) all (get_or rows i no_row) d (omega (arith, count, long)) in
+    let cut = ap (λ (rs : List DevRow). untold_of rs (all ++ d ∷ [])) (take_more rows i no_row lt) in
+    omega (arith, more, cut, one, none)
 
 -- one more of which this holds
 pub all_more : (P : DeviceStreams → Type 0) (all : List DeviceStreams) (d : DeviceStreams) → All P all → P d → All P (all ++ d ∷ [])

@@ -1,12 +1,11 @@
 -- What the disks have been through while a pool is gone back to, wherever that stops.
-use Rattle.std.specs.Prelude.{◌≡◌, ◌⊎◌, ℕ, ◌+◌, List, All, length, map, Some}
+use Rattle.std.specs.Prelude.{◌≡◌, ◌⊎◌, ℕ, ◌+◌, List, length, map, Some}
 use Rattle.zr_current.specs.Current.{GoesOnFrom}
 use Rattle.zr_label.specs.declared.root.Seen.{Seen}
 use Rattle.zr_label.specs.declared.root.Uber.{Uber}
 use Rattle.zr_model.specs.Objects.{Objects}
 use Rattle.zr_model.specs.State.{PoolState, Saved}
 use Rattle.zr_newest.specs.Newest.{AreAt, HaveLabels, IsNewestOn}
-use Rattle.zr_rules.specs.Equation.{devices_in}
 use Rattle.zr_shelf.specs.Disks.{IsAtRest, Stand}
 use Rattle.zr_shelf.specs.Moments.{IsStill, World}
 use Rattle.zr_sync.specs.Commits.{PublishesRoot}
@@ -19,10 +18,9 @@ use Rattle.zr_open.specs.Left.{IsLeftCommitted}
 use Rattle.zr_open.specs.Opened.{IsFresh}
 use Rattle.zr_open.specs.Rewound.{rewound}
 use Rattle.zr_open.specs.Shown.{Shows, ShowsGroup}
-use Rattle.zr_open.specs.There.{AreThere, IsStillThere}
 use Rattle.zr_open.specs.declared.look.Looked.{Looked}
 
--- The disks have a pool by this root, whether or not the slots show it: the pool is open and goes on from the root, they hold these objects of it, and it stands as a commit left it, where no device is gone.
+-- The disks have a pool by this root, whether or not the slots show it: the pool is open and goes on from the root, they hold these objects of it, and it stands as a commit left it.
 pub record HasPool (sizes : List ℕ) (now : Stand) (u : Uber) (pool : OpenPool) (objects : Objects) : Type 0 where
   pub ready : IsOpen sizes pool
   pub from : GoesOnFrom u pool
@@ -46,7 +44,7 @@ pub record PutsBack (sizes : List ℕ) (before after : Objects) (read now : Worl
   pub devices : AreAt back.table.slots root seen
   pub puts : PublishesRoot sizes (record back { last = Some current }) root read now
 
--- Flushes left the disks at rest. They showed a pool that had saved another, and the root of what was saved was put behind the current one. Where each device of either is still there, none of it is gone.
+-- Flushes left the disks at rest. They showed a pool that had saved another, and the root of what was saved was put behind the current one.
 pub record RewindsBehind (sizes : List ℕ) (before now : World) : Type 0 where
   pub read : World
   pub flushes : FlushesOnly before read
@@ -56,10 +54,8 @@ pub record RewindsBehind (sizes : List ℕ) (before now : World) : Type 0 where
   pub saved : Saved
   pub saved_is : state.saved ≡ Some saved
   pub puts : PutsBack sizes state.objects saved.objects read now
-  pub there : All IsStillThere state.devs → AreThere (devices_in puts.pool.space)
-  pub there_back : All IsStillThere saved.devs → AreThere (devices_in puts.back.space)
 
--- Flushes left the disks at rest. They showed a pool, and another one by the root of a group that was kept, and that root was put behind the current one. Where each device of either is still there, none of it is gone.
+-- Flushes left the disks at rest. They showed a pool, and another one by the root of a group that was kept, and that root was put behind the current one.
 pub record GoesBackBehind (sizes : List ℕ) (txg : ℕ) (before now : World) : Type 0 where
   pub read : World
   pub flushes : FlushesOnly before read
@@ -69,8 +65,6 @@ pub record GoesBackBehind (sizes : List ℕ) (txg : ℕ) (before now : World) : 
   pub group : PoolState
   pub group_shown : ShowsGroup before.now.paths before.now.seen txg group
   pub puts : PutsBack sizes state.objects group.objects read now
-  pub there : All IsStillThere state.devs → AreThere (devices_in puts.pool.space)
-  pub there_back : All IsStillThere group.devs → AreThere (devices_in puts.back.space)
 
 -- wherever going back to the checkpoint stops: nothing was done but flushes, or the saved root was put behind them
 abbrev pub RewindsInPart : List ℕ → World → World → Type 0
@@ -80,7 +74,7 @@ RewindsInPart sizes before now = FlushesOnly before now ⊎ RewindsBehind sizes 
 abbrev pub GoesBackInPart : List ℕ → ℕ → World → World → Type 0
 GoesBackInPart sizes txg before now = FlushesOnly before now ⊎ GoesBackBehind sizes txg before now
 
--- A pool was opened by the root that was looked at, one group above another root and as a reset: the disks hold what they mean by the former, and it stands as a commit left it, where no device is gone.
+-- A pool was opened by the root that was looked at, one group above another root and as a reset: the disks hold what they mean by the former, and it stands as a commit left it.
 -- Its root was put nowhere, into some of the slots, or into all.
 pub record PutsAgain (sizes : List ℕ) (current : Uber) (l : Looked) (read now : World) : Type 0 where
   pub back : OpenPool

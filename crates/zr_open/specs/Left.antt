@@ -1,5 +1,5 @@
 -- What an open pool leaves on its disks for an import to find.
-use Rattle.std.specs.Prelude.{◌≡◌, ℕ, ◌+◌, List, [], ◌∷◌, Option}
+use Rattle.std.specs.Prelude.{◌≡◌, ℕ, ◌+◌, List, [], ◌∷◌, Option, IfSome}
 use Rattle.zr_base.specs.declared.space.CkptPart.{CkptPart}
 use Rattle.zr_base.specs.declared.space.DevPart.{DevPart}
 use Rattle.zr_base.specs.declared.space.DevRow.{DevRow}
@@ -17,12 +17,11 @@ use Rattle.zr_meta.specs.Streams.{SpellsPart}
 use Rattle.zr_model.specs.Objects.{Objects}
 use Rattle.zr_model.specs.State.{Saved}
 use Rattle.zr_root.specs.Streams.{HasWords}
-use Rattle.zr_rules.specs.Equation.{devices_in}
 use Rattle.zr_shelf.specs.Disks.{Stand}
-use Rattle.zr_open.specs.There.{AreThere}
 use Rattle.zr_store.specs.Store.{Stored}
 use Rattle.zr_sync.specs.Ends.{LeavesCommitted}
 use Rattle.zr_sync.specs.Heads.{HasHead, head_of}
+use Rattle.zr_sync.specs.Moves.{TellsMoves}
 use Rattle.zr_sync.specs.Objects.{HoldsObjects}
 use Rattle.zr_sync.specs.declared.open.DeviceStreams.{DeviceStreams}
 use Rattle.zr_sync.specs.declared.open.OpenPool.{OpenPool}
@@ -83,6 +82,6 @@ pub record LeavesObjects (disks : List (List ℕ)) (pool : OpenPool) (objects : 
   pub head : HasHead disks pool last.root.root last.root.len
   pub holds : HoldsObjects (Unit {0}) disks pool objects
 
--- A pool that was opened stands as a commit left it, where no device is gone.
+-- A pool that was opened stands as a commit left it, and the disks tell where the units of removed devices have moved.
 abbrev pub IsLeftCommitted : Stand → OpenPool → Type 0
-IsLeftCommitted now pool = AreThere (devices_in pool.space) → LeavesCommitted pool now
+IsLeftCommitted now pool = LeavesCommitted pool now × IfSome pool.last (λ u. TellsMoves now.seen pool u.root u.len)

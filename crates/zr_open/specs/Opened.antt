@@ -59,6 +59,7 @@ pub record IsFresh (u : Uber) (pool : OpenPool) : Type 0 where
   pub txg : pool.group.txg ≡ u.txg + 1
   pub empty : pool.group.objects ≡ []
   pub cache : entries pool.cache ≡ []
+  pub head : pool.head ≡ head_tree u
 
 -- a root is refused for a rule that it breaks, or for a block whose bytes have another sum than its pointer says
 abbrev pub IsRefusedRoot : Refusal → Type 0

@@ -13,6 +13,8 @@ ghost use Rattle.zr_shelf.specs.Disks.{IsAtRest};
 ghost use Rattle.zr_shelf.specs.Moments.{IsStill};
 ghost use Rattle.zr_sync.specs.Commits.{IsShownFrom};
 ghost use Rattle.zr_sync.specs.Pools.{IsOpen};
+ghost use Rattle.zr_sync.specs.Trees.{HasTrees};
+ghost use Rattle.zr_sync.specs.Trees.Stage.{Had};
 ghost use Rattle.zr_sync.specs.Writes.{WorksOnDisks};
 ghost use Rattle.zr_sync.specs.declared.fault.Fault.TheVariants.{No, Stops};
 ghost use Rattle.zr_sync.specs.declared.stop.Stop.TheVariants.{DiskFault};
@@ -59,6 +61,7 @@ fn reset<S: Shelf>(
     ensures shown { S.tells shelf.old → IfOk result (λ pool. IsShownFrom (S.sizes shelf.old) (record pool { last = Some current.now }) (rewound then.old.found.root (current.now.txg + 1)) (S.world shelf.old) (S.world shelf.new)) }
     ensures objects { S.tells shelf.old → IsLookedAt (S.sizes shelf.old) (Unit {0}) (S.world shelf.old).now.seen then.old → IfOk result (HoldsRoot (S.world shelf.old).now.seen (S.tells shelf.new) (S.world shelf.new).now.seen then.old) }
     ensures leaves { S.tells shelf.old → IsLookedAt (S.sizes shelf.old) (Unit {0}) (S.world shelf.old).now.seen then.old → IfOk result (IsLeftCommitted (S.world shelf.new).now) }
+    ensures trees { S.tells shelf.old → IsLookedAt (S.sizes shelf.old) (Unit {0}) (S.world shelf.old).now.seen then.old → IfOk result (HasTrees Had (S.tells shelf.new) (S.world shelf.new).now.seen) }
     ensures placed { IfOk result (λ pool. pool.table.slots ≡ then.old.found.slots) }
     ensures room { IfOk result (λ pool. CoversOwed pool.space) }
     ensures groups { IfOk result (λ pool. pool.group.txg ≤ 2 ^ 63 + 1) }
@@ -100,6 +103,7 @@ pub fn go_back<S: Shelf>(alloc: Global, shelf: &mut S, txg: u64) -> Result<OpenP
     ensures objects { S.tells shelf.old → IfOk result (HoldsGroup (S.world shelf.old).now.paths (S.world shelf.old).now.seen txg (S.tells shelf.new) (S.world shelf.new).now.seen) }
     ensures last { S.tells shelf.old → IfOk result (ShowsLast (S.world shelf.new).now.seen) }
     ensures leaves { S.tells shelf.old → IfOk result (IsLeftCommitted (S.world shelf.new).now) }
+    ensures trees { S.tells shelf.old → IfOk result (HasTrees Had (S.tells shelf.new) (S.world shelf.new).now.seen) }
     ensures room { IfOk result (λ pool. CoversOwed pool.space) }
     ensures groups { IfOk result (λ pool. pool.group.txg ≤ 2 ^ 63 + 1) }
     ensures refused { (r : Refusal) → IsErrOf result (No r) → FindsOn (S.sizes shelf.old) (S.tells shelf.old) (S.world shelf.old).now.seen (Err r) ⊎ ((u : Uber) × (at : FindsOn (S.sizes shelf.old) (S.tells shelf.old) (S.world shelf.old).now.seen (Ok u)) × IsBackRefusal (S.tells shelf.old) (S.world shelf.old).now.seen at.seen u txg r) }

@@ -3,11 +3,14 @@
 //! Which objects there are depends on the directory alone, and on where its pointers lead. So two heads in one tree mean the
 //! same objects, whatever else they tell, and it is enough that the slots lead to that tree.
 ghost use Rattle.std.specs.Prelude.{◌≡◌, ℕ, Bool, List, [], All, length, map, None, Some, Ok};
+ghost use Rattle.zr_base.specs.declared.space.Dva.{Dva};
 ghost use Rattle.zr_base.specs.declared.space.SpaceParts.{SpaceParts};
 ghost use Rattle.zr_image.specs.Current.{FindsCurrent, ShowsAll, slots_of};
 ghost use Rattle.zr_image.specs.Reading.{store_of};
 ghost use Rattle.zr_image.specs.Roots.{head_tree, rows_of};
 ghost use Rattle.zr_image.specs.StateOf.{AreObjects, StateOf};
+ghost use Rattle.zr_import.specs.declared.roots.Root.{Root};
+ghost use Rattle.zr_label.specs.Blocks.{IsUber};
 ghost use Rattle.zr_label.specs.declared.root.Seen.{Seen};
 ghost use Rattle.zr_label.specs.declared.root.Uber.{Uber};
 ghost use Rattle.zr_meta.specs.Heads.{IsHead, head_bytes};
@@ -21,12 +24,16 @@ ghost use Rattle.zr_sync.specs.Heads.{HasHead, head_of};
 ghost use Rattle.zr_sync.specs.Objects.{HoldsObjects};
 ghost use Rattle.zr_sync.specs.Pools.{IsOpen, IsSamePool};
 ghost use Rattle.zr_sync.specs.States.{HoldsState};
+ghost use Rattle.zr_sync.specs.Trees.{HasTrees};
+ghost use Rattle.zr_sync.specs.Trees.Stage.{Had};
 ghost use Rattle.zr_sync.specs.Writes.{WritesIntoFree};
 ghost use Rattle.zr_sync.specs.declared.open.OpenPool.{OpenPool};
 ghost use Rattle.zr_vdev.specs.Runs.{view_of};
 ghost use Rattle.zr_current.specs.Current.{GoesOnFrom, HasSlots, IsCurrentOn};
 ghost use Rattle.zr_open.specs.Left.{LeavesObjects, LeavesRoot, RecordsDevices, RecordsParts};
-ghost use Rattle.zr_roots.specs.Standing.{image_of};
+ghost use Rattle.zr_roots.specs.Standing.{Stands, image_of};
+ghost use Rattle.zr_open.specs.Opened.{IsFresh};
+ghost use Rattle.zr_open.specs.Roots.{HasParts};
 ghost use Rattle.zr_open.specs.Shown.{Shows};
 ghost use Rattle.zr_open.specs.There.{AreThere, IsStillThere};
 
@@ -80,4 +87,10 @@ pub fn streams_record_parts()
 pub fn left_is_shown()
     ensures { (paths disks : List (List ℕ)) (sizes : List ℕ) (u : Uber) (pool : OpenPool) (objects : Objects) → IsOpen sizes pool → AreThere (devices_in pool.space) → LeavesRoot paths disks u pool → HoldsObjects (Unit {0}) disks pool objects
         → (p : PoolState) × Shows paths disks p × HoldsState (Unit {0}) disks pool p × (p.objects ≡ objects) }
+{}
+
+/// A pool that is opened from what stands in the trees of its root has these trees on its disks, as its root has them.
+pub fn opened_has_trees()
+    ensures { (disks : List (List ℕ)) (sizes : List ℕ) (u : Uber) (pool : OpenPool) (root : Root) (saved : List Dva) → IsUber u → IsOpen sizes pool → IsFresh u pool → IsHead (rows_of u) root.head → HasParts root saved pool → Stands disks pool.table.slots u root
+        → HasTrees Had (Unit {0}) disks pool }
 {}

@@ -8,13 +8,13 @@ ghost use Rattle.zr_label.specs.Blocks.{IsUber};
 ghost use Rattle.zr_meta.specs.Heads.{IsHead, IsSaved, IsStream, cond_count, stream_count};
 ghost use Rattle.zr_roots.specs.Devices.{HasItsDisks};
 ghost use Rattle.zr_space.specs.Opens.{IsOpened};
-ghost use Rattle.zr_sync.specs.Heads.{cond_at, cond_streams};
+ghost use Rattle.zr_sync.specs.Heads.{cond_at, cond_streams, told_in};
 ghost use Rattle.zr_sync.specs.Pools.{AreCondStreams, AreStreams, IsCheckpoint, IsOpen, saved_block};
 ghost use Rattle.zr_sync.specs.declared.fault.Fault.TheVariants.{No, Stops};
 ghost use Rattle.zr_sync.specs.declared.stop.Stop.TheVariants.{DiskFault};
 ghost use Rattle.zr_open.specs.Opened.{CoversOwed, IsAsTold, IsFresh, IsSpaceOf, MayRefuse};
 ghost use Rattle.zr_open.specs.Roots.{HasParts};
-ghost use Rattle.zr_open.specs.Streams.{HasNoLate, HasStreams, told_in};
+ghost use Rattle.zr_open.specs.Streams.{HasNoLate, HasStreams, untold_cond, untold_in};
 
 use crate::room::{has_groups, has_room};
 use std::alloc::{AllocError, Global};
@@ -98,6 +98,7 @@ fn first_streams(state: DevState, own: &[Stream]) -> DeviceStreams
     ensures lawful { AreStreams result }
     ensures are { told_in 1 state result ≡ own.now }
     ensures late { HasNoLate result }
+    ensures untold { untold_in state result ≡ 0 }
 {
     match state {
         DevState::On => DeviceStreams {
@@ -130,6 +131,7 @@ fn device_streams(form: u64, state: DevState, own: &[Stream]) -> DeviceStreams
     ensures lawful { AreStreams result }
     ensures are { told_in form state result ≡ own.now }
     ensures late { form ≡ 1 → HasNoLate result }
+    ensures untold { untold_in state result ≡ 0 }
 {
     let (first, late) = own.split_at(stream_count(1, state));
     let streams = first_streams(state, first);
@@ -156,6 +158,7 @@ fn cond_streams(cond: &Option<CondAt>, rest: &[Stream]) -> CondStreams
     requires count { length rest.now ≡ cond_count cond.now }
     ensures lawful { AreCondStreams result }
     ensures are { cond_streams cond.now result ≡ rest.now }
+    ensures untold { untold_cond cond.now result ≡ 0 }
 {
     match cond {
         None => NO_COND,

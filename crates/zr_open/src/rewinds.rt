@@ -13,6 +13,8 @@ ghost use Rattle.zr_store.specs.Store.{Stored};
 ghost use Rattle.zr_sync.specs.Commits.{IsShownFrom, PublishesRoot};
 ghost use Rattle.zr_sync.specs.Holds.{HasBlocks};
 ghost use Rattle.zr_sync.specs.Pools.{IsOpen};
+ghost use Rattle.zr_sync.specs.Trees.{HasTrees};
+ghost use Rattle.zr_sync.specs.Trees.Stage.{Had};
 ghost use Rattle.zr_sync.specs.Writes.{WorksOnDisks};
 ghost use Rattle.zr_sync.specs.declared.fault.Fault.TheVariants.{No, Stops};
 ghost use Rattle.zr_sync.specs.declared.stop.Stop.TheVariants.{DiskFault};
@@ -95,6 +97,7 @@ pub fn rewind<S: Shelf>(alloc: Global, shelf: &mut S) -> Result<OpenPool, Fault>
     ensures objects { S.tells shelf.old → IfOk result (HoldsSaved (S.world shelf.old).now.paths (S.world shelf.old).now.seen (S.tells shelf.new) (S.world shelf.new).now.seen) }
     ensures last { S.tells shelf.old → IfOk result (ShowsLast (S.world shelf.new).now.seen) }
     ensures leaves { S.tells shelf.old → IfOk result (IsLeftCommitted (S.world shelf.new).now) }
+    ensures trees { S.tells shelf.old → IfOk result (HasTrees Had (S.tells shelf.new) (S.world shelf.new).now.seen) }
     ensures room { IfOk result (λ pool. CoversOwed pool.space) }
     ensures groups { IfOk result (λ pool. pool.group.txg ≤ 2 ^ 63 + 1) }
     ensures refused { (r : Refusal) → IsErrOf result (No r) → FindsOn (S.sizes shelf.old) (S.tells shelf.old) (S.world shelf.old).now.seen (Err r) ⊎ (IsRefusedRoot r ⊎ ((u : Uber) × (at : FindsOn (S.sizes shelf.old) (S.tells shelf.old) (S.world shelf.old).now.seen (Ok u)) × (IsRefusedSaved (S.tells shelf.old) (S.world shelf.old).now.seen (slots_of u at.seen) u r ⊎ ((r ≡ NoCheckpoint) × HasNoSaved (S.tells shelf.old) (S.world shelf.old).now.seen (slots_of u at.seen) u)))) }

@@ -9,9 +9,7 @@ use Rattle.zr_image.specs.Current.{ShowsAll}
 use Rattle.zr_image.specs.Honest.{IsLeft}
 use Rattle.zr_open.proofs.Flushing.{flushes_read, flushes_still, rests_still}
 use Rattle.zr_open.specs.Flushed.{FlushesOnly}
-use Rattle.zr_label.specs.declared.root.Uber.{Uber}
 use Rattle.zr_scan.specs.declared.error.ScanErr.{ScanErr}
-use Rattle.zr_scan.specs.declared.error.ScanErr.TheVariants as scan
 use Rattle.zr_script.specs.declared.reply.Reply.{Reply}
 use Rattle.zr_script.specs.declared.reply.Reply.TheVariants as reply
 use Rattle.zr_shelf.proofs.Doings.{kept_throughout}
@@ -22,9 +20,6 @@ use Rattle.zr_shelf.specs.Doings.{Follows}
 use Rattle.zr_shelf.specs.Doings.Follows.{stood, wrote, flush}
 use Rattle.zr_shelf.specs.Moments.{IsStill, Throughout, World}
 use Rattle.zr_slots.specs.Checks.{MayCreateOn}
-use Rattle.zr_sync.proofs.Disks.{works_published, works_still}
-use Rattle.zr_sync.specs.Commits.{PublishesRoot}
-use Rattle.zr_sync.specs.Writes.{WorksOnDisks}
 use Rattle.zr_sync.specs.declared.fault.Fault.{Fault}
 use Rattle.zr_sync.specs.declared.fault.Fault.TheVariants.{No, Stops}
 use Rattle.zr_sync.specs.declared.open.OpenPool.{OpenPool}
@@ -80,13 +75,6 @@ checks_before sizes read tells told disks seen version guid named outcome same g
 pub allowed_before : {A E : Type 0} → (sizes read : List ℕ) (tells told : Type 0) (disks seen : List (List ℕ)) (version guid : ℕ) (named : List ℕ) → read ≡ sizes → (tells → told) → seen ≡ disks → (r : Result A E) → OnOk r (ChecksNew read told seen version guid named (Ok tt)) → OnOk r (ChecksNew sizes tells disks version guid named (Ok tt))
 allowed_before sizes read tells told disks seen version guid named same goes is (Ok a) h = checks_before sizes read tells told disks seen version guid named (Ok tt) same goes is h
 allowed_before sizes read tells told disks seen version guid named same goes is (Err e) h = tt
-
--- ---- a root that is put
-
-pub puts_work : (sizes : List ℕ) (pool : OpenPool) (u : Uber) (a b : World) → PublishesRoot sizes pool u a b → WorksOnDisks a b
-puts_work sizes pool u a b (inl still) = works_still a b still
-puts_work sizes pool u a b (inr (inl part)) = works_published sizes part.both part.all u (Err scan.Failed) a b part.published
-puts_work sizes pool u a b (inr (inr shown)) = works_published sizes shown.both shown.all u (Ok tt) a b shown.published
 
 -- ---- whether nothing was written behind a line
 

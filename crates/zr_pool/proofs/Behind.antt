@@ -7,7 +7,9 @@ use Rattle.zr_base.specs.declared.space.DevPart.{DevPart}
 use Rattle.zr_base.specs.declared.space.DevState.{DevState}
 use Rattle.zr_base.specs.declared.space.DevState.TheVariants.{On, Leaving, Gone}
 use Rattle.zr_command.specs.Meanings.{disks_of, Disks}
-use Rattle.zr_last.specs.Last.{KeepsLast, ShowsLast}
+use Rattle.zr_current.specs.Current.{GoesOnFrom}
+use Rattle.zr_label.specs.declared.root.Uber.{Uber}
+use Rattle.zr_last.specs.Last.{KeepsDevices, KeepsLast, ShowsLast}
 use Rattle.zr_sync.specs.Ends.{ComesCommitted, EndsCommitted}
 use Rattle.zr_lines.specs.Stops.{OpensNoUnit, StaysInOneGroup, WritesInOneGroup, WritesOneReset, WritesReset}
 use Rattle.zr_model.specs.Objects.{Objects}
@@ -24,15 +26,18 @@ use Rattle.zr_script.specs.declared.reply.Reply.TheVariants as reply
 use Rattle.zr_shelf.proofs.Runs.{joined, weaker}
 use Rattle.zr_shelf.specs.Disks.{Stand, IsAtRest}
 use Rattle.zr_shelf.specs.Moments.{IsStill, Throughout, World}
-use Rattle.zr_open.specs.There.{AreThere, IsStillThere}
+use Rattle.zr_open.specs.There.{AreThere, IsReadable, StaysReadable, WillBeReadable}
 use Rattle.zr_removal.proofs.Returning.{back_devices, back_open}
 use Rattle.zr_removal.specs.Turns.{CancelsInPart}
+use Rattle.zr_stops.proofs.Committing.{there_alike, there_same}
 use Rattle.zr_stops.proofs.Joining.{adds_show}
 use Rattle.zr_stops.proofs.Behind.{behind_shows, commit_behind, commit_shows, line_behind, line_shows, left_behind, made_behind, shown_behind, stop_shows, turn_shows}
 use Rattle.zr_stops.proofs.Within.{left_by, same_behind}
 use Rattle.zr_stops.specs.Behind.{AreSameDisks, ShowsOnly, StandsBehind}
 use Rattle.zr_stops.specs.Either.{ShowsEither}
+use Rattle.zr_sync.specs.Moves.{TellsMoves}
 use Rattle.zr_sync.specs.Pools.{IsOpen}
+use Rattle.zr_sync.specs.Trees.{HasLastTrees}
 use Rattle.zr_sync.specs.States.{HoldsState}
 use Rattle.zr_sync.specs.Writes.{WorksOnDisks, WritesIntoFree}
 use Rattle.zr_sync.specs.declared.fault.Fault.{Fault}
@@ -41,22 +46,22 @@ use Rattle.zr_sync.specs.declared.open.OpenPool.{OpenPool}
 use Rattle.zr_create.specs.Making.{HasNoRoot, MakesBehind}
 use Rattle.zr_open.proofs.Flushing.{flushes_read}
 use Rattle.zr_stops.proofs.Making.{in_the_way, makes_empty}
-use Rattle.zr_pool.proofs.Beginning.{flushes_unwritten, of_beginning, puts_work, unwritten_more}
+use Rattle.zr_pool.proofs.Beginning.{flushes_unwritten, of_beginning, unwritten_more}
 use Rattle.zr_open.specs.Going.{PutsBack}
 use Rattle.zr_open.specs.Shown.{Shows}
 use Rattle.zr_stops.proofs.Returning.{returns_either}
 use Rattle.zr_stops.proofs.Preparing.{settled_left}
 use Rattle.zr_pool.proofs.Closed.{StandsAs, closed_behind, closed_shows, flushes_keep, still_closed, stands_as}
-use Rattle.zr_pool.proofs.Groups.{acknowledged_commits, commits_in_group, copy_no_commit, copy_no_reset, ends_told, not_ending, opening_stops, opens_no_commit, opens_no_end}
+use Rattle.zr_pool.proofs.Groups.{acknowledged_commits, commits_in_group, copy_no_commit, copy_no_reset, ends_told, not_ending, opening_stops, opens_no_commit, opens_no_end, writing_resets}
 use Rattle.zr_pool.proofs.Outside.{keeps_outside}
 use Rattle.zr_pool.proofs.Resets.{behind_last, reset_behind}
 use Rattle.zr_pool.proofs.Turning.{left_of}
-use Rattle.zr_pool.specs.Behind.{ComesFrom, HasReset, IsBehindTurn, LeavesEither, LeavesOnly, StaysTold, StopsInReset, is_acknowledged, is_commit, is_create, is_import, is_in_group, is_known, is_refusal, is_resetting, leaves_told, may_stop, all_there, are_there, StopsInCreate, AreAllThere, OpensTo, StopsInOpening, ends_no_removal, ends_reset}
+use Rattle.zr_pool.specs.Behind.{ComesFrom, HasReset, IsBehindTurn, LeavesEither, LeavesOnly, StaysTold, StopsInReset, WritesTold, is_acknowledged, is_commit, is_create, is_import, is_in_group, is_known, is_refusal, is_resetting, leaves_told, may_stop, all_there, are_there, StopsInCreate, OpensTo, StopsInOpening, ends_no_removal, ends_reset, is_readable, is_writing_trees, keeps_trees, none_gone}
 use Rattle.zr_pool.specs.Behind.ComesFrom.{kept, committed, changed, made, found}
 use Rattle.zr_pool.specs.Ends.{answer_of, is_closing}
 use Rattle.zr_pool.specs.Plain.{IsDone, is_copy, is_untold_behind}
 use Rattle.zr_pool.specs.Pools.{DeviceState, IsBehind, IsClosedBehind, IsPartOf, stand_of, IsAsBegun, IsUnwritten}
-use Rattle.zr_pool.specs.Turns.{IsClosedAnswer, IsTurn, IsWithin, is_on_objects, is_opener, is_table}
+use Rattle.zr_pool.specs.Turns.{IsClosedAnswer, IsTurn, IsWithin, is_on_objects, is_opened, is_opener, is_table}
 
 no_way : {P : Type 0} → false ≡ true → P
 no_way e = absurd cc
@@ -121,7 +126,7 @@ both_told a b s shows image left paths p is = inr (one (shows image left paths p
 
 -- ---- a line in its group
 
-module _ (sizes : List ℕ) (objects told : Objects) (x : OpenPool) (old : World) (h : StandsBehind sizes objects x old.now) (lawful : IsOpen sizes x) where
+module _ (sizes : List ℕ) (objects told : Objects) (x : OpenPool) (old : World) (h : StandsBehind sizes objects x old.now) (lawful : IsOpen sizes x) (will : WillBeReadable old.now.seen x) where
   -- it leaves the objects that were committed last, or has committed those from before it
   record Committed (y : OpenPool) (new : World) : Type 0 where
     pub all : Objects
@@ -137,7 +142,6 @@ module _ (sizes : List ℕ) (objects told : Objects) (x : OpenPool) (old : World
         begin = h.begin;
         committed = h.committed;
         from = h.from;
-        on = h.on;
         within = record {
           table = opens.root.table ∙ h.within.table;
           last = opens.root.last ∙ h.within.last;
@@ -152,51 +156,63 @@ module _ (sizes : List ℕ) (objects told : Objects) (x : OpenPool) (old : World
   one_group_behind : (y : OpenPool) (new : World) → StaysInOneGroup sizes told x y old new → Committed y new
   one_group_behind y new (inl stays) = record { all = objects; which = inl refl; behind = line_behind sizes objects x old h y new stays.written stays.space.writable stays.root.table stays.root.last stays.root.guid }
   one_group_behind y new (inr more) =
-      let b = commit_behind sizes objects x old h lawful false told more.start more.next more.commits in
+      let b = commit_behind sizes objects x old h lawful false told more.start more.next will more.commits in
       record { all = told; which = inr refl; behind = line_behind sizes told more.next more.start b y new more.stays.written more.stays.space.writable more.stays.root.table more.stays.root.last more.stays.root.guid }
 
   told_still : (y : OpenPool) (new : World) → StaysTold sizes told x y old new → Committed y new
   told_still y new (inl stays) = one_group_behind y new stays
-  told_still y new (inr (nothing, opens)) = record { all = objects; which = inl refl; behind = still_behind y new nothing opens }
+  told_still y new (inr (nothing, (opens, trees))) = record { all = objects; which = inl refl; behind = still_behind y new nothing opens }
 
   writes_show : (new : World) → WritesInOneGroup sizes told x old new → Throughout (ShowsEither objects told) old new
   writes_show new (inl wrote) = weaker (ShowsOnly objects) (ShowsEither objects told) old new (first_of objects told) (line_shows sizes objects x old h new wrote)
-  writes_show new (inr (inl commits)) = stop_shows sizes objects x old h lawful false told new commits
+  writes_show new (inr (inl commits)) = stop_shows sizes objects x old h lawful false told new (HasLastTrees old.now.seen x) will commits
   writes_show new (inr (inr more)) =
-      let b = commit_behind sizes objects x old h lawful false told more.start more.next more.commits in
-      joined (ShowsEither objects told) old more.start new (commit_shows sizes objects x old h lawful false told more.start more.next more.commits)
+      let b = commit_behind sizes objects x old h lawful false told more.start more.next will more.commits in
+      joined (ShowsEither objects told) old more.start new (commit_shows sizes objects x old h lawful false told more.start more.next will more.commits)
       (weaker (ShowsOnly told) (ShowsEither objects told) more.start new (second_of objects told) (line_shows sizes told more.next more.start b new more.written))
 
-  -- a reset: the pool is changed in memory before anything is written
-  one_reset_shows : (new : World) → WritesOneReset sizes told x old new → Throughout (ShowsEither objects told) old new
+-- a reset: the pool is changed in memory before anything is written
+module _ (Told : Type 0) (sizes : List ℕ) (objects told : Objects) (x : OpenPool) (old : World) (h : StandsBehind sizes objects x old.now) (lawful : IsOpen sizes x) (stays_so : StaysReadable x Told) where
+  -- no device goes where each is where it was
+  placed_so : (other : OpenPool) → IsOpen sizes other → KeepsDevices x other → StaysReadable x Told → StaysReadable other Told
+  placed_so other ready keeps (inl there) = inl (there_alike sizes x other lawful ready keeps.count keeps.rows there)
+  placed_so other ready keeps (inr is) = inr is
+
+  one_reset_shows : (new : World) → WritesOneReset Told sizes told x old new → Throughout (ShowsEither objects told) old new
   one_reset_shows new (inl nothing) = weaker (λ s. s ≡ old.now) (ShowsEither objects told) old new (λ s same. subst (ShowsEither objects told) (sym same) (first_of objects told old.now (behind_shows sizes objects x old.now h))) nothing.since
-  one_reset_shows new (inr (other, ready, stays, commits)) = turn_shows sizes objects x old h other stays.devices stays.units ready true told new commits
+  one_reset_shows new (inr (other, ready, stays, commits)) = turn_shows sizes objects x old h other stays.devices stays.units ready true told new Told (placed_so other ready stays.devices stays_so) commits
 
 -- a line that ends with a reset, at once or behind the commit of the group
-module _ (sizes : List ℕ) (objects told : Objects) (x : OpenPool) (old : World) (h : StandsBehind sizes objects x old.now) (lawful : IsOpen sizes x) where
-  reset_shows : (new : World) → WritesReset sizes told x old new → Throughout (ShowsEither objects told) old new
-  reset_shows new (inl once) = one_reset_shows sizes objects told x old h lawful new once
-  reset_shows new (inr (inl commits)) = stop_shows sizes objects x old h lawful false told new commits
-  reset_shows new (inr (inr more)) =
-      let b = commit_behind sizes objects x old h lawful false told more.start more.next more.commits in
-      joined (ShowsEither objects told) old more.start new (commit_shows sizes objects x old h lawful false told more.start more.next more.commits)
-      (weaker (ShowsEither told told) (ShowsEither objects told) more.start new (both_told objects told) (one_reset_shows sizes told told more.next more.start b more.commits.pool new more.resets))
+module _ (Told : Type 0) (sizes : List ℕ) (objects told : Objects) (x : OpenPool) (old : World) (h : StandsBehind sizes objects x old.now) (lawful : IsOpen sizes x) (will : WillBeReadable old.now.seen x) (stays_so : StaysReadable x Told) where
+  next_so : (next : OpenPool) → IsOpen sizes next → next.table ≡ x.table → StaysReadable x Told → StaysReadable next Told
+  next_so next ready table (inl there) = inl (there_same sizes x next lawful ready table there)
+  next_so next ready table (inr is) = inr is
 
+  reset_shows : (new : World) → WritesReset Told sizes told x old new → Throughout (ShowsEither objects told) old new
+  reset_shows new (inl once) = one_reset_shows Told sizes objects told x old h lawful stays_so new once
+  reset_shows new (inr (inl commits)) = stop_shows sizes objects x old h lawful false told new (HasLastTrees old.now.seen x) will commits
+  reset_shows new (inr (inr more)) =
+      let b = commit_behind sizes objects x old h lawful false told more.start more.next will more.commits in
+      joined (ShowsEither objects told) old more.start new (commit_shows sizes objects x old h lawful false told more.start more.next will more.commits)
+      (weaker (ShowsEither told told) (ShowsEither objects told) more.start new (both_told objects told) (one_reset_shows Told sizes told told more.next more.start b more.commits.pool (next_so more.next more.commits.pool more.commits.same.table stays_so) new more.resets))
+
+module _ (sizes : List ℕ) (objects told : Objects) (x : OpenPool) (old : World) (h : StandsBehind sizes objects x old.now) (lawful : IsOpen sizes x) where
   -- or the adding of a device
-  stop_in_reset : (new : World) → StopsInReset sizes told x old new → Throughout (ShowsEither objects told) old new
-  stop_in_reset new (inl resets) = reset_shows new resets
-  stop_in_reset new (inr (slot, adds)) = adds_show sizes objects told slot x lawful old new h adds
+  stop_in_reset : (command : Command) → WillBeReadable old.now.seen x → StaysReadable x (WritesTold command x old) → (new : World) → StopsInReset sizes told command x old new → Throughout (ShowsEither objects told) old new
+  stop_in_reset command will stays_so new (inl resets) = reset_shows (WritesTold command x old) sizes objects told x old h lawful will stays_so new resets
+  stop_in_reset command will stays_so new (inr (slot, adds)) = adds_show sizes objects told slot x lawful old new h will adds
 
   -- or a removal that is given up: free units are written, and the pool to which the device has come back is committed
   only_last : (new : World) → WritesIntoFree x old new → Throughout (ShowsEither objects told) old new
   only_last new wrote = weaker (ShowsOnly objects) (ShowsEither objects told) old new (first_of objects told) (line_shows sizes objects x old h new wrote)
 
-  return_shows : (new : World) → CancelsInPart sizes told x old new → Throughout (ShowsEither objects told) old new
-  return_shows new (inl wrote) = only_last new wrote
-  return_shows new (inr b) =
+  return_shows : AreThere (devices_in x.space) → (new : World) → CancelsInPart sizes told x old new → Throughout (ShowsEither objects told) old new
+  return_shows there new (inl wrote) = only_last new wrote
+  return_shows there new (inr b) =
+      let keeps = back_devices sizes x b.back b.dev lawful b.leaving b.comes in
       let later = line_behind sizes objects x old h x b.start b.written (λ d u is. is) refl refl refl in
       joined (ShowsEither objects told) old b.start new (only_last b.start b.written)
-      (turn_shows sizes objects x b.start later b.back (back_devices sizes x b.back b.dev lawful b.leaving b.comes) (back_open x b.back b.dev b.comes) b.ready true told new b.commits)
+      (turn_shows sizes objects x b.start later b.back keeps (back_open x b.back b.dev b.comes) b.ready true told new ⊥ (inl (there_alike sizes x b.back lawful b.ready keeps.count keeps.rows there)) b.commits)
 
 -- ---- what is told behind a line
 
@@ -207,16 +223,16 @@ module _ (new : World) (before : DeviceState) (command : Command) (part : ShelfP
     pub turn : IsBehindTurn before command answer part pool behind
 
   -- nothing is told
-  untold : (pool : Option OpenPool) (answer : Reply) → (before.account ≡ None → is_create command ≡ true → are_there pool ≡ true → ⊥) → (before.account ≡ None → is_import command ≡ true → are_there pool ≡ true → (p : PoolState) → part ≡ Is p → ⊥) → ((p : PoolState) → before.told.shelf ≡ Is p → is_some before.behind ≡ true → leaves_told before.account answer command ≡ true → ⊥)
-      → ((p : PoolState) → before.told.shelf ≡ Is p → is_known before ≡ true → ends_reset answer command ≡ true → are_there pool ≡ true → ⊥) → ((p : PoolState) → before.told.shelf ≡ Is p → is_known before ≡ true → is_acknowledged answer command ≡ true → ⊥) → Behinds pool answer
+  untold : (pool : Option OpenPool) (answer : Reply) → (before.account ≡ None → is_create command ≡ true → are_there pool ≡ true → ⊥) → (before.account ≡ None → is_import command ≡ true → answer ≡ reply.Done → (p : PoolState) → part ≡ Is p → ⊥) → ((p : PoolState) → before.told.shelf ≡ Is p → is_some before.behind ≡ true → is_readable before.account before.trees ≡ true → leaves_told before.account answer command ≡ true → ⊥)
+      → ((p : PoolState) → before.told.shelf ≡ Is p → is_known before ≡ true → ends_reset answer command ≡ true → (are_there pool || (before.trees && is_writing_trees command)) ≡ true → ⊥) → ((p : PoolState) → before.told.shelf ≡ Is p → is_known before ≡ true → is_acknowledged answer command ≡ true → ⊥) → Behinds pool answer
   untold pool answer makes opens keeps resets commits = record {
     behind = None;
     stands = tt;
     turn = record {
       from = λ objects is. none_some objects is;
       makes = λ none create done there. absurd (makes none create there);
-      opens = λ none import done there p told. absurd (opens none import there p told);
-      keeps = λ p told some leaves. absurd (keeps p told some leaves);
+      opens = λ none import done p told. absurd (opens none import done p told);
+      keeps = λ p told some readable leaves. absurd (keeps p told some readable leaves);
       resets = λ p told known on there. absurd (resets p told known on there);
       commits = λ p told known acknowledged. absurd (commits p told known acknowledged);
     };
@@ -231,8 +247,8 @@ module _ (new : World) (before : DeviceState) (command : Command) (part : ShelfP
     turn = record {
       from = λ objects is. let same : all ≡ objects = cc in subst (ComesFrom before command answer part) same comes;
       makes = λ none create done there. absurd (not_made none create done);
-      opens = λ none import done there q told_q. absurd (not_opened none import done);
-      keeps = λ q told_q some leaves. refl;
+      opens = λ none import done q told_q. absurd (not_opened none import done);
+      keeps = λ q told_q some readable leaves. refl;
       resets = λ q told_q known on there. let same : p ≡ q = (let both = sym told ∙ told_q in cc) in ap Some (reset_all on ∙ ap (λ (r : PoolState). r.objects) same);
       commits = λ q told_q known acknowledged. let same : p ≡ q = (let both = sym told ∙ told_q in cc) in ap Some (committed_all acknowledged ∙ ap (λ (r : PoolState). r.objects) same);
     };
@@ -262,16 +278,43 @@ closing_export : (command : Command) (answer : Reply) → is_closing command (Ok
 closing_export cmd.Export answer is = refl
 closing_export command answer is = no_way is
 
-known_some : (state : DeviceState) → is_some state.behind ≡ true → is_known state ≡ true
-known_some state some = ap (λ (b : Bool). if b then true else state.shown && are_there state.account) some
+and_first : (a b : Bool) → (a && b) ≡ true → a ≡ true
+and_first true b is = refl
+and_first false b is = no_way is
 
-known_shown : (state : DeviceState) → state.behind ≡ None → is_known state ≡ true → (state.shown ≡ true) × (are_there state.account ≡ true)
-known_shown state none known = both state.shown (are_there state.account) (sym (ap (λ (o : Option Objects). if is_some o then true else state.shown && are_there state.account) none) ∙ known)
+and_second : (a b : Bool) → (a && b) ≡ true → b ≡ true
+and_second true b is = is
+and_second false b is = no_way is
+
+and_both : (a b : Bool) → a ≡ true → b ≡ true → (a && b) ≡ true
+and_both true b one two = two
+and_both false b one two = no_way one
+
+-- one of two is true
+one_of : (a b : Bool) → (a || b) ≡ true → (a ≡ true) ⊎ (b ≡ true)
+one_of true b is = inl refl
+one_of false b is = inr is
+
+-- what is known of the last commit
+abbrev is_last_known : DeviceState → Option Objects → Bool
+is_last_known state behind = if is_some behind then true else state.shown && is_some state.account
+
+known_readable : (state : DeviceState) → is_known state ≡ true → is_readable state.account state.trees ≡ true
+known_readable state known = and_first (is_readable state.account state.trees) (is_last_known state state.behind) known
+
+known_some : (state : DeviceState) → is_some state.behind ≡ true → is_readable state.account state.trees ≡ true → is_known state ≡ true
+known_some state some readable = and_both (is_readable state.account state.trees) (is_last_known state state.behind) readable (ap (λ (b : Bool). if b then true else state.shown && is_some state.account) some)
+
+known_shown : (state : DeviceState) → state.behind ≡ None → is_known state ≡ true → state.shown ≡ true
+known_shown state none known = and_first state.shown (is_some state.account) (sym (ap (is_last_known state) none) ∙ and_second (is_readable state.account state.trees) (is_last_known state state.behind) known)
+
+-- an answer that acknowledges no commit
+none_acknowledged : (answer : Reply) (command : Command) → (is_acknowledged answer command ≡ true → ⊥) → is_acknowledged answer command ≡ false
+none_acknowledged answer command none = by (is_acknowledged answer command) refl
   where
-    both : (a b : Bool) → (a && b) ≡ true → (a ≡ true) × (b ≡ true)
-    both true true is = (refl, refl)
-    both true false is = no_way is
-    both false b is = no_way is
+    by : (b : Bool) → is_acknowledged answer command ≡ b → is_acknowledged answer command ≡ false
+    by true is = absurd (none is)
+    by false is = is
 
 -- a table is no line on objects
 pub off_objects : (command : Command) → is_table command ≡ true → is_on_objects command ≡ false
@@ -285,7 +328,7 @@ off_objects command table = no_way table
 -- ---- where a pool is open
 
 module _ (old new : World) (before : DeviceState) (command : Command) (x y : OpenPool) (sizes : List ℕ) (lawful : IsOpen sizes x) (sized_old : map length old.now.seen ≡ sizes) (sized_new : map length new.now.seen ≡ sizes)
-    (part : IsPartOf old.now.seen x before.told.shelf) (account : before.account ≡ Some x) (was_shown : before.shown ≡ true → ShowsLast old.now.seen x) (was : IfSome before.behind (IsBehind (Some x) (disks_of old.now))) (since : IfSome before.begun (IsAsBegun (Some x) (disks_of old.now))) where
+    (part : IsPartOf old.now.seen x before.told.shelf) (account : before.account ≡ Some x) (was_shown : before.shown ≡ true → ShowsLast old.now.seen x) (was_standing : before.trees ≡ true → HasLastTrees old.now.seen x) (was : IfSome before.behind (IsBehind (Some x) (disks_of old.now))) (since : IfSome before.begun (IsAsBegun (Some x) (disks_of old.now))) where
   not_begun : (first : Disks) → before.begun ≡ Some first → ⊥
   not_begun first is = let some : Some x ≡ None = (subst (λ (o : Option Disks). IfSome o (IsAsBegun (Some x) (disks_of old.now))) is since).0 in cc
 
@@ -295,8 +338,15 @@ module _ (old new : World) (before : DeviceState) (command : Command) (x y : Ope
   not_made : (pool : Option OpenPool) → before.account ≡ None → is_create command ≡ true → are_there pool ≡ true → ⊥
   not_made pool none create there = is_open none
 
-  not_opened : (s : ShelfPart) (pool : Option OpenPool) → before.account ≡ None → is_import command ≡ true → are_there pool ≡ true → (p : PoolState) → s ≡ Is p → ⊥
-  not_opened s pool none import there p told = is_open none
+  not_opened : (s : ShelfPart) (answer : Reply) → before.account ≡ None → is_import command ≡ true → answer ≡ reply.Done → (p : PoolState) → s ≡ Is p → ⊥
+  not_opened s answer none import done p told = is_open none
+
+  -- whoever reads a root behind a commit is led where the pool is
+  will_read : is_readable before.account before.trees ≡ true → WillBeReadable old.now.seen x
+  will_read readable = elim (one_of (none_gone (Some x)) before.trees (subst (λ (o : Option OpenPool). is_readable o before.trees ≡ true) account readable)) [
+    | inl there ↦ inl (devices_there x there)
+    | inr trees ↦ inr (was_standing trees)
+  ]
 
   group_leaves : (answer : Reply) → is_in_group command ≡ true → leaves_told before.account answer command ≡ true
   group_leaves answer group = subst (λ (o : Option OpenPool). leaves_told o answer command ≡ true) (sym account) (or_second (is_refusal answer) (is_in_group command || is_copy command answer) (or_either (is_in_group command) (is_copy command answer) group))
@@ -323,11 +373,10 @@ module _ (old new : World) (before : DeviceState) (command : Command) (x y : Ope
   commit_stands p known ends = by_last before.behind refl
     where
       by_last : (o : Option Objects) → before.behind ≡ o → StandsBehind sizes p.objects y new.now
-      by_last (Some objects) is = commit_behind sizes objects x old (stood objects is) lawful false p.objects new y ends
+      by_last (Some objects) is = commit_behind sizes objects x old (stood objects is) lawful false p.objects new y (will_read (known_readable before known)) ends
       by_last None is =
-          let both = known_shown before is known in
-          let last = was_shown both.0 in
-          shown_behind sizes false last.root x y p.objects old new lawful last.from sized_old last.newest (devices_there x (sym (ap are_there account) ∙ both.1)) ends
+          let last = was_shown (known_shown before is known) in
+          shown_behind sizes false last.root x y p.objects old new lawful last.from sized_old last.newest (will_read (known_readable before known)) ends
 
   -- the disks show the last root before a commit of what is told
   known_last : is_known before ≡ true → ShowsLast old.now.seen x
@@ -335,7 +384,7 @@ module _ (old new : World) (before : DeviceState) (command : Command) (x y : Ope
     where
       by_last : (o : Option Objects) → before.behind ≡ o → ShowsLast old.now.seen x
       by_last (Some objects) is = behind_last sizes objects x old.now (stood objects is)
-      by_last None is = was_shown (known_shown before is known).0
+      by_last None is = was_shown (known_shown before is known)
 
   module _ (now_told : ShelfPart) where
     -- a line that stays in one group
@@ -343,15 +392,19 @@ module _ (old new : World) (before : DeviceState) (command : Command) (x y : Ope
     line_told answer p told leaves no_reset no_commit stays = by_last before.behind refl
       where
         by_last : (o : Option Objects) → before.behind ≡ o → Behinds new before command now_told (Some y) answer
-        by_last None is = untold new before command now_told (Some y) answer (not_made (Some y)) (not_opened now_told (Some y)) (λ q told_q some left. no_way (sym (ap (λ (o : Option Objects). is_some o) is) ∙ some)) (λ q told_q known on there. no_reset on) (λ q told_q known acknowledged. no_commit acknowledged)
-        by_last (Some objects) is =
-            let c = told_still sizes objects p.objects x old (stood objects is) lawful y new stays in
-            told_behind new before command now_told (Some y) answer p c.all (λ none create done. is_open none) (λ none import done. is_open none) told
-            (elim c.which [
-              | inl same ↦ kept p told leaves (is ∙ ap Some (sym same))
-              | inr same ↦ committed leaves (p, told, sym same)
-            ])
-            (to_disks sizes c.all y new.now sized_new c.behind) (λ on. absurd (no_reset on)) (λ acknowledged. absurd (no_commit acknowledged))
+        by_last None is = untold new before command now_told (Some y) answer (not_made (Some y)) (not_opened now_told answer) (λ q told_q some readable left. no_way (sym (ap (λ (o : Option Objects). is_some o) is) ∙ some)) (λ q told_q known on there. no_reset on) (λ q told_q known acknowledged. no_commit acknowledged)
+        by_last (Some objects) is = by_readable (is_readable before.account before.trees) refl
+          where
+            by_readable : (b : Bool) → is_readable before.account before.trees ≡ b → Behinds new before command now_told (Some y) answer
+            by_readable false out = untold new before command now_told (Some y) answer (not_made (Some y)) (not_opened now_told answer) (λ q told_q some readable left. no_way (sym out ∙ readable)) (λ q told_q known on there. no_reset on) (λ q told_q known acknowledged. no_commit acknowledged)
+            by_readable true readable =
+                let c = told_still sizes objects p.objects x old (stood objects is) lawful (will_read readable) y new stays in
+                told_behind new before command now_told (Some y) answer p c.all (λ none create done. is_open none) (λ none import done. is_open none) told
+                (elim c.which [
+                  | inl same ↦ kept p told leaves (none_acknowledged answer command no_commit) (is ∙ ap Some (sym same))
+                  | inr same ↦ committed leaves (p, told, sym same)
+                ])
+                (to_disks sizes c.all y new.now sized_new c.behind) (λ on. absurd (no_reset on)) (λ acknowledged. absurd (no_commit acknowledged))
 
     -- a step that copies
     copied_told : (answer : Reply) (p : PoolState) → before.told.shelf ≡ Is p → is_copy command answer ≡ true → WritesIntoFree x old new → OpensNoUnit x y → Behinds new before command now_told (Some y) answer
@@ -359,10 +412,10 @@ module _ (old new : World) (before : DeviceState) (command : Command) (x y : Ope
       where
         by_last : (o : Option Objects) → before.behind ≡ o → Behinds new before command now_told (Some y) answer
         by_last None is =
-            untold new before command now_told (Some y) answer (not_made (Some y)) (not_opened now_told (Some y)) (λ q told_q some left. no_way (sym (ap (λ (o : Option Objects). is_some o) is) ∙ some)) (λ q told_q known on there. copy_no_reset command answer copy on)
+            untold new before command now_told (Some y) answer (not_made (Some y)) (not_opened now_told answer) (λ q told_q some readable left. no_way (sym (ap (λ (o : Option Objects). is_some o) is) ∙ some)) (λ q told_q known on there. copy_no_reset command answer copy on)
             (λ q told_q known acknowledged. copy_no_commit command answer copy acknowledged)
         by_last (Some objects) is =
-            told_behind new before command now_told (Some y) answer p objects (λ none create done. is_open none) (λ none import done. is_open none) told (kept p told (copy_leaves answer copy) is)
+            told_behind new before command now_told (Some y) answer p objects (λ none create done. is_open none) (λ none import done. is_open none) told (kept p told (copy_leaves answer copy) (none_acknowledged answer command (copy_no_commit command answer copy)) is)
             (to_disks sizes objects y new.now sized_new (line_behind sizes objects x old (stood objects is) y new wrote opens.units opens.root.table opens.root.last opens.root.guid)) (λ on. absurd (copy_no_reset command answer copy on))
             (λ acknowledged. absurd (copy_no_commit command answer copy acknowledged))
 
@@ -372,18 +425,18 @@ module _ (old new : World) (before : DeviceState) (command : Command) (x y : Ope
       where
         by_known : (b : Bool) → is_known before ≡ b → Behinds new before command now_told pool answer
         by_known true known = told_behind new before command now_told pool answer p p.objects (λ none create done. is_open none) (λ none import done. is_open none) told (committed leaves (p, told, refl)) (to (commit_stands p known ends)) (λ on. refl) (λ acknowledged. refl)
-        by_known false known = untold new before command now_told pool answer (not_made pool) (not_opened now_told pool) (λ q told_q some left. no_way (sym known ∙ known_some before some)) (λ q told_q knows on there. no_reset on) (λ q told_q knows acknowledged. no_way (sym known ∙ knows))
+        by_known false known = untold new before command now_told pool answer (not_made pool) (not_opened now_told answer) (λ q told_q some readable left. no_way (sym known ∙ known_some before some readable)) (λ q told_q knows on there. no_reset on) (λ q told_q knows acknowledged. no_way (sym known ∙ knows))
 
-    pub open_behinds : (r : Result (Option Reply) Fault) → IfOk r (λ answered. IfSome answered IsDone) → OnOk r (IsOpen sizes y) → IfOk r (λ answered. IfSome answered (λ answer. is_untold_behind command answer ≡ false → KeepsLast old new x y)) → ((p : PoolState) → HoldsState (Unit {0}) old.now.seen x p → IfOk r (λ answered. IfSome answered (λ answer. ends_reset answer command ≡ true → HasReset y new.now p.objects))) → (is_in_group command ≡ true → (p : PoolState) → HoldsState (Unit {0}) old.now.seen x p → OnOk r (StaysTold sizes p.objects x y old new))
+    pub open_behinds : (r : Result (Option Reply) Fault) → IfOk r (λ answered. IfSome answered IsDone) → OnOk r (IsOpen sizes y) → IfOk r (λ answered. IfSome answered (λ answer. is_untold_behind command answer ≡ false → KeepsLast old new x y)) → ((p : PoolState) → HoldsState (Unit {0}) old.now.seen x p → IfOk r (λ answered. IfSome answered (λ answer. ends_reset answer command ≡ true → HasReset y new.now p.objects))) → ((p : PoolState) → HoldsState (Unit {0}) old.now.seen x p → WritesTold command x old → OnOk r (IfSome y.last (λ u. TellsMoves new.now.seen y u.root u.len))) → (is_in_group command ≡ true → (p : PoolState) → HoldsState (Unit {0}) old.now.seen x p → OnOk r (StaysTold sizes p.objects x y old new))
         → ((p : PoolState) → HoldsState (Unit {0}) old.now.seen x p → (n : Refusal) → r ≡ Err (No n) → StaysInOneGroup sizes p.objects x y old new) → IfOk r (λ answered. IfSome answered (λ answer. is_copy command answer ≡ true → WritesIntoFree x old new × OpensNoUnit x y))
         → (is_commit command ≡ true → (p : PoolState) → HoldsState (Unit {0}) old.now.seen x p → OnOk r (EndsCommitted sizes false x y p.objects old new))
         → IfOk (answer_of r) (λ answered. IfSome answered (λ answer. Behinds new before command now_told (left_of (is_closing command r) y) answer))
-    open_behinds (Ok None) done ready keeps resets one one_no copied commits = tt
-    open_behinds (Ok (Some answer)) done ready keeps resets one one_no copied commits = by_closing (is_closing command (Ok (Some answer))) refl
+    open_behinds (Ok None) done ready keeps resets moves one one_no copied commits = tt
+    open_behinds (Ok (Some answer)) done ready keeps resets moves one one_no copied commits = by_closing (is_closing command (Ok (Some answer))) refl
       where
-        untold_off : is_in_group command ≡ false → is_copy command answer ≡ false → ((p : PoolState) → before.told.shelf ≡ Is p → is_known before ≡ true → ends_reset answer command ≡ true → are_there (Some y) ≡ true → ⊥) → Behinds new before command now_told (Some y) answer
+        untold_off : is_in_group command ≡ false → is_copy command answer ≡ false → ((p : PoolState) → before.told.shelf ≡ Is p → is_known before ≡ true → ends_reset answer command ≡ true → (are_there (Some y) || (before.trees && is_writing_trees command)) ≡ true → ⊥) → Behinds new before command now_told (Some y) answer
         untold_off off no_copy none =
-            untold new before command now_told (Some y) answer (not_made (Some y)) (not_opened now_told (Some y)) (λ p told some leaves. no_way (sym (or_neither (is_in_group command) (is_copy command answer) off no_copy) ∙ done_leaves answer done leaves)) (λ p told known on there. none p told known on there)
+            untold new before command now_told (Some y) answer (not_made (Some y)) (not_opened now_told answer) (λ p told some readable leaves. no_way (sym (or_neither (is_in_group command) (is_copy command answer) off no_copy) ∙ done_leaves answer done leaves)) (λ p told known on there. none p told known on there)
             (λ p told known acknowledged. no_way (sym off ∙ commits_in_group command (acknowledged_commits answer command acknowledged)))
 
         resets_no_copy : ends_reset answer command ≡ true → is_copy command answer ≡ false
@@ -393,19 +446,25 @@ module _ (old new : World) (before : DeviceState) (command : Command) (x y : Ope
             by_copy true copy = absurd (copy_no_reset command answer copy on)
             by_copy false none = none
 
+        reads : (p : PoolState) → before.told.shelf ≡ Is p → (are_there (Some y) || (before.trees && is_writing_trees command)) ≡ true → (u : Uber) → GoesOnFrom u y → IsReadable new.now.seen y u
+        reads p told read u from = elim (one_of (are_there (Some y)) (before.trees && is_writing_trees command) read) [
+          | inl there ↦ inl (devices_there y there)
+          | inr both ↦ inr (subst (λ (o : Option Uber). IfSome o (λ (v : Uber). TellsMoves new.now.seen y v.root v.len)) from.last (moves p (held p told) (and_second before.trees (is_writing_trees command) both, was_standing (and_first before.trees (is_writing_trees command) both))))
+        ]
+
         -- a line that ended with a reset
-        reset_told : is_in_group command ≡ false → ends_reset answer command ≡ true → (p : PoolState) → before.told.shelf ≡ Is p → is_known before ≡ true → are_there (Some y) ≡ true → Behinds new before command now_told (Some y) answer
+        reset_told : is_in_group command ≡ false → ends_reset answer command ≡ true → (p : PoolState) → before.told.shelf ≡ Is p → is_known before ≡ true → (are_there (Some y) || (before.trees && is_writing_trees command)) ≡ true → Behinds new before command now_told (Some y) answer
         reset_told off on p told known there =
             told_behind new before command now_told (Some y) answer p p.objects (λ none create is_done. is_open none) (λ none import is_done. is_open none) told (changed on (p, told, refl))
-            (to_disks sizes p.objects y new.now sized_new (reset_behind sizes p.objects y new.now (keeps (ends_told answer command on) (known_last known)) ready sized_new (resets p (held p told) on) (devices_there y there))) (λ also. refl) (λ acknowledged. refl)
+            (to_disks sizes p.objects y new.now sized_new (reset_behind sizes p.objects y new.now (keeps (ends_told answer command on) (known_last known)) ready sized_new (resets p (held p told) on) (reads p told there))) (λ also. refl) (λ acknowledged. refl)
 
-        reset_known : is_in_group command ≡ false → ends_reset answer command ≡ true → (p : PoolState) → before.told.shelf ≡ Is p → (a b : Bool) → is_known before ≡ a → are_there (Some y) ≡ b → Behinds new before command now_told (Some y) answer
+        reset_known : is_in_group command ≡ false → ends_reset answer command ≡ true → (p : PoolState) → before.told.shelf ≡ Is p → (a b : Bool) → is_known before ≡ a → (are_there (Some y) || (before.trees && is_writing_trees command)) ≡ b → Behinds new before command now_told (Some y) answer
         reset_known off on p told true true known there = reset_told off on p told known there
         reset_known off on p told false b known there = untold_off off (resets_no_copy on) (λ q told_q knows also there_all. no_way (sym known ∙ knows))
         reset_known off on p told true false known out = untold_off off (resets_no_copy on) (λ q told_q knows also there_all. no_way (sym out ∙ there_all))
 
         reset_part : is_in_group command ≡ false → ends_reset answer command ≡ true → (s : ShelfPart) → before.told.shelf ≡ s → Behinds new before command now_told (Some y) answer
-        reset_part off on (Is p) told = reset_known off on p told (is_known before) (are_there (Some y)) refl refl
+        reset_part off on (Is p) told = reset_known off on p told (is_known before) (are_there (Some y) || (before.trees && is_writing_trees command)) refl refl
         reset_part off on Empty told = untold_off off (resets_no_copy on) (λ p is known also there. let both = sym told ∙ is in absurd cc)
         reset_part off on (Refused r) told = untold_off off (resets_no_copy on) (λ p is known also there. let both = sym told ∙ is in absurd cc)
 
@@ -414,7 +473,7 @@ module _ (old new : World) (before : DeviceState) (command : Command) (x y : Ope
         by_reset false not_on off no_copy = untold_off off no_copy (λ p told known on there. no_way (sym not_on ∙ on))
 
         untold_part : (pool : Option OpenPool) → ((p : PoolState) → before.told.shelf ≡ Is p → ⊥) → Behinds new before command now_told pool answer
-        untold_part pool none = untold new before command now_told pool answer (not_made pool) (not_opened now_told pool) (λ p told some leaves. none p told) (λ p told known on there. none p told) (λ p told known acknowledged. none p told)
+        untold_part pool none = untold new before command now_told pool answer (not_made pool) (not_opened now_told answer) (λ p told some readable leaves. none p told) (λ p told known on there. none p told) (λ p told known acknowledged. none p told)
 
         by_commit : (b : Bool) → is_commit command ≡ b → is_in_group command ≡ true → (p : PoolState) → before.told.shelf ≡ Is p → Behinds new before command now_told (Some y) answer
         by_commit true ends group p told = commit_told (Some y) answer p told (group_leaves answer group) (λ on. not_ending answer command on group) (commits ends p (held p told)) (to_disks sizes p.objects y new.now sized_new)
@@ -449,16 +508,16 @@ module _ (old new : World) (before : DeviceState) (command : Command) (x y : Ope
         by_closing : (b : Bool) → is_closing command (Ok (Some answer)) ≡ b → Behinds new before command now_told (left_of b y) answer
         by_closing true is = by_export (closing_export command answer is) before.told.shelf refl
         by_closing false is = by_group (is_in_group command) refl
-    open_behinds (Err (No n)) done ready keeps resets one one_no copied commits = by_part before.told.shelf refl
+    open_behinds (Err (No n)) done ready keeps resets moves one one_no copied commits = by_part before.told.shelf refl
       where
         untold_no : ((p : PoolState) → before.told.shelf ≡ Is p → ⊥) → Behinds new before command now_told (Some y) (reply.No n)
-        untold_no none = untold new before command now_told (Some y) (reply.No n) (not_made (Some y)) (not_opened now_told (Some y)) (λ p told some leaves. none p told) (λ p told known on there. no_way on) (λ p told known acknowledged. no_way acknowledged)
+        untold_no none = untold new before command now_told (Some y) (reply.No n) (not_made (Some y)) (not_opened now_told (reply.No n)) (λ p told some readable leaves. none p told) (λ p told known on there. no_way on) (λ p told known acknowledged. no_way acknowledged)
 
         by_part : (s : ShelfPart) → before.told.shelf ≡ s → Behinds new before command now_told (Some y) (reply.No n)
         by_part (Is p) told = line_told (reply.No n) p told (refused_leaves n) (λ on. no_way on) (λ acknowledged. no_way acknowledged) (inl (one_no p (held p told) n refl))
         by_part Empty told = untold_no (λ p is. let both = sym told ∙ is in absurd cc)
         by_part (Refused r) told = untold_no (λ p is. let both = sym told ∙ is in absurd cc)
-    open_behinds (Err (Stops s)) done ready keeps resets one one_no copied commits = tt
+    open_behinds (Err (Stops s)) done ready keeps resets moves one one_no copied commits = tt
 
   -- ---- the moments of a line
 
@@ -469,7 +528,7 @@ module _ (old new : World) (before : DeviceState) (command : Command) (x y : Ope
   at_table s h = subst (λ (o : Option OpenPool). IfSome o (λ pool. is_table command ≡ true → s.seen ≡ old.now.seen)) (sym account) h
 
   pub open_within : (is_table command ≡ true → IsStill old new) → WorksOnDisks old new → (is_in_group command ≡ true → (p : PoolState) → HoldsState (Unit {0}) old.now.seen x p → WritesInOneGroup sizes p.objects x old new)
-      → (is_resetting command ≡ true → (p : PoolState) → HoldsState (Unit {0}) old.now.seen x p → StopsInReset sizes p.objects x old new)
+      → (is_resetting command ≡ true → (p : PoolState) → HoldsState (Unit {0}) old.now.seen x p → StopsInReset sizes p.objects command x old new)
       → (ends_no_removal (Some x) command ≡ true → (p : PoolState) → HoldsState (Unit {0}) old.now.seen x p → CancelsInPart sizes p.objects x old new) → Throughout Within old new
   open_within nothing_done works writes resets returns = by_table (is_table command) refl
     where
@@ -477,8 +536,8 @@ module _ (old new : World) (before : DeviceState) (command : Command) (x y : Ope
       still_shows : (objects : Objects) (q : PoolState) → before.behind ≡ Some objects → LeavesEither objects q.objects (disks_of old.now)
       still_shows objects q is = leaves_there objects q.objects old.now (first_of objects q.objects old.now (behind_shows sizes objects x old.now (stood objects is)))
 
-      nothing : is_table command ≡ false → ((objects : Objects) (q : PoolState) → before.behind ≡ Some objects → before.told.shelf ≡ Is q → may_stop before.account command ≡ true → ⊥) → Throughout Within old new
-      nothing off none = weaker _ Within old new (λ s _. record { tables = at_table s (λ on. no_way (sym off ∙ on)); shows = λ objects q is told group. absurd (none objects q is told group); opens = λ objects closed is off_making. absurd (is_open closed); begins = λ first is. absurd (not_begun first is) }) (keeps_outside old new works).since
+      nothing : is_table command ≡ false → ((objects : Objects) (q : PoolState) → before.behind ≡ Some objects → before.told.shelf ≡ Is q → may_stop before.account before.trees command ≡ true → ⊥) → Throughout Within old new
+      nothing off none = weaker _ Within old new (λ s _. record { tables = at_table s (λ on. no_way (sym off ∙ on)); shows = λ objects q is told group. absurd (none objects q is told group); opens = λ objects closed is. absurd (is_open closed); begins = λ first is. absurd (not_begun first is) }) (keeps_outside old new works).since
 
       by_part : (o : Option Objects) (s : ShelfPart) → before.behind ≡ o → before.told.shelf ≡ s → is_table command ≡ false → ((objects : Objects) → before.behind ≡ Some objects → (p : PoolState) → before.told.shelf ≡ Is p → Throughout (ShowsEither objects p.objects) old new) → Throughout Within old new
       by_part None s is told off shown = nothing off (λ objects q also told_q on. none_some objects (sym is ∙ also))
@@ -490,27 +549,69 @@ module _ (old new : World) (before : DeviceState) (command : Command) (x y : Ope
                 let first : objects ≡ all = (let both = sym is ∙ also in cc) in
                 let second : p ≡ q = (let both = sym told ∙ told_q in cc) in
                 subst (λ (r : PoolState). LeavesEither all r.objects (disks_of s)) second (subst (λ (a : Objects). LeavesEither a p.objects (disks_of s)) first (leaves_there objects p.objects s shows));
-            opens = λ all closed also off_making. absurd (is_open closed);
+            opens = λ all closed also. absurd (is_open closed);
             begins = λ first_disks begun. absurd (not_begun first_disks begun);
           })
           (shown objects is p told)
       by_part (Some objects) Empty is told off shown = nothing off (λ all q also told_q on. let both = sym told ∙ told_q in absurd cc)
       by_part (Some objects) (Refused r) is told off shown = nothing off (λ all q also told_q on. let both = sym told ∙ told_q in absurd cc)
 
-      by_return : (b : Bool) → ends_no_removal before.account command ≡ b → is_in_group command ≡ false → is_resetting command ≡ false → is_table command ≡ false → Throughout Within old new
-      by_return true on out none off =
-          by_part before.behind before.told.shelf refl refl off
-          (λ objects is p told. return_shows sizes objects p.objects x old (stood objects is) lawful new (returns (subst (λ (o : Option OpenPool). ends_no_removal o command ≡ true) account on) p (held p told)))
+      -- it may be stopped at any moment only where whoever reads a root is led where the pool is
+      may_be : may_stop before.account before.trees command ≡ true → (keeps_trees command || (none_gone before.account && (is_resetting command || ends_no_removal before.account command))) ≡ true
+      may_be may = and_second (is_readable before.account before.trees) (keeps_trees command || (none_gone before.account && (is_resetting command || ends_no_removal before.account command))) may
+
+      there_of : none_gone before.account ≡ true → AreThere (devices_in x.space)
+      there_of none = devices_there x (sym (ap none_gone account) ∙ none)
+
+      -- where it keeps no trees, no device is gone
+      may_reset : keeps_trees command ≡ false → may_stop before.account before.trees command ≡ true → none_gone before.account ≡ true
+      may_reset off may = and_first (none_gone before.account) (is_resetting command || ends_no_removal before.account command) (or_first (keeps_trees command) (none_gone before.account && (is_resetting command || ends_no_removal before.account command)) off (may_be may))
+
+      by_return : (b : Bool) → ends_no_removal before.account command ≡ b → keeps_trees command ≡ false → is_resetting command ≡ false → is_table command ≡ false → Throughout Within old new
+      by_return true on out none off = by_there (none_gone before.account) refl
+        where
+          by_there : (b : Bool) → none_gone before.account ≡ b → Throughout Within old new
+          by_there true there =
+              by_part before.behind before.told.shelf refl refl off
+              (λ objects is p told. return_shows sizes objects p.objects x old (stood objects is) lawful (there_of there) new (returns (subst (λ (o : Option OpenPool). ends_no_removal o command ≡ true) account on) p (held p told)))
+          by_there false gone = nothing off (λ objects q is told may. no_way (sym gone ∙ may_reset out may))
       by_return false ends out none off =
-          nothing off (λ objects q is told may. no_way (sym ends ∙ or_first (is_resetting command) (ends_no_removal before.account command) none (or_first (is_in_group command) (is_resetting command || ends_no_removal before.account command) out may)))
+          nothing off (λ objects q is told may. no_way (sym ends ∙ or_first (is_resetting command) (ends_no_removal before.account command) none (and_second (none_gone before.account) (is_resetting command || ends_no_removal before.account command) (or_first (keeps_trees command) (none_gone before.account && (is_resetting command || ends_no_removal before.account command)) out (may_be may)))))
 
-      by_reset : (b : Bool) → is_resetting command ≡ b → is_in_group command ≡ false → is_table command ≡ false → Throughout Within old new
-      by_reset true once out off = by_part before.behind before.told.shelf refl refl off (λ objects is p told. stop_in_reset sizes objects p.objects x old (stood objects is) lawful new (resets once p (held p told)))
-      by_reset false none out off = by_return (ends_no_removal before.account command) refl out none off
+      -- a line that ends with a reset: it writes the trees of the streams, or no device is gone
+      resets_show : WillBeReadable old.now.seen x → StaysReadable x (WritesTold command x old) → is_resetting command ≡ true → is_table command ≡ false → Throughout Within old new
+      resets_show will stays_so once off = by_part before.behind before.told.shelf refl refl off (λ objects is p told. stop_in_reset sizes objects p.objects x old (stood objects is) lawful command will stays_so new (resets once p (held p told)))
 
-      by_group : (b : Bool) → is_in_group command ≡ b → is_table command ≡ false → Throughout Within old new
-      by_group true group off = by_part before.behind before.told.shelf refl refl off (λ objects is p told. writes_show sizes objects p.objects x old (stood objects is) lawful new (writes group p (held p told)))
-      by_group false out off = by_reset (is_resetting command) refl out off
+      by_reset : (b : Bool) → is_resetting command ≡ b → WillBeReadable old.now.seen x → is_in_group command ≡ false → is_table command ≡ false → Throughout Within old new
+      by_reset true once will out off = by_writing (is_writing_trees command) refl
+        where
+          told_so : is_writing_trees command ≡ true → WillBeReadable old.now.seen x → StaysReadable x (WritesTold command x old)
+          told_so writes_them (inl there) = inl there
+          told_so writes_them (inr trees) = inr (writes_them, trees)
+
+          by_there : is_writing_trees command ≡ false → (b : Bool) → none_gone before.account ≡ b → Throughout Within old new
+          by_there other true there = resets_show will (inl (there_of there)) once off
+          by_there other false gone = nothing off (λ objects q is told may. no_way (sym gone ∙ may_reset (or_neither (is_writing_trees command) (is_in_group command) other out) may))
+
+          by_writing : (b : Bool) → is_writing_trees command ≡ b → Throughout Within old new
+          by_writing true writes_them = resets_show will (told_so writes_them will) once off
+          by_writing false other = by_there other (none_gone before.account) refl
+      by_reset false none will out off = by_return (ends_no_removal before.account command) refl (or_neither (is_writing_trees command) (is_in_group command) (no_writer none) out) none off
+        where
+          no_writer : is_resetting command ≡ false → is_writing_trees command ≡ false
+          no_writer no_reset = by_writer (is_writing_trees command) refl
+            where
+              by_writer : (b : Bool) → is_writing_trees command ≡ b → is_writing_trees command ≡ false
+              by_writer true on = no_way (sym no_reset ∙ writing_resets command on)
+              by_writer false is_none = is_none
+
+      by_group : (b : Bool) → is_in_group command ≡ b → WillBeReadable old.now.seen x → is_table command ≡ false → Throughout Within old new
+      by_group true group will off = by_part before.behind before.told.shelf refl refl off (λ objects is p told. writes_show sizes objects p.objects x old (stood objects is) lawful will new (writes group p (held p told)))
+      by_group false out will off = by_reset (is_resetting command) refl will out off
+
+      by_readable : (b : Bool) → is_readable before.account before.trees ≡ b → is_table command ≡ false → Throughout Within old new
+      by_readable true readable off = by_group (is_in_group command) refl (will_read readable) off
+      by_readable false gone off = nothing off (λ objects q is told may. no_way (sym gone ∙ and_first (is_readable before.account before.trees) (keeps_trees command || (none_gone before.account && (is_resetting command || ends_no_removal before.account command))) may))
 
       by_table : (b : Bool) → is_table command ≡ b → Throughout Within old new
       by_table true on =
@@ -518,11 +619,11 @@ module _ (old new : World) (before : DeviceState) (command : Command) (x y : Ope
           (λ s same. record {
             tables = at_table s (λ _. ap (λ (t : Stand). t.seen) same);
             shows = λ objects q is told group. subst (λ (t : Stand). LeavesEither objects q.objects (disks_of t)) (sym same) (still_shows objects q is);
-            opens = λ objects closed is off_making. absurd (is_open closed);
+            opens = λ objects closed is. absurd (is_open closed);
             begins = λ first is. absurd (not_begun first is);
           })
           (nothing_done on).since
-      by_table false off = by_group (is_in_group command) refl off
+      by_table false off = by_readable (is_readable before.account before.trees) refl off
 
 -- ---- where none is open
 
@@ -547,10 +648,10 @@ module _ (old new : World) (before : DeviceState) (command : Command) (account :
 
   module _ (now_told : ShelfPart) where
     module _ (opens : is_opener command ≡ true) where
-      -- nothing is told behind a line that makes no pool, and opens none of which no device is gone
-      closed_untold : (pool : Option OpenPool) → (is_create command ≡ true → are_there pool ≡ true → ⊥) → (is_import command ≡ true → are_there pool ≡ true → (p : PoolState) → now_told ≡ Is p → ⊥) → Behinds new before command now_told pool reply.Done
+      -- nothing is told behind a line that makes no pool of which no device is gone, and opens none
+      closed_untold : (pool : Option OpenPool) → (is_create command ≡ true → are_there pool ≡ true → ⊥) → (is_import command ≡ true → (p : PoolState) → now_told ≡ Is p → ⊥) → Behinds new before command now_told pool reply.Done
       closed_untold pool makes imports =
-          untold new before command now_told pool reply.Done (λ none create there. makes create there) (λ none import there p told. imports import there p told) (λ p told some leaves. none_left leaves) (λ p told known on there. opens_no_end command opens on) (λ p told known acknowledged. opens_no_commit command opens acknowledged)
+          untold new before command now_told pool reply.Done (λ none create there. makes create there) (λ none import done p told. imports import p told) (λ p told some readable leaves. none_left leaves) (λ p told known on there. opens_no_end command opens on) (λ p told known acknowledged. opens_no_commit command opens acknowledged)
 
       was_made : (sizes : List ℕ) (y : OpenPool) → is_create command ≡ true → are_there (Some y) ≡ true → ComesCommitted sizes y map.empty new → ShowsLast new.now.seen y → map length new.now.seen ≡ sizes → Behinds new before command now_told (Some y) reply.Done
       was_made sizes y create there comes shows sized = record {
@@ -559,24 +660,24 @@ module _ (old new : World) (before : DeviceState) (command : Command) (account :
         turn = record {
           from = λ objects is. made create refl (let same : map.empty ≡ objects = cc in sym same);
           makes = λ none also done there_all. refl;
-          opens = λ none import done there_all p told. absurd (no_import command create import);
-          keeps = λ p told some leaves. absurd (none_left leaves);
+          opens = λ none import done p told. absurd (no_import command create import);
+          keeps = λ p told some readable leaves. absurd (none_left leaves);
           resets = λ p told known on there_all. absurd (opens_no_end command opens on);
           commits = λ p told known acknowledged. absurd (opens_no_commit command opens acknowledged);
         };
       }
 
       -- a pool that was opened is as it was found
-      was_found : (sizes : List ℕ) (y : OpenPool) → is_import command ≡ true → are_there (Some y) ≡ true → IsOpen sizes y → ShowsLast new.now.seen y → IsLeftCommitted new.now y → map length new.now.seen ≡ sizes → (p : PoolState) → now_told ≡ Is p → HoldsState (Unit {0}) new.now.seen y p
+      was_found : (sizes : List ℕ) (y : OpenPool) → is_import command ≡ true → IsOpen sizes y → ShowsLast new.now.seen y → IsLeftCommitted new.now y → map length new.now.seen ≡ sizes → (p : PoolState) → now_told ≡ Is p → HoldsState (Unit {0}) new.now.seen y p
           → Behinds new before command now_told (Some y) reply.Done
-      was_found sizes y import there ready shows leaves sized p told held = record {
+      was_found sizes y import ready shows leaves sized p told held = record {
         behind = Some p.objects;
-        stands = (let on = devices_there y there in to_disks sizes p.objects y new.now sized (left_behind sizes p.objects y new.now ready sized shows (leaves on) held.objects on));
+        stands = to_disks sizes p.objects y new.now sized (left_behind sizes p.objects y new.now ready sized shows leaves.0 held.objects (λ u from. inr (subst (λ (o : Option Uber). IfSome o (λ (v : Uber). TellsMoves new.now.seen y v.root v.len)) from.last leaves.1)));
         turn = record {
           from = λ objects is. found import refl (p, told, let same : p.objects ≡ objects = cc in same);
           makes = λ none create done there_all. absurd (no_import command create import);
-          opens = λ none also done there_all q told_q. let same : p ≡ q = (let both = sym told ∙ told_q in cc) in ap (λ (r : PoolState). Some r.objects) same;
-          keeps = λ q told_q some leaves_it. absurd (none_left leaves_it);
+          opens = λ none also done q told_q. let same : p ≡ q = (let both = sym told ∙ told_q in cc) in ap (λ (r : PoolState). Some r.objects) same;
+          keeps = λ q told_q some readable leaves_it. absurd (none_left leaves_it);
           resets = λ q told_q known on there_all. absurd (opens_no_end command opens on);
           commits = λ q told_q known acknowledged. absurd (opens_no_commit command opens acknowledged);
         };
@@ -586,47 +687,43 @@ module _ (old new : World) (before : DeviceState) (command : Command) (account :
         -- a pool that was made
         by_there : (y : OpenPool) (b : Bool) → are_there (Some y) ≡ b → is_create command ≡ true → ComesCommitted sizes y map.empty new → ShowsLast new.now.seen y → Behinds new before command now_told (Some y) reply.Done
         by_there y true there create comes shows = was_made sizes y create there comes shows sized
-        by_there y false out create comes shows = closed_untold (Some y) (λ also there. no_way (sym out ∙ there)) (λ import there p told. no_way (sym out ∙ there))
+        by_there y false out create comes shows = closed_untold (Some y) (λ also there. no_way (sym out ∙ there)) (λ import p told. no_import command create import)
 
         -- one that was opened
         module _ (y : OpenPool) (ready : IsOpen sizes y) (shows : ShowsLast new.now.seen y) where
-          by_part : (s : ShelfPart) → now_told ≡ s → IsPartOf new.now.seen y s → is_import command ≡ true → are_there (Some y) ≡ true → IsLeftCommitted new.now y → Behinds new before command now_told (Some y) reply.Done
-          by_part (Is p) told held import there leaves = was_found sizes y import there ready shows leaves sized p told held
-          by_part Empty told held import there leaves = closed_untold (Some y) (λ create also. no_import command create import) (λ also there_all p is. let both = sym told ∙ is in cc)
-          by_part (Refused r) told held import there leaves = absurd held
-
-          by_all : (b : Bool) → are_there (Some y) ≡ b → IsPartOf new.now.seen y now_told → is_import command ≡ true → IsLeftCommitted new.now y → Behinds new before command now_told (Some y) reply.Done
-          by_all true there held import leaves = by_part now_told refl held import there leaves
-          by_all false out held import leaves = closed_untold (Some y) (λ create there. no_way (sym out ∙ there)) (λ also there p told. no_way (sym out ∙ there))
+          by_part : (s : ShelfPart) → now_told ≡ s → IsPartOf new.now.seen y s → is_import command ≡ true → IsLeftCommitted new.now y → Behinds new before command now_told (Some y) reply.Done
+          by_part (Is p) told held import leaves = was_found sizes y import ready shows leaves sized p told held
+          by_part Empty told held import leaves = closed_untold (Some y) (λ create also. no_import command create import) (λ also p is. let both = sym told ∙ is in cc)
+          by_part (Refused r) told held import leaves = absurd held
 
           -- by what the line is
           by_import : (b : Bool) → is_import command ≡ b → is_create command ≡ false → (is_import command ≡ true → IsLeftCommitted new.now y) → IsPartOf new.now.seen y now_told → Behinds new before command now_told (Some y) reply.Done
-          by_import true import other leaves held = by_all (are_there (Some y)) refl held import (leaves import)
-          by_import false not_import other leaves held = closed_untold (Some y) (λ create there. no_way (sym other ∙ create)) (λ import there p told. no_way (sym not_import ∙ import))
+          by_import true import other leaves held = by_part now_told refl held import (leaves import)
+          by_import false not_import other leaves held = closed_untold (Some y) (λ create there. no_way (sym other ∙ create)) (λ import p told. no_way (sym not_import ∙ import))
 
           by_create : (b : Bool) → is_create command ≡ b → (is_create command ≡ true → ComesCommitted sizes y map.empty new) → (is_import command ≡ true → IsLeftCommitted new.now y) → IsPartOf new.now.seen y now_told → Behinds new before command now_told (Some y) reply.Done
           by_create true create comes leaves held = by_there y (are_there (Some y)) refl create (comes create) shows
           by_create false other comes leaves held = by_import (is_import command) refl other leaves held
 
-        by_pool : (o : Option OpenPool) → IfSome o (IsOpen sizes) → (is_create command ≡ true → IfSome o (λ y. ComesCommitted sizes y map.empty new)) → (is_import command ≡ true → IfSome o (IsLeftCommitted new.now)) → IfSome o (ShowsLast new.now.seen) → IfSome o (λ y. IsPartOf new.now.seen y now_told)
+        by_pool : (o : Option OpenPool) → is_some o ≡ true → IfSome o (IsOpen sizes) → (is_create command ≡ true → IfSome o (λ y. ComesCommitted sizes y map.empty new)) → (is_import command ≡ true → IfSome o (IsLeftCommitted new.now)) → IfSome o (ShowsLast new.now.seen) → IfSome o (λ y. IsPartOf new.now.seen y now_told)
             → Behinds new before command now_told o reply.Done
-        by_pool None ready comes leaves shows held = closed_untold None (λ create there. no_way there) (λ import there p told. no_way there)
-        by_pool (Some y) ready comes leaves shows held = by_create y ready shows (is_create command) refl comes leaves held
+        by_pool None some ready comes leaves shows held = no_way some
+        by_pool (Some y) some ready comes leaves shows held = by_create y ready shows (is_create command) refl comes leaves held
 
     -- a refusal writes nothing, and leaves what is told
     module _ (n : Refusal) (flushes : FlushesOnly old new) where
-      untold_no : ((p : PoolState) → before.told.shelf ≡ Is p → is_some before.behind ≡ true → leaves_told before.account (reply.No n) command ≡ true → ⊥) → Behinds new before command now_told None (reply.No n)
-      untold_no none = untold new before command now_told None (reply.No n) (λ also create there. no_way there) (λ also import there p told. no_way there) none (λ p told known on there. no_way there) (λ p told known acknowledged. no_way acknowledged)
+      untold_no : ((p : PoolState) → before.told.shelf ≡ Is p → is_some before.behind ≡ true → is_readable before.account before.trees ≡ true → leaves_told before.account (reply.No n) command ≡ true → ⊥) → Behinds new before command now_told None (reply.No n)
+      untold_no none = untold new before command now_told None (reply.No n) (λ also create there. no_way there) (λ also import done p told. let e : reply.No n ≡ reply.Done = done in cc) none (λ p told known on there. no_way on) (λ p told known acknowledged. no_way acknowledged)
 
       refused_part : (objects : Objects) → before.behind ≡ Some objects → (s : ShelfPart) → before.told.shelf ≡ s → Behinds new before command now_told None (reply.No n)
       refused_part objects is (Is p) told =
-          told_behind new before command now_told None (reply.No n) p objects (λ none create done. absurd (let e : reply.No n ≡ reply.Done = done in cc)) (λ none import done. absurd (let e : reply.No n ≡ reply.Done = done in cc)) told (kept p told (leaves_closed n) is)
+          told_behind new before command now_told None (reply.No n) p objects (λ none create done. absurd (let e : reply.No n ≡ reply.Done = done in cc)) (λ none import done. absurd (let e : reply.No n ≡ reply.Done = done in cc)) told (kept p told (leaves_closed n) refl is)
           (still_closed (disks_of old.now) new.now objects (flushes_keep old new objects (closed_at objects is) flushes).1 (closed_at objects is)) (λ on. no_way on) (λ acknowledged. no_way acknowledged)
-      refused_part objects is Empty told = untold_no (λ p also some leaves. let both = sym told ∙ also in absurd cc)
-      refused_part objects is (Refused r) told = untold_no (λ p also some leaves. let both = sym told ∙ also in absurd cc)
+      refused_part objects is Empty told = untold_no (λ p also some readable leaves. let both = sym told ∙ also in absurd cc)
+      refused_part objects is (Refused r) told = untold_no (λ p also some readable leaves. let both = sym told ∙ also in absurd cc)
 
       refused_last : (o : Option Objects) → before.behind ≡ o → Behinds new before command now_told None (reply.No n)
-      refused_last None is = untold_no (λ p told some leaves. no_way (sym (ap (λ (o : Option Objects). is_some o) is) ∙ some))
+      refused_last None is = untold_no (λ p told some readable leaves. no_way (sym (ap (λ (o : Option Objects). is_some o) is) ∙ some))
       refused_last (Some objects) is = refused_part objects is before.told.shelf refl
 
     pub closed_behinds : (sizes : List ℕ) (pool : Option OpenPool) → IfSome pool (IsOpen sizes) → (is_create command ≡ true → IfSome pool (λ y. ComesCommitted sizes y map.empty new)) → (is_import command ≡ true → IfSome pool (IsLeftCommitted new.now)) → IfSome pool (ShowsLast new.now.seen) → map length new.now.seen ≡ sizes
@@ -634,7 +731,7 @@ module _ (old new : World) (before : DeviceState) (command : Command) (account :
         → IfOk (answer_of r) (λ answered. IfSome answered (λ answer. Behinds new before command now_told pool answer))
     closed_behinds sizes pool ready comes leaves shows sized held (Ok None) flushes turn done closed = tt
     closed_behinds sizes pool ready comes leaves shows sized held (Ok (Some answer)) flushes turn done closed =
-        subst (λ (a : Reply). Behinds new before command now_told pool a) (sym done) (by_pool (subst (IsClosedAnswer command) done turn.0) sizes sized pool ready comes leaves shows held)
+        subst (λ (a : Reply). Behinds new before command now_told pool a) (sym done) (by_pool (subst (IsClosedAnswer command) done turn.0) sizes sized pool (turn.1 ∙ ap is_opened done) ready comes leaves shows held)
     closed_behinds sizes pool ready comes leaves shows sized held (Err (No n)) flushes turn done closed = subst (λ (o : Option OpenPool). Behinds new before command now_told o (reply.No n)) (sym closed) (refused_last n (flushes n refl) before.behind refl)
     closed_behinds sizes pool ready comes leaves shows sized held (Err (Stops s)) flushes turn done closed = tt
 
@@ -657,8 +754,8 @@ module _ (old new : World) (before : DeviceState) (command : Command) (account :
   quiet s same = record {
     tables = no_table s;
     shows = λ all q also told group image left paths p shown. inl (only all also image left paths p shown);
-    opens = λ all closed also there image left paths p shown. inl (only all also image left paths p shown);
-    begins = λ first is there image left. inl (of_beginning first (disks_of s) image (unwritten_more first (disks_of old.now) (disks_of s) (begun_at first is) same) left);
+    opens = λ all closed also image left paths p shown. inl (only all also image left paths p shown);
+    begins = λ first is image left. inl (of_beginning first (disks_of s) image (unwritten_more first (disks_of old.now) (disks_of s) (begun_at first is) same) left);
   }
     where
       only : (all : Objects) → before.behind ≡ Some all → LeavesOnly all (disks_of s)
@@ -680,8 +777,8 @@ module _ (old new : World) (before : DeviceState) (command : Command) (account :
         (weaker (ShowsOnly map.empty) ClosedWithin start new (λ s only. record {
           tables = no_table s;
           shows = λ objects q also told may. none_some objects (sym is ∙ also);
-          opens = λ objects closed also there. none_some objects (sym is ∙ also);
-          begins = λ first begun there image left. inr (λ paths p shown. inr (empty p.objects (only image (left_by s (stand_of (disks_of s)) (same_disks s) image left) paths p shown)));
+          opens = λ objects closed also. none_some objects (sym is ∙ also);
+          begins = λ first begun image left. inr (λ paths p shown. inr (empty p.objects (only image (left_by s (stand_of (disks_of s)) (same_disks s) image left) paths p shown)));
         }) (makes_empty sizes named start new rest sized makes))
 
     stops_within : (sizes : List ℕ) → map length old.now.seen ≡ sizes → ((objects : Objects) → objects ≡ map.empty → OpensTo (point old.now before).shelf command objects) → StopsInCreate sizes old new → Throughout ClosedWithin old new
@@ -689,37 +786,19 @@ module _ (old new : World) (before : DeviceState) (command : Command) (account :
     stops_within sizes sized empty (inr (start, named, flushes, rest, makes)) = made_within sizes start named empty (ap (λ (d : List (List ℕ)). map length d) (flushes_read old start flushes).seen ∙ sized) flushes rest makes before.behind refl
 
     -- a pool is gone back to: the one that was shown, or the other
-    module _ (sizes : List ℕ) (read : World) (flushes : FlushesOnly old read) (rest : IsAtRest read.now) (p : PoolState) (shown : Shows old.now.paths old.now.seen p) (after : Objects) (puts : PutsBack sizes p.objects after read new) (opens : OpensTo (point old.now before).shelf command after)
-        (there : AreAllThere (point old.now before).shelf command → AreThere (devices_in puts.pool.space)) (there_back : AreAllThere (point old.now before).shelf command → AreThere (devices_in puts.back.space)) where
+    module _ (sizes : List ℕ) (read : World) (flushes : FlushesOnly old read) (rest : IsAtRest read.now) (p : PoolState) (shown : Shows old.now.paths old.now.seen p) (after : Objects) (puts : PutsBack sizes p.objects after read new) (opens : OpensTo (point old.now before).shelf command after) where
       either_within : (s : Stand) → ShowsEither p.objects after s → ClosedWithin s
       either_within s shows = record {
         tables = no_table s;
-        shows = λ all q also told may. absurd (opening_stops before.account command opener may);
-        opens = λ all closed also all_there image left paths q is. ⊎_elim (λ same. inl (same ∙ showed_last p shown all also)) (λ same. inr (subst (OpensTo (point old.now before).shelf command) (sym same) opens)) (shows image (left_by s (stand_of (disks_of s)) (same_disks s) image left) paths q is);
-        begins = λ first begun all_there image left. inr (λ paths q is. ⊎_elim (λ same. inl (p, shown, sym same)) (λ same. inr (subst (OpensTo (point old.now before).shelf command) (sym same) opens)) (shows image (left_by s (stand_of (disks_of s)) (same_disks s) image left) paths q is));
+        shows = λ all q also told may. absurd (opening_stops before.account before.trees command opener may);
+        opens = λ all closed also image left paths q is. ⊎_elim (λ same. inl (same ∙ showed_last p shown all also)) (λ same. inr (subst (OpensTo (point old.now before).shelf command) (sym same) opens)) (shows image (left_by s (stand_of (disks_of s)) (same_disks s) image left) paths q is);
+        begins = λ first begun image left. inr (λ paths q is. ⊎_elim (λ same. inl (p, shown, sym same)) (λ same. inr (subst (OpensTo (point old.now before).shelf command) (sym same) opens)) (shows image (left_by s (stand_of (disks_of s)) (same_disks s) image left) paths q is));
       }
 
-      -- a device is gone
-      gone_within : WorksOnDisks read new → (AreAllThere (point old.now before).shelf command → ⊥) → Throughout ClosedWithin read new
-      gone_within works out = weaker _ ClosedWithin read new (λ s _. record {
-        tables = no_table s;
-        shows = λ all q also told may. absurd (opening_stops before.account command opener may);
-        opens = λ all closed also all_there. absurd (out all_there);
-        begins = λ first begun all_there. absurd (out all_there);
-      }) (keeps_outside read new works).since
+      back_within : Throughout ClosedWithin old new
+      back_within = joined ClosedWithin old read new (unwritten_within read flushes) (weaker (ShowsEither p.objects after) ClosedWithin read new either_within (returns_either sizes p.objects after read new puts))
 
-      back_by : WorksOnDisks read new → (a b : Bool) → are_there (Some puts.pool) ≡ a → are_there (Some puts.back) ≡ b → Throughout ClosedWithin read new
-      back_by works true true is is_back = weaker (ShowsEither p.objects after) ClosedWithin read new either_within (returns_either sizes p.objects after read new puts (devices_there puts.pool is) (devices_there puts.back is_back))
-      back_by works false b is is_back = gone_within works (λ all. no_way (sym is ∙ all_devices puts.pool (there all)))
-      back_by works true false is is_back = gone_within works (λ all. no_way (sym is_back ∙ all_devices puts.back (there_back all)))
-
-      back_within : WorksOnDisks read new → Throughout ClosedWithin old new
-      back_within works = joined ClosedWithin old read new (unwritten_within read flushes) (back_by works (are_there (Some puts.pool)) (are_there (Some puts.back)) refl refl)
-
-  -- what is told of a removal in the line's own words
-  back_to : (c : Command) → command ≡ c → AreAllThere (point old.now before).shelf command → AreAllThere (point old.now before).shelf c
-  back_to c is all = subst (AreAllThere (point old.now before).shelf) is all
-
+  -- what the line opens to, in its own words
   to_back : (c : Command) → command ≡ c → (objects : Objects) → OpensTo (point old.now before).shelf c objects → OpensTo (point old.now before).shelf command objects
   to_back c is objects h = subst (λ (d : Command). OpensTo (point old.now before).shelf d objects) (sym is) h
 
@@ -731,12 +810,10 @@ module _ (old new : World) (before : DeviceState) (command : Command) (account :
   by_command sizes sized (cmd.CreateOld name guid devs) is stops = stops_within (opener_is (cmd.CreateOld name guid devs) is refl) sizes sized (λ objects none. to_back (cmd.CreateOld name guid devs) is objects none) stops
   by_command sizes sized cmd.ImportRewind is (inl nothing) = unwritten_within new nothing
   by_command sizes sized cmd.ImportRewind is (inr r) =
-      back_within (opener_is cmd.ImportRewind is refl) sizes r.read r.flushes r.rest r.state r.shown r.saved.objects r.puts (to_back cmd.ImportRewind is r.saved.objects (r.state, r.saved, r.shown, r.saved_is, refl)) (λ all. r.there (back_to cmd.ImportRewind is all r.state r.shown).0)
-      (λ all. r.there_back (subst (λ (o : Option Saved). IfSome o (λ s. All IsStillThere s.devs)) r.saved_is (back_to cmd.ImportRewind is all r.state r.shown).1)) (puts_work sizes (record r.puts.back { last = Some r.puts.current }) r.puts.root r.read new r.puts.puts)
+      back_within (opener_is cmd.ImportRewind is refl) sizes r.read r.flushes r.rest r.state r.shown r.saved.objects r.puts (to_back cmd.ImportRewind is r.saved.objects (r.state, r.saved, r.shown, r.saved_is, refl))
   by_command sizes sized (cmd.ImportTxg txg) is (inl nothing) = unwritten_within new nothing
   by_command sizes sized (cmd.ImportTxg txg) is (inr r) =
-      back_within (opener_is (cmd.ImportTxg txg) is refl) sizes r.read r.flushes r.rest r.state r.shown r.group.objects r.puts (to_back (cmd.ImportTxg txg) is r.group.objects (r.group, r.group_shown, refl)) (λ all. r.there ((back_to (cmd.ImportTxg txg) is all).0 r.state r.shown))
-      (λ all. r.there_back ((back_to (cmd.ImportTxg txg) is all).1 r.group r.group_shown)) (puts_work sizes (record r.puts.back { last = Some r.puts.current }) r.puts.root r.read new r.puts.puts)
+      back_within (opener_is (cmd.ImportTxg txg) is refl) sizes r.read r.flushes r.rest r.state r.shown r.group.objects r.puts (to_back (cmd.ImportTxg txg) is r.group.objects (r.group, r.group_shown, refl))
   by_command sizes sized c is stops = unwritten_within new stops
 
   pub closed_within : (sizes : List ℕ) → map length old.now.seen ≡ sizes → StopsInOpening sizes command old new → Throughout ClosedWithin old new

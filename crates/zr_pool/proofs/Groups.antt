@@ -1,6 +1,6 @@
 -- Which lines work in the group that is open, and which end it.
 use Rattle.std.proofs.Common.{◌≡◌, ◌⊎◌, inl, inr, List, length, take, ℕ, ◌==◌, ◌<◌, Bool, true, false, Option, Some, refl, sym, subst, ap, arith}
-use Rattle.std.specs.Prelude.{MatchBool, if◌then◌else◌, nat_lt, not, ◌||◌}
+use Rattle.std.specs.Prelude.{MatchBool, if◌then◌else◌, nat_lt, not, ◌&&◌, ◌||◌}
 use Rattle.std.proofs.lemmas.Bool.Decides.{nat_tests}
 use Rattle.zr_base.specs.declared.space.CkptPart.TheVariants.{Clear}
 use Rattle.zr_base.specs.declared.space.Extent.{Extent}
@@ -22,13 +22,18 @@ use Rattle.zr_script.specs.declared.reply.Reply.{Reply}
 use Rattle.zr_script.specs.declared.reply.Reply.TheVariants as reply
 use Rattle.zr_shelf.proofs.Doings.{writes_still}
 use Rattle.zr_shelf.proofs.Runs.{still}
+use Rattle.zr_shelf.specs.Disks.{Stand}
 use Rattle.zr_shelf.specs.Moments.{IsStill, World}
+use Rattle.zr_sync.proofs.Retelling.{cache_leaves}
 use Rattle.zr_sync.proofs.SavedRoots.{ckpt_role}
+use Rattle.zr_sync.specs.Heads.{IsSeen}
+use Rattle.zr_sync.specs.Trees.{HasTrees}
+use Rattle.zr_sync.specs.Trees.Stage.{Had}
 use Rattle.zr_sync.specs.declared.open.OpenPool.{OpenPool}
 use Rattle.zr_vdev.proofs.Follows.{others_itself}
 use Rattle.zr_vdev.specs.Stores.{IsWriteInto, KeepsOthers, is_open_role}
 use Rattle.zr_vdev.specs.declared.kind.Kind.TheVariants.{Block}
-use Rattle.zr_pool.specs.Behind.{StopsInOpening, ends_no_removal, ends_reset, is_acknowledged, is_commit, is_in_group, is_resetting, is_return, may_stop}
+use Rattle.zr_pool.specs.Behind.{StopsInOpening, ends_no_removal, ends_reset, is_acknowledged, is_commit, is_in_group, is_readable, is_resetting, is_return, is_writing_trees, may_stop, none_gone}
 use Rattle.zr_pool.proofs.Working.{removal_works}
 use Rattle.zr_pool.specs.Plain.{is_copy, is_of_removal, is_untold_behind}
 use Rattle.zr_pool.specs.Pools.{is_evacuating}
@@ -69,13 +74,18 @@ not_opener (cmd.ImportTxg txg) on group = no_way group
 not_opener command on group = no_way on
 
 -- a line that makes a pool or goes back stops in no group
-pub opening_stops : (account : Option OpenPool) (command : Command) → is_opener command ≡ true → may_stop account command ≡ true → ⊥
-opening_stops account (cmd.Create name guid devs) on may = no_way may
-opening_stops account (cmd.CreateOld name guid devs) on may = no_way may
-opening_stops account cmd.Import on may = no_way may
-opening_stops account cmd.ImportRewind on may = no_way may
-opening_stops account (cmd.ImportTxg txg) on may = no_way may
-opening_stops account command on may = no_way on
+never : {P : Type 0} (a b : Bool) → (a && (b && false)) ≡ true → P
+never true true is = no_way is
+never true false is = no_way is
+never false b is = no_way is
+
+pub opening_stops : (account : Option OpenPool) (trees : Bool) (command : Command) → is_opener command ≡ true → may_stop account trees command ≡ true → ⊥
+opening_stops account trees (cmd.Create name guid devs) on may = never (is_readable account trees) (none_gone account) may
+opening_stops account trees (cmd.CreateOld name guid devs) on may = never (is_readable account trees) (none_gone account) may
+opening_stops account trees cmd.Import on may = never (is_readable account trees) (none_gone account) may
+opening_stops account trees cmd.ImportRewind on may = never (is_readable account trees) (none_gone account) may
+opening_stops account trees (cmd.ImportTxg txg) on may = never (is_readable account trees) (none_gone account) may
+opening_stops account trees command on may = no_way on
 
 -- what a line wrote that makes no pool and does not go back is nothing
 pub opening_nothing : (sizes : List ℕ) (command : Command) (before now : World) → ((name : List ℕ) (guid : ℕ) (devs : List (List ℕ)) → command ≡ cmd.Create name guid devs → ⊥) → ((name : List ℕ) (guid : ℕ) (devs : List (List ℕ)) → command ≡ cmd.CreateOld name guid devs → ⊥) → (command ≡ cmd.ImportRewind → ⊥) → ((txg : ℕ) → command ≡ cmd.ImportTxg txg → ⊥)
@@ -93,6 +103,13 @@ not_resetting cmd.Discard on group = no_way group
 not_resetting cmd.Upgrade on group = no_way group
 not_resetting (cmd.Remove dev) on group = no_way group
 not_resetting command on group = no_way on
+
+-- a line that writes the trees of the streams ends with a reset
+pub writing_resets : (command : Command) → is_writing_trees command ≡ true → is_resetting command ≡ true
+writing_resets (cmd.Add dev) on = refl
+writing_resets cmd.Checkpoint on = refl
+writing_resets cmd.Upgrade on = refl
+writing_resets command on = no_way on
 
 pub resets_told : (command : Command) (answer : Reply) → is_resetting command ≡ true → is_untold_behind command answer ≡ false
 resets_told (cmd.Add dev) answer on = refl
@@ -237,23 +254,31 @@ discards_open old new es false h d u is = open_before (is_among es d u) (role_at
 pub step_opens_none : (old new : OpenPool) (units : ℕ) → KeepsRoot old new → DiscardsSome old.space units new.space → OpensNoUnit old new
 step_opens_none old new units root steps = record { root = root; units = discards_open old.space new.space (take 64 (kept_extents old.space)) (length (take 64 (kept_extents old.space)) == 0) steps.1 }
 
+-- where nothing was done the trees stand still
+still_trees : (before now : World) → IsStill before now → (x : OpenPool) → HasTrees Had (Unit {0}) before.now.seen x → HasTrees Had (Unit {0}) now.now.seen x
+still_trees before now still x h = subst (λ (s : Stand). HasTrees Had (Unit {0}) s.seen x) (sym still.now) h
+
 -- a line that is refused
 pub refused_stays : (x y : OpenPool) (before now : World) → y ≡ x → IsStill before now → StaysInGroup x y before now
 refused_stays x y before now same nothing = record {
   written = writes_still (IsWriteInto Block x.table.slots x.space) before now nothing;
   space = subst (λ s. KeepsOthers Block x.space s) (sym (ap (λ (p : OpenPool). p.space) same)) (others_itself Block x.space);
   root = record { last = ap (λ (p : OpenPool). p.last) same; guid = ap (λ (p : OpenPool). p.guid) same; table = ap (λ (p : OpenPool). p.table) same };
+  trees = λ h. still_trees before now nothing y (subst (λ (p : OpenPool). HasTrees Had (Unit {0}) before.now.seen p) (sym same) h);
 }
 
 pub same_world : (before now : World) → now ≡ before → IsStill before now
 same_world before now same = subst (IsStill before) (sym same) (still before before refl)
 
 -- a table
-pub table_stays : (x y : OpenPool) (before now : World) → y ≡ record x { cache = y.cache } → IsStill before now → StaysInGroup x y before now
-table_stays x y before now same still = record {
+pub table_stays : (tells : Type 0) (x y : OpenPool) (before now : World) → y ≡ record x { cache = y.cache } → IsSeen tells now.now.seen y → IsStill before now → StaysInGroup x y before now
+table_stays tells x y before now same seen still = record {
   written = writes_still (IsWriteInto Block x.table.slots x.space) before now still;
   space = subst (λ s. KeepsOthers Block x.space s) (sym (ap (λ (p : OpenPool). p.space) same)) (others_itself Block x.space);
   root = record { last = ap (λ (p : OpenPool). p.last) same; guid = ap (λ (p : OpenPool). p.guid) same; table = ap (λ (p : OpenPool). p.table) same };
+  trees = λ h.
+      let there = still_trees before now still x h in
+      cache_leaves (Unit {0}) (Unit {0}) now.now.seen x y same (record { told = tt; read = seen.read }) there;
 }
 
 -- ---- a step that copies

@@ -5,12 +5,14 @@ pub mod Acting
 pub mod Staying
 pub mod Turning
 pub mod Working
+mod Finding
 pub mod Shown
 pub mod Tellings
 pub mod Leavings
 pub mod Blaming
 pub mod Groups
 pub mod Closed
+pub mod Trees
 pub mod Resets
 pub mod Beginning
 pub mod Behind

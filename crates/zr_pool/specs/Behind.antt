@@ -1,5 +1,5 @@
 -- What a stop leaves of the pool on devices, in the group that is open and while it is committed.
-use Rattle.std.specs.Prelude.{◌≡◌, ◌⊎◌, ℕ, All, IfSome, Bool, true, false, not, ◌&&◌, ◌||◌, List, [], ◌∷◌, Option, Some, None, is_some, if◌then◌else◌, nat_lt}
+use Rattle.std.specs.Prelude.{◌≡◌, ◌⊎◌, ℕ, IfSome, Bool, true, false, not, ◌&&◌, ◌||◌, List, [], ◌∷◌, Option, Some, None, is_some, if◌then◌else◌, nat_lt}
 use Rattle.std.specs.FinMap as map
 use Rattle.zr_base.specs.declared.space.DevPart.{DevPart}
 use Rattle.zr_command.specs.Meanings.{Disks}
@@ -14,7 +14,6 @@ use Rattle.zr_model.specs.State.{PoolState, Saved, ShelfPart, Is}
 use Rattle.zr_open.specs.Flushed.{FlushesOnly}
 use Rattle.zr_open.specs.Going.{GoesBackInPart, RewindsInPart}
 use Rattle.zr_open.specs.Shown.{Shows, ShowsGroup}
-use Rattle.zr_open.specs.There.{IsStillThere}
 use Rattle.zr_rules.specs.Columns.{uncopied_units}
 use Rattle.zr_rules.specs.Places.{is_gone}
 use Rattle.zr_script.specs.declared.command.Command.{Command}
@@ -25,7 +24,10 @@ use Rattle.zr_shelf.specs.Disks.{IsAtRest, Stand}
 use Rattle.zr_shelf.specs.Moments.{IsStill, World}
 use Rattle.zr_stops.specs.Behind.{ShowsOnly}
 use Rattle.zr_stops.specs.Either.{ShowsEither}
+use Rattle.zr_sync.specs.Moves.{TellsMoves}
 use Rattle.zr_sync.specs.Objects.{HoldsObjects}
+use Rattle.zr_sync.specs.Trees.{HasLastTrees, HasTrees}
+use Rattle.zr_sync.specs.Trees.Stage.{Had}
 use Rattle.zr_sync.specs.declared.open.OpenPool.{OpenPool}
 use Rattle.zr_pool.specs.Plain.{is_copy}
 use Rattle.zr_pool.specs.Pools.{DeviceState, is_evacuating, settled, stand_of}
@@ -80,9 +82,30 @@ pub record HasReset (pool : OpenPool) (now : Stand) (objects : Objects) : Type 0
   pub leaves : LeavesCommitted pool now
   pub holds : HoldsObjects (Unit {0}) now.seen pool objects
 
+-- the trees of the pool's streams stand on the disks still
+abbrev pub KeepsTrees : OpenPool → OpenPool → World → World → Type 0
+KeepsTrees old new before now = HasTrees Had (Unit {0}) before.now.seen old → HasTrees Had (Unit {0}) now.now.seen new
+
+-- those that write the trees of the pool's streams, and leave them on the disks
+abbrev pub is_writing_trees : Command → Bool
+is_writing_trees (cmd.Add dev) = true
+is_writing_trees cmd.Checkpoint = true
+is_writing_trees cmd.Upgrade = true
+is_writing_trees _ = false
+
+-- It is told that the trees of the streams stood before the line, and it is one that writes them.
+abbrev pub WritesTold : Command → OpenPool → World → Type 0
+WritesTold command old before = (is_writing_trees command ≡ true) × HasLastTrees before.now.seen old
+
+-- The line ended with a reset, which left the trees of the streams where it is one of those, and the disks tell then where the units of removed devices have moved.
+pub record EndsReset (command : Command) (old new : OpenPool) (objects : Objects) (before now : World) : Type 0 where
+  pub resets : HasReset new now.now objects
+  pub trees : is_writing_trees command ≡ true → KeepsTrees old new before now
+  pub moves : WritesTold command old before → IfSome new.last (λ u. TellsMoves now.now.seen new u.root u.len)
+
 -- What such a line wrote, wherever it stopped: a reset that leaves each device where it was, or the adding of one.
-abbrev pub StopsInReset : List ℕ → Objects → OpenPool → World → World → Type 0
-StopsInReset sizes objects old before now = WritesReset sizes objects old before now ⊎ ((slot : ℕ) × AddsInPart sizes objects slot old before now)
+abbrev pub StopsInReset : List ℕ → Objects → Command → OpenPool → World → World → Type 0
+StopsInReset sizes objects command old before now = WritesReset (WritesTold command old before) sizes objects old before now ⊎ ((slot : ℕ) × AddsInPart sizes objects slot old before now)
 
 -- a step would end no removal: no device is leaving, or units of one are left to copy
 abbrev pub is_no_end : Option OpenPool → Bool
@@ -96,13 +119,37 @@ ends_no_removal account cmd.StepEvac = is_no_end account
 ends_no_removal account cmd.StepCondense = true
 ends_no_removal account _ = false
 
--- What a crash shows is told at each moment of the line: it works in the group that is open, or commits it, or ends with a reset, or is one of a removal or of condensing that ends no removal.
-abbrev pub may_stop : Option OpenPool → Command → Bool
-may_stop account command = is_in_group command || (is_resetting command || ends_no_removal account command)
+-- the lines behind which the trees of the pool's streams stand still: those that work in a group or commit it, and those that write the trees
+abbrev pub keeps_trees : Command → Bool
+keeps_trees command = is_writing_trees command || is_in_group command
+
+-- no device is gone
+abbrev pub all_there : List DevPart → Bool
+all_there [] = true
+all_there (p ∷ parts) = not (is_gone p.row.state) && all_there parts
+
+-- a pool is open, and no device of it is gone
+abbrev pub are_there : Option OpenPool → Bool
+are_there None = false
+are_there (Some pool) = all_there pool.space.parts.devs
+
+-- no device is gone of the pool that is open, if one is
+abbrev pub none_gone : Option OpenPool → Bool
+none_gone None = true
+none_gone (Some pool) = all_there pool.space.parts.devs
+
+-- Whoever reads a root of the pool is led where it is: no device is gone, or the trees of its streams are told to stand on the disks.
+abbrev pub is_readable : Option OpenPool → Bool → Bool
+is_readable account trees = none_gone account || trees
+
+-- What a crash shows is told at each moment of the line, by whether the trees of the streams are told to stand there: it works in the group that is open, or commits it, or writes the trees. Where no device is gone
+-- it may be any that ends with a reset, or one of a removal or of condensing that ends no removal.
+abbrev pub may_stop : Option OpenPool → Bool → Command → Bool
+may_stop account trees command = is_readable account trees && (keeps_trees command || (none_gone account && (is_resetting command || ends_no_removal account command)))
 
 -- The line stayed in one group: it did nothing to the disks, or wrote units of the group that is open, or of the next one behind a commit of that.
 abbrev pub StaysTold : List ℕ → Objects → OpenPool → OpenPool → World → World → Type 0
-StaysTold sizes objects old new before now = StaysInOneGroup sizes objects old new before now ⊎ (IsStill before now × OpensNoUnit old new)
+StaysTold sizes objects old new before now = StaysInOneGroup sizes objects old new before now ⊎ (IsStill before now × (OpensNoUnit old new × KeepsTrees old new before now))
 
 -- whatever an honest crash leaves of these disks shows these objects, if it shows a pool
 abbrev pub LeavesOnly : Objects → Disks → Type 0
@@ -146,12 +193,6 @@ OpensTo shelf cmd.ImportRewind objects = (p : PoolState) × (s : Saved) × Shows
 OpensTo shelf (cmd.ImportTxg txg) objects = (p : PoolState) × ShowsGroup shelf.paths shelf.disks txg p × (p.objects ≡ objects)
 OpensTo shelf command objects = ⊥
 
--- where the line goes back, no device is removed of what it goes back from, and none of what it goes back to
-abbrev pub AreAllThere : Shelf → Command → Type 0
-AreAllThere shelf cmd.ImportRewind = (p : PoolState) → Shows shelf.paths shelf.disks p → All IsStillThere p.devs × IfSome p.saved (λ s. All IsStillThere s.devs)
-AreAllThere shelf (cmd.ImportTxg txg) = ((p : PoolState) → Shows shelf.paths shelf.disks p → All IsStillThere p.devs) × ((p : PoolState) → ShowsGroup shelf.paths shelf.disks txg p → All IsStillThere p.devs)
-AreAllThere shelf command = Unit {0}
-
 -- whatever an honest crash leaves of these disks shows these objects, or those that the line opens to, if it shows a pool
 abbrev pub LeavesOpened : Shelf → Command → Objects → Disks → Type 0
 LeavesOpened shelf command objects disks = (image : List (List ℕ)) → IsLeft (stand_of disks) image → (paths : List (List ℕ)) (p : PoolState) → Shows paths image p → (p.objects ≡ objects) ⊎ OpensTo shelf command p.objects
@@ -166,18 +207,9 @@ abbrev pub begun_behind : Option Disks → Reply → Option Disks
 begun_behind begun (reply.No r) = begun
 begun_behind begun answer = None
 
--- no device is gone
-abbrev pub all_there : List DevPart → Bool
-all_there [] = true
-all_there (p ∷ parts) = not (is_gone p.row.state) && all_there parts
-
-abbrev pub are_there : Option OpenPool → Bool
-are_there None = false
-are_there (Some pool) = all_there pool.space.parts.devs
-
--- A commit will be known: the last one is, or the disks are told to show the last root, and no device is gone.
+-- A commit will be known: whoever reads its root will be led where the pool is, and the last one is known, or the disks are told to show the last root.
 abbrev pub is_known : DeviceState → Bool
-is_known state = if is_some state.behind then true else state.shown && are_there state.account
+is_known state = is_readable state.account state.trees && (if is_some state.behind then true else state.shown && is_some state.account)
 
 -- the lines that open a pool which is there, as it is or by going back
 abbrev pub is_import : Command → Bool
@@ -207,8 +239,8 @@ TellsOf part objects = (p : PoolState) × (part ≡ Is p) × (p.objects ≡ obje
 
 -- Where the objects come from that are told to be committed last, behind a line that was answered and left this told:
 pub data ComesFrom (old : DeviceState) (command : Command) (answer : Reply) (told : ShelfPart) (objects : Objects) : Type 0 where
-  -- they were so before it,
-  kept : (p : PoolState) → old.told.shelf ≡ Is p → leaves_told old.account answer command ≡ true → old.behind ≡ Some objects → ComesFrom old command answer told objects
+  -- they were so before it, and it acknowledged no commit,
+  kept : (p : PoolState) → old.told.shelf ≡ Is p → leaves_told old.account answer command ≡ true → is_acknowledged answer command ≡ false → old.behind ≡ Some objects → ComesFrom old command answer told objects
   -- they were told before it, and it committed them,
   committed : leaves_told old.account answer command ≡ true → TellsOf old.told.shelf objects → ComesFrom old command answer told objects
   -- a line that ended with a reset committed them,
@@ -223,11 +255,11 @@ pub record IsBehindTurn (old : DeviceState) (command : Command) (answer : Reply)
   pub from : (objects : Objects) → behind ≡ Some objects → ComesFrom old command answer told objects
   -- of a pool that is made they are told
   pub makes : old.account ≡ None → is_create command ≡ true → answer ≡ reply.Done → are_there account ≡ true → behind ≡ Some map.empty
-  -- of a pool that is opened, of which no device is gone, they are those that are told behind it
-  pub opens : old.account ≡ None → is_import command ≡ true → answer ≡ reply.Done → are_there account ≡ true → (p : PoolState) → told ≡ Is p → behind ≡ Some p.objects
+  -- of a pool that is opened they are those that are told behind it
+  pub opens : old.account ≡ None → is_import command ≡ true → answer ≡ reply.Done → (p : PoolState) → told ≡ Is p → behind ≡ Some p.objects
   -- a line that leaves them told does so
-  pub keeps : (p : PoolState) → old.told.shelf ≡ Is p → is_some old.behind ≡ true → leaves_told old.account answer command ≡ true → is_some behind ≡ true
-  -- behind one that ended with a reset they are those that were told before it, while no device is gone
-  pub resets : (p : PoolState) → old.told.shelf ≡ Is p → is_known old ≡ true → ends_reset answer command ≡ true → are_there account ≡ true → behind ≡ Some p.objects
+  pub keeps : (p : PoolState) → old.told.shelf ≡ Is p → is_some old.behind ≡ true → is_readable old.account old.trees ≡ true → leaves_told old.account answer command ≡ true → is_some behind ≡ true
+  -- behind one that ended with a reset they are those that were told before it, while no device is gone, or the line writes the trees of the streams
+  pub resets : (p : PoolState) → old.told.shelf ≡ Is p → is_known old ≡ true → ends_reset answer command ≡ true → (are_there account || (old.trees && is_writing_trees command)) ≡ true → behind ≡ Some p.objects
   -- behind a `sync` and an `export` they are those that were told before it
   pub commits : (p : PoolState) → old.told.shelf ≡ Is p → is_known old ≡ true → is_acknowledged answer command ≡ true → behind ≡ Some p.objects

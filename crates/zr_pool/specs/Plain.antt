@@ -155,6 +155,11 @@ abbrev pub IsRejoined : ShelfPart → ShelfPart → Type 0
 IsRejoined (Is left) (Is p) = All IsStillThere p.devs → p.objects ≡ left.objects
 IsRejoined left found = Unit {0}
 
+-- What is found has the objects that were left, whatever devices are removed.
+abbrev pub IsFoundAgain : ShelfPart → ShelfPart → Type 0
+IsFoundAgain (Is left) (Is p) = p.objects ≡ left.objects
+IsFoundAgain left found = Unit {0}
+
 -- what a line makes of the objects; a state that is open has a pool, or nothing is told of it
 abbrev pub IsObjectsTurn : Bool → ShelfPart → Shelf → State → Command → Reply → State → Type 0
 IsObjectsTurn true (Is p) shelf old command answer new = IsPlainTurn p command answer new

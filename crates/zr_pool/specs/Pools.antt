@@ -14,9 +14,12 @@ use Rattle.zr_rules.specs.Steps.{has_condensing}
 use Rattle.zr_shelf.specs.Disks.{Stand}
 use Rattle.zr_stops.specs.Behind.{StandsBehind}
 use Rattle.zr_sync.specs.Heads.{HasHead}
+use Rattle.zr_sync.specs.Moves.{TellsMoves}
 use Rattle.zr_sync.specs.Objects.{HoldsObjects}
 use Rattle.zr_sync.specs.Pools.{IsOpen}
 use Rattle.zr_sync.specs.States.{HoldsState}
+use Rattle.zr_sync.specs.Trees.{HasTrees}
+use Rattle.zr_sync.specs.Trees.Stage.{Had}
 use Rattle.zr_sync.specs.declared.open.OpenPool.{OpenPool}
 
 -- a device is leaving
@@ -56,30 +59,35 @@ pub record IsAtRest (disks : List (List ℕ)) (pool : OpenPool) (p : PoolState) 
   pub head : IfSome pool.last (λ u. HasHead disks pool u.root u.len)
   pub holds : HoldsObjects (Unit {0}) disks pool p.objects
 
--- a pool has left these objects on the disks: they show its last root, behind which nothing has changed
-pub record AreLeft (disks : List (List ℕ)) (objects : Objects) : Type 0 where
+-- A pool has left these objects on the disks: they show its last root, behind which nothing has changed. Where the trees of its streams are told to stand, they tell there where the units of removed devices have moved.
+pub record AreLeft (disks : List (List ℕ)) (objects : Objects) (trees : Bool) : Type 0 where
   pub pool : OpenPool
   pub lawful : IsOpen (map length disks) pool
   pub leaves : LeavesObjects disks pool objects
+  pub moves : trees ≡ true → TellsMoves disks pool leaves.last.root.root leaves.last.root.len
 
--- The disks show the last root of the pool that is open, or have what was left of the one that is closed, where its objects are told.
-abbrev pub AreShown : Option OpenPool → List (List ℕ) → ShelfPart → Type 0
-AreShown (Some pool) disks part = ShowsLast disks pool
-AreShown None disks (Is p) = AreLeft disks p.objects
-AreShown None disks part = Unit {0}
+-- The disks show the last root of the pool that is open, or have what was left of the one that is closed, where its objects are told, and so the trees of its streams, if they are.
+abbrev pub AreShown : Option OpenPool → List (List ℕ) → ShelfPart → Bool → Type 0
+AreShown (Some pool) disks part trees = ShowsLast disks pool
+AreShown None disks (Is p) trees = AreLeft disks p.objects trees
+AreShown None disks part trees = Unit {0}
+
+-- the trees of the streams of the pool that is open stand on the disks, as its last root has them
+abbrev pub AreStanding : Option OpenPool → List (List ℕ) → Type 0
+AreStanding pool disks = IfSome pool (HasTrees Had (Unit {0}) disks)
 
 -- the disks as they stand, whatever the input and the output are
 abbrev pub stand_of : Disks → Stand
 stand_of disks = record { paths = []; makes = []; durable = disks.durable; writes = disks.writes; seen = disks.seen; left = []; sent = [] }
 
--- A pool was closed behind a commit of these objects, when none of its devices was gone, and nothing is pending.
+-- A pool was closed behind a commit of these objects, and nothing is pending.
 pub record IsClosedBehind (disks : Disks) (objects : Objects) : Type 0 where
   pub pool : OpenPool
   pub behind : StandsBehind (map length disks.seen) objects pool (stand_of disks)
   pub durable : disks.durable ≡ disks.seen
   pub writes : disks.writes ≡ []
 
--- The pool that is open is in the group behind a commit of these objects, when none of its devices was gone, or one was closed behind it.
+-- The pool that is open is in the group behind a commit of these objects, or one was closed behind it.
 abbrev pub IsBehind : Option OpenPool → Disks → Objects → Type 0
 IsBehind (Some pool) disks objects = StandsBehind (map length disks.seen) objects pool (stand_of disks)
 IsBehind None disks objects = IsClosedBehind disks objects
@@ -96,23 +104,25 @@ IsUnwritten first disks = (disks ≡ first) ⊎ (disks ≡ settled first)
 abbrev pub IsAsBegun : Option OpenPool → Disks → Disks → Type 0
 IsAsBegun pool disks first = (pool ≡ None) × IsUnwritten first disks
 
--- What is told of a pool on devices between two commands: its objects, as far as these are told, what it holds beside its disks while it is open, whether the disks show it, and which objects
--- were committed last, as far as that is told; and how the disks stood when the run began, while nothing was written since.
+-- What is told of a pool on devices between two commands: its objects, as far as these are told, what it holds beside its disks while it is open, whether the disks show it, whether they have the trees
+-- of its streams, and which objects were committed last, as far as that is told; and how the disks stood when the run began, while nothing was written since.
 pub record DeviceState : Type 0 where
   pub told : State
   pub account : Option OpenPool
   pub shown : Bool
+  pub trees : Bool
   pub behind : Option Objects
   pub begun : Option Disks
 
 -- no pool yet
 abbrev pub no_device_state : Disks → DeviceState
-no_device_state disks = record { told = no_pool; account = None; shown = false; behind = None; begun = Some disks }
+no_device_state disks = record { told = no_pool; account = None; shown = false; trees = false; behind = None; begun = Some disks }
 
 -- what is told of the pool and its disks is so, and the account is the pool's own
 pub record Stands (pool : Option OpenPool) (disks : Disks) (state : DeviceState) : Type 0 where
   pub told : StandsFor pool disks.seen state.told
   pub account : state.account ≡ pool
-  pub shown : state.shown ≡ true → AreShown pool disks.seen state.told.shelf
+  pub shown : state.shown ≡ true → AreShown pool disks.seen state.told.shelf state.trees
+  pub trees : state.trees ≡ true → AreStanding pool disks.seen
   pub behind : IfSome state.behind (IsBehind pool disks)
   pub begun : IfSome state.begun (IsAsBegun pool disks)

@@ -1,5 +1,5 @@
 -- What the pool on devices says of its answers so far: each is one to its line, and the pool is open where it should be.
-use Rattle.std.specs.Prelude.{◌≡◌, ◌⊎◌, ℕ, ◌<◌, ◌≤◌, if◌then◌else◌, Bool, true, false, not, ◌&&◌, List, length, map, Option, Some, None, IfSome, IsSomeAnd}
+use Rattle.std.specs.Prelude.{◌≡◌, ◌⊎◌, ℕ, ◌<◌, ◌≤◌, if◌then◌else◌, Bool, true, false, not, ◌&&◌, ◌||◌, List, length, map, Option, Some, None, IfSome, IsSomeAnd}
 use Rattle.zr_base.specs.declared.refusal.Refusal.{Refusal}
 use Rattle.zr_base.specs.declared.refusal.Refusal.TheVariants as refusal
 use Rattle.zr_script.specs.declared.command.Command.{Command}
@@ -10,7 +10,7 @@ use Rattle.zr_lines.specs.Sought.{IsDamaged}
 use Rattle.zr_open.specs.Opened.{IsImportRefusal}
 use Rattle.zr_lines.specs.Answers.{IsNoRoom, IsSumRefusal, IsReadRefusal, IsMakeRefusal, IsDropRefusal}
 use Rattle.zr_model.specs.Objects.{Objects}
-use Rattle.zr_model.specs.State.{State, PoolState, Is, Work, no_pool}
+use Rattle.zr_model.specs.State.{State, PoolState, ShelfPart, Is, Work, no_pool}
 use Rattle.zr_model.specs.declared.actor.Actor.{Actor}
 use Rattle.zr_model.specs.declared.actor.Actor.TheVariants.{Evac, Discard, Condense}
 use Rattle.zr_command.specs.Meanings.{Disks, Meaning}
@@ -18,8 +18,8 @@ use Rattle.zr_model.specs.Runs.{Point, Shelf, Turn}
 use Rattle.zr_sync.specs.Pools.{IsOpen}
 use Rattle.zr_sync.specs.declared.open.OpenPool.{OpenPool}
 use Rattle.zr_pool.specs.Accounts.{Turns, Begins, BeginsNone}
-use Rattle.zr_pool.specs.Behind.{AreAllThere, IsBehindTurn, LeavesBegun, LeavesEither, LeavesOnly, LeavesOpened, begun_behind, may_stop}
-use Rattle.zr_pool.specs.Plain.{IsObjectsTurn, IsRejoined, is_of_removal, is_untold_behind}
+use Rattle.zr_pool.specs.Behind.{IsBehindTurn, LeavesBegun, LeavesEither, LeavesOnly, LeavesOpened, begun_behind, keeps_trees, may_stop}
+use Rattle.zr_pool.specs.Plain.{IsFoundAgain, IsObjectsTurn, IsRejoined, is_of_removal, is_untold_behind}
 use Rattle.zr_pool.specs.Pools.{DeviceState, IsUnwritten, no_device_state}
 use Rattle.zr_pool.specs.Replies.{TellsFault}
 
@@ -115,6 +115,18 @@ abbrev pub is_shown : Bool → Bool → Command → Reply → Bool
 is_shown is_open shown command (reply.No r) = shown
 is_shown true shown command answer = shown && not (is_untold_behind command answer)
 is_shown false shown command answer = true
+
+-- the objects are told
+abbrev pub is_told : ShelfPart → Bool
+is_told (Is p) = true
+is_told part = false
+
+-- Whether the trees of the streams are told to stand on the disks behind a line, by whether a pool was open before it, its objects were told, and they were told so then. They do of a pool that is made or opened.
+abbrev pub is_standing : Bool → ShelfPart → Bool → Command → Reply → Bool
+is_standing false part trees command (reply.No r) = trees
+is_standing false part trees command answer = true
+is_standing true part trees command (reply.No r) = trees && is_told part
+is_standing true part trees command answer = trees && (is_told part && keeps_trees command)
 
 -- what a line to an open pool may be refused for
 abbrev pub IsOpenRefusal : Command → Refusal → Type 0
@@ -245,16 +257,18 @@ told_point p = record { shelf = p.shelf; state = p.state.told }
 abbrev pub told_turn : Turn DeviceState → Turn State
 told_turn t = record { command = t.command; answer = t.answer; point = told_point t.point }
 
--- One line to the pool on devices: what it makes of the objects and of the account, which is that of a lawful pool on these disks, whether the disks are told to show it, and which objects are
--- told to be committed last, and whether nothing was written yet. An import finds the objects that were left there.
+-- One line to the pool on devices: what it makes of the objects and of the account, which is that of a lawful pool on these disks, whether the disks are told to show it and to have the trees of its streams, which objects
+-- are told to be committed last, and whether nothing was written yet. An import finds the objects that were left there, where no device is removed, or the trees of the streams were told to stand.
 pub record IsDeviceTurn (p : Point DeviceState) (t : Turn DeviceState) : Type 0 where
   pub objects : on_objects_told.takes (told_point p) (told_turn t)
   pub account : IsAccountTurn p.shelf p.state.account t.command t.answer t.point.shelf t.point.state.account
   pub lawful : IfSome t.point.state.account (IsOpen (sizes_of t.point.shelf.disks))
   pub shown : t.point.state.shown ≡ is_shown p.state.told.is_open p.state.shown t.command t.answer
+  pub trees : t.point.state.trees ≡ is_standing p.state.told.is_open p.state.told.shelf p.state.trees t.command t.answer
   pub behind : IsBehindTurn p.state t.command t.answer t.point.state.told.shelf t.point.state.account t.point.state.behind
   pub begun : t.point.state.begun ≡ begun_behind p.state.begun t.answer
   pub rejoined : p.state.shown ≡ true → t.command ≡ cmd.Import → t.answer ≡ reply.Done → IsRejoined p.state.told.shelf t.point.state.told.shelf
+  pub found_again : p.state.shown ≡ true → p.state.trees ≡ true → t.command ≡ cmd.Import → t.answer ≡ reply.Done → IsFoundAgain p.state.told.shelf t.point.state.told.shelf
 
 -- How the disks may stand between two lines: they read as behind the last, whatever an honest crash shows are the objects that were committed last, and where nothing was written yet they stand as at the beginning.
 pub record RestsOn (p : Point DeviceState) (disks : Disks) : Type 0 where
@@ -266,9 +280,9 @@ pub record RestsOn (p : Point DeviceState) (disks : Disks) : Type 0 where
 -- the line, which it commits. Where no pool is open they are the former, or those that the line opens to; and where nothing was written yet, it is what a crash would have left at the beginning, or what is shown has the objects that were shown before the line, or those that it opens to.
 pub record IsWithin (p : Point DeviceState) (command : Command) (disks : Disks) : Type 0 where
   pub tables : IfSome p.state.account (λ pool. is_table command ≡ true → disks.seen ≡ p.shelf.disks)
-  pub shows : (objects : Objects) (q : PoolState) → p.state.behind ≡ Some objects → p.state.told.shelf ≡ Is q → may_stop p.state.account command ≡ true → LeavesEither objects q.objects disks
-  pub opens : (objects : Objects) → p.state.account ≡ None → p.state.behind ≡ Some objects → AreAllThere p.shelf command → LeavesOpened p.shelf command objects disks
-  pub begins : (first : Disks) → p.state.begun ≡ Some first → AreAllThere p.shelf command → LeavesBegun p.shelf command first disks
+  pub shows : (objects : Objects) (q : PoolState) → p.state.behind ≡ Some objects → p.state.told.shelf ≡ Is q → may_stop p.state.account p.state.trees command ≡ true → LeavesEither objects q.objects disks
+  pub opens : (objects : Objects) → p.state.account ≡ None → p.state.behind ≡ Some objects → LeavesOpened p.shelf command objects disks
+  pub begins : (first : Disks) → p.state.begun ≡ Some first → LeavesBegun p.shelf command first disks
 
 -- What commands mean to the pool on devices.
 abbrev pub on_devices : Meaning

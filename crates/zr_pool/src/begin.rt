@@ -18,6 +18,8 @@ ghost use Rattle.zr_script.specs.declared.command.Command.TheVariants.{Import};
 ghost use Rattle.zr_shelf.specs.Counts.{NoneFell};
 ghost use Rattle.zr_open.specs.Left.{IsLeftCommitted};
 ghost use Rattle.zr_sync.specs.Pools.{IsOpen};
+ghost use Rattle.zr_sync.specs.Trees.{HasTrees};
+ghost use Rattle.zr_sync.specs.Trees.Stage.{Had};
 ghost use Rattle.zr_sync.specs.Writes.{WorksOnDisks};
 ghost use Rattle.zr_sync.specs.declared.fault.Fault.TheVariants.{No, Stops};
 ghost use Rattle.zr_sync.specs.declared.stop.Stop.TheVariants.{DiskFault};
@@ -84,6 +86,7 @@ fn make<S: Shelf>(
     ensures ends { S.tells shelf.old → IfOk result (λ pool. ComesCommitted (S.sizes shelf.new) pool map.empty (S.world shelf.new)) }
     ensures stops { S.tells shelf.old → StopsInCreate (S.sizes shelf.old) (S.world shelf.old) (S.world shelf.new) }
     ensures objects { S.tells shelf.old → IfOk result (λ pool. HoldsObjects (S.tells shelf.new) (S.world shelf.new).now.seen pool map.empty) }
+    ensures trees { S.tells shelf.old → IfOk result (λ pool. HasTrees Had (S.tells shelf.new) (S.world shelf.new).now.seen pool) }
     ensures refused { S.tells shelf.old → (r : Refusal) → IsErrOf result (No r) → ChecksNew (S.sizes shelf.old) (S.tells shelf.old) (S.world shelf.old).now.seen version guid named.now (Err r) }
     ensures allowed { S.tells shelf.old → OnOk result (ChecksNew (S.sizes shelf.old) (S.tells shelf.old) (S.world shelf.old).now.seen version guid named.now (Ok tt)) }
     ensures unwritten { S.tells shelf.old → (r : Refusal) → IsErrOf result (No r) → FlushesOnly (S.world shelf.old) (S.world shelf.new) }
@@ -115,6 +118,7 @@ pub fn begin<S: Shelf>(
     ensures begins_no { S.tells shelf.old → (r : Refusal) → IsErrOf result (No r) → BeginsNone paths.now (S.sizes shelf.old) (S.world shelf.old).now.seen command.now r }
     ensures last { S.tells shelf.old → IfOk result (λ found. IfSome found (ShowsLast (S.world shelf.new).now.seen)) }
     ensures ends { S.tells shelf.old → is_create command.now ≡ true → IfOk result (λ found. IfSome found (λ pool. ComesCommitted (S.sizes shelf.new) pool map.empty (S.world shelf.new))) }
+    ensures trees { S.tells shelf.old → IfOk result (λ found. IfSome found (HasTrees Had (S.tells shelf.new) (S.world shelf.new).now.seen)) }
     ensures leaves { S.tells shelf.old → is_import command.now ≡ true → IfOk result (λ found. IfSome found (IsLeftCommitted (S.world shelf.new).now)) }
     ensures unwritten { S.tells shelf.old → (r : Refusal) → IsErrOf result (No r) → FlushesOnly (S.world shelf.old) (S.world shelf.new) }
     ensures stops { S.tells shelf.old → StopsInOpening (S.sizes shelf.old) command.now (S.world shelf.old) (S.world shelf.new) }

@@ -15,10 +15,11 @@ ghost use Rattle.zr_last.specs.Last.{KeepsLast};
 ghost use Rattle.zr_sync.specs.Ends.{EndsCommitted};
 ghost use Rattle.zr_lines.specs.Stops.{OpensNoUnit, StaysInGroup, StaysInOneGroup, WritesInOneGroup};
 ghost use Rattle.zr_sync.specs.Leads.{CommitsObjects};
+ghost use Rattle.zr_sync.specs.Trees.{HasLastTrees};
 ghost use Rattle.zr_script.specs.declared.command.Command.TheVariants.{Export, StepDiscard};
 ghost use Rattle.zr_shelf.specs.Moments.{IsStill};
 ghost use Rattle.zr_pool.specs.Plain.{IsDone, IsPlainOf, IsPlainRefusal};
-ghost use Rattle.zr_pool.specs.Behind.{HasReset, StopsInReset, is_commit, is_resetting};
+ghost use Rattle.zr_pool.specs.Behind.{EndsReset, KeepsTrees, StopsInReset, is_commit, is_resetting};
 ghost use Rattle.zr_pool.specs.Pools.{IsAtRest};
 ghost use Rattle.zr_pool.specs.Accounts.{Refuses, Turns};
 ghost use Rattle.zr_pool.specs.Replies.{step_reply};
@@ -197,11 +198,12 @@ pub fn pool_line<S: Shelf>(
     ensures stays_no { S.tells shelf.old → (r : Refusal) → IsErrOf result (No r) → StaysInGroup pool.old pool.new (S.world shelf.old) (S.world shelf.new) }
     ensures still { command.now ≡ StepDiscard → IsStill (S.world shelf.old) (S.world shelf.new) }
     ensures steps { command.now ≡ StepDiscard → OnOk result (OpensNoUnit pool.old pool.new) }
+    ensures step_trees { command.now ≡ StepDiscard → OnOk result (KeepsTrees pool.old pool.new (S.world shelf.old) (S.world shelf.new)) }
     ensures left { command.now ≡ Export → (p : PoolState) → HoldsState (S.tells shelf.old) (S.world shelf.old).now.seen pool.old p → OnOk result (IsAtRest (S.world shelf.new).now.seen pool.new p) }
     ensures commits { is_commit command.now ≡ true → (p : PoolState) → HoldsState (S.tells shelf.old) (S.world shelf.old).now.seen pool.old p → OnOk result (EndsCommitted (S.sizes shelf.old) false pool.old pool.new p.objects (S.world shelf.old) (S.world shelf.new)) }
-    ensures resets { is_resetting command.now ≡ true → (p : PoolState) → HoldsState (S.tells shelf.old) (S.world shelf.old).now.seen pool.old p → OnOk result (HasReset pool.new (S.world shelf.new).now p.objects) }
-    ensures stops_reset { is_resetting command.now ≡ true → (p : PoolState) → HoldsState (S.tells shelf.old) (S.world shelf.old).now.seen pool.old p → StopsInReset (S.sizes shelf.old) p.objects pool.old (S.world shelf.old) (S.world shelf.new) }
-    ensures stops { is_commit command.now ≡ true → (p : PoolState) → HoldsState (S.tells shelf.old) (S.world shelf.old).now.seen pool.old p → CommitsObjects (S.sizes shelf.old) pool.old false p.objects (S.world shelf.old) (S.world shelf.new) }
+    ensures resets { is_resetting command.now ≡ true → (p : PoolState) → HoldsState (S.tells shelf.old) (S.world shelf.old).now.seen pool.old p → OnOk result (EndsReset command.now pool.old pool.new p.objects (S.world shelf.old) (S.world shelf.new)) }
+    ensures stops_reset { is_resetting command.now ≡ true → (p : PoolState) → HoldsState (S.tells shelf.old) (S.world shelf.old).now.seen pool.old p → StopsInReset (S.sizes shelf.old) p.objects command.now pool.old (S.world shelf.old) (S.world shelf.new) }
+    ensures stops { is_commit command.now ≡ true → (p : PoolState) → HoldsState (S.tells shelf.old) (S.world shelf.old).now.seen pool.old p → CommitsObjects (HasLastTrees (S.world shelf.old).now.seen pool.old) (S.sizes shelf.old) pool.old false p.objects (S.world shelf.old) (S.world shelf.new) }
     ensures account { S.tells shelf.old → IfOk result (λ reply. Turns paths.now (S.sizes shelf.old) (S.world shelf.old).now.seen pool.old command.now reply (S.world shelf.new).now.seen pool.new) }
     ensures account_no { S.tells shelf.old → (r : Refusal) → IsErrOf result (No r) → Refuses paths.now (S.sizes shelf.old) (S.world shelf.old).now.seen pool.old command.now r pool.new }
     ensures done { IfOk result IsDone }

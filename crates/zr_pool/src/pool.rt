@@ -8,6 +8,8 @@ ghost use Rattle.zr_script.specs.declared.reply.Reply.TheVariants.{Done};
 ghost use Rattle.zr_shelf.specs.Counts.{NoneFell};
 ghost use Rattle.zr_shelf.specs.Moments.{IsStill};
 ghost use Rattle.zr_sync.specs.Pools.{IsOpen};
+ghost use Rattle.zr_sync.specs.Trees.{HasTrees};
+ghost use Rattle.zr_sync.specs.Trees.Stage.{Had};
 ghost use Rattle.zr_sync.specs.Writes.{WorksOnDisks, WritesIntoFree};
 ghost use Rattle.zr_sync.specs.declared.fault.Fault.TheVariants.{No, Stops};
 ghost use Rattle.zr_sync.specs.declared.stop.Stop.TheVariants.{DiskFault};
@@ -20,7 +22,7 @@ ghost use Rattle.zr_script.specs.declared.command.Command.TheVariants.{Export, I
 ghost use Rattle.zr_open.specs.Left.{IsLeftCommitted};
 ghost use Rattle.zr_pool.specs.Plain.{IsDone, IsMade, IsOpeningCause, IsPlainOf, IsPlainRefusal, is_copy, is_untold_behind, shelf_of};
 ghost use Rattle.zr_open.specs.Flushed.{FlushesOnly};
-ghost use Rattle.zr_pool.specs.Behind.{HasReset, StaysTold, StopsInReset, StopsInOpening, ends_no_removal, is_commit, is_create, is_import, is_in_group, is_resetting, is_return};
+ghost use Rattle.zr_pool.specs.Behind.{EndsReset, HasReset, StaysTold, StopsInReset, StopsInOpening, ends_no_removal, is_commit, is_create, is_import, is_in_group, is_resetting, is_return};
 ghost use Rattle.zr_pool.specs.Pools.{IsAtRest, IsOnShelf};
 ghost use Rattle.zr_removal.specs.Turns.{CancelsInPart};
 ghost use Rattle.zr_pool.specs.Replies.{TellsFault};
@@ -107,9 +109,9 @@ fn open_line<S: Shelf>(
     ensures writes { is_in_group command.now ≡ true → (p : PoolState) → HoldsState (S.tells shelf.old) (S.world shelf.old).now.seen pool.old p → WritesInOneGroup (S.sizes shelf.old) p.objects pool.old (S.world shelf.old) (S.world shelf.new) }
     ensures commits { is_commit command.now ≡ true → (p : PoolState) → HoldsState (S.tells shelf.old) (S.world shelf.old).now.seen pool.old p → OnOk result (EndsCommitted (S.sizes shelf.old) false pool.old pool.new p.objects (S.world shelf.old) (S.world shelf.new)) }
     ensures comes_back { (p : PoolState) → HoldsState (S.tells shelf.old) (S.world shelf.old).now.seen pool.old p → IfOk result (λ found. IfSome found (λ reply. is_return reply command.now ≡ true → HasReset pool.new (S.world shelf.new).now p.objects)) }
-    ensures resets { is_resetting command.now ≡ true → (p : PoolState) → HoldsState (S.tells shelf.old) (S.world shelf.old).now.seen pool.old p → OnOk result (HasReset pool.new (S.world shelf.new).now p.objects) }
+    ensures resets { is_resetting command.now ≡ true → (p : PoolState) → HoldsState (S.tells shelf.old) (S.world shelf.old).now.seen pool.old p → OnOk result (EndsReset command.now pool.old pool.new p.objects (S.world shelf.old) (S.world shelf.new)) }
     ensures copies { S.tells shelf.old → IfOk result (λ found. IfSome found (λ reply. is_copy command.now reply ≡ true → WritesIntoFree pool.old (S.world shelf.old) (S.world shelf.new) × OpensNoUnit pool.old pool.new)) }
-    ensures stops_reset { is_resetting command.now ≡ true → (p : PoolState) → HoldsState (S.tells shelf.old) (S.world shelf.old).now.seen pool.old p → StopsInReset (S.sizes shelf.old) p.objects pool.old (S.world shelf.old) (S.world shelf.new) }
+    ensures stops_reset { is_resetting command.now ≡ true → (p : PoolState) → HoldsState (S.tells shelf.old) (S.world shelf.old).now.seen pool.old p → StopsInReset (S.sizes shelf.old) p.objects command.now pool.old (S.world shelf.old) (S.world shelf.new) }
     ensures stops_back { ends_no_removal (Some pool.old) command.now ≡ true → (p : PoolState) → HoldsState (S.tells shelf.old) (S.world shelf.old).now.seen pool.old p → CancelsInPart (S.sizes shelf.old) p.objects pool.old (S.world shelf.old) (S.world shelf.new) }
     ensures account { S.tells shelf.old → IfOk result (λ found. IfSome found (λ reply. Turns paths.now (S.sizes shelf.old) (S.world shelf.old).now.seen pool.old command.now reply (S.world shelf.new).now.seen pool.new)) }
     ensures account_no { S.tells shelf.old → (r : Refusal) → IsErrOf result (No r) → Refuses paths.now (S.sizes shelf.old) (S.world shelf.old).now.seen pool.old command.now r pool.new }
@@ -162,6 +164,7 @@ impl DevicePool {
         ensures begins_no { S.tells shelf.old → (r : Refusal) → IsErrOf result (No r) → BeginsNone self.old.paths (S.sizes shelf.old) (S.world shelf.old).now.seen command.now r }
         ensures last { S.tells shelf.old → IfSome self.new.pool (ShowsLast (S.world shelf.new).now.seen) }
         ensures ends { S.tells shelf.old → is_create command.now ≡ true → IfSome self.new.pool (λ pool. ComesCommitted (S.sizes shelf.new) pool map.empty (S.world shelf.new)) }
+        ensures trees { S.tells shelf.old → IfSome self.new.pool (HasTrees Had (S.tells shelf.new) (S.world shelf.new).now.seen) }
         ensures leaves { S.tells shelf.old → is_import command.now ≡ true → IfSome self.new.pool (IsLeftCommitted (S.world shelf.new).now) }
         ensures unwritten { S.tells shelf.old → (r : Refusal) → IsErrOf result (No r) → FlushesOnly (S.world shelf.old) (S.world shelf.new) }
         ensures stops { S.tells shelf.old → StopsInOpening (S.sizes shelf.old) command.now (S.world shelf.old) (S.world shelf.new) }

@@ -14,7 +14,7 @@ use Rattle.zr_pool.specs.Pools.{DeviceState}
 use Rattle.zr_pool.specs.Turns.{IsDeviceTurn, IsTurn, on_devices}
 use Rattle.zr_script.specs.declared.reply.Reply.{Reply}
 use Rattle.zr_script.specs.declared.reply.Reply.TheVariants as reply
-use Rattle.zr_prefix.proofs.Tells.{acknowledged_told, begun_before, known_behind, leaves_small, made_told, reset_told}
+use Rattle.zr_prefix.proofs.Tells.{acknowledged_told, begun_before, leaves_small, made_told, no_way, reset_told}
 use Rattle.zr_prefix.specs.Prefix.{IsOfPrefix, MayBeLost}
 
 -- ---- one line more
@@ -62,9 +62,6 @@ module _ (p : Point DeviceState) (done : List (Turn DeviceState)) (t : Turn Devi
   told_now : TellsOf old.told.shelf objects → IsOfPrefix p done objects
   told_now told = record { front = done; back = []; parts = append-nil done; told = told; lost = tt }
 
-  same_objects : (q : PoolState) → t.point.state.behind ≡ Some q.objects → q.objects ≡ objects
-  same_objects q also = let both = sym also ∙ is in cc
-
   -- behind a commit that is acknowledged
   held : (q : PoolState) → old.told.shelf ≡ Is q → q.objects ≡ objects → is_acknowledged t.answer t.command ≡ true → IsOfPrefix p (done ++ t ∷ []) objects
   held q told same acknowledged = whole (q, acknowledged_told t.answer t.command old.told.is_open old.told.shelf (end_of p done).shelf old.told t.point.state.told q told acknowledged turn.objects.0 turn.objects.1, same)
@@ -76,9 +73,9 @@ module _ (p : Point DeviceState) (done : List (Turn DeviceState)) (t : Turn Devi
       (subst (λ (a : Reply). IsObjectsTurn old.told.is_open old.told.shelf (end_of p done).shelf old.told t.command a t.point.state.told) answered turn.objects.1)
 
   by_acknowledged : (b : Bool) → is_acknowledged t.answer t.command ≡ b → ComesFrom old t.command t.answer t.point.state.told.shelf objects → IsOfPrefix p (done ++ t ∷ []) objects
-  by_acknowledged true is_so (kept q told leaves was) = held q told (same_objects q (turn.behind.commits q told (known_behind old objects was) is_so)) is_so
+  by_acknowledged true is_so (kept q told leaves off was) = no_way (sym off ∙ is_so)
   by_acknowledged true is_so (committed leaves (q, told, same)) = held q told same is_so
-  by_acknowledged false off (kept q told leaves was) = shorter (record { small = leaves_small old.account t.answer t.command leaves; unacknowledged = off }) (keeps objects was)
+  by_acknowledged false off (kept q told leaves also was) = shorter (record { small = leaves_small old.account t.answer t.command leaves; unacknowledged = off }) (keeps objects was)
   by_acknowledged false off (committed leaves told) = shorter (record { small = leaves_small old.account t.answer t.command leaves; unacknowledged = off }) (told_now told)
   by_acknowledged b which (changed on (q, told, same)) =
       whole (subst (TellsOf t.point.state.told.shelf) same (reset_told t.command t.answer old.told.is_open old.told.shelf (end_of p done).shelf old.told t.point.state.told q told on turn.objects.0 turn.objects.1))

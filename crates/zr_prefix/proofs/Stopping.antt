@@ -49,15 +49,15 @@ module _ (p : Point DeviceState) (turns : List (Turn DeviceState)) (disks : Disk
         | inl same ↦ of_prefix (subst (IsOfPrefix p turns) (sym same) (prefix last.0 last.1))
         | inr same ↦ of_prefix (record { front = turns; back = []; parts = append-nil turns; told = (r, is, sym same); lost = tt })
       ]
-  line_by command (inl some) (while_closed closed off) within image left paths q shown =
+  line_by command (inl some) (while_closed closed) within image left paths q shown =
       let last = some_told (end_of p turns).state.behind some in
-      elim (within.opens last.0 closed last.1 off image left paths q shown) [
+      elim (within.opens last.0 closed last.1 image left paths q shown) [
         | inl same ↦ of_prefix (subst (IsOfPrefix p turns) (sym same) (prefix last.0 last.1))
         | inr opens ↦ of_opening opens
       ]
-  line_by command (inr some) (while_closed closed off) within image left paths q shown =
+  line_by command (inr some) (while_closed closed) within image left paths q shown =
       let first = some_told (end_of p turns).state.begun some in
-      elim (within.begins first.0 first.1 off image left) [
+      elim (within.begins first.0 first.1 image left) [
         | inl same ↦ as_began first.0 first.1 (Some command) image q.objects same
         | inr shows ↦ by_shown (begun_told p turns first.0 run first.1).1 (shows paths q shown)
       ]

@@ -91,9 +91,6 @@ pub leaves_small : (account : Option OpenPool) (answer : Reply) (command : Comma
 leaves_small (Some pool) answer command leaves = one_of (is_refusal answer) (is_in_group command) (is_copy command answer) leaves
 leaves_small None answer command leaves = inr (inr leaves)
 
-pub known_behind : (state : DeviceState) (objects : Objects) → state.behind ≡ Some objects → is_known state ≡ true
-known_behind state objects is = ap (λ (o : Option Objects). if is_some o then true else state.shown && are_there state.account) is
-
 -- a refusal acknowledges nothing
 refused_unacknowledged : (answer : Reply) (command : Command) → is_refusal answer ≡ true → is_acknowledged answer command ≡ false
 refused_unacknowledged (reply.No r) command is = refl

@@ -8,7 +8,7 @@ use Rattle.zr_model.specs.Runs.{Point, Turn, end_of}
 use Rattle.zr_model.specs.State.{PoolState, Is}
 use Rattle.zr_open.specs.Shown.{Shows}
 use Rattle.zr_pool.specs.Plain.{is_copy}
-use Rattle.zr_pool.specs.Behind.{AreAllThere, IsOfBeginning, OpensTo, Showed, TellsOf, is_acknowledged, is_in_group, is_refusal, may_stop}
+use Rattle.zr_pool.specs.Behind.{IsOfBeginning, OpensTo, Showed, TellsOf, is_acknowledged, is_in_group, is_refusal, may_stop}
 use Rattle.zr_pool.specs.Pools.{DeviceState, stand_of}
 use Rattle.zr_script.specs.declared.command.Command.{Command}
 
@@ -46,7 +46,7 @@ pub data ComesOf (p : Point DeviceState) (turns : List (Turn DeviceState)) (due 
 abbrev pub ShowsPrefix : Point DeviceState → List (Turn DeviceState) → Option Command → Disks → Type 0
 ShowsPrefix p turns due disks = (image : List (List ℕ)) → IsLeft (stand_of disks) image → (paths : List (List ℕ)) (q : PoolState) → Shows paths image q → ComesOf p turns due image q.objects
 
--- What a crash shows is told at each moment of the line: of a pool that is told it works in the group that is open, or ends it by a commit, and ends no removal; or no pool is open, and where it goes back no device is removed.
+-- What a crash shows is told at each moment of the line: of a pool that is told it works in the group that is open, or ends it by a commit, and ends no removal; or no pool is open.
 pub data IsCovered (p : Point DeviceState) (command : Command) : Type 0 where
-  while_open : is_some p.state.behind ≡ true → (q : PoolState) → p.state.told.shelf ≡ Is q → may_stop p.state.account command ≡ true → IsCovered p command
-  while_closed : p.state.account ≡ None → AreAllThere p.shelf command → IsCovered p command
+  while_open : is_some p.state.behind ≡ true → (q : PoolState) → p.state.told.shelf ≡ Is q → may_stop p.state.account p.state.trees command ≡ true → IsCovered p command
+  while_closed : p.state.account ≡ None → IsCovered p command

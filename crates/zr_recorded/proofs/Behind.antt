@@ -1,5 +1,5 @@
 -- What a crash shows behind a commit.
-use Rattle.std.proofs.Common.{◌≡◌, ℕ, List, length, map, Bool, None, Option, IfSome, sym, subst}
+use Rattle.std.proofs.Common.{◌≡◌, ◌∙◌, inr, ℕ, List, length, map, Bool, None, Option, IfSome, sym, subst}
 use Rattle.zr_beside.specs.Beside.{Standing}
 use Rattle.zr_current.proofs.Showing.{commit_shown}
 use Rattle.zr_current.specs.Current.{GoesOnFrom, HasSlots, IsShownFor}
@@ -10,7 +10,7 @@ use Rattle.zr_model.specs.Objects.{Objects}
 use Rattle.zr_newest.specs.Newest.{IsNewestOn}
 use Rattle.zr_recorded.proofs.Crashes.{crash_shows}
 use Rattle.zr_recorded.specs.Crashes.{ShowsPool}
-use Rattle.zr_recorded.specs.Service.{AreInService}
+use Rattle.zr_recorded.specs.Service.{IsWhole}
 use Rattle.zr_shelf.specs.Moments.{Throughout, World}
 use Rattle.zr_stops.proofs.Ending.{leaves_committed}
 use Rattle.zr_stops.specs.Last.{IsCommitted}
@@ -18,14 +18,14 @@ use Rattle.zr_sync.specs.Commits.{IsNextRoot, IsShownFrom}
 use Rattle.zr_sync.specs.Ends.{EndsCommitted}
 use Rattle.zr_sync.specs.Heads.{HasHead}
 use Rattle.zr_sync.specs.Pools.{IsAfter, IsOpen}
-use Rattle.zr_sync.specs.Trees.{HoldsStreams, one_stage, recorded}
+use Rattle.zr_sync.specs.Trees.{HasLastTrees, HoldsStreams, every, one_stage}
 use Rattle.zr_sync.specs.Trees.Stage.{Recorded}
 use Rattle.zr_sync.specs.Writes.{WritesIntoFree}
 use Rattle.zr_sync.specs.declared.open.OpenPool.{OpenPool}
 use Rattle.zr_sync.specs.declared.open.Table.{Table}
 
 module _ (paths : List (List ℕ)) (sizes : List ℕ) (reset : Bool) (last : Uber) (old new : OpenPool) (objects : Objects) (others : List Standing) (tells : Type 0) (before after now : World) (ready : IsOpen sizes old) (from : GoesOnFrom last old) (sized : map length before.now.seen ≡ sizes) (newest : IsNewestOn before.now.seen last old.table.slots)
-    (shown : IsShownFor before.now.seen last old) (ends : EndsCommitted sizes reset old new objects before after) (serves : (u : Uber) → GoesOnFrom u new → AreInService u new) (unsaved : new.saved ≡ None) (h : HoldsStreams recorded (one_stage Recorded) others tells after.now.seen new) (wrote : WritesIntoFree new after now) where
+    (shown : IsShownFor before.now.seen last old) (had : HasLastTrees before.now.seen old) (ends : EndsCommitted sizes reset old new objects before after) (whole : IsWhole new) (unsaved : new.saved ≡ None) (h : HoldsStreams (every Recorded) (one_stage Recorded) others tells after.now.seen new) (wrote : WritesIntoFree new after now) where
   module _ (u : Uber) (goes : GoesOnFrom u new) (was : IsCommitted sizes after.now u new objects) where
     is_uber : IsUber u
     is_uber = (subst (λ (o : Option Uber). IsAfter o new.group.txg) goes.last ends.pool.after).0
@@ -51,7 +51,7 @@ module _ (paths : List (List ℕ)) (sizes : List ℕ) (reset : Bool) (last : Ube
     }
 
     shows : Throughout (ShowsPool paths objects) after now
-    shows = crash_shows paths sizes u new objects others tells after now was goes (serves u goes) unsaved shown_new head h wrote
+    shows = crash_shows paths sizes u new objects others tells after now was goes (record { version = ends.same.version ∙ sym next.version; whole = whole }) unsaved shown_new head h wrote
 
   pub commit_shows : Throughout (ShowsPool paths objects) after now
-  commit_shows = let left = leaves_committed sizes reset last old new objects before after ready from sized newest ends in shows left.0 left.1 left.2
+  commit_shows = let left = leaves_committed sizes reset last old new objects before after ready from sized newest (inr had) ends in shows left.0 left.1 left.2

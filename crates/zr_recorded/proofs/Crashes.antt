@@ -49,7 +49,7 @@ use Rattle.zr_store.proofs.Meeting.{at_each}
 use Rattle.zr_store.specs.Store.{Stored}
 use Rattle.zr_sync.specs.Heads.{HasHead, IsInMetadata, head_of}
 use Rattle.zr_sync.specs.Pools.{saved_block}
-use Rattle.zr_sync.specs.Trees.{HoldsStreams, one_stage, recorded}
+use Rattle.zr_sync.specs.Trees.{HoldsStreams, every, one_stage}
 use Rattle.zr_sync.specs.Trees.Stage.{Recorded}
 use Rattle.zr_sync.specs.Writes.{WritesIntoFree}
 use Rattle.zr_sync.specs.declared.open.Checkpoint.{Checkpoint}
@@ -67,7 +67,7 @@ closed : (r : Role) → is_meta_role r ≡ true → is_open_role r ≡ false
 closed r is = grind (arith, is)
 
 module _ (paths : List (List ℕ)) (sizes : List ℕ) (u : Uber) (pool : OpenPool) (objects : Objects) (others : List Standing) (tells : Type 0) (start : Stand) (was : IsCommitted sizes start u pool objects) (from : GoesOnFrom u pool) (serves : AreInService u pool) (unsaved : pool.saved ≡ None)
-    (shown : IsShownFor start.seen u pool) (head : HasHead start.seen pool u.root u.len) (h : HoldsStreams recorded (one_stage Recorded) others tells start.seen pool) where
+    (shown : IsShownFor start.seen u pool) (head : HasHead start.seen pool u.root u.len) (h : HoldsStreams (every Recorded) (one_stage Recorded) others tells start.seen pool) where
   there : AreThere (devices_in pool.space)
   there = parts.there start.seen start.seen sizes u pool others tells was.ready from serves (λ b is. refl) h
 
@@ -176,7 +176,7 @@ module _ (paths : List (List ℕ)) (sizes : List ℕ) (u : Uber) (pool : OpenPoo
 
 -- at each moment from where the group began
 pub crash_shows : (paths : List (List ℕ)) (sizes : List ℕ) (u : Uber) (pool : OpenPool) (objects : Objects) (others : List Standing) (tells : Type 0) (before now : World) → IsCommitted sizes before.now u pool objects → GoesOnFrom u pool → AreInService u pool → pool.saved ≡ None → IsShownFor before.now.seen u pool
-    → HasHead before.now.seen pool u.root u.len → HoldsStreams recorded (one_stage Recorded) others tells before.now.seen pool → WritesIntoFree pool before now → Throughout (ShowsPool paths objects) before now
+    → HasHead before.now.seen pool u.root u.len → HoldsStreams (every Recorded) (one_stage Recorded) others tells before.now.seen pool → WritesIntoFree pool before now → Throughout (ShowsPool paths objects) before now
 crash_shows paths sizes u pool objects others tells before now was from serves unsaved shown head h wrote =
     weaker (images.IsPending sizes u pool objects before.now was) (ShowsPool paths objects) before now (pending_shows paths sizes u pool objects others tells before.now was from serves unsaved shown head h)
     (added_throughout (images.IsPending sizes u pool objects before.now was) (IsWriteInto Block pool.table.slots pool.space) (images.pending_step sizes u pool objects before.now was) before now wrote

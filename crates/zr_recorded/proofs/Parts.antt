@@ -29,13 +29,13 @@ use Rattle.zr_rules.specs.Equation.{devices_in}
 use Rattle.zr_rules.specs.Logs.{IsLate, IsLog}
 use Rattle.zr_rules.specs.Places.{is_gone, no_part, part_of}
 use Rattle.zr_store.specs.Store.{Stored}
-use Rattle.zr_sync.specs.Checkpoints.{no_streams}
+use Rattle.zr_sync.specs.Empty.{no_streams}
 use Rattle.zr_sync.specs.Heads.{HasHead}
 use Rattle.zr_sync.specs.Objects.{HoldsObjects}
 use Rattle.zr_sync.specs.Pools.{IsAfter, IsOpen, saved_block}
 use Rattle.zr_sync.specs.States.{HoldsState}
 use Rattle.zr_sync.specs.Streams.{streams_at}
-use Rattle.zr_sync.specs.Trees.{HoldsStreams, one_stage, recorded}
+use Rattle.zr_sync.specs.Trees.{HoldsStreams, every, one_stage}
 use Rattle.zr_sync.specs.Trees.Place.{OfLog, FirstLate, SecondLate}
 use Rattle.zr_sync.specs.Trees.Stage.{Recorded}
 use Rattle.zr_sync.specs.declared.open.Checkpoint.{Checkpoint}
@@ -56,11 +56,11 @@ each_records s version ckpt dev (r ∷ rows) (t ∷ streams) (p ∷ devs) one tw
   each_records s version ckpt (dev + 1) rows streams devs (omega (arith, one)) (omega (arith, two)) (λ i e lt is. each (suc i) e (omega (arith, lt)) (omega (arith, is))),
 )
 
-module _ (disks image : List (List ℕ)) (sizes : List ℕ) (u : Uber) (pool : OpenPool) (others : List Standing) (tells : Type 0) (ready : IsOpen sizes pool) (from : GoesOnFrom u pool) (serves : AreInService u pool) (same : ReadsMetadata disks image pool) (h : HoldsStreams recorded (one_stage Recorded) others tells disks pool) where
+module _ (disks image : List (List ℕ)) (sizes : List ℕ) (u : Uber) (pool : OpenPool) (others : List Standing) (tells : Type 0) (ready : IsOpen sizes pool) (from : GoesOnFrom u pool) (serves : AreInService u pool) (same : ReadsMetadata disks image pool) (h : HoldsStreams (every Recorded) (one_stage Recorded) others tells disks pool) where
   -- a device in service is not gone
   pub there : AreThere (devices_in pool.space)
   there d = elim (cases_lt d pool.table.count) [
-    | inl lt ↦ ap is_gone (serves.serve d lt).on
+    | inl lt ↦ ap is_gone (serves.whole.serve d lt).on
     | inr ge ↦ let many = ready.devices in ap (λ (p : DevPart). is_gone p.row.state) (get_or-eq_default pool.space.parts.devs no_part {n = d} (omega (arith, many, ge)))
   ]
 
@@ -79,8 +79,8 @@ module _ (disks image : List (List ℕ)) (sizes : List ℕ) (u : Uber) (pool : O
   device d below =
       let n = from.count in
       let here : d < pool.table.count = omega (arith, below, n) in
-      let whole = serves.serve d here in
-      let reads = stream_read disks image sizes u pool recorded (one_stage Recorded) others tells ready there from same h d in
+      let whole = serves.whole.serve d here in
+      let reads = stream_read disks image sizes u pool (every Recorded) (one_stage Recorded) others tells ready there from same h d in
       let part : DevPart = part_of pool.space.parts.devs d in
       record {
         on = sym (ap (λ (r : DevRow). r.state) (row_is d below)) ∙ whole.on;
@@ -92,7 +92,7 @@ module _ (disks image : List (List ℕ)) (sizes : List ℕ) (u : Uber) (pool : O
         late1_stand = reads FirstLate here;
         late2 = h.words d SecondLate;
         late2_stand = reads SecondLate here;
-        spelled = spelled pool.space ready.lawful d u.version pool.space.parts.ckpt (get_or (rows_of u) d no_row) (h.words d (OfLog Held)) (h.words d (OfLog Kept)) (h.words d FirstLate) (h.words d SecondLate) (row_is d below) whole (λ clear. serves.unkept clear d here)
+        spelled = spelled pool.space ready.lawful d u.version pool.space.parts.ckpt (get_or (rows_of u) d no_row) (h.words d (OfLog Held)) (h.words d (OfLog Kept)) (h.words d FirstLate) (h.words d SecondLate) (row_is d below) whole (λ clear. serves.whole.unkept clear d here)
             (subst (λ (v : ℕ). IsLog v d (h.words d (OfLog Held)) part.held) serves.version (h.are d (OfLog Held) here))
             (subst (λ (v : ℕ). IsLog v d (h.words d (OfLog Kept)) part.kept) serves.version (h.are d (OfLog Kept) here))
             (subst (λ (v : ℕ). IsLate v d (h.words d FirstLate) part.late1) serves.version (h.are d FirstLate here))
@@ -108,12 +108,12 @@ module _ (disks image : List (List ℕ)) (sizes : List ℕ) (u : Uber) (pool : O
       subst (λ (k : ℕ). RecordsDevice (image_of image pool.table.slots u) u.version k pool.space.parts.ckpt (get_or (rows_of u) i no_row) (streams_at pool i) (part_of pool.space.parts.devs i)) one (device i (omega (arith, below, rows))))
 
   pub parts_recorded : (r : RecordsParts image u pool) × (r.parts ≡ pool.space.parts)
-  parts_recorded = streams_record image u pool pool.space.parts from serves.cond (ready.spelled ∙ serves.version) refl serves.cond devices
+  parts_recorded = streams_record image u pool pool.space.parts from serves.whole.cond (ready.spelled ∙ serves.version) refl serves.whole.cond devices
 
 -- ---- the pool that is shown
 
 module _ (paths disks : List (List ℕ)) (sizes : List ℕ) (u : Uber) (pool : OpenPool) (objects : Objects) (others : List Standing) (tells : Type 0) (ready : IsOpen sizes pool) (from : GoesOnFrom u pool) (serves : AreInService u pool) (unsaved : pool.saved ≡ None) (empty : pool.group.objects ≡ []) (slots : IsShownFor disks u pool)
-    (head : HasHead disks pool u.root u.len) (h : HoldsStreams recorded (one_stage Recorded) others tells disks pool) (held : HoldsObjects (Unit {0}) disks pool objects) where
+    (head : HasHead disks pool u.root u.len) (h : HoldsStreams (every Recorded) (one_stage Recorded) others tells disks pool) (held : HoldsObjects (Unit {0}) disks pool objects) where
   records : (r : RecordsParts disks u pool) × (r.parts ≡ pool.space.parts)
   records = parts_recorded disks disks sizes u pool others tells ready from serves (λ b is. refl) h
 

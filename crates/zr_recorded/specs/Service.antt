@@ -14,9 +14,13 @@ pub record ServesWhole (p : DevPart) : Type 0 where
   pub counts : p.counts ≡ []
   pub fresh : p.fresh ≡ []
 
--- The pool has the version of its last root. Each of its devices is in service, nothing is condensed, and units are kept for a checkpoint alone.
-pub record AreInService (u : Uber) (pool : OpenPool) : Type 0 where
-  pub version : pool.version ≡ u.version
+-- Each device of the pool is in service and has no mapping, nothing is condensed, and units are kept for a checkpoint alone. All of this its account says.
+pub record IsWhole (pool : OpenPool) : Type 0 where
   pub serve : (d : ℕ) → d < pool.table.count → ServesWhole (part_of pool.space.parts.devs d)
   pub cond : pool.space.parts.cond ≡ None
   pub unkept : pool.space.parts.ckpt ≡ Clear → (d : ℕ) → d < pool.table.count → (part_of pool.space.parts.devs d).kept ≡ []
+
+-- such a pool, of the version of its last root
+pub record AreInService (u : Uber) (pool : OpenPool) : Type 0 where
+  pub version : pool.version ≡ u.version
+  pub whole : IsWhole pool

@@ -10,7 +10,7 @@ ghost use Rattle.zr_open.specs.Left.{RecordsParts};
 ghost use Rattle.zr_open.specs.Shown.{Shows};
 ghost use Rattle.zr_open.specs.There.{AreThere};
 ghost use Rattle.zr_recorded.specs.Crashes.{ShowsPool};
-ghost use Rattle.zr_recorded.specs.Service.{AreInService};
+ghost use Rattle.zr_recorded.specs.Service.{AreInService, IsWhole};
 ghost use Rattle.zr_root.specs.Streams.{HasWords};
 ghost use Rattle.zr_roots.specs.Standing.{image_of};
 ghost use Rattle.zr_rules.specs.Equation.{devices_in};
@@ -23,8 +23,8 @@ ghost use Rattle.zr_sync.specs.Objects.{HoldsObjects};
 ghost use Rattle.zr_sync.specs.Pools.{IsOpen};
 ghost use Rattle.zr_sync.specs.States.{HoldsState};
 ghost use Rattle.zr_sync.specs.Streams.{streams_at};
-ghost use Rattle.zr_sync.specs.Trees.{HoldsStreams, Place, Stage, one_stage, recorded, stream_in};
-ghost use Rattle.zr_sync.specs.Trees.Stage.{Recorded};
+ghost use Rattle.zr_sync.specs.Trees.{HasTrees, HoldsStreams, Place, Stage, stream_in};
+ghost use Rattle.zr_sync.specs.Trees.Stage.{Had, Recorded};
 ghost use Rattle.zr_sync.specs.Writes.{WritesIntoFree};
 ghost use Rattle.zr_sync.specs.declared.mappings.MappingStream.{MappingStream};
 ghost use Rattle.zr_sync.specs.declared.open.OpenPool.{OpenPool};
@@ -45,31 +45,30 @@ pub fn a_condensing_is_read<S: Shelf>()
 
 /// Where all devices are in service, the words that a commit has recorded record the parts of the pool's space: what an import
 /// of its root finds there.
-pub fn recorded_streams_record_parts<S: Shelf>()
-    ensures { (shelf : S) (disks : List (List ℕ)) (sizes : List ℕ) (u : Uber) (pool : OpenPool) (others : List Standing) → IsOpen sizes pool → GoesOnFrom u pool → AreInService u pool
-        → HoldsStreams recorded (one_stage Recorded) others (S.tells shelf) disks pool → (r : RecordsParts disks u pool) × (r.parts ≡ pool.space.parts) }
+pub fn recorded_streams_record_parts()
+    ensures { (disks : List (List ℕ)) (sizes : List ℕ) (u : Uber) (pool : OpenPool) → IsOpen sizes pool → GoesOnFrom u pool → AreInService u pool → HasTrees Recorded (Unit {0}) disks pool → (r : RecordsParts disks u pool) × (r.parts ≡ pool.space.parts) }
 {}
 
 /// So where no root is saved and nothing has changed since the last one, which the slots show and at which the pool's head stands,
 /// the disks show a pool with the objects that it holds.
-pub fn a_pool_is_shown<S: Shelf>()
-    ensures { (shelf : S) (paths disks : List (List ℕ)) (sizes : List ℕ) (u : Uber) (pool : OpenPool) (objects : Objects) (others : List Standing) → IsOpen sizes pool → GoesOnFrom u pool → AreInService u pool → pool.saved ≡ None → pool.group.objects ≡ []
-        → IsShownFor disks u pool → HasHead disks pool u.root u.len → HoldsStreams recorded (one_stage Recorded) others (S.tells shelf) disks pool → HoldsObjects (Unit {0}) disks pool objects
+pub fn a_pool_is_shown()
+    ensures { (paths disks : List (List ℕ)) (sizes : List ℕ) (u : Uber) (pool : OpenPool) (objects : Objects) → IsOpen sizes pool → GoesOnFrom u pool → AreInService u pool → pool.saved ≡ None → pool.group.objects ≡ []
+        → IsShownFor disks u pool → HasHead disks pool u.root u.len → HasTrees Recorded (Unit {0}) disks pool → HoldsObjects (Unit {0}) disks pool objects
         → (p : PoolState) × Shows paths disks p × HoldsState (Unit {0}) disks pool p × (p.objects ≡ objects) }
 {}
 
 /// While the group of such a pool is open, whatever a crash leaves at any moment shows a pool with the objects of the last root:
 /// after a stop there is a pool to import.
-pub fn a_crash_shows_the_pool<S: Shelf>()
-    ensures { (shelf : S) (paths : List (List ℕ)) (sizes : List ℕ) (u : Uber) (pool : OpenPool) (objects : Objects) (others : List Standing) (before now : World) → IsCommitted sizes before.now u pool objects → GoesOnFrom u pool → AreInService u pool → pool.saved ≡ None
-        → IsShownFor before.now.seen u pool → HasHead before.now.seen pool u.root u.len → HoldsStreams recorded (one_stage Recorded) others (S.tells shelf) before.now.seen pool → WritesIntoFree pool before now
+pub fn a_crash_shows_the_pool()
+    ensures { (paths : List (List ℕ)) (sizes : List ℕ) (u : Uber) (pool : OpenPool) (objects : Objects) (before now : World) → IsCommitted sizes before.now u pool objects → GoesOnFrom u pool → AreInService u pool → pool.saved ≡ None
+        → IsShownFor before.now.seen u pool → HasHead before.now.seen pool u.root u.len → HasTrees Recorded (Unit {0}) before.now.seen pool → WritesIntoFree pool before now
         → Throughout (ShowsPool paths objects) before now }
 {}
 
-/// Behind a commit that has recorded the streams, whatever a crash leaves while the next group is open shows a pool with the objects
-/// that were committed.
-pub fn a_commit_is_shown_after_a_crash<S: Shelf>()
-    ensures { (shelf : S) (paths : List (List ℕ)) (sizes : List ℕ) (reset : Bool) (last : Uber) (old new : OpenPool) (objects : Objects) (others : List Standing) (before after now : World) → IsOpen sizes old → GoesOnFrom last old → map length before.now.seen ≡ sizes → IsNewestOn before.now.seen last old.table.slots
-        → IsShownFor before.now.seen last old → EndsCommitted sizes reset old new objects before after → ((u : Uber) → GoesOnFrom u new → AreInService u new) → new.saved ≡ None → HoldsStreams recorded (one_stage Recorded) others (S.tells shelf) after.now.seen new → WritesIntoFree new after now
+/// Where the trees of a pool's streams stand on its disks before a commit, as a run tells it, then behind the commit whatever a crash leaves
+/// while the next group is open shows a pool with the objects that were committed.
+pub fn a_commit_is_shown_after_a_crash()
+    ensures { (paths : List (List ℕ)) (sizes : List ℕ) (reset : Bool) (last : Uber) (old new : OpenPool) (objects : Objects) (before after now : World) → IsOpen sizes old → GoesOnFrom last old → map length before.now.seen ≡ sizes → IsNewestOn before.now.seen last old.table.slots
+        → IsShownFor before.now.seen last old → HasTrees Had (Unit {0}) before.now.seen old → EndsCommitted sizes reset old new objects before after → IsWhole new → new.saved ≡ None → WritesIntoFree new after now
         → Throughout (ShowsPool paths objects) after now }
 {}

@@ -148,7 +148,7 @@ back_last sizes first behind x y z d before mid now was leaving comes sized writ
 -- ---- wherever it stops
 
 -- the pool to which the device has come back is being committed
-pub stops_back : (sizes first : List ℕ) (objects : Objects) (x y : OpenPool) (d : ℕ) (before mid now : World) → first ≡ sizes → is_leaving (state_of_dev x.space.parts.devs d) ≡ true → IsOpen first y → ComesBack x y d → WritesIntoFree x before mid → CommitsObjects first y true objects mid now → CancelsInPart sizes objects x before now
+pub stops_back : (sizes first : List ℕ) (objects : Objects) (x y : OpenPool) (d : ℕ) (before mid now : World) → first ≡ sizes → is_leaving (state_of_dev x.space.parts.devs d) ≡ true → IsOpen first y → ComesBack x y d → WritesIntoFree x before mid → CommitsObjects ⊥ first y true objects mid now → CancelsInPart sizes objects x before now
 stops_back sizes first objects x y d before mid now same leaving ready comes written commits =
     inr (record {
       dev = d;
@@ -158,7 +158,7 @@ stops_back sizes first objects x y d before mid now same leaving ready comes wri
       comes = comes;
       start = mid;
       written = written;
-      commits = subst (λ (n : List ℕ). CommitsObjects n y true objects mid now) same commits;
+      commits = subst (λ (n : List ℕ). CommitsObjects ⊥ n y true objects mid now) same commits;
     })
 
 -- a device comes back to a pool as to one that has cached something else

@@ -34,7 +34,7 @@ pub record BeginsRemoval (sizes : List ℕ) (told : Type 0) (now : World) (old n
 
 -- Wherever the beginning of a removal stops: nothing was done, or the pool of which the device is leaving was being committed with these objects, by a reset.
 abbrev pub BeginsInPart : List ℕ → Objects → OpenPool → ℕ → World → World → Type 0
-BeginsInPart sizes objects old d before now = IsStill before now ⊎ ((left : OpenPool) × IsOpen sizes left × LeavesPool old left d × CommitsObjects sizes left true objects before now)
+BeginsInPart sizes objects old d before now = IsStill before now ⊎ ((left : OpenPool) × IsOpen sizes left × LeavesPool old left d × CommitsObjects ⊥ sizes left true objects before now)
 
 -- the device is back in service in the space and in the table, and nothing else is changed
 pub record CancelsSpace (old new : OpenPool) (d : ℕ) : Type 0 where
@@ -68,7 +68,7 @@ pub record CommitsBack (sizes : List ℕ) (objects : Objects) (old : OpenPool) (
   pub comes : ComesBack old back dev
   pub start : World
   pub written : WritesIntoFree old before start
-  pub commits : CommitsObjects sizes back true objects start now
+  pub commits : CommitsObjects ⊥ sizes back true objects start now
 
 -- Wherever the giving up of a removal stops: nothing was written but units that were free or the group's own, or the pool to which the device has come back was being committed with these objects, by a reset.
 abbrev pub CancelsInPart : List ℕ → Objects → OpenPool → World → World → Type 0

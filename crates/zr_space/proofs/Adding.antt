@@ -1,16 +1,16 @@
 -- One device more.
-use Rattle.std.proofs.Common.{◌≡◌, ℕ, ◌+◌, ◌<◌, ◌^◌, ◌==◌, ◌&&◌, nat_lt, true, false, List, [], ◌∷◌, ◌++◌, map, length, refl, ◌∙◌, sym, ap, arith, if◌then◌else◌, length-append}
+use Rattle.std.proofs.Common.{◌≡◌, ℕ, zero, suc, get_or, ◌+◌, ◌<◌, ◌^◌, ◌==◌, ◌&&◌, nat_lt, true, false, List, [], ◌∷◌, ◌++◌, map, length, refl, ◌∙◌, sym, ap, arith, if◌then◌else◌, length-append}
 use Rattle.std.proofs.lemmas.Bool.Decides.{nat_tests}
 use Rattle.std.proofs.lemmas.List.{length-map}
 use Rattle.zr_base.specs.Extents.{has_unit}
 use Rattle.zr_rules.specs.Places.{one_if, is_on, is_leaving}
-use Rattle.zr_rules.specs.Space.{copy_hits}
+use Rattle.zr_rules.specs.Space.{copy_hits, nothing_opened, opened_of}
 use Rattle.zr_rules.specs.Roles.Role.{Free}
 use Rattle.zr_rules.specs.Steps as steps
 use Rattle.zr_metaslab.specs.Devices as slab
 use Rattle.zr_metaslab.specs.Devices.{Devices, free_at, count_at, units_at, serves_at}
 use Rattle.zr_units.specs.Uses.{IsAccount, unused}
-use Rattle.zr_space.specs.Views.{Kept, kept_of, part_in, space_of, role_in, units_there, IsMoved, IsTied, IsSpace, meta_from, saved_from, addresses, fresh_device}
+use Rattle.zr_space.specs.Views.{Kept, kept_of, opened_in, part_in, space_of, role_in, units_there, IsMoved, IsTied, IsSpace, meta_from, saved_from, addresses, fresh_device}
 use Rattle.zr_space.proofs.Roles.{roles_are}
 use Rattle.zr_space.proofs.Views.{on_all}
 use Rattle.zr_space.proofs.Devs.{ranked_last}
@@ -33,6 +33,16 @@ meta_last i (x ∷ xs) units txg spare = ap (λ list. addresses i x.uses.meta ++
 saved_last : (i : ℕ) (devs : List Kept) (units txg spare : ℕ) → saved_from i (devs ++ fresh_device units txg spare ∷ []) ≡ saved_from i devs
 saved_last i [] units txg spare = refl
 saved_last i (x ∷ xs) units txg spare = ap (λ list. addresses i x.uses.saved ++ list) (saved_last (i + 1) xs units txg spare)
+
+opened_last : (devs : List Kept) (units txg spare d : ℕ) → get_or (map opened_in (devs ++ fresh_device units txg spare ∷ [])) d nothing_opened ≡ get_or (map opened_in devs) d nothing_opened
+opened_last [] units txg spare zero = refl
+opened_last [] units txg spare (suc d) = refl
+opened_last (x ∷ xs) units txg spare zero = refl
+opened_last (x ∷ xs) units txg spare (suc d) = opened_last xs units txg spare d
+
+-- what the open group did on each device is the same
+pub opened_still : (whole : Whole) (devs : List Kept) (units txg spare d : ℕ) → opened_of (space_of whole (devs ++ fresh_device units txg spare ∷ [])) d ≡ opened_of (space_of whole devs) d
+opened_still whole devs units txg spare d = opened_last devs units txg spare d
 
 pub record IsAdded (whole : Whole) (s t : Devices) (devs : List Kept) (units : ℕ) : Type 0 where
   pub space : IsSpace whole s devs

@@ -1,5 +1,6 @@
 -- Devices that are all in service, and addresses that lead nowhere.
-use Rattle.std.specs.Prelude.{◌≡◌, ℕ, ◌+◌, ◌≤◌, ◌<◌, false, None}
+use Rattle.std.specs.Prelude.{◌≡◌, ℕ, ◌+◌, ◌≤◌, ◌<◌, false, None, []}
+use Rattle.zr_base.specs.declared.space.DevPart.{DevPart}
 use Rattle.zr_base.specs.declared.space.Dva.{Dva}
 use Rattle.zr_rules.specs.Devices.{Devices, state_at}
 use Rattle.zr_rules.specs.Places.{is_gone, is_leaving}
@@ -11,6 +12,12 @@ use Rattle.zr_chain.specs.declared.visit.ChainErr.TheVariants.{NoEntry, NoMemory
 pub record AreInService (ds : Devices) : Type 0 where
   pub there : (d : ℕ) → is_gone (state_at ds d) ≡ false
   pub stays : (d : ℕ) → is_leaving (state_at ds d) ≡ false
+
+-- the device has no mapping
+pub record HasNoMapping (p : DevPart) : Type 0 where
+  pub entries : p.entries ≡ []
+  pub counts : p.counts ≡ []
+  pub fresh : p.fresh ≡ []
 
 -- the address lies on a device, and within its units where it is not gone
 pub record StandsWithin (ds : Devices) (a : Dva) : Type 0 where

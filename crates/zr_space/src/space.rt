@@ -7,6 +7,7 @@ ghost use Rattle.zr_rules.specs.Places.{state_of_dev, units_of_dev};
 ghost use Rattle.zr_space.specs.Drops.{IsMeta, KeepsParts};
 ghost use Rattle.zr_rules.specs.Frees.{Allocates, AllocatesMeta, DropsMeta};
 ghost use Rattle.zr_rules.specs.Steps.{AddsDevice, Commits};
+ghost use Rattle.zr_rules.specs.Space.{opened_of};
 ghost use Rattle.zr_space.specs.Turning.{TurnsParts};
 ghost use Rattle.zr_space.specs.Live.{IsLive};
 ghost use Rattle.zr_metaslab.specs.Devices.{extent_of};
@@ -121,6 +122,7 @@ impl Space {
         requires small { units < 2 ^ 40 }
         ensures index { IfOk result (λ d. d ≡ length self.old.parts.devs) }
         ensures ok { OnOk result (AddsDevice self.old self.new units txg) }
+        ensures opened { OnOk result ((d : ℕ) → opened_of self.new d ≡ opened_of self.old d) }
         ensures err { OnErr result (self.new ≡ self.old) }
     {
         let dev = self.devs.len() as u32;

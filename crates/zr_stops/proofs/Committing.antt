@@ -40,12 +40,13 @@ use Rattle.zr_shelf.specs.Doings.{WritesOnly}
 use Rattle.zr_shelf.specs.Moments.{IsStill, Throughout, World}
 use Rattle.zr_slots.specs.Phases.{IsPublished, IsPublishedInPart}
 use Rattle.zr_slots.specs.Tables.{IsSlotInBoth}
-use Rattle.zr_open.specs.There.{AreThere}
+use Rattle.zr_open.specs.There.{AreThere, IsReadable, StaysReadable}
 use Rattle.zr_store.specs.Store.{Stored}
 use Rattle.zr_sync.proofs.Holding.{below_labels, published_bytes}
 use Rattle.zr_sync.proofs.Rings.{address_keeps, uber_long}
 use Rattle.zr_sync.specs.Commits.{IsNextRoot, IsShownFrom, PublishesRoot}
 use Rattle.zr_sync.specs.Leads.{CommitsObjects, LeadsTo}
+use Rattle.zr_sync.specs.Moves.{TellsMoves}
 use Rattle.zr_sync.specs.Pools.{IsAfter, IsOpen}
 use Rattle.zr_sync.specs.Writes.{WritesIntoFree}
 use Rattle.zr_sync.specs.declared.open.OpenPool.{OpenPool}
@@ -54,11 +55,12 @@ use Rattle.zr_vdev.specs.Runs.{view_of}
 use Rattle.zr_vdev.specs.Stores.{IsWriteInto}
 use Rattle.zr_vdev.specs.declared.kind.Kind.TheVariants.{Block}
 use Rattle.zr_view.specs.Views.{View, address_bytes, slot_of}
-use Rattle.zr_stops.proofs.Directories.{shown_objects}
+use Rattle.zr_moved.proofs.Objects.{shown_objects}
 use Rattle.zr_sync.proofs.Ending.{own_directory}
 use Rattle.zr_stops.proofs.Images.{alone, group_leaves, stands, within_clear, within_pending}
 use Rattle.zr_stops.proofs.Kept as kept
 use Rattle.zr_stops.proofs.Kept.{LeavesAlone, StandsLast}
+use Rattle.zr_stops.proofs.Readable.{readable_stays}
 use Rattle.zr_stops.proofs.Putting.{IsPutting, almost_throughout, begun_throughout, putting_throughout, torn, units_kept}
 use Rattle.zr_stops.proofs.Torn.{torn_shows}
 use Rattle.zr_stops.proofs.Within.{group_within, in_group, within_writes}
@@ -93,7 +95,7 @@ module _ (pool : OpenPool) (a b : List (List ℕ)) (same : (x : Dva) → address
 -- ---- devices that are there
 
 -- the rows of two tables tell of the same devices
-abbrev AreAlike : Table → Table → Type 0
+abbrev pub AreAlike : Table → Table → Type 0
 AreAlike t v = (d : ℕ) → IsOneDevice (slice_index_or t.rows d no_row) (slice_index_or v.rows d no_row)
 
 -- a pool with the same devices has them too
@@ -105,7 +107,7 @@ row_alike sizes x y o q count alike d = elim (cases_lt d x.table.count) [
       ap (λ (p : DevPart). is_gone p.row.state) (get_or-eq_default y.space.parts.devs no_part {n = d} (omega (arith, k, m, ge))) ∙ sym (ap (λ (p : DevPart). is_gone p.row.state) (get_or-eq_default x.space.parts.devs no_part {n = d} (omega (arith, n, ge))))
 ]
 
-there_alike : (sizes : List ℕ) (x y : OpenPool) → IsOpen sizes x → IsOpen sizes y → y.table.count ≡ x.table.count → AreAlike x.table y.table → AreThere (devices_in x.space) → AreThere (devices_in y.space)
+pub there_alike : (sizes : List ℕ) (x y : OpenPool) → IsOpen sizes x → IsOpen sizes y → y.table.count ≡ x.table.count → AreAlike x.table y.table → AreThere (devices_in x.space) → AreThere (devices_in y.space)
 there_alike sizes x y o q count alike on d = row_alike sizes x y o q count alike d ∙ on d
 
 same_alike : (t v : Table) → v ≡ t → AreAlike t v
@@ -125,25 +127,25 @@ at_alike : (seen : List Seen) (last u : Uber) (slots mine : List (Option ℕ)) �
 at_alike seen last u slots mine same devices are d =
     ap (λ (these : List (Option ℕ)). slot_of these d) same ∙ (are d ∙ ap (λ (these : List (Option ℕ)). slot_of these d) (sym (slots_alike last u seen devices)))
 
--- On these disks the next root leads to a pool with these objects, of which no device is gone, and whose devices are where these labels say.
+-- On these disks the next root leads to a pool with these objects and can be read, and its devices are where these labels say.
 pub record IsNextPool (sizes : List ℕ) (disks : List (List ℕ)) (last u : Uber) (old next : OpenPool) (seen : List Seen) (after : Objects) : Type 0 where
   pub lawful : IsUber u
   pub txg : u.txg ≡ last.txg + 1
   pub count : u.count ≡ old.table.count
   pub ready : IsOpen sizes next
   pub from : GoesOnFrom u next
-  pub on : AreThere (devices_in next.space)
+  pub reads : IsReadable disks next u
   pub at : AreAt next.table.slots u seen
   pub head : HasDirectory disks next u.root u.len
   pub objects : AreObjects (store_of (view_of disks next.table.slots next.space)) next.dir after
 
 -- ---- what leaves the last root shows its objects
 
-module _ (sizes : List ℕ) (last : Uber) (first : OpenPool) (before : Objects) (open_first : IsOpen sizes first) (from : GoesOnFrom last first) (on : AreThere (devices_in first.space)) where
+module _ (sizes : List ℕ) (last : Uber) (first : OpenPool) (before : Objects) (open_first : IsOpen sizes first) (from : GoesOnFrom last first) where
   pub last_only : (image : List (List ℕ)) → HasLast image last first before → (paths : List (List ℕ)) (p : PoolState) → Shows paths image p → p.objects ≡ before
   last_only image has paths p shows =
       one_meaning (store_of (view_of image first.table.slots first.space)) first.dir p.objects before
-      (shown_objects paths image sizes last first p open_first on from has.head shows (only_newest image last first.table.slots shows.seen has.newest shows.shown shows.root.uber shows.current) (devices_seen image last first.table.slots shows.seen has.newest shows.shown)) has.objects
+      (shown_objects paths image sizes last first p open_first from has.reads has.head shows (only_newest image last first.table.slots shows.seen has.newest shows.shown shows.root.uber shows.current) (devices_seen image last first.table.slots shows.seen has.newest shows.shown)) has.objects
 
   pub open_only : (stand : Stand) → LeavesLast last first before stand → ShowsOnly before stand
   open_only stand keeps image left paths p shows = last_only image (keeps image left.leaves) paths p shows
@@ -157,7 +159,6 @@ module _ (sizes : List ℕ) (last : Uber) (first : OpenPool) (before : Objects) 
 pub record Starts (sizes : List ℕ) (last : Uber) (first : OpenPool) (before : Objects) (begin start : Stand) (Allowed : PendingWrite → Type 0) : Type 0 where
   pub was : StandsLast sizes begin last first before
   pub from : GoesOnFrom last first
-  pub on : AreThere (devices_in first.space)
   pub alone : LeavesAlone sizes first Allowed
   pub pending : kept.IsPending sizes last first before begin was Allowed alone start
   pub clear : kept.KeepsClear sizes last first before begin was Allowed alone start.seen
@@ -168,9 +169,6 @@ module _ (sizes : List ℕ) (last : Uber) (first old : OpenPool) (before after :
 
   abbrev from : GoesOnFrom last first
   from = s.from
-
-  abbrev on : AreThere (devices_in first.space)
-  on = s.on
 
   abbrev Pending : Stand → Type 0
   Pending = kept.IsPending sizes last first before begin was May s.alone
@@ -191,7 +189,7 @@ module _ (sizes : List ℕ) (last : Uber) (first old : OpenPool) (before after :
   newest_mid = kept.newest_kept sizes last first before begin was May s.alone mid.now.seen clear_mid
 
   last_leaves : (stand : Stand) → Pending stand → ShowsEither before after stand
-  last_leaves stand is = open_either sizes last first before was.ready from on after stand (kept.leaves sizes last first before begin was May s.alone stand is)
+  last_leaves stand is = open_either sizes last first before was.ready from after stand (kept.leaves sizes last first before begin was May s.alone stand is)
 
   mid_sizes : map length mid.now.seen ≡ sizes
   mid_sizes = clear_mid.same_sizes ∙ was.sized
@@ -243,13 +241,13 @@ module _ (sizes : List ℕ) (last : Uber) (first old : OpenPool) (before after :
         is_before same =
             let stands_there = head_kept first mid.now.seen image (address_kept first was.ready) last.root last.len reads.head in
             one_meaning (store_of (view_of image first.table.slots first.space)) first.dir p.objects before
-            (shown_objects paths image sizes last first p was.ready on from stands_there shows same (one.before shows.seen shows.shown)) (objects_kept first mid.now.seen image (address_kept first was.ready) before reads.objects)
+            (shown_objects paths image sizes last first p was.ready from (readable_stays mid.now.seen image first last (λ a meta. address_kept first was.ready a) reads.reads) stands_there shows same (one.before shows.seen shows.shown)) (objects_kept first mid.now.seen image (address_kept first was.ready) before reads.objects)
 
         is_after : shows.root.uber ≡ u → p.objects ≡ after
         is_after same =
             let stands_there = head_kept next mid.now.seen image (address_kept next is.ready) u.root u.len is.head in
             one_meaning (store_of (view_of image next.table.slots next.space)) next.dir p.objects after
-            (shown_objects paths image sizes u next p is.ready is.on is.from stands_there shows same (one.after shows.seen shows.shown))
+            (shown_objects paths image sizes u next p is.ready is.from (readable_stays mid.now.seen image next u (λ a meta. address_kept next is.ready a) is.reads) stands_there shows same (one.after shows.seen shows.shown))
             (objects_kept next mid.now.seen image (address_kept next is.ready) after is.objects)
 
         either : (p.objects ≡ before) ⊎ (p.objects ≡ after)
@@ -271,11 +269,10 @@ module _ (sizes : List ℕ) (last : Uber) (first old : OpenPool) (before after :
     part_either now (inr (inr p)) = put_either now (almost_throughout sizes both all u lawful (uber_long u lawful) mid mid_sizes big_both big_all p.first p.half p.second p.before p.wrote p.between p.durable now p.rest)
 
 -- so it is within a group
-group_starts : (sizes : List ℕ) (last : Uber) (first old : OpenPool) (before : Objects) (begin start : Stand) (was : IsCommitted sizes begin last first before) → GoesOnFrom last first → AreThere (devices_in first.space) → StandsChanged first begin old start → Starts sizes last first before begin start (IsWriteInto Block first.table.slots first.space)
-group_starts sizes last first old before begin start was from on group = record {
+group_starts : (sizes : List ℕ) (last : Uber) (first old : OpenPool) (before : Objects) (begin start : Stand) (was : IsCommitted sizes begin last first before) → GoesOnFrom last first → StandsChanged first begin old start → Starts sizes last first before begin start (IsWriteInto Block first.table.slots first.space)
+group_starts sizes last first old before begin start was from group = record {
   was = stands sizes last first before begin was;
   from = from;
-  on = on;
   alone = alone sizes last first before begin was;
   pending = within_pending sizes last first before begin was old start group;
   clear = within_clear sizes last first before begin was old start group;
@@ -284,12 +281,12 @@ group_starts sizes last first old before begin start was from on group = record 
 -- ---- a commit that succeeded
 
 -- from where its lines began
-early_either : (sizes : List ℕ) (last : Uber) (first old : OpenPool) (before after : Objects) (begin start : World) → IsCommitted sizes begin.now last first before → GoesOnFrom last first → AreThere (devices_in first.space) → IsInGroup first begin old start
+early_either : (sizes : List ℕ) (last : Uber) (first old : OpenPool) (before after : Objects) (begin start : World) → IsCommitted sizes begin.now last first before → GoesOnFrom last first → IsInGroup first begin old start
     → Throughout (ShowsEither before after) begin start
-early_either sizes last first old before after begin start was from on group =
-    weaker (LeavesLast last first before) (ShowsEither before after) begin start (open_either sizes last first before was.ready from on after) (group_leaves sizes last first before begin start was group.written)
+early_either sizes last first old before after begin start was from group =
+    weaker (LeavesLast last first before) (ShowsEither before after) begin start (open_either sizes last first before was.ready from after) (group_leaves sizes last first before begin start was group.written)
 
-module _ (sizes : List ℕ) (last u : Uber) (first old new : OpenPool) (before after : Objects) (begin : Stand) (start mid now : World) (was : IsCommitted sizes begin last first before) (from : GoesOnFrom last first) (on : AreThere (devices_in first.space))
+module _ (sizes : List ℕ) (last u : Uber) (first old new : OpenPool) (before after : Objects) (begin : Stand) (start mid now : World) (was : IsCommitted sizes begin last first before) (from : GoesOnFrom last first)
     (group : StandsInGroup first begin old start.now) (ready : IsOpen sizes old) (wrote : WritesIntoFree old start mid) (shown : IsShownFrom sizes old u mid now) (lawful : IsUber u) (is_next : IsNextOf last u) (done : IsCommitted sizes now.now u new after) (to : GoesOnFrom u new) (table : new.table ≡ first.table) where
   read_same : (x : Dva) → address_bytes (view_of mid.now.seen new.table.slots new.space) x ≡ address_bytes (view_of now.now.seen new.table.slots new.space) x
   read_same x = sym (published_bytes sizes shown.both shown.all u (Ok tt) mid now new done.ready lawful shown.published x)
@@ -298,7 +295,7 @@ module _ (sizes : List ℕ) (last u : Uber) (first old new : OpenPool) (before a
   changed = in_group first begin old start.now group
 
   starts : Starts sizes last first before begin start.now (IsWriteInto Block first.table.slots first.space)
-  starts = group_starts sizes last first old before begin start.now was from on changed
+  starts = group_starts sizes last first old before begin start.now was from changed
 
   blocks : WritesOnly (IsWriteInto Block first.table.slots first.space) start mid
   blocks = within_writes first begin old start mid changed wrote
@@ -323,7 +320,7 @@ module _ (sizes : List ℕ) (last u : Uber) (first old new : OpenPool) (before a
     count = is_next.count ∙ (sym from.count ∙ ap (λ (t : Table). t.count) (sym group.table));
     ready = done.ready;
     from = to;
-    on = there_same sizes first new was.ready done.ready table on;
+    reads = readable_stays now.now.seen mid.now.seen new u (λ a meta. read_same a) done.reads;
     at = at_alike newest.seen last u first.table.slots new.table.slots (ap (λ (t : Table). t.slots) table) same_rows newest.devices;
     head = head_kept new now.now.seen mid.now.seen read_same u.root u.len done.head;
     objects = objects_kept new now.now.seen mid.now.seen read_same after (objects_meant (Unit {0}) now.now.seen new after done.empty done.objects);
@@ -334,8 +331,8 @@ module _ (sizes : List ℕ) (last u : Uber) (first old new : OpenPool) (before a
 
 pub commit_either : (sizes : List ℕ) (last u : Uber) (first old new : OpenPool) (before after : Objects) (begin start mid now : World) → CommitsGroup sizes last u first old new before after begin start mid now → Throughout (ShowsEither before after) begin now
 commit_either sizes last u first old new before after begin start mid now c =
-    joined (ShowsEither before after) begin start now (early_either sizes last first old before after begin start c.was c.from c.on c.group)
-    (done_either sizes last u first old new before after begin.now start mid now c.was c.from c.on (group_within sizes last first before begin old start c.was c.group) c.ready c.wrote c.shown c.lawful c.next c.done c.to c.table)
+    joined (ShowsEither before after) begin start now (early_either sizes last first old before after begin start c.was c.from c.group)
+    (done_either sizes last u first old new before after begin.now start mid now c.was c.from (group_within sizes last first before begin old start c.was c.group) c.ready c.wrote c.shown c.lawful c.next c.done c.to c.table)
 
 -- ---- a commit, wherever it stops
 
@@ -356,23 +353,25 @@ next_of sizes reset last u old ready from next = record {
   rows = next.rows ∙ from.rows;
 }
 
-module _ (sizes : List ℕ) (reset : Bool) (last : Uber) (first old : OpenPool) (before after : Objects) (begin : Stand) (start now : World) (was : IsCommitted sizes begin last first before) (from : GoesOnFrom last first) (on : AreThere (devices_in first.space))
-    (group : StandsChanged first begin old start.now) (ready : IsOpen sizes old) where
+-- behind a commit the root can be read, where no device is gone, or what is told of the streams says so
+pub stays_readable : (Told : Type 0) (sizes : List ℕ) (disks : List (List ℕ)) (old next : OpenPool) (u : Uber) → IsOpen sizes old → IsOpen sizes next → next.table ≡ old.table → StaysReadable old Told → (Told → TellsMoves disks next u.root u.len) → IsReadable disks next u
+stays_readable Told sizes disks old next u ready after table (inl there) moves = inl (there_same sizes old next ready after table there)
+stays_readable Told sizes disks old next u ready after table (inr told) moves = inr (moves told)
+
+module _ (Told : Type 0) (sizes : List ℕ) (reset : Bool) (last : Uber) (first old : OpenPool) (before after : Objects) (begin : Stand) (start now : World) (was : IsCommitted sizes begin last first before) (from : GoesOnFrom last first)
+    (group : StandsChanged first begin old start.now) (ready : IsOpen sizes old) (stays_so : StaysReadable old Told) where
   changed_starts : Starts sizes last first before begin start.now (IsWriteInto Block first.table.slots first.space)
-  changed_starts = group_starts sizes last first old before begin start.now was from on group
+  changed_starts = group_starts sizes last first old before begin start.now was from group
 
   wrote : (mid : World) → WritesIntoFree old start mid → WritesOnly (IsWriteInto Block first.table.slots first.space) start mid
   wrote mid blocks = within_writes first begin old start mid group blocks
 
-  module _ (mid : World) (blocks : WritesIntoFree old start mid) (u : Uber) (lawful : IsUber u) (next_root : IsNextRoot old reset u) (leads : LeadsTo sizes mid.now.seen old u after) where
+  module _ (mid : World) (blocks : WritesIntoFree old start mid) (u : Uber) (lawful : IsUber u) (next_root : IsNextRoot old reset u) (leads : LeadsTo Told sizes mid.now.seen old u after) where
     abbrev newest_there : IsNewestOn mid.now.seen last first.table.slots
     newest_there = newest_mid sizes last first old before after begin start mid (IsWriteInto Block first.table.slots first.space) changed_starts ready (wrote mid blocks)
 
     same_table : leads.next.table ≡ old.table
     same_table = leads.same.table
-
-    rows : AreAlike first.table leads.next.table
-    rows = subst (AreAlike first.table) (sym same_table) group.devices.rows
 
     next_pool : IsNextPool sizes mid.now.seen last u old leads.next newest_there.seen after
     next_pool = record {
@@ -381,7 +380,7 @@ module _ (sizes : List ℕ) (reset : Bool) (last : Uber) (first old : OpenPool) 
       count = next_root.count;
       ready = leads.ready;
       from = goes_on old leads.next reset u leads.last next_root leads.same;
-      on = there_alike sizes first leads.next was.ready leads.ready (ap (λ (t : Table). t.count) same_table ∙ group.devices.count) rows on;
+      reads = stays_readable Told sizes mid.now.seen old leads.next u ready leads.ready same_table stays_so leads.moves;
       at = at_alike newest_there.seen last u first.table.slots leads.next.table.slots (ap (λ (t : Table). t.slots) same_table ∙ group.devices.slots) (follows_devices reset last u first old from group.devices next_root) newest_there.devices;
       head = own_directory mid.now.seen leads.next u.root u.len leads.head;
       objects = objects_meant (Unit {0}) mid.now.seen leads.next after leads.empty leads.holds;
@@ -392,12 +391,12 @@ module _ (sizes : List ℕ) (reset : Bool) (last : Uber) (first old : OpenPool) 
     root_either (inr (inl part)) = part_either sizes last first old before after begin start mid (IsWriteInto Block first.table.slots first.space) changed_starts ready (wrote mid blocks) u leads.next part.both part.all next_pool part.in_both part.in_all now part.published
     root_either (inr (inr shown)) = whole_either sizes last first old before after begin start mid (IsWriteInto Block first.table.slots first.space) changed_starts ready (wrote mid blocks) u leads.next shown.both shown.all next_pool shown.in_both shown.in_all now shown.published
 
-  pub stops_either : CommitsObjects sizes old reset after start now → Throughout (ShowsEither before after) start now
+  pub stops_either : CommitsObjects Told sizes old reset after start now → Throughout (ShowsEither before after) start now
   stops_either (mid, blocks, inl unmoved) = still_either sizes last first old before after begin start mid (IsWriteInto Block first.table.slots first.space) changed_starts ready (wrote mid blocks) now unmoved
   stops_either (mid, blocks, inr (u, lawful, next_root, leads, published)) = root_either mid blocks u lawful next_root leads published
 
-pub stopped_either : (sizes : List ℕ) (reset : Bool) (last : Uber) (first old : OpenPool) (before after : Objects) (begin start now : World) → IsCommitted sizes begin.now last first before → GoesOnFrom last first → AreThere (devices_in first.space)
-    → IsInGroup first begin old start → IsOpen sizes old → CommitsObjects sizes old reset after start now → Throughout (ShowsEither before after) begin now
-stopped_either sizes reset last first old before after begin start now was from on group ready commits =
-    joined (ShowsEither before after) begin start now (early_either sizes last first old before after begin start was from on group)
-    (stops_either sizes reset last first old before after begin.now start now was from on (in_group first begin.now old start.now (group_within sizes last first before begin old start was group)) ready commits)
+pub stopped_either : (Told : Type 0) (sizes : List ℕ) (reset : Bool) (last : Uber) (first old : OpenPool) (before after : Objects) (begin start now : World) → IsCommitted sizes begin.now last first before → GoesOnFrom last first
+    → IsInGroup first begin old start → IsOpen sizes old → StaysReadable old Told → CommitsObjects Told sizes old reset after start now → Throughout (ShowsEither before after) begin now
+stopped_either Told sizes reset last first old before after begin start now was from group ready stays_so commits =
+    joined (ShowsEither before after) begin start now (early_either sizes last first old before after begin start was from group)
+    (stops_either Told sizes reset last first old before after begin.now start now was from (in_group first begin.now old start.now (group_within sizes last first before begin old start was group)) ready stays_so commits)

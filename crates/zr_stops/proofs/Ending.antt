@@ -11,6 +11,7 @@ use Rattle.zr_last.proofs.Lasting.{commit_last}
 use Rattle.zr_last.specs.Last.{ShowsLast}
 use Rattle.zr_model.specs.Objects.{Objects}
 use Rattle.zr_newest.specs.Newest.{IsNewestOn}
+use Rattle.zr_open.specs.There.{IsReadable, WillBeReadable}
 use Rattle.zr_shelf.proofs.Doings.{flushed_at_rest}
 use Rattle.zr_shelf.proofs.Runs.{joined, started, weaker}
 use Rattle.zr_shelf.specs.Disks.{Stand}
@@ -20,11 +21,13 @@ use Rattle.zr_sync.proofs.Rings.{uber_long}
 use Rattle.zr_last.proofs.Ending.{some_last}
 use Rattle.zr_sync.specs.Commits.{IsNextRoot, IsShownFrom}
 use Rattle.zr_sync.specs.Heads.{HasHead, HasSafeHead}
+use Rattle.zr_sync.specs.Moves.{TellsMoves}
 use Rattle.zr_sync.specs.Pools.{IsAfter, IsOpen}
+use Rattle.zr_sync.specs.Trees.{HasLastTrees}
 use Rattle.zr_sync.specs.Writes.{WritesIntoFree}
 use Rattle.zr_sync.specs.declared.open.OpenPool.{OpenPool}
 use Rattle.zr_sync.specs.declared.open.Table.{Table}
-use Rattle.zr_stops.proofs.Committing.{commit_either, next_of, there_same, within_from}
+use Rattle.zr_stops.proofs.Committing.{commit_either, next_of, stays_readable, within_from}
 use Rattle.zr_sync.proofs.Ending.{own_directory}
 use Rattle.zr_stops.proofs.Images.{group_reads, group_sizes}
 use Rattle.zr_stops.proofs.Putting.{base_end}
@@ -45,7 +48,7 @@ one_from : (v u : Uber) (pool : OpenPool) → GoesOnFrom v pool → pool.last �
 one_from v u pool from is = let both : Some v ≡ Some u = sym from.last ∙ is in cc
 
 module _ (sizes : List ℕ) (reset : Bool) (last u : Uber) (old new : OpenPool) (objects : Objects) (before now : World) (ready : IsOpen sizes old) (from : GoesOnFrom last old) (sized : map length before.now.seen ≡ sizes) (was : IsNewestOn before.now.seen last old.table.slots)
-    (h : EndsCommitted sizes reset old new objects before now) (root : new.last ≡ Some u) where
+    (told : WillBeReadable before.now.seen old) (h : EndsCommitted sizes reset old new objects before now) (root : new.last ≡ Some u) where
   next : IsNextRoot old reset u
   next = subst (λ (o : Option Uber). IfSome o (IsNextRoot old reset)) root h.last
 
@@ -83,6 +86,9 @@ module _ (sizes : List ℕ) (reset : Bool) (last u : Uber) (old new : OpenPool) 
       let behind = commit_last sizes sizes old new reset before now ready h.pool sized h.txg h.last h.written h.same.guid h.same.table (record { root = last; from = from; newest = was }) in
       subst (λ (v : Uber). IsNewestOn now.now.seen v new.table.slots) (one_from behind.root u new behind.from root) behind.newest
 
+  reads : IsReadable now.now.seen new u
+  reads = stays_readable (HasLastTrees before.now.seen old) sizes now.now.seen old new u ready h.pool h.same.table told (λ trees. subst (λ (o : Option Uber). IfSome o (λ (v : Uber). TellsMoves now.now.seen new v.root v.len)) root (h.moves trees))
+
   pub committed : IsCommitted sizes now.now u new objects
   committed = record {
     ready = h.pool;
@@ -94,11 +100,12 @@ module _ (sizes : List ℕ) (reset : Bool) (last u : Uber) (old new : OpenPool) 
     head = own_directory now.now.seen new u.root u.len (subst (λ (o : Option Uber). IfSome o (λ (v : Uber). HasHead now.now.seen new v.root v.len)) root h.stands);
     safe = subst (λ (o : Option Uber). IfSome o (λ (v : Uber). HasSafeHead now.now.seen new v.root v.len)) root h.safe;
     objects = h.stays;
+    reads = reads;
   }
 
 -- where the disks show the last root behind it
-pub ends_committed : (sizes : List ℕ) (reset : Bool) (old new : OpenPool) (objects : Objects) (before now : World) → EndsCommitted sizes reset old new objects before now → (shows : ShowsLast now.now.seen new) → map length now.now.seen ≡ sizes → IsCommitted sizes now.now shows.root new objects
-ends_committed sizes reset old new objects before now h shows sized =
+pub ends_committed : (sizes : List ℕ) (reset : Bool) (old new : OpenPool) (objects : Objects) (before now : World) → EndsCommitted sizes reset old new objects before now → (shows : ShowsLast now.now.seen new) → map length now.now.seen ≡ sizes → IsReadable now.now.seen new shows.root → IsCommitted sizes now.now shows.root new objects
+ends_committed sizes reset old new objects before now h shows sized reads =
     let root = shows.from.last in
     let written = subst (λ (o : Option Uber). IfSome o (λ (v : Uber). (mid : World) × WritesIntoFree old before mid × IsShownFrom sizes old v mid now)) root h.written in
     let published = written.2.published in
@@ -112,15 +119,16 @@ ends_committed sizes reset old new objects before now h shows sized =
       head = own_directory now.now.seen new shows.root.root shows.root.len (subst (λ (o : Option Uber). IfSome o (λ (v : Uber). HasHead now.now.seen new v.root v.len)) root h.stands);
       safe = subst (λ (o : Option Uber). IfSome o (λ (v : Uber). HasSafeHead now.now.seen new v.root v.len)) root h.safe;
       objects = h.stays;
+      reads = reads;
     }
 
 pub leaves_committed : (sizes : List ℕ) (reset : Bool) (last : Uber) (old new : OpenPool) (objects : Objects) (before now : World) → IsOpen sizes old → GoesOnFrom last old → map length before.now.seen ≡ sizes → IsNewestOn before.now.seen last old.table.slots
-    → EndsCommitted sizes reset old new objects before now → (u : Uber) × GoesOnFrom u new × IsCommitted sizes now.now u new objects
-leaves_committed sizes reset last old new objects before now ready from sized was h =
+    → WillBeReadable before.now.seen old → EndsCommitted sizes reset old new objects before now → (u : Uber) × GoesOnFrom u new × IsCommitted sizes now.now u new objects
+leaves_committed sizes reset last old new objects before now ready from sized was told h =
     let first = ready.first in
     let txg = h.txg in
     let root = some_last new.last new.group.txg h.pool.after (omega (arith, first, txg)) in
-    (root.0, goes sizes reset last root.0 old new objects before now ready from sized was h root.1, committed sizes reset last root.0 old new objects before now ready from sized was h root.1)
+    (root.0, goes sizes reset last root.0 old new objects before now ready from sized was told h root.1, committed sizes reset last root.0 old new objects before now ready from sized was told h root.1)
 
 -- ---- one commit after another
 
@@ -138,16 +146,16 @@ module _ (sizes : List ℕ) (a b : Commit) (stood : Stood sizes a) (next : IsNex
   old_newest = newest_same next.start.now.seen a.root a.pool next.old next.group.table (group_reads sizes a.root a.pool a.objects a.now next.start c next.group.written).newest
 
   then_committed : IsCommitted sizes b.now.now b.root b.pool b.objects
-  then_committed = committed sizes next.reset a.root b.root next.old b.pool b.objects next.start b.now next.ready old_from old_sized old_newest next.ends next.root
+  then_committed = committed sizes next.reset a.root b.root next.old b.pool b.objects next.start b.now next.ready old_from old_sized old_newest next.told next.ends next.root
 
   then_from : GoesOnFrom b.root b.pool
-  then_from = goes sizes next.reset a.root b.root next.old b.pool b.objects next.start b.now next.ready old_from old_sized old_newest next.ends next.root
+  then_from = goes sizes next.reset a.root b.root next.old b.pool b.objects next.start b.now next.ready old_from old_sized old_newest next.told next.ends next.root
 
   table : b.pool.table ≡ a.pool.table
   table = next.ends.same.table ∙ next.group.table
 
   stands_next : Stood sizes b
-  stands_next = record { committed = then_committed; from = then_from; on = there_same sizes a.pool b.pool c.ready then_committed.ready table stood.on }
+  stands_next = record { committed = then_committed; from = then_from }
 
   shows_next : Throughout (ShowsEither a.objects b.objects) a.now b.now
   shows_next =
@@ -156,7 +164,6 @@ module _ (sizes : List ℕ) (a b : Commit) (stood : Stood sizes a) (next : IsNex
       commit_either sizes a.root b.root a.pool next.old b.pool a.objects b.objects a.now next.start done.0 b.now (record {
         was = c;
         from = stood.from;
-        on = stood.on;
         group = next.group;
         ready = next.ready;
         wrote = done.1;

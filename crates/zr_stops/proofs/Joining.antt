@@ -22,7 +22,7 @@ use Rattle.zr_newest.proofs.Prepared.{devices_joined, labels_with, other_label, 
 use Rattle.zr_newest.proofs.Seen.{one_label_at, past_device, slots_same}
 use Rattle.zr_newest.specs.Newest.{AreAt, HaveLabels, IsNewestOn}
 use Rattle.zr_open.proofs.Left.{objects_meant}
-use Rattle.zr_open.specs.There.{AreThere}
+use Rattle.zr_open.specs.There.{AreThere, IsReadable, StaysReadable, WillBeReadable}
 use Rattle.zr_rules.specs.Equation.{devices_in}
 use Rattle.zr_rules.specs.Places.{is_gone, no_part, part_of}
 use Rattle.zr_rules.specs.Roles.{Role}
@@ -35,6 +35,7 @@ use Rattle.zr_sync.proofs.Ending.{own_directory}
 use Rattle.zr_sync.specs.Commits.{IsNextRoot, PublishesRoot}
 use Rattle.zr_sync.specs.Leads.{CommitsObjects, LeadsTo}
 use Rattle.zr_sync.specs.Pools.{IsAfter, IsOpen}
+use Rattle.zr_sync.specs.Trees.{HasLastTrees}
 use Rattle.zr_sync.specs.Writes.{WritesIntoFree}
 use Rattle.zr_sync.specs.declared.open.OpenPool.{OpenPool}
 use Rattle.zr_sync.specs.declared.open.Table.{Table}
@@ -43,7 +44,7 @@ use Rattle.zr_vdev.specs.Stores.{IsWriteInto, is_open_role}
 use Rattle.zr_vdev.specs.declared.kind.Kind.TheVariants.{Block}
 use Rattle.zr_view.specs.Views.{slot_of}
 use Rattle.zr_stops.proofs.Behind.{behind_shows, commit_behind, commit_shows, commit_stands, stop_shows}
-use Rattle.zr_stops.proofs.Committing.{IsNextPool, Starts, clear_mid, newest_mid, part_either, still_either, whole_either}
+use Rattle.zr_stops.proofs.Committing.{IsNextPool, Starts, clear_mid, newest_mid, part_either, still_either, there_same, whole_either}
 use Rattle.zr_stops.proofs.Kept as kept
 use Rattle.zr_stops.proofs.Kept.{LeavesAlone, StandsLast, into_unit, own_alone}
 use Rattle.zr_stops.proofs.Labelling.{prepares_only, prepares_stands}
@@ -122,7 +123,7 @@ module _ (sizes : List ℕ) (u : Uber) (b c : OpenPool) (slot units : ℕ) (read
 
 -- ---- behind a commit
 
-module _ (sizes : List ℕ) (u : Uber) (b : OpenPool) (objects : Objects) (w2 : World) (was : IsCommitted sizes w2.now u b objects) (from : GoesOnFrom u b) (on : AreThere (devices_in b.space)) (slot units : ℕ) (next : IsNextSlot sizes w2.now.seen b slot units) where
+module _ (sizes : List ℕ) (u : Uber) (b : OpenPool) (objects : Objects) (w2 : World) (was : IsCommitted sizes w2.now u b objects) (from : GoesOnFrom u b) (Told : Type 0) (stays : StaysReadable b Told) (slot units : ℕ) (next : IsNextSlot sizes w2.now.seen b slot units) where
   abbrev label : Label
   label = next_label b units
 
@@ -131,9 +132,9 @@ module _ (sizes : List ℕ) (u : Uber) (b : OpenPool) (objects : Objects) (w2 : 
 
   -- while the slot is prepared
   preparing : (now : World) → PreparesNext sizes slot units b w2 now → Throughout (ShowsOnly objects) w2 now
-  preparing now (r, prepares) = prepares_only sizes u b objects w2.now was from on slot next.known label next.lawful next.used next.free apart r w2 now refl prepares
+  preparing now (r, prepares) = prepares_only sizes u b objects w2.now was from slot next.known label next.lawful next.used next.free apart r w2 now refl prepares
 
-  module _ (now : World) (h : CommitsNext sizes objects slot units b w2 now) where
+  module _ (now : World) (h : CommitsNext Told sizes objects slot units b w2 now) where
     abbrev w3 : World
     w3 = h.labelled
 
@@ -144,7 +145,7 @@ module _ (sizes : List ℕ) (u : Uber) (b : OpenPool) (objects : Objects) (w2 : 
     May = IsWriteInto Block c.table.slots c.space
 
     stood : StandsLast sizes w3.now u b objects
-    stood = prepares_stands sizes u b objects w2.now was from on slot next.known label next.lawful next.used next.free apart w2 w3 refl h.prepared h.labels
+    stood = prepares_stands sizes u b objects w2.now was from slot next.known label next.lawful next.used next.free apart w2 w3 refl h.prepared h.labels
 
     alone : LeavesAlone sizes b May
     alone = grown_alone sizes u b c slot units was.ready h.ready h.takes next.free next.few was.newest.seen from.count was.newest.devices
@@ -153,13 +154,12 @@ module _ (sizes : List ℕ) (u : Uber) (b : OpenPool) (objects : Objects) (w2 : 
     starts = record {
       was = stood;
       from = from;
-      on = on;
       alone = alone;
       pending = kept.pending_start sizes u b objects w3.now stood May alone;
       clear = kept.seen_start sizes u b objects w3.now stood May alone;
     }
 
-    module _ (mid : World) (blocks : WritesIntoFree c w3 mid) (v : Uber) (lawful : IsUber v) (next_root : IsNextRoot c true v) (leads : LeadsTo sizes mid.now.seen c v objects) where
+    module _ (mid : World) (blocks : WritesIntoFree c w3 mid) (v : Uber) (lawful : IsUber v) (next_root : IsNextRoot c true v) (leads : LeadsTo Told sizes mid.now.seen c v objects) where
       abbrev newest : IsNewestOn mid.now.seen u b.table.slots
       newest = newest_mid sizes u b c objects objects w3.now w3 mid May starts h.ready blocks
 
@@ -182,6 +182,10 @@ module _ (sizes : List ℕ) (u : Uber) (b : OpenPool) (objects : Objects) (w2 : 
           ∙ (devices_joined w2.now.seen w3.now.seen slot label h.labels was.newest.seen was.newest.labels u v b.table.slots c.table.slots was.newest.devices joins d
           ∙ ap (λ (these : List (Option ℕ)). slot_of these d) (slots_same grown_seen newest.seen (labels_now.count ∙ sym newest.labels.count) (one_label_at mid.now.seen grown_seen newest.seen labels_now newest.labels) v))
 
+      by_stays : StaysReadable b Told → IsReadable mid.now.seen leads.next v
+      by_stays (inl there) = inl (grown_there sizes u b c slot units was.ready h.ready h.takes next.free next.few leads.next leads.ready table there)
+      by_stays (inr told) = inr (leads.moves told)
+
       is_pool : IsNextPool sizes mid.now.seen u v c leads.next newest.seen objects
       is_pool = record {
         lawful = lawful;
@@ -189,7 +193,7 @@ module _ (sizes : List ℕ) (u : Uber) (b : OpenPool) (objects : Objects) (w2 : 
         count = next_root.count;
         ready = leads.ready;
         from = goes_on c leads.next true v leads.last next_root leads.same;
-        on = grown_there sizes u b c slot units was.ready h.ready h.takes next.free next.few leads.next leads.ready table on;
+        reads = by_stays stays;
         at = places_now;
         head = own_directory mid.now.seen leads.next v.root v.len leads.head;
         objects = objects_meant (Unit {0}) mid.now.seen leads.next objects leads.empty leads.holds;
@@ -200,14 +204,14 @@ module _ (sizes : List ℕ) (u : Uber) (b : OpenPool) (objects : Objects) (w2 : 
       root_same (inr (inl part)) = part_either sizes u b c objects objects w3.now w3 mid May starts h.ready blocks v leads.next part.both part.all is_pool part.in_both part.in_all now part.published
       root_same (inr (inr shown)) = whole_either sizes u b c objects objects w3.now w3 mid May starts h.ready blocks v leads.next shown.both shown.all is_pool shown.in_both shown.in_all now shown.published
 
-    commit_same : CommitsObjects sizes c true objects w3 now → Throughout (ShowsEither objects objects) w3 now
+    commit_same : CommitsObjects Told sizes c true objects w3 now → Throughout (ShowsEither objects objects) w3 now
     commit_same (mid, blocks, inl unmoved) = still_either sizes u b c objects objects w3.now w3 mid May starts h.ready blocks now unmoved
     commit_same (mid, blocks, inr (v, lawful, next_root, leads, published)) = root_same mid blocks v lawful next_root leads published
 
     joining : Throughout (ShowsEither objects objects) w2 now
     joining = joined (ShowsEither objects objects) w2 w3 now (weaker (ShowsOnly objects) (ShowsEither objects objects) w2 w3 (only_either objects) (preparing w3 (Ok tt, h.prepared))) (commit_same h.commits)
 
-  next_same : (now : World) → PreparesNext sizes slot units b w2 now ⊎ CommitsNext sizes objects slot units b w2 now → Throughout (ShowsEither objects objects) w2 now
+  next_same : (now : World) → PreparesNext sizes slot units b w2 now ⊎ CommitsNext Told sizes objects slot units b w2 now → Throughout (ShowsEither objects objects) w2 now
   next_same now (inl prepares) = weaker (ShowsOnly objects) (ShowsEither objects objects) w2 now (only_either objects) (preparing now prepares)
   next_same now (inr commits) = joining now commits
 
@@ -223,14 +227,19 @@ module _ (sizes : List ℕ) (before after : Objects) (slot : ℕ) (old : OpenPoo
   unmoved : (start now : World) → StandsBehind sizes before old start.now → IsStill start now → Throughout (ShowsEither before after) start now
   unmoved start now h still = weaker (λ s. s ≡ start.now) (ShowsEither before after) start now (λ s same. subst (ShowsEither before after) (sym same) (first_only start.now (behind_shows sizes before old start.now h))) still.since
 
-  from_there : (start now : World) → StandsBehind sizes before old start.now → IsStill start now ⊎ (CommitsObjects sizes old false after start now ⊎ AddsBehind sizes after slot old start now) → Throughout (ShowsEither before after) start now
-  from_there start now h (inl still) = unmoved start now h still
-  from_there start now h (inr (inl commits)) = stop_shows sizes before old start h ready false after now commits
-  from_there start now h (inr (inr more)) =
-      let stood = commit_stands sizes before old start h ready false after more.mid more.ended more.first in
-      joined (ShowsEither before after) start more.mid now (commit_shows sizes before old start h ready false after more.mid more.ended more.first)
-      (weaker (ShowsEither after after) (ShowsEither before after) more.mid now second (next_same sizes stood.0 more.ended after more.mid stood.2 stood.1 stood.3 slot more.units more.next now more.rest))
+  -- no device went in the first commit
+  still_told : (start : World) {now : World} (more : AddsBehind sizes after slot old start now) → WillBeReadable start.now.seen old → StaysReadable more.ended (HasLastTrees start.now.seen old)
+  still_told start more (inl there) = inl (there_same sizes old more.ended ready more.first.pool more.first.same.table there)
+  still_told start more (inr trees) = inr trees
+
+  from_there : (start now : World) → StandsBehind sizes before old start.now → WillBeReadable start.now.seen old → IsStill start now ⊎ (CommitsObjects (HasLastTrees start.now.seen old) sizes old false after start now ⊎ AddsBehind sizes after slot old start now) → Throughout (ShowsEither before after) start now
+  from_there start now h told (inl still) = unmoved start now h still
+  from_there start now h told (inr (inl commits)) = stop_shows sizes before old start h ready false after now (HasLastTrees start.now.seen old) told commits
+  from_there start now h told (inr (inr more)) =
+      let stood = commit_stands sizes before old start h ready false after more.mid more.ended told more.first in
+      joined (ShowsEither before after) start more.mid now (commit_shows sizes before old start h ready false after more.mid more.ended told more.first)
+      (weaker (ShowsEither after after) (ShowsEither before after) more.mid now second (next_same sizes stood.0 more.ended after more.mid stood.2 stood.1 (HasLastTrees start.now.seen old) (still_told start more told) slot more.units more.next now more.rest))
 
   -- at each moment of it, whatever an honest crash shows are the objects that were committed last, or those that the line commits
-  pub adds_show : (start now : World) → StandsBehind sizes before old start.now → AddsInPart sizes after slot old start now → Throughout (ShowsEither before after) start now
-  adds_show start now h (checked, still, rest) = joined (ShowsEither before after) start checked now (unmoved start checked h still) (from_there checked now (subst (StandsBehind sizes before old) (sym still.now) h) rest)
+  pub adds_show : (start now : World) → StandsBehind sizes before old start.now → WillBeReadable start.now.seen old → AddsInPart sizes after slot old start now → Throughout (ShowsEither before after) start now
+  adds_show start now h told (checked, still, rest) = joined (ShowsEither before after) start checked now (unmoved start checked h still) (from_there checked now (subst (StandsBehind sizes before old) (sym still.now) h) (subst (λ (s : Stand). WillBeReadable s.seen old) (sym still.now) told) rest)

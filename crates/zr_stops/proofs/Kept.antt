@@ -17,6 +17,7 @@ use Rattle.zr_meta.specs.Heads.{head_bytes}
 use Rattle.zr_model.specs.Objects.{Objects}
 use Rattle.zr_newest.proofs.Newest.{newest_still}
 use Rattle.zr_newest.specs.Newest.{IsNewestOn, KeepsRings}
+use Rattle.zr_open.specs.There.{IsReadable}
 use Rattle.zr_root.proofs.Beside.{bytes_beside}
 use Rattle.zr_rules.specs.Equation.{devices_in}
 use Rattle.zr_rules.specs.Places.{in_address}
@@ -33,13 +34,15 @@ use Rattle.zr_sync.specs.Pools.{IsOpen}
 use Rattle.zr_sync.specs.declared.open.OpenPool.{OpenPool}
 use Rattle.zr_tree.specs.Trees.{tree_reach}
 use Rattle.zr_vdev.proofs.Held.{address_same, true_is_false}
+use Rattle.zr_vdev.proofs.Uses.{use_roles}
 use Rattle.zr_vdev.specs.Runs.{view_of}
 use Rattle.zr_vdev.specs.Stores.{IsStoredAt, IsWriteInto, is_open_role}
-use Rattle.zr_vdev.specs.declared.kind.Kind.TheVariants.{Block}
+use Rattle.zr_vdev.specs.declared.kind.Kind.TheVariants.{Block, Meta}
 use Rattle.zr_view.specs.Runs.{bytes_from}
 use Rattle.zr_view.specs.Views.{View, address_bytes, slot_of}
 use Rattle.zr_stops.specs.Last.{HasLast, IsCommitted, IsSettled, LeavesLast}
 use Rattle.zr_stops.proofs.Aside as aside
+use Rattle.zr_stops.proofs.Readable.{readable_stays}
 
 -- ---- roles
 
@@ -83,6 +86,7 @@ pub record StandsLast (sizes : List ℕ) (stand : Stand) (u : Uber) (pool : Open
   pub used : All (λ (b : Bptr). IsStoredAt Block pool.space None b.at) stored.pointers
   pub there : (b : Bptr) → IsStoredAt Block pool.space None b.at → stored.bytes b ≡ address_bytes (view_of stand.seen pool.table.slots pool.space) b.at
   pub has : HasObjects stored (account_of pool) objects
+  pub reads : IsReadable stand.seen pool u
 
 pub committed_stands : (sizes : List ℕ) (stand : Stand) (u : Uber) (pool : OpenPool) (objects : Objects) → IsCommitted sizes stand u pool objects → StandsLast sizes stand u pool objects
 committed_stands sizes stand u pool objects was = record {
@@ -98,6 +102,7 @@ committed_stands sizes stand u pool objects was = record {
   used = was.objects.held.stored;
   there = was.objects.held.there;
   has = was.objects.has;
+  reads = was.reads;
 }
 
 -- Such writes meet no unit that is in use, no label block and no ring slot.
@@ -199,8 +204,11 @@ module _ (sizes : List ℕ) (u : Uber) (pool : OpenPool) (objects : Objects) (st
         held_are_found (store_of now) was.stored (account_of pool) objects was.empty
         (λ b met. block_kept b (at_each (IsStoredAt Block pool.space None) was.stored.pointers b.at was.used met)) was.has
 
+    reads_kept : IsReadable image pool u
+    reads_kept = readable_stays start.seen image pool u (λ a is. address_kept a (metadata_out pool.space a (use_roles Meta pool.space a is))) was.reads
+
     pub last_kept : HasLast image u pool objects
-    last_kept = record { newest = newest_kept; head = head_kept; objects = objects_kept }
+    last_kept = record { newest = newest_kept; head = head_kept; objects = objects_kept; reads = reads_kept }
 
   -- whatever a crash leaves has it
   pub leaves : (stand : Stand) → IsPending stand → LeavesLast u pool objects stand

@@ -21,7 +21,6 @@ use Rattle.zr_newest.proofs.Seen.{past_seen, seen_labels, slots_same}
 use Rattle.zr_newest.specs.Newest.{AreAt, HaveLabels, IsNewestOn, PreparesSlot}
 use Rattle.zr_open.proofs.Left.{objects_meant}
 use Rattle.zr_open.specs.Shown.{Shows}
-use Rattle.zr_open.specs.There.{AreThere}
 use Rattle.zr_rules.specs.Equation.{devices_in}
 use Rattle.zr_scan.proofs.Fresh.{same_label}
 use Rattle.zr_scan.specs.Scan.{ShowsLabel}
@@ -40,13 +39,14 @@ use Rattle.zr_view.specs.Runs.{bytes_from}
 use Rattle.zr_view.specs.Views.{address_bytes, slot_of}
 use Rattle.zr_stops.proofs.Committing.{head_kept, last_only, objects_kept, store_kept}
 use Rattle.zr_stops.proofs.Kept.{StandsLast}
+use Rattle.zr_stops.proofs.Readable.{readable_stays}
 use Rattle.zr_stops.specs.Behind.{ShowsOnly}
 use Rattle.zr_stops.specs.Last.{HasLast, IsCommitted}
 use Rattle.zr_stops.proofs.Preparing as preparing
 
 -- ---- beside a slot
 
-module _ (sizes : List ℕ) (u : Uber) (pool : OpenPool) (objects : Objects) (start : Stand) (was : IsCommitted sizes start u pool objects) (from : GoesOnFrom u pool) (on : AreThere (devices_in pool.space)) (sl : ℕ) (known : sl < length start.seen) (l : Label) (lawful : IsLabel l)
+module _ (sizes : List ℕ) (u : Uber) (pool : OpenPool) (objects : Objects) (start : Stand) (was : IsCommitted sizes start u pool objects) (from : GoesOnFrom u pool) (sl : ℕ) (known : sl < length start.seen) (l : Label) (lawful : IsLabel l)
     (used : IsTrue (is_disk_size 2 (slice_index sizes sl))) (free : (d : ℕ) → slot_of pool.table.slots d ≢ Some sl) (apart : (d : ℕ) → d < u.count → is_device u d (Some l) ≡ false) where
   abbrev size : ℕ
   size = slice_index sizes sl
@@ -166,10 +166,11 @@ module _ (sizes : List ℕ) (u : Uber) (pool : OpenPool) (objects : Objects) (st
         newest = newest;
         head = head_same image kept.beside;
         objects = objects_kept pool start.seen image (read_same image kept.beside) objects (objects_meant (Unit {0}) start.seen pool objects was.empty was.objects);
+        reads = readable_stays start.seen image pool u (λ a meta. read_same image kept.beside a) was.reads;
       }
 
     pub kept_only : (paths : List (List ℕ)) (p : PoolState) → Shows paths image p → p.objects ≡ objects
-    kept_only paths p shows = last_only sizes u pool objects was.ready from on image (has_last shows.seen shows.shown) paths p shows
+    kept_only paths p shows = last_only sizes u pool objects was.ready from image (has_last shows.seen shows.shown) paths p shows
 
   keeps_only : (stand : Stand) → preparing.KeepsBeside sizes start was.rest was.sized sl l lawful used stand → ShowsOnly objects stand
   keeps_only stand keeps image left paths p shows = kept_only image (keeps image left) paths p shows
@@ -197,4 +198,5 @@ module _ (sizes : List ℕ) (u : Uber) (pool : OpenPool) (objects : Objects) (st
         used = was.objects.held.stored;
         there = λ b stored. was.objects.held.there b stored ∙ sym (read_same now.now.seen beside b.at);
         has = was.objects.has;
+        reads = readable_stays start.seen now.now.seen pool u (λ a meta. read_same now.now.seen beside a) was.reads;
       }

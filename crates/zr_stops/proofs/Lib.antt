@@ -1,4 +1,4 @@
-pub mod Directories
+pub mod Readable
 pub mod Aside
 pub mod Kept
 pub mod Images

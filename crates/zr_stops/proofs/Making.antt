@@ -51,7 +51,7 @@ use Rattle.zr_vdev.specs.declared.kind.Kind.TheVariants.{Block}
 use Rattle.zr_view.specs.Views.{address_bytes}
 use Rattle.zr_stops.proofs.Aside as aside
 use Rattle.zr_stops.proofs.Committing.{head_kept, objects_kept, there_same}
-use Rattle.zr_stops.proofs.Directories.{shown_objects}
+use Rattle.zr_moved.proofs.Objects.{shown_objects}
 use Rattle.zr_stops.proofs.Images.{newest_kept, within_clear}
 use Rattle.zr_stops.proofs.Preparing as preparing
 use Rattle.zr_stops.proofs.Putting.{IsPutting, almost_throughout, begun_throughout, putting_throughout, torn, units_kept}
@@ -162,7 +162,7 @@ module _ (sizes : List ℕ) (start : World) (bare : IsBare sizes start.now) (poo
     still_empty : (now : World) → IsStill mid now → Throughout ShowsEmpty start now
     still_empty now unmoved = weaker ShowsNoRoot ShowsEmpty start now none_only (stays ShowsNoRoot start mid now blocks_none unmoved (pending_none mid.now pending.1))
 
-    module _ (u : Uber) (lawful : IsUber u) (is_next : IsNextRoot pool true u) (leads : LeadsTo sizes mid.now.seen pool u objects.empty) (seen : List Seen) (labels : HaveLabels start.now.seen seen) (places : AreAt pool.table.slots u seen) (on : AreThere (devices_in pool.space))
+    module _ (u : Uber) (lawful : IsUber u) (is_next : IsNextRoot pool true u) (leads : LeadsTo ⊥ sizes mid.now.seen pool u objects.empty) (seen : List Seen) (labels : HaveLabels start.now.seen seen) (places : AreAt pool.table.slots u seen) (on : AreThere (devices_in pool.space))
         (both all : List ℕ) (in_both : (slot : ℕ) → Contains both slot → IsSlotInBoth (unwrap_or pool.last u) u pool.table.slots slot) (in_all : (slot : ℕ) → Contains all slot → IsSlotInBoth u u pool.table.slots slot) where
       abbrev next : OpenPool
       next = leads.next
@@ -217,7 +217,7 @@ module _ (sizes : List ℕ) (start : World) (bare : IsBare sizes start.now) (poo
           is_empty =
               let stands_there = head_kept next mid.now.seen image address_kept u.root u.len (own_directory mid.now.seen next u.root u.len leads.head) in
               one_meaning (store_of (view_of image next.table.slots next.space)) next.dir p.objects objects.empty
-              (shown_objects paths image sizes u next p leads.ready next_on from stands_there shows is_root slots)
+              (shown_objects paths image sizes u next p leads.ready from (inl next_on) stands_there shows is_root slots)
               (objects_kept next mid.now.seen image address_kept objects.empty (objects_meant (Unit {0}) mid.now.seen next objects.empty leads.empty leads.holds))
 
       put_empty : (now : World) → Throughout Putting mid now → Throughout ShowsEmpty start now
@@ -233,7 +233,7 @@ module _ (sizes : List ℕ) (start : World) (bare : IsBare sizes start.now) (poo
       part_empty now (inr (inr p)) = put_empty now (almost_throughout sizes both all u lawful (uber_long u lawful) mid mid_sizes big_both big_all p.first p.half p.second p.before p.wrote p.between p.durable now p.rest)
 
   module _ (names : (v : Uber) → v.guid ≡ pool.guid → v.count ≡ pool.table.count → v.rows ≡ pool.table.rows → (seen : List Seen) × HaveLabels start.now.seen seen × AreAt pool.table.slots v seen) (on : AreThere (devices_in pool.space)) (now : World) where
-    root_empty : (mid : World) (blocks : WritesIntoFree pool start mid) (u : Uber) → IsUber u → IsNextRoot pool true u → LeadsTo sizes mid.now.seen pool u objects.empty → PublishesRoot sizes pool u mid now → Throughout ShowsEmpty start now
+    root_empty : (mid : World) (blocks : WritesIntoFree pool start mid) (u : Uber) → IsUber u → IsNextRoot pool true u → LeadsTo ⊥ sizes mid.now.seen pool u objects.empty → PublishesRoot sizes pool u mid now → Throughout ShowsEmpty start now
     root_empty mid blocks u lawful is_next leads (inl unmoved) = still_empty mid blocks now unmoved
     root_empty mid blocks u lawful is_next leads (inr (inl part)) =
         let at = names u is_next.guid is_next.count is_next.rows in
@@ -242,7 +242,7 @@ module _ (sizes : List ℕ) (start : World) (bare : IsBare sizes start.now) (poo
         let at = names u is_next.guid is_next.count is_next.rows in
         whole_empty mid blocks u lawful is_next leads at.0 at.1 at.2 on shown.both shown.all shown.in_both shown.in_all now shown.published
 
-    commit_empty : CommitsObjects sizes pool true objects.empty start now → Throughout ShowsEmpty start now
+    commit_empty : CommitsObjects ⊥ sizes pool true objects.empty start now → Throughout ShowsEmpty start now
     commit_empty (mid, blocks, inl unmoved) = still_empty mid blocks now unmoved
     commit_empty (mid, blocks, inr (u, lawful, is_next, leads, published)) = root_empty mid blocks u lawful is_next leads published
 

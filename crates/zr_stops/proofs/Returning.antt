@@ -8,7 +8,6 @@ use Rattle.zr_newest.proofs.Seen.{one_label_at, slots_same}
 use Rattle.zr_newest.specs.Newest.{AreAt, IsNewestOn}
 use Rattle.zr_open.proofs.Left.{objects_meant}
 use Rattle.zr_open.specs.Going.{PutsBack}
-use Rattle.zr_open.specs.There.{AreThere}
 use Rattle.zr_rules.specs.Equation.{devices_in}
 use Rattle.zr_shelf.specs.Disks.{PendingWrite}
 use Rattle.zr_shelf.specs.Doings.{WritesOnly}
@@ -17,6 +16,7 @@ use Rattle.zr_slots.specs.Tables.{IsSlotInBoth}
 use Rattle.zr_sync.specs.Commits.{PublishesRoot}
 use Rattle.zr_sync.specs.Ends.{LeavesCommitted}
 use Rattle.zr_sync.specs.Heads.{HasDirectory, HasSafeHead}
+use Rattle.zr_sync.specs.Moves.{TellsMoves}
 use Rattle.zr_sync.specs.Pools.{IsAfter}
 use Rattle.zr_vdev.specs.Stores.{IsWriteInto}
 use Rattle.zr_vdev.specs.declared.kind.Kind.TheVariants.{Block}
@@ -27,11 +27,11 @@ use Rattle.zr_stops.proofs.Kept.{LeavesAlone, StandsLast, committed_stands, own_
 use Rattle.zr_stops.specs.Either.{ShowsEither}
 use Rattle.zr_stops.specs.Last.{IsCommitted}
 
-module _ (sizes : List ℕ) (before after : Objects) (read now : World) (h : PutsBack sizes before after read now) (on : AreThere (devices_in h.pool.space)) (on_back : AreThere (devices_in h.back.space)) where
+module _ (sizes : List ℕ) (before after : Objects) (read now : World) (h : PutsBack sizes before after read now) where
   -- ---- the current root
 
   left : LeavesCommitted h.pool read.now
-  left = h.has.leaves on
+  left = h.has.leaves.0
 
   was : IsCommitted sizes read.now h.current h.pool before
   was = record {
@@ -44,6 +44,7 @@ module _ (sizes : List ℕ) (before after : Objects) (read now : World) (h : Put
     head = subst (λ (o : Option Uber). IfSome o (λ (u : Uber). HasDirectory read.now.seen h.pool u.root u.len)) h.has.from.last left.head;
     safe = subst (λ (o : Option Uber). IfSome o (λ (u : Uber). HasSafeHead read.now.seen h.pool u.root u.len)) h.has.from.last left.safe;
     objects = h.has.holds;
+    reads = inr (subst (λ (o : Option Uber). IfSome o (λ (u : Uber). TellsMoves read.now.seen h.pool u.root u.len)) h.has.from.last h.has.leaves.1);
   }
 
   stood : StandsLast sizes read.now h.current h.pool before
@@ -59,7 +60,6 @@ module _ (sizes : List ℕ) (before after : Objects) (read now : World) (h : Put
   starts = record {
     was = stood;
     from = h.has.from;
-    on = on;
     alone = alone;
     pending = kept.pending_start sizes h.current h.pool before read.now stood May alone;
     clear = kept.seen_start sizes h.current h.pool before read.now stood May alone;
@@ -83,7 +83,7 @@ module _ (sizes : List ℕ) (before after : Objects) (read now : World) (h : Put
   lawful = (subst (λ (o : Option Uber). IsAfter o h.back.group.txg) h.has_back.from.last h.has_back.ready.after).0
 
   left_back : LeavesCommitted h.back read.now
-  left_back = h.has_back.leaves on_back
+  left_back = h.has_back.leaves.0
 
   is_pool : IsNextPool sizes read.now.seen h.current h.root h.back h.back newest.seen after
   is_pool = record {
@@ -92,7 +92,7 @@ module _ (sizes : List ℕ) (before after : Objects) (read now : World) (h : Put
     count = sym h.has_back.from.count;
     ready = h.has_back.ready;
     from = h.has_back.from;
-    on = on_back;
+    reads = inr (subst (λ (o : Option Uber). IfSome o (λ (u : Uber). TellsMoves read.now.seen h.back u.root u.len)) h.has_back.from.last h.has_back.leaves.1);
     at = places;
     head = subst (λ (o : Option Uber). IfSome o (λ (u : Uber). HasDirectory read.now.seen h.back u.root u.len)) h.has_back.from.last left_back.head;
     objects = objects_meant (Unit {0}) read.now.seen h.back after left_back.empty h.has_back.holds;

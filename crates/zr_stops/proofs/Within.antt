@@ -134,7 +134,6 @@ same_behind sizes objects pool a b same h = record {
   begin = h.begin;
   committed = h.committed;
   from = h.from;
-  on = h.on;
   within = same_within h.first h.begin pool a b same h.within;
 }
 

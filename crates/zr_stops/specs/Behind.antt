@@ -8,10 +8,8 @@ use Rattle.zr_last.specs.Last.{KeepsDevices}
 use Rattle.zr_model.specs.Objects.{Objects}
 use Rattle.zr_model.specs.State.{PoolState}
 use Rattle.zr_open.specs.Shown.{Shows}
-use Rattle.zr_rules.specs.Equation.{devices_in}
 use Rattle.zr_rules.specs.Space.{role_at}
 use Rattle.zr_shelf.specs.Disks.{IsSameOutside, Stand}
-use Rattle.zr_open.specs.There.{AreThere}
 use Rattle.zr_stops.specs.Last.{IsCommitted}
 use Rattle.zr_sync.specs.declared.open.OpenPool.{OpenPool}
 use Rattle.zr_vdev.specs.Stores.{IsWriteInto, is_open_role}
@@ -36,14 +34,13 @@ pub record StandsChanged (first : OpenPool) (begin : Stand) (pool : OpenPool) (n
   pub writes : AllByRecursion (IsWriteInto Block first.table.slots first.space) now.writes
   pub seen : IsSameOutside now.writes begin.seen now.seen
 
--- The pool is in the group behind a commit of these objects, when none of its devices was gone.
+-- The pool is in the group behind a commit of these objects.
 pub record StandsBehind (sizes : List ℕ) (objects : Objects) (pool : OpenPool) (now : Stand) : Type 0 where
   pub first : OpenPool
   pub root : Uber
   pub begin : Stand
   pub committed : IsCommitted sizes begin root first objects
   pub from : GoesOnFrom root first
-  pub on : AreThere (devices_in first.space)
   pub within : StandsInGroup first begin pool now
 
 -- the disks stand the same, whatever the input and the output are

@@ -8,10 +8,8 @@ use Rattle.zr_label.specs.declared.root.Uber.{Uber}
 use Rattle.zr_model.specs.Objects.{Objects}
 use Rattle.zr_model.specs.State.{PoolState}
 use Rattle.zr_open.specs.Shown.{Shows}
-use Rattle.zr_rules.specs.Equation.{devices_in}
 use Rattle.zr_shelf.specs.Disks.{Stand}
 use Rattle.zr_shelf.specs.Moments.{World}
-use Rattle.zr_open.specs.There.{AreThere}
 use Rattle.zr_stops.specs.Groups.{IsInGroup}
 use Rattle.zr_stops.specs.Last.{IsCommitted}
 use Rattle.zr_sync.specs.Commits.{IsShownFrom}
@@ -24,11 +22,10 @@ abbrev pub ShowsEither : Objects → Objects → Stand → Type 0
 ShowsEither before after stand = (image : List (List ℕ)) → IsLeft stand image → (paths : List (List ℕ)) (p : PoolState) → Shows paths image p → (p.objects ≡ before) ⊎ (p.objects ≡ after)
 
 -- A commit of a group: the pool stood committed when the group began, the lines of the group came, then blocks were written and the next root was published, and the pool stands
--- committed again. No device is gone, and their table is the same.
+-- committed again. The table of devices is the same.
 pub record CommitsGroup (sizes : List ℕ) (last u : Uber) (first old new : OpenPool) (before after : Objects) (begin start mid now : World) : Type 0 where
   pub was : IsCommitted sizes begin.now last first before
   pub from : GoesOnFrom last first
-  pub on : AreThere (devices_in first.space)
   pub group : IsInGroup first begin old start
   pub ready : IsOpen sizes old
   pub wrote : WritesIntoFree old start mid

@@ -6,10 +6,9 @@ use Rattle.zr_label.specs.declared.root.Uber.{Uber}
 use Rattle.zr_model.specs.Objects.{Objects}
 use Rattle.zr_model.specs.State.{PoolState}
 use Rattle.zr_open.specs.Shown.{Shows}
-use Rattle.zr_rules.specs.Equation.{devices_in}
 use Rattle.zr_shelf.specs.Disks.{Stand}
 use Rattle.zr_shelf.specs.Moments.{World}
-use Rattle.zr_open.specs.There.{AreThere}
+use Rattle.zr_open.specs.There.{WillBeReadable}
 use Rattle.zr_sync.specs.Ends.{EndsCommitted}
 use Rattle.zr_stops.specs.Groups.{IsInGroup}
 use Rattle.zr_stops.specs.Last.{IsCommitted}
@@ -23,11 +22,10 @@ pub record Commit : Type 0 where
   pub pool : OpenPool
   pub objects : Objects
 
--- the pool stood committed then, and none of its devices was gone
+-- the pool stood committed then
 pub record Stood (sizes : List ℕ) (c : Commit) : Type 0 where
   pub committed : IsCommitted sizes c.now.now c.root c.pool c.objects
   pub from : GoesOnFrom c.root c.pool
-  pub on : AreThere (devices_in c.pool.space)
 
 -- the lines of one group came behind the one commit, and then the other
 pub record IsNextCommit (sizes : List ℕ) (a b : Commit) : Type 0 where
@@ -36,6 +34,7 @@ pub record IsNextCommit (sizes : List ℕ) (a b : Commit) : Type 0 where
   pub reset : Bool
   pub group : IsInGroup a.pool a.now old start
   pub ready : IsOpen sizes old
+  pub told : WillBeReadable start.now.seen old
   pub ends : EndsCommitted sizes reset old b.pool b.objects start b.now
   pub root : b.pool.last ≡ Some b.root
 

@@ -6,11 +6,11 @@ ghost use Rattle.zr_model.specs.State.{PoolState};
 ghost use Rattle.zr_open.specs.Shown.{Shows};
 ghost use Rattle.zr_current.specs.Current.{GoesOnFrom};
 ghost use Rattle.zr_newest.specs.Newest.{IsNewestOn};
-ghost use Rattle.zr_rules.specs.Equation.{devices_in};
 ghost use Rattle.zr_shelf.specs.Moments.{Throughout, World};
-ghost use Rattle.zr_open.specs.There.{AreThere};
+ghost use Rattle.zr_open.specs.There.{WillBeReadable};
 ghost use Rattle.zr_sync.specs.Leads.{CommitsObjects};
 ghost use Rattle.zr_sync.specs.Pools.{IsOpen};
+ghost use Rattle.zr_sync.specs.Trees.{HasLastTrees};
 ghost use Rattle.zr_sync.specs.Writes.{WritesIntoFree};
 ghost use Rattle.zr_sync.specs.declared.open.OpenPool.{OpenPool};
 ghost use Rattle.zr_stops.specs.Either.{CommitsGroup, ShowsEither};
@@ -38,9 +38,9 @@ pub fn a_group_leaves_the_last_root()
     ensures { (sizes : List ℕ) (u : Uber) (pool : OpenPool) (objects : Objects) (before now : World) → IsCommitted sizes before.now u pool objects → WritesIntoFree pool before now → Throughout (LeavesLast u pool objects) before now }
 {}
 
-/// Whatever pool an image shows that has the last root of a pool of which no device is gone, its objects are those of that root.
+/// Whatever pool an image shows that has the last root of a pool, its objects are those of that root.
 pub fn the_last_root_is_shown()
-    ensures { (paths image : List (List ℕ)) (sizes : List ℕ) (u : Uber) (pool : OpenPool) (objects : Objects) (p : PoolState) → IsOpen sizes pool → AreThere (devices_in pool.space) → GoesOnFrom u pool
+    ensures { (paths image : List (List ℕ)) (sizes : List ℕ) (u : Uber) (pool : OpenPool) (objects : Objects) (p : PoolState) → IsOpen sizes pool → GoesOnFrom u pool
         → HasLast image u pool objects → Shows paths image p → p.objects ≡ objects }
 {}
 
@@ -51,11 +51,11 @@ pub fn a_commit_leaves_one_of_two_states()
         → Throughout (ShowsEither before after) begin now }
 {}
 
-/// A commit of a pool whose last root was its newest on the disks leaves it committed, by what the commit says of its end: so the next group
+/// A commit of a pool whose last root was its newest on the disks, and is told to stay readable, leaves it committed, by what the commit says of its end: so the next group
 /// begins as this one did.
 pub fn a_commit_leaves_the_pool_committed()
     ensures { (sizes : List ℕ) (reset : Bool) (last : Uber) (old new : OpenPool) (objects : Objects) (before now : World) → IsOpen sizes old → GoesOnFrom last old → map length before.now.seen ≡ sizes → IsNewestOn before.now.seen last old.table.slots
-        → EndsCommitted sizes reset old new objects before now → (u : Uber) × GoesOnFrom u new × IsCommitted sizes now.now u new objects }
+        → WillBeReadable before.now.seen old → EndsCommitted sizes reset old new objects before now → (u : Uber) × GoesOnFrom u new × IsCommitted sizes now.now u new objects }
 {}
 
 /// Behind one commit after another, each with the lines of its group before it, the pool stands committed. At each moment from
@@ -69,6 +69,6 @@ pub fn groups_follow()
 /// where the group begins, whatever pool an honest crash shows has the objects from before the group, or those that the commit
 /// was of.
 pub fn a_stopped_commit_leaves_one_of_two_states()
-    ensures { (sizes : List ℕ) (reset : Bool) (last : Uber) (first old : OpenPool) (before after : Objects) (begin start now : World) → IsCommitted sizes begin.now last first before → GoesOnFrom last first → AreThere (devices_in first.space)
-        → IsInGroup first begin old start → IsOpen sizes old → CommitsObjects sizes old reset after start now → Throughout (ShowsEither before after) begin now }
+    ensures { (sizes : List ℕ) (reset : Bool) (last : Uber) (first old : OpenPool) (before after : Objects) (begin start now : World) → IsCommitted sizes begin.now last first before → GoesOnFrom last first
+        → IsInGroup first begin old start → IsOpen sizes old → WillBeReadable start.now.seen old → CommitsObjects (HasLastTrees start.now.seen old) sizes old reset after start now → Throughout (ShowsEither before after) begin now }
 {}

@@ -10,7 +10,7 @@ use Rattle.zr_vdev.specs.Stores.{KeepsOthers}
 use Rattle.zr_vdev.specs.declared.kind.Kind.TheVariants.{Block, Meta}
 use Rattle.zr_vdev.proofs.Follows.{others_more}
 use Rattle.zr_sync.specs.Anew.{anew_count, AreAnew, HasCountOf, RenewsEach, IsRenewed, AreRenewed, RenewsLogs, KeepsCounts}
-use Rattle.zr_sync.specs.Checkpoints.{no_streams}
+use Rattle.zr_sync.specs.Empty.{no_streams}
 use Rattle.zr_sync.specs.Mappings.{with_mapping}
 use Rattle.zr_sync.specs.Streams.{log_stream, streams_at, with_log, HasNoLates}
 use Rattle.zr_sync.specs.declared.mappings.MappingStream.TheVariants.{Entries, Counts}

@@ -18,11 +18,13 @@ use Rattle.zr_store.specs.Store.{AreStored, Now, Stored, Swaps}
 use Rattle.zr_tree.specs.Trees.{IsAmong, tree_reach}
 use Rattle.zr_vdev.specs.Stores.{KeepsOthers}
 use Rattle.zr_vdev.specs.declared.kind.Kind.TheVariants.{Meta}
-use Rattle.zr_sync.specs.Checkpoints.{no_cond, no_stream}
-use Rattle.zr_sync.specs.Mappings.{HasFirst, cond_stream, mapping_words, with_cond_stream}
+use Rattle.zr_sync.specs.Empty.{no_cond, no_stream}
+use Rattle.zr_sync.specs.Mappings.{HasFirst, IsSpelled, cond_stream, mapping_words, with_cond_stream}
 use Rattle.zr_sync.specs.Streams.{HasMeta}
-use Rattle.zr_sync.specs.Trees.{Place, Stage, HasNoLateYet, HoldsStreams, IsCondAt, cond_trees, one_stage}
-use Rattle.zr_sync.specs.Trees.Stage.{Had, Given, Written, Recorded}
+use Rattle.zr_sync.specs.Trees.{Place, Stage, HasNoLateYet, HoldsStreams, IsCondAt, cond_trees, first_stage, one_stage}
+use Rattle.zr_sync.specs.Trees.Stage.{Had, Untold, Given, Written, Recorded}
+use Rattle.zr_sync.specs.declared.logs.Logs.{Logs}
+use Rattle.zr_sync.specs.declared.logs.Logs.TheVariants.{Grow, Anew}
 use Rattle.zr_sync.specs.declared.mappings.MappingStream.{MappingStream}
 use Rattle.zr_sync.specs.declared.mappings.MappingStream.TheVariants.{Entries, Counts}
 use Rattle.zr_sync.specs.declared.open.CondStreams.{CondStreams}
@@ -33,20 +35,20 @@ use Rattle.zr_sync.proofs.Stages.{IsSameFrame, alike_yet, at_stays}
 -- ---- stages
 
 -- the first stream is written, and the second is not yet
-abbrev pub half : MappingStream → Stage
-half Entries = Written
-half Counts = Had
+abbrev pub half : Stage → MappingStream → Stage
+half first Entries = Written
+half first Counts = first
 
 pub apart : Entries ≡ Counts → ⊥
 apart e = cc
 
-pub half_more : (other : MappingStream) → other ≢ Entries → half other ≡ one_stage Had other
-half_more Entries ne = absurd (ne refl)
-half_more Counts ne = refl
+pub half_more : (first : Stage) (other : MappingStream) → other ≢ Entries → half first other ≡ one_stage first other
+half_more first Entries ne = absurd (ne refl)
+half_more first Counts ne = refl
 
-pub all_more : (other : MappingStream) → other ≢ Counts → one_stage Written other ≡ half other
-all_more Entries ne = refl
-all_more Counts ne = absurd (ne refl)
+pub all_more : (first : Stage) (other : MappingStream) → other ≢ Counts → one_stage Written other ≡ half first other
+all_more first Entries ne = refl
+all_more first Counts ne = absurd (ne refl)
 
 -- once the streams of a condensing that is done are given back, none is done
 pub none_done : (x y : CondStreams) → y ≡ (if x.done then no_cond else x) → y.done ≡ false
@@ -60,6 +62,7 @@ pub cond_still : (x y : OpenPool) → KeepsOthers Meta x.space y.space → y.con
 cond_still x y others done Had which ws is = λ c at.
     let had = is c (sym others.rows.cond ∙ at) in
     (λ not_done. had.0 (sym done ∙ not_done), had.1)
+cond_still x y others done Untold which ws is = λ c at. is c (sym others.rows.cond ∙ at)
 cond_still x y others done Given which ws is = is
 cond_still x y others done Written which ws is = λ c at. is c (sym others.rows.cond ∙ at)
 cond_still x y others done Recorded which ws is = λ c at. is c (sym others.rows.cond ∙ at)
@@ -119,7 +122,7 @@ cond_stands stage cond more tells disks x h which =
 -- one of the streams is written
 module _ (stage : ℕ → Place → Stage) (cond next : MappingStream → Stage) (more : List Standing) (t1 t2 : Type 0) (d1 d2 : List (List ℕ)) (x y : OpenPool) (f : IsSameFrame x y) (kept : KeepsOthers Meta x.space y.space) (count : y.table.count ≡ x.table.count) (streams : y.streams.items ≡ x.streams.items) (none : HasNoLateYet stage)
     (h : HoldsStreams stage cond more t1 d1 x) (which : MappingStream) (stream : Stream) (ns : List ℕ) (same : y.cond ≡ with_cond_stream which x.cond stream) (wrote : Now (HasMeta t2 d2 y) (λ n. Rewrites h.stored n (cond_stream which x.cond) stream ns))
-    (now : (c : CondPart) → x.space.parts.cond ≡ Some c → ns ≡ mapping_words which c.entries c.counts) (turned : next which ≡ Written) (rest : (other : MappingStream) → other ≢ which → next other ≡ cond other) where
+    (now : (c : CondPart) → x.space.parts.cond ≡ Some c → (ns ≡ mapping_words which c.entries c.counts) × IsSpelled c.entries c.counts) (turned : next which ≡ Written) (rest : (other : MappingStream) → other ≢ which → next other ≡ cond other) where
   abbrev v : MappingStream → List ℕ
   v = cond_with which h.cond ns
 
@@ -186,16 +189,21 @@ both_stored stage cond more tells disks x h weight =
     let b = weigh_two h.stored (cond_trees x.cond h.cond) more weight in
     omega (arith, held, a, b)
 
+-- what was told of a stream holds of one of no words
+none_told : (logs : Logs) (x y : OpenPool) → KeepsOthers Meta x.space y.space → (which : MappingStream) (ws : List ℕ) → IsCondAt (first_stage logs) x which ws → IsCondAt (first_stage logs) y which []
+none_told Grow x y kept which ws is = λ c at. (λ not_done. first_none which c.entries c.counts, (is c (sym kept.rows.cond ∙ at)).1)
+none_told Anew x y kept which ws is = λ c at. is c (sym kept.rows.cond ∙ at)
+
 -- both streams of a condensing that is done are given back
-module _ (stage : ℕ → Place → Stage) (more : List Standing) (t1 t2 : Type 0) (d1 d2 : List (List ℕ)) (x y : OpenPool) (f : IsSameFrame x y) (kept : KeepsOthers Meta x.space y.space) (count : y.table.count ≡ x.table.count) (streams : y.streams.items ≡ x.streams.items) (none : HasNoLateYet stage) (same : y.cond ≡ no_cond)
-    (h : HoldsStreams stage (one_stage Had) more t1 d1 x) (gives : Now (HasMeta t2 d2 y) (λ n. Swaps h.stored n (streams_reach h.stored (both x.cond)) [])) where
+module _ (logs : Logs) (stage : ℕ → Place → Stage) (more : List Standing) (t1 t2 : Type 0) (d1 d2 : List (List ℕ)) (x y : OpenPool) (f : IsSameFrame x y) (kept : KeepsOthers Meta x.space y.space) (count : y.table.count ≡ x.table.count) (streams : y.streams.items ≡ x.streams.items) (none : HasNoLateYet stage) (same : y.cond ≡ no_cond)
+    (h : HoldsStreams stage (one_stage (first_stage logs)) more t1 d1 x) (gives : Now (HasMeta t2 d2 y) (λ n. Swaps h.stored n (streams_reach h.stored (both x.cond)) [])) where
   both_stand : All (Stands gives.stored) (cond_trees no_cond nothing_in)
   both_stand =
       All-cons (Stands gives.stored) (of_stream no_stream []) (of_stream no_stream [] ∷ []) (empty_stands gives.stored)
       (All-cons (Stands gives.stored) (of_stream no_stream []) [] (empty_stands gives.stored) (All-nil (Stands gives.stored)))
 
-  pub cond_given : HoldsStreams stage (one_stage Had) more t2 d2 y
+  pub cond_given : HoldsStreams stage (one_stage (first_stage logs)) more t2 d2 y
   cond_given =
-      behind_changed stage (one_stage Had) (one_stage Had) more more t1 t2 d1 d2 x y h count streams nothing_in [] (cond_trees x.cond h.cond) (cond_trees no_cond nothing_in) more refl (ap (λ (t : CondStreams). cond_trees t nothing_in ++ more) same) gives.stored gives.held gives.is both_stand
+      behind_changed stage (one_stage (first_stage logs)) (one_stage (first_stage logs)) more more t1 t2 d1 d2 x y h count streams nothing_in [] (cond_trees x.cond h.cond) (cond_trees no_cond nothing_in) more refl (ap (λ (t : CondStreams). cond_trees t nothing_in ++ more) same) gives.stored gives.held gives.is both_stand
       (λ which. no_words which ∙ ap (λ (t : CondStreams). (cond_stream which t).words) (sym same)) (λ e p ws lt is. at_stays x y f kept (stage e p) e p ws (alike_yet x y stage none e p) is)
-      (λ which c at. (λ not_done. first_none which c.entries c.counts, (h.are_cond which c (sym kept.rows.cond ∙ at)).1))
+      (λ which. none_told logs x y kept which (h.cond which) (h.are_cond which))

@@ -16,7 +16,7 @@ use Rattle.zr_tree.specs.Trees.{tree_reach}
 use Rattle.zr_vdev.specs.Stores.{HoldsBlocks, KeepsOthers, WaitsStill}
 use Rattle.zr_vdev.specs.declared.kind.Kind.{Kind}
 use Rattle.zr_vdev.specs.declared.kind.Kind.TheVariants.{Meta}
-use Rattle.zr_sync.specs.Checkpoints.{no_streams}
+use Rattle.zr_sync.specs.Empty.{no_streams}
 use Rattle.zr_sync.specs.Mappings.{cond_stream}
 use Rattle.zr_sync.specs.Streams.{HasMeta, streams_at}
 use Rattle.zr_sync.specs.Trees.{Place, Stage, HasNoLateYet, HoldsStreams, IsAt, IsCondAt, cond_trees, device_trees, stream_in}

@@ -22,12 +22,12 @@ use Rattle.zr_store.specs.Store.{Stored, AreStored, IsOnce, Now, Swaps, one_at}
 use Rattle.zr_tree.specs.Trees.{reach, tree_reach}
 use Rattle.zr_vdev.specs.Stores.{KeepsOthers, WaitsStill}
 use Rattle.zr_vdev.specs.declared.kind.Kind.TheVariants.{Meta}
-use Rattle.zr_sync.specs.Checkpoints.{no_stream, no_streams}
+use Rattle.zr_sync.specs.Empty.{no_stream, no_streams}
 use Rattle.zr_sync.specs.Pools.{AreStreams}
 use Rattle.zr_sync.specs.Streams.{HasMeta, WritesLates, late_streams, streams_at}
 use Rattle.zr_sync.specs.Trees.{Place, Stage, HasNoLateYet, HoldsStreams, IsAt, device_trees, cond_trees, giving, is_late, laying, stream_in, writing}
 use Rattle.zr_sync.specs.Trees.Place.{OfLog, OfMapping, FirstLate, SecondLate}
-use Rattle.zr_sync.specs.Trees.Stage.{Had, Given, Written}
+use Rattle.zr_sync.specs.Trees.Stage.{Given, Written}
 use Rattle.zr_sync.specs.declared.mappings.MappingStream.{MappingStream}
 use Rattle.zr_sync.specs.declared.mappings.MappingStream.TheVariants.{Entries, Counts}
 use Rattle.zr_sync.specs.declared.open.DeviceStreams.{DeviceStreams}
@@ -54,30 +54,30 @@ below e count lt = grind (arith, nat_tests, lt)
 none_below : (e : ℕ) → nat_lt e 0 ≡ false
 none_below e = grind (arith, nat_tests)
 
-giving_elsewhere : (dev e : ℕ) (p : Place) → e ≢ dev → giving (dev + 1) e p ≡ giving dev e p
-giving_elsewhere dev e p ne = ap (λ (b : Bool). if is_late p then (if b then Given else Had) else Written) (one_more e dev ne)
+giving_elsewhere : (first : Stage) (dev e : ℕ) (p : Place) → e ≢ dev → giving first (dev + 1) e p ≡ giving first dev e p
+giving_elsewhere first dev e p ne = ap (λ (b : Bool). if is_late p then (if b then Given else first) else Written) (one_more e dev ne)
 
 laying_elsewhere : (dev e : ℕ) (p : Place) → e ≢ dev → laying (dev + 1) e p ≡ laying dev e p
 laying_elsewhere dev e p ne = ap (λ (b : Bool). if is_late p then (if b then Written else Given) else Written) (one_more e dev ne)
 
-given_or_had : (b : Bool) → (if b then Given else Had) ≡ Written → ⊥
-given_or_had true e = cc
-given_or_had false e = cc
+given_or_first : (first : Stage) → first ≢ Written → (b : Bool) → (if b then Given else first) ≡ Written → ⊥
+given_or_first first unwritten true e = cc
+given_or_first first unwritten false e = unwritten e
 
-pub giving_no_late : (dev : ℕ) → HasNoLateYet (giving dev)
-giving_no_late dev e is = given_or_had (nat_lt e dev) is
+pub giving_no_late : (first : Stage) → first ≢ Written → (dev : ℕ) → HasNoLateYet (giving first dev)
+giving_no_late first unwritten dev e is = given_or_first first unwritten (nat_lt e dev) is
 
 -- where all other streams are written none is given back yet
-pub all_had : (count e : ℕ) (p : Place) → e < count → giving 0 e p ≡ writing count e p
-all_had count e p lt =
-    ap (λ (b : Bool). if is_late p then (if b then Given else Had) else Written) (none_below e)
-    ∙ sym (ap (λ (b : Bool). if b then (if is_late p then Had else Written) else Had) (below e count lt))
+pub all_first : (first : Stage) (count e : ℕ) (p : Place) → e < count → giving first 0 e p ≡ writing first count e p
+all_first first count e p lt =
+    ap (λ (b : Bool). if is_late p then (if b then Given else first) else Written) (none_below e)
+    ∙ sym (ap (λ (b : Bool). if b then (if is_late p then first else Written) else first) (below e count lt))
 
 -- where all late sets are given back none is written yet
-pub all_given : (count e : ℕ) (p : Place) → e < count → laying 0 e p ≡ giving count e p
-all_given count e p lt =
+pub all_given : (first : Stage) (count e : ℕ) (p : Place) → e < count → laying 0 e p ≡ giving first count e p
+all_given first count e p lt =
     ap (λ (b : Bool). if is_late p then (if b then Written else Given) else Written) (none_below e)
-    ∙ sym (ap (λ (b : Bool). if is_late p then (if b then Given else Had) else Written) (below e count lt))
+    ∙ sym (ap (λ (b : Bool). if is_late p then (if b then Given else first) else Written) (below e count lt))
 
 -- ---- the blocks of a device's late sets
 
@@ -209,11 +209,11 @@ module _ (stage next : ℕ → Place → Stage) (cond : MappingStream → Stage)
 
 -- ---- given back
 
-given_here : (dev : ℕ) (b : Bool) → b ≡ true → (if b then Given else Had) ≡ Given
-given_here dev true is = refl
-given_here dev false is = cc
+given_here : (first : Stage) (b : Bool) → b ≡ true → (if b then Given else first) ≡ Given
+given_here first true is = refl
+given_here first false is = cc
 
-module _ (cond : MappingStream → Stage) (others : List Standing) (t1 t2 : Type 0) (d1 d2 : List (List ℕ)) (x y : OpenPool) (f : IsSameFrame x y) (kept : KeepsOthers Meta x.space y.space) (same : y.cond ≡ x.cond) (count : y.table.count ≡ x.table.count) (dev : ℕ) (there : dev < x.table.count) (listed : dev < length x.streams.items) (h : HoldsStreams (giving dev) cond others t1 d1 x)
+module _ (first : Stage) (unwritten : first ≢ Written) (cond : MappingStream → Stage) (others : List Standing) (t1 t2 : Type 0) (d1 d2 : List (List ℕ)) (x y : OpenPool) (f : IsSameFrame x y) (kept : KeepsOthers Meta x.space y.space) (same : y.cond ≡ x.cond) (count : y.table.count ≡ x.table.count) (dev : ℕ) (there : dev < x.table.count) (listed : dev < length x.streams.items) (h : HoldsStreams (giving first dev) cond others t1 d1 x)
     (streams : y.streams.items ≡ slice_set x.streams.items dev (record (streams_at x dev) { late1 = no_stream; late2 = no_stream })) (gave : Now (HasMeta t2 d2 y) (λ n. Swaps h.stored n (streams_reach h.stored (late_streams (streams_at x dev))) [])) where
   none_stand : All (Stands gave.stored) (two_trees no_stream no_stream [] [])
   none_stand = All-cons (Stands gave.stored) (of_stream no_stream []) (of_stream no_stream [] ∷ []) (hole_bytes gave.stored) (All-cons (Stands gave.stored) (of_stream no_stream []) [] (hole_bytes gave.stored) (All-nil (Stands gave.stored)))
@@ -221,10 +221,10 @@ module _ (cond : MappingStream → Stage) (others : List Standing) (t1 t2 : Type
   none_at : (p : Place) (s : Stage) → s ≡ Given → IsAt s y dev p []
   none_at p s is = subst (λ (r : Stage). IsAt r y dev p []) (sym is) refl
 
-  pub lates_given : HoldsStreams (giving (dev + 1)) cond others t2 d2 y
+  pub lates_given : HoldsStreams (giving first (dev + 1)) cond others t2 d2 y
   lates_given =
-      lates_turned (giving dev) (giving (dev + 1)) cond others t1 t2 d1 d2 x y f kept same count dev there listed h (λ e p. alike_yet x y (giving dev) (giving_no_late dev) e p) (λ e p ne. giving_elsewhere dev e p ne) (λ log. refl) (λ which. refl) no_stream no_stream [] [] streams gave.stored gave.held gave.is none_stand refl refl
-      (none_at FirstLate (giving (dev + 1) dev FirstLate) (given_here dev (nat_lt dev (dev + 1)) (this_one dev))) (none_at SecondLate (giving (dev + 1) dev SecondLate) (given_here dev (nat_lt dev (dev + 1)) (this_one dev)))
+      lates_turned (giving first dev) (giving first (dev + 1)) cond others t1 t2 d1 d2 x y f kept same count dev there listed h (λ e p. alike_yet x y (giving first dev) (giving_no_late first unwritten dev) e p) (λ e p ne. giving_elsewhere first dev e p ne) (λ log. refl) (λ which. refl) no_stream no_stream [] [] streams gave.stored gave.held gave.is none_stand refl refl
+      (none_at FirstLate (giving first (dev + 1) dev FirstLate) (given_here first (nat_lt dev (dev + 1)) (this_one dev))) (none_at SecondLate (giving first (dev + 1) dev SecondLate) (given_here first (nat_lt dev (dev + 1)) (this_one dev)))
 
 -- ---- written
 

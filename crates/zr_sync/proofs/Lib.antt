@@ -27,6 +27,9 @@ pub mod Steps
 pub mod Progress
 pub mod Recording
 pub mod Regrouping
+pub mod Retelling
 pub mod LateTrees
 pub mod HeadTrees
 pub mod CondTrees
+pub mod Emptied
+pub mod Telling

@@ -29,14 +29,16 @@ use Rattle.zr_vdev.specs.declared.kind.Kind.TheVariants.{Block, Meta}
 use Rattle.zr_vdev.proofs.Frames.{held_beside}
 use Rattle.zr_vdev.proofs.Held.{read_same}
 use Rattle.zr_vdev.proofs.Moves.{held_again}
-use Rattle.zr_sync.specs.Mappings.{mapping_words, words_at}
+use Rattle.zr_sync.specs.Mappings.{IsSpelled, mapping_words, words_at}
 use Rattle.zr_sync.specs.Pools.{IsOpen}
 use Rattle.zr_sync.specs.Streams.{HasMeta}
-use Rattle.zr_sync.specs.Trees.{Place, Stage, AreHad, HoldsStreams, IsAt, IsCondAt, one_stage, recorded, settling, writing}
+use Rattle.zr_sync.specs.Trees.{Place, Stage, AreFirst, HoldsStreams, IsAt, IsCondAt, MaySpell, every, first_stage, one_stage, settling, writing}
 use Rattle.zr_sync.specs.Trees.Place.{OfLog, OfMapping, FirstLate, SecondLate}
-use Rattle.zr_sync.specs.Trees.Stage.{Had, Given, Written, Recorded}
-use Rattle.zr_sync.specs.Words.{log_set}
+use Rattle.zr_sync.specs.Trees.Stage.{Given, Written, Recorded}
+use Rattle.zr_sync.specs.Words.{IsLastLog, log_set}
 use Rattle.zr_sync.specs.Writes.{WritesTrees}
+use Rattle.zr_sync.specs.declared.logs.Logs.{Logs}
+use Rattle.zr_sync.specs.declared.logs.Logs.TheVariants.{Grow, Anew}
 use Rattle.zr_sync.specs.declared.mappings.MappingStream.{MappingStream}
 use Rattle.zr_sync.specs.declared.open.OpenPool.{OpenPool}
 use Rattle.zr_sync.specs.declared.open.Table.{Table}
@@ -44,7 +46,8 @@ use Rattle.zr_sync.specs.declared.words.Log.{Log}
 use Rattle.zr_sync.specs.declared.words.Log.TheVariants.{Held, Kept, Fresh}
 use Rattle.zr_sync.proofs.Groups.{commits_devices}
 use Rattle.zr_sync.proofs.Holding.{same_holds}
-use Rattle.zr_sync.proofs.Stages.{last_log_stays, mapping_stays}
+use Rattle.zr_sync.proofs.Progress.{writing_none}
+use Rattle.zr_sync.proofs.Stages.{last_log_stays, mapping_stays, spelled_stays}
 
 -- ---- the same trees in another store of the same blocks
 
@@ -74,47 +77,37 @@ module _ (stage next : ℕ → Place → Stage) (cond cond_next : MappingStream 
 
 -- ---- blocks of objects
 
-pub had_stays : (x y : OpenPool) → KeepsOthers Block x.space y.space → y.version ≡ x.version → y.turned ≡ x.turned → (e : ℕ) (p : Place) (ws : List ℕ) → IsAt Had x e p ws → IsAt Had y e p ws
-had_stays x y kept version turned e (OfLog log) ws is = rw version (last_log_stays Block x.space y.space kept x.version e log ws is)
-had_stays x y kept version turned e (OfMapping which) ws is = mapping_stays Block x y kept turned e which ws is
-had_stays x y kept version turned e FirstLate ws is = tt
-had_stays x y kept version turned e SecondLate ws is = tt
+pub first_stays : (logs : Logs) (x y : OpenPool) → KeepsOthers Block x.space y.space → y.version ≡ x.version → y.turned ≡ x.turned → (e : ℕ) (p : Place) (ws : List ℕ) → IsAt (first_stage logs) x e p ws → IsAt (first_stage logs) y e p ws
+first_stays Grow x y kept version turned e (OfLog log) ws is = subst (λ (v : ℕ). IsLastLog v y.space e log ws) (sym version) (last_log_stays Block x.space y.space kept x.version e log ws is)
+first_stays Grow x y kept version turned e (OfMapping which) ws is = mapping_stays Block x y kept turned e which ws is
+first_stays Grow x y kept version turned e FirstLate ws is = tt
+first_stays Grow x y kept version turned e SecondLate ws is = tt
+first_stays Anew x y kept version turned e (OfLog log) ws is = tt
+first_stays Anew x y kept version turned e (OfMapping which) ws is = spelled_stays Block x y kept e is
+first_stays Anew x y kept version turned e FirstLate ws is = tt
+first_stays Anew x y kept version turned e SecondLate ws is = tt
 
-pub had_cond_stays : (x y : OpenPool) → KeepsOthers Block x.space y.space → y.cond ≡ x.cond → (which : MappingStream) (ws : List ℕ) → IsCondAt Had x which ws → IsCondAt Had y which ws
-had_cond_stays x y kept cond which ws is = λ c at.
+pub first_cond_stays : (logs : Logs) (x y : OpenPool) → KeepsOthers Block x.space y.space → y.cond ≡ x.cond → (which : MappingStream) (ws : List ℕ) → IsCondAt (first_stage logs) x which ws → IsCondAt (first_stage logs) y which ws
+first_cond_stays Grow x y kept cond which ws is = λ c at.
     let had = is c (sym kept.rows.cond ∙ at) in
     (λ done. had.0 (sym (ap (λ t. t.done) cond) ∙ done), had.1)
+first_cond_stays Anew x y kept cond which ws is = λ c at. is c (sym kept.rows.cond ∙ at)
 
 -- the trees of objects that are written leave those of streams
-pub trees_leave : (n1 n2 : List ℕ) (c1 c2 : Counts) (t1 t2 : Type 0) (w1 w2 : World) (x y : OpenPool) → IsOpen n1 x → WritesTrees n1 n2 c1 c2 t1 t2 w1 w2 x y → (stage : ℕ → Place → Stage) (cond : MappingStream → Stage) (more : List Standing) → AreHad stage cond
+pub trees_leave : (n1 n2 : List ℕ) (c1 c2 : Counts) (t1 t2 : Type 0) (w1 w2 : World) (x y : OpenPool) → IsOpen n1 x → WritesTrees n1 n2 c1 c2 t1 t2 w1 w2 x y → (logs : Logs) (stage : ℕ → Place → Stage) (cond : MappingStream → Stage) (more : List Standing) → AreFirst (first_stage logs) stage cond
     → HoldsStreams stage cond more t1 w1.now.seen x → HoldsStreams stage cond more t2 w2.now.seen y
-trees_leave n1 n2 c1 c2 t1 t2 w1 w2 x y o wrote stage cond more had h =
+trees_leave n1 n2 c1 c2 t1 t2 w1 w2 x y o wrote logs stage cond more first h =
     let rest = wrote.rest in
     let slots : y.table.slots ≡ x.table.slots = ap (λ (p : OpenPool). p.table.slots) rest in
     let later = subst (λ (ss : List (Option ℕ)). Now (HoldsBlocks Meta ss t2 w2.now.seen y.space None y.cache) (λ n. Swaps h.stored n [] [])) (sym slots)
     (held_beside Meta x.table.slots n1 n2 c1 c2 t1 t2 w1 w2 x.space y.space None x.cache y.cache h.stored o.mounted.apart wrote.goes h.held) in
     stand_still stage stage cond cond more t1 t2 w1.now.seen w2.now.seen x y h (ap (λ (p : OpenPool). p.streams) rest) (ap (λ (p : OpenPool). p.cond) rest) (ap (λ (p : OpenPool). p.table) rest) later.stored later.held later.is
-    (λ e p ws lt is. subst (λ (s : Stage). IsAt s y e p ws) (sym (had.devices e p)) (had_stays x y wrote.goes.space (ap (λ (q : OpenPool). q.version) rest) (ap (λ (q : OpenPool). q.turned) rest) e p ws (subst (λ (s : Stage). IsAt s x e p ws) (had.devices e p) is)))
-    (λ which ws is. subst (λ (s : Stage). IsCondAt s y which ws) (sym (had.cond_is which)) (had_cond_stays x y wrote.goes.space (ap (λ (q : OpenPool). q.cond) rest) which ws (subst (λ (s : Stage). IsCondAt s x which ws) (had.cond_is which) is)))
+    (λ e p ws lt is. subst (λ (s : Stage). IsAt s y e p ws) (sym (first.devices e p)) (first_stays logs x y wrote.goes.space (ap (λ (q : OpenPool). q.version) rest) (ap (λ (q : OpenPool). q.turned) rest) e p ws (subst (λ (s : Stage). IsAt s x e p ws) (first.devices e p) is)))
+    (λ which ws is. subst (λ (s : Stage). IsCondAt s y which ws) (sym (first.cond_is which)) (first_cond_stays logs x y wrote.goes.space (ap (λ (q : OpenPool). q.cond) rest) which ws (subst (λ (s : Stage). IsCondAt s x which ws) (first.cond_is which) is)))
 
 -- at its begin a commit has written nothing
-pub begins_had : AreHad (writing 0) (one_stage Had)
-begins_had = record {
-  devices = λ dev place. none (nat_lt dev 0) (if is_late_of place then Had else Written) (below dev);
-  cond_is = λ which. refl;
-}
-  where
-    is_late_of : Place → Bool
-    is_late_of FirstLate = true
-    is_late_of SecondLate = true
-    is_late_of _ = false
-
-    below : (n : ℕ) → nat_lt n 0 ≡ false
-    below n = grind (arith, nat_tests)
-
-    none : (b : Bool) (x : Stage) → b ≡ false → (if b then x else Had) ≡ Had
-    none true x is = cc
-    none false x is = refl
+pub begins_first : (first : Stage) → AreFirst first (writing first 0) (one_stage first)
+begins_first first = record { devices = λ dev place. writing_none first dev place; cond_is = λ which. refl }
 
 -- ---- the end of a group
 
@@ -137,22 +130,26 @@ mapping_ends : (reset : Bool) (x y : OpenPool) → Commits reset x.space y.space
 mapping_ends reset x y commits dev which =
     ap (λ (es : List Entry). mapping_words which es (part_of y.space.parts.devs dev).counts) (commits.entries dev) ∙ ap (λ (cs : List ℕ). mapping_words which (part_of x.space.parts.devs dev).entries cs) (commits.counts dev)
 
+spelled_ends : (reset : Bool) (x y : OpenPool) → Commits reset x.space y.space → (dev : ℕ) → MaySpell x dev → MaySpell y dev
+spelled_ends reset x y commits dev spelled =
+    subst (λ (es : List Entry). IsSpelled es (part_of y.space.parts.devs dev).counts) (sym (commits.entries dev)) (subst (λ (cs : List ℕ). IsSpelled (part_of x.space.parts.devs dev).entries cs) (sym (commits.counts dev)) spelled)
+
 -- behind it each stream records its part
-at_end : (reset : Bool) (count : ℕ) (x y : OpenPool) → y.version ≡ x.version → Commits reset x.space y.space → TurnsParts reset x.space y.space → (e : ℕ) (p : Place) (ws : List ℕ) → e < count → IsAt (settling reset count e p) x e p ws → IsAt Recorded y e p ws
-at_end true count x y version commits turns e (OfLog log) ws lt is = rw version (subst (λ (es : List Extent). IsLog x.version e ws es) (sym (set_stays true x.space y.space turns log e)) is)
-at_end false count x y version commits turns e (OfLog log) ws lt is = rw version (subst (λ (es : List Extent). IsLog x.version e ws es) (sym (set_stays false x.space y.space turns log e)) is)
-at_end true count x y version commits turns e (OfMapping which) ws lt is = is ∙ sym (mapping_ends true x y commits e which)
-at_end false count x y version commits turns e (OfMapping which) ws lt is = is ∙ sym (mapping_ends false x y commits e which)
-at_end true count x y version commits turns e FirstLate ws lt is =
-    let none : ws ≡ [] = subst (λ (s : Stage). IsAt s x e FirstLate ws) (stage_of (nat_lt e count) Given Had (below_all e count lt)) is in
+at_end : (first : Stage) (reset : Bool) (count : ℕ) (x y : OpenPool) → y.version ≡ x.version → Commits reset x.space y.space → TurnsParts reset x.space y.space → (e : ℕ) (p : Place) (ws : List ℕ) → e < count → IsAt (settling first reset count e p) x e p ws → IsAt Recorded y e p ws
+at_end first true count x y version commits turns e (OfLog log) ws lt is = rw version (subst (λ (es : List Extent). IsLog x.version e ws es) (sym (set_stays true x.space y.space turns log e)) is)
+at_end first false count x y version commits turns e (OfLog log) ws lt is = rw version (subst (λ (es : List Extent). IsLog x.version e ws es) (sym (set_stays false x.space y.space turns log e)) is)
+at_end first true count x y version commits turns e (OfMapping which) ws lt is = (is.0 ∙ sym (mapping_ends true x y commits e which), spelled_ends true x y commits e is.1)
+at_end first false count x y version commits turns e (OfMapping which) ws lt is = (is.0 ∙ sym (mapping_ends false x y commits e which), spelled_ends false x y commits e is.1)
+at_end first true count x y version commits turns e FirstLate ws lt is =
+    let none : ws ≡ [] = subst (λ (s : Stage). IsAt s x e FirstLate ws) (stage_of (nat_lt e count) Given first (below_all e count lt)) is in
     subst (λ (runs : List LateRun). IsLate y.version e ws runs) (sym (turns.first e)) (subst (λ (us : List ℕ). IsLate y.version e us []) (sym none) (no_late_set y.version e))
-at_end false count x y version commits turns e FirstLate ws lt is =
+at_end first false count x y version commits turns e FirstLate ws lt is =
     let late : IsLate x.version e ws (waiting_runs (opened_of x.space e)) = subst (λ (s : Stage). IsAt s x e FirstLate ws) (stage_of (nat_lt e count) Written Given (below_all e count lt)) is in
     subst (λ (runs : List LateRun). IsLate y.version e ws runs) (sym (turns.first e)) (rw version late)
-at_end true count x y version commits turns e SecondLate ws lt is =
-    let none : ws ≡ [] = subst (λ (s : Stage). IsAt s x e SecondLate ws) (stage_of (nat_lt e count) Given Had (below_all e count lt)) is in
+at_end first true count x y version commits turns e SecondLate ws lt is =
+    let none : ws ≡ [] = subst (λ (s : Stage). IsAt s x e SecondLate ws) (stage_of (nat_lt e count) Given first (below_all e count lt)) is in
     subst (λ (runs : List LateRun). IsLate y.version e ws runs) (sym (turns.second e)) (subst (λ (us : List ℕ). IsLate y.version e us []) (sym none) (no_late_set y.version e))
-at_end false count x y version commits turns e SecondLate ws lt is =
+at_end first false count x y version commits turns e SecondLate ws lt is =
     let late : IsLate x.version e ws (part_of x.space.parts.devs e).late1 = subst (λ (s : Stage). IsAt s x e SecondLate ws) (stage_of (nat_lt e count) Written Given (below_all e count lt)) is in
     subst (λ (runs : List LateRun). IsLate y.version e ws runs) (sym (turns.second e)) (rw version late)
 
@@ -170,12 +167,12 @@ meta_ends reset t disks x y s table cache commits metas held =
     held))
 
 -- A root is published, and the group ends: each stream records its part.
-pub records : (reset : Bool) (more : List Standing) (t1 t2 : Type 0) (d1 d2 : List (List ℕ)) (x y : OpenPool) → (t1 → t2) → (t1 → (a : Dva) → address_bytes (view_of d2 x.table.slots x.space) a ≡ address_bytes (view_of d1 x.table.slots x.space) a)
+pub records : (first : Stage) (reset : Bool) (more : List Standing) (t1 t2 : Type 0) (d1 d2 : List (List ℕ)) (x y : OpenPool) → (t1 → t2) → (t1 → (a : Dva) → address_bytes (view_of d2 x.table.slots x.space) a ≡ address_bytes (view_of d1 x.table.slots x.space) a)
     → y.version ≡ x.version → y.table ≡ x.table → y.cache ≡ x.cache → y.streams ≡ x.streams → y.cond ≡ x.cond → Commits reset x.space y.space → TurnsParts reset x.space y.space → ((a : Dva) → IsMeta x.space a → IsMeta y.space a)
-    → HoldsStreams (settling reset x.table.count) (one_stage Written) more t1 d1 x → HoldsStreams recorded (one_stage Recorded) more t2 d2 y
-records reset more t1 t2 d1 d2 x y told same version table cache streams cond commits turns metas h =
+    → HoldsStreams (settling first reset x.table.count) (one_stage Written) more t1 d1 x → HoldsStreams (every Recorded) (one_stage Recorded) more t2 d2 y
+records first reset more t1 t2 d1 d2 x y told same version table cache streams cond commits turns metas h =
     let published : HasMeta t2 d2 x h.stored = same_holds Meta x.table.slots t1 t2 d1 d2 x.space x.cache h.stored (told h.held.told) (same h.held.told) h.held in
     let later = meta_ends reset t2 d2 x y h.stored table cache commits metas published in
-    stand_still (settling reset x.table.count) recorded (one_stage Written) (one_stage Recorded) more t1 t2 d1 d2 x y h streams cond table later.stored later.held later.is
-    (λ e p ws lt is. at_end reset x.table.count x y version commits turns e p ws lt is)
+    stand_still (settling first reset x.table.count) (every Recorded) (one_stage Written) (one_stage Recorded) more t1 t2 d1 d2 x y h streams cond table later.stored later.held later.is
+    (λ e p ws lt is. at_end first reset x.table.count x y version commits turns e p ws lt is)
     (λ which ws is c at. is c (sym commits.cond ∙ at))

@@ -38,7 +38,7 @@ use Rattle.zr_sync.proofs.Groups.{commits_devices}
 -- ---- a head that is stored
 
 -- what holds of the address of each block that is met holds of all
-all_met : (P : Dva → Type 0) (bs : List Bptr) → ((b : Bptr) → 0 < hits bs b.at → P b.at) → All (λ (b : Bptr). P b.at) bs
+pub all_met : (P : Dva → Type 0) (bs : List Bptr) → ((b : Bptr) → 0 < hits bs b.at → P b.at) → All (λ (b : Bptr). P b.at) bs
 all_met P [] each = All-nil (λ (b : Bptr). P b.at)
 all_met P (b ∷ bs) each =
     All-cons (λ (x : Bptr). P x.at) b bs

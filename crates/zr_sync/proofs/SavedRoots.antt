@@ -32,7 +32,8 @@ use Rattle.zr_vdev.specs.declared.kind.Kind.TheVariants.{Block, Meta}
 use Rattle.zr_vdev.proofs.Follows.{gives_others, others_itself, others_more, rows_devices, space_step}
 use Rattle.zr_vdev.proofs.Frames.{held_beside}
 use Rattle.zr_vdev.proofs.Held.{read_same}
-use Rattle.zr_sync.specs.Checkpoints.{GivesSavedMeta, SavesRoot, DropsRoot, no_cond, no_streams}
+use Rattle.zr_sync.specs.Checkpoints.{GivesSavedMeta, SavesRoot, DropsRoot}
+use Rattle.zr_sync.specs.Empty.{no_cond, no_streams}
 use Rattle.zr_sync.specs.Heads.{IsSeen}
 use Rattle.zr_sync.specs.Objects.{HoldsObjects}
 use Rattle.zr_sync.specs.Pools.{AreCondStreams, AreStreams, IsCheckpoint, IsOpen, IsSameIdentity, IsSamePool, saved_block}
@@ -291,7 +292,7 @@ drops_same x y b r q = record {
 -- ---- what was kept is given back
 
 -- the devices and what is live stay
-discards_devices : (old new : Space) (es : List (ℕ × Extent)) → Discards old new es → devices_in new ≡ devices_in old
+pub discards_devices : (old new : Space) (es : List (ℕ × Extent)) → Discards old new es → devices_in new ≡ devices_in old
 discards_devices old new es g =
     ap (λ (n : ℕ). make n (devices_in new).row (devices_in new).entries) g.frame.devices
     ∙ (ap (λ (r : ℕ → DevRow). make (length old.parts.devs) r (devices_in new).entries) (fun_ext (λ d. (g.frame.each d).row))

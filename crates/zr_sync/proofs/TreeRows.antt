@@ -11,7 +11,7 @@ use Rattle.zr_meta.specs.declared.Stream.{Stream}
 use Rattle.zr_root.specs.Streams.{HasWords}
 use Rattle.zr_store.specs.Store.{Stored, AreStored, Now, Swaps}
 use Rattle.zr_tree.specs.Trees.{tree_reach}
-use Rattle.zr_sync.specs.Checkpoints.{no_streams}
+use Rattle.zr_sync.specs.Empty.{no_streams}
 use Rattle.zr_sync.specs.Mappings.{cond_stream}
 use Rattle.zr_sync.specs.Streams.{HasMeta, streams_at}
 use Rattle.zr_sync.specs.Trees.{Place, Stage, HoldsStreams, IsAt, IsCondAt, WritesPlace, cond_trees, device_trees, is_place, place_number, stream_in, with_stream}
@@ -268,8 +268,8 @@ not_there : (dev : ℕ) (place p : Place) → nat_eq (place_number p) (place_num
 not_there dev place p ne = ap (λ (b : Bool). nat_eq dev dev && b) ne ∙ and_no (nat_eq dev dev)
 
 -- one stream of a device is written
-module _ (stage now_stage : ℕ → Place → Stage) (cond_stage : MappingStream → Stage) (beside_them : List Standing) (t1 t2 : Type 0) (d1 d2 : List (List ℕ)) (x y : OpenPool) (h : HoldsStreams stage cond_stage beside_them t1 d1 x) (dev : ℕ) (there : dev < x.table.count) (listed : dev < length x.streams.items) (place : Place) (stream : Stream) (ns : List ℕ)
-    (count : y.table.count ≡ x.table.count) (cond : y.cond ≡ x.cond) (streams : y.streams.items ≡ slice_set x.streams.items dev (with_stream place (streams_at x dev) stream)) (turn : WritesPlace stage now_stage dev place) (wrote : Now (HasMeta t2 d2 y) (λ n. Rewrites h.stored n (stream_in place (streams_at x dev)) stream ns))
+module _ (first : Stage) (stage now_stage : ℕ → Place → Stage) (cond_stage : MappingStream → Stage) (beside_them : List Standing) (t1 t2 : Type 0) (d1 d2 : List (List ℕ)) (x y : OpenPool) (h : HoldsStreams stage cond_stage beside_them t1 d1 x) (dev : ℕ) (there : dev < x.table.count) (listed : dev < length x.streams.items) (place : Place) (stream : Stream) (ns : List ℕ)
+    (count : y.table.count ≡ x.table.count) (cond : y.cond ≡ x.cond) (streams : y.streams.items ≡ slice_set x.streams.items dev (with_stream place (streams_at x dev) stream)) (turn : WritesPlace first stage now_stage dev place) (wrote : Now (HasMeta t2 d2 y) (λ n. Rewrites h.stored n (stream_in place (streams_at x dev)) stream ns))
     (is_now : IsAt Written y dev place ns) (stays : (e : ℕ) (p : Place) (ws : List ℕ) → e < x.table.count → IsAt (stage e p) x e p ws → IsAt (stage e p) y e p ws) (cond_stays : (which : MappingStream) (ws : List ℕ) → IsCondAt (cond_stage which) x which ws → IsCondAt (cond_stage which) y which ws) where
   abbrev t : DeviceStreams
   t = streams_at x dev

@@ -6,7 +6,7 @@ use Rattle.zr_rules.specs.Places.{part_of}
 use Rattle.zr_rules.specs.Space.{Space}
 use Rattle.zr_vdev.specs.Stores.{KeepsOthers}
 use Rattle.zr_vdev.specs.declared.kind.Kind.TheVariants.{Block, Meta}
-use Rattle.zr_sync.specs.Checkpoints.{no_streams}
+use Rattle.zr_sync.specs.Empty.{no_streams}
 use Rattle.zr_sync.specs.Mappings.{TurnsMapping}
 use Rattle.zr_sync.specs.Streams.{log_stream, streams_at, with_log}
 use Rattle.zr_sync.specs.Words.{log_set}

@@ -1,10 +1,8 @@
 -- A checkpoint that is taken, and one that is given up.
 use Rattle.std.specs.Prelude.{◌≡◌, ℕ, ◌+◌, ◌⊎◌, Bool, true, false, List, [], Some, None, IfSome, All, length, map}
 use Rattle.zr_base.specs.declared.space.CkptPart.TheVariants.{Discarding}
-use Rattle.zr_bptr.specs.declared.Ptr.TheVariants.{Hole}
 use Rattle.zr_label.specs.Blocks.{SpellsUber}
 use Rattle.zr_label.specs.declared.root.Uber.{Uber}
-use Rattle.zr_meta.specs.declared.Stream.{Stream}
 use Rattle.zr_rules.specs.Roles.Role.{DeferredMeta, SavedMeta}
 use Rattle.zr_rules.specs.Space.{Space, role_at}
 use Rattle.zr_rules.specs.Steps.{HoldsCheckpoint, with_ckpt}
@@ -12,25 +10,15 @@ use Rattle.zr_model.specs.Objects.{Objects}
 use Rattle.zr_shelf.specs.Moments.{IsStill, World}
 use Rattle.zr_vdev.specs.Stores.{KeepsOthers}
 use Rattle.zr_vdev.specs.declared.kind.Kind.TheVariants.{Meta}
+use Rattle.zr_sync.specs.Empty.{no_cond, no_stream, no_streams}
 use Rattle.zr_sync.specs.Commits.{EndsGroup, IsNextRoot, IsShownFrom}
 use Rattle.zr_sync.specs.Ends.{EndsCommitted}
 use Rattle.zr_sync.specs.Leads.{CommitsObjects}
 use Rattle.zr_sync.specs.Pools.{IsOpen}
+use Rattle.zr_sync.specs.Trees.{HasLastTrees}
 use Rattle.zr_sync.specs.Writes.{WritesIntoFree}
-use Rattle.zr_sync.specs.declared.open.CondStreams.{CondStreams}
 use Rattle.zr_sync.specs.declared.open.DeviceStreams.{DeviceStreams}
 use Rattle.zr_sync.specs.declared.open.OpenPool.{OpenPool}
-
-abbrev pub no_stream : Stream
-no_stream = record { words = 0; tree = record { root = Hole; height = 0 } }
-
--- streams of no words
-abbrev pub no_streams : DeviceStreams
-no_streams = record { held = no_stream; kept = no_stream; entries = no_stream; counts = no_stream; fresh = no_stream; late1 = no_stream; late2 = no_stream }
-
--- those of no condensing
-abbrev pub no_cond : CondStreams
-no_cond = record { entries = no_stream; counts = no_stream; done = false }
 
 -- metadata of the saved root is given back, and nothing else is changed: where there is none, nothing at all
 pub record GivesSavedMeta (old new : Space) : Type 0 where
@@ -114,7 +102,7 @@ pub record CommitsWithout (sizes : List ℕ) (before now : World) (old new : Ope
 
 -- A checkpoint is given up, wherever that stops: nothing was done, or the pool without a saved root was being committed with these objects, by a reset.
 abbrev pub GivesUpInPart : List ℕ → Objects → OpenPool → World → World → Type 0
-GivesUpInPart sizes objects old before now = IsStill before now ⊎ ((dropped : OpenPool) × IsOpen sizes dropped × DropsRoot old dropped × CommitsObjects sizes dropped true objects before now)
+GivesUpInPart sizes objects old before now = IsStill before now ⊎ ((dropped : OpenPool) × IsOpen sizes dropped × DropsRoot old dropped × CommitsObjects ⊥ sizes dropped true objects before now)
 
 -- The group was committed with these objects, and the pool that saves the root of that was being committed with them.
 pub record TakesBehind (sizes : List ℕ) (objects : Objects) (old : OpenPool) (before now : World) : Type 0 where
@@ -124,8 +112,8 @@ pub record TakesBehind (sizes : List ℕ) (objects : Objects) (old : OpenPool) (
   pub held : OpenPool
   pub ready : IsOpen sizes held
   pub saves : SavesRoot ended held
-  pub second : CommitsObjects sizes held true objects mid now
+  pub second : CommitsObjects (HasLastTrees before.now.seen old) sizes held true objects mid now
 
 -- Wherever the taking of a checkpoint stops: in the first commit, or in the second one.
 abbrev pub TakesInPart : List ℕ → Objects → OpenPool → World → World → Type 0
-TakesInPart sizes objects old before now = CommitsObjects sizes old false objects before now ⊎ TakesBehind sizes objects old before now
+TakesInPart sizes objects old before now = CommitsObjects (HasLastTrees before.now.seen old) sizes old false objects before now ⊎ TakesBehind sizes objects old before now

@@ -6,13 +6,16 @@ use Rattle.zr_shelf.specs.Disks.{IsAtRest, Stand}
 use Rattle.zr_shelf.specs.Moments.{World}
 use Rattle.zr_sync.specs.Commits.{EndsGroup, IsNextRoot, IsShownFrom}
 use Rattle.zr_sync.specs.Heads.{HasDirectory, HasHead, HasSafeHead}
+use Rattle.zr_sync.specs.Moves.{TellsMoves}
 use Rattle.zr_sync.specs.Objects.{HoldsObjects}
 use Rattle.zr_sync.specs.Pools.{IsOpen, IsSamePool}
+use Rattle.zr_sync.specs.Trees.{HasLastTrees, HasTrees}
+use Rattle.zr_sync.specs.Trees.Stage.{Had, Recorded}
 use Rattle.zr_sync.specs.Writes.{WritesIntoFree}
 use Rattle.zr_sync.specs.declared.open.OpenPool.{OpenPool}
 
 -- The clauses of a commit that succeeded, from one pool to the next: the pool is open and the same, with an empty group. Its last root is the next one, which was
--- published behind writes into free units, and leads to its head, in units of metadata. The pool holds these objects.
+-- published behind writes into free units, and leads to its head, in units of metadata. The pool holds these objects, and where the trees of its streams stood, they do so with what the root has recorded, and tell where the units of removed devices have moved.
 pub record EndsCommitted (sizes : List ℕ) (reset : Bool) (old new : OpenPool) (objects : Objects) (before now : World) : Type 0 where
   pub pool : IsOpen sizes new
   pub same : IsSamePool old new
@@ -24,6 +27,8 @@ pub record EndsCommitted (sizes : List ℕ) (reset : Bool) (old new : OpenPool) 
   pub stands : IfSome new.last (λ u. HasHead now.now.seen new u.root u.len)
   pub safe : IfSome new.last (λ u. HasSafeHead now.now.seen new u.root u.len)
   pub stays : HoldsObjects (Unit {0}) now.now.seen new objects
+  pub trees : HasTrees Had (Unit {0}) before.now.seen old → HasTrees Recorded (Unit {0}) now.now.seen new
+  pub moves : HasLastTrees before.now.seen old → IfSome new.last (λ u. TellsMoves now.now.seen new u.root u.len)
 
 -- A pool came with a commit, that of its first root.
 pub record ComesCommitted (sizes : List ℕ) (pool : OpenPool) (objects : Objects) (now : World) : Type 0 where

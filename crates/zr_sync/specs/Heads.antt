@@ -11,7 +11,7 @@ use Rattle.zr_bptr.specs.declared.Tree.{Tree}
 use Rattle.zr_meta.specs.declared.CondAt.{CondAt}
 use Rattle.zr_meta.specs.declared.Head.{Head}
 use Rattle.zr_meta.specs.declared.Stream.{Stream}
-use Rattle.zr_meta.specs.Heads.{IsHead, head_bytes}
+use Rattle.zr_meta.specs.Heads.{IsHead, head_bytes, stream_count}
 use Rattle.zr_root.specs.Streams.{HasBytes, IsTreeFor}
 use Rattle.zr_image.specs.Reading.{store_of}
 use Rattle.zr_rules.specs.Equation.{devices_in}
@@ -38,6 +38,16 @@ abbrev pub streams_of : List DevRow → List DeviceStreams → List Stream
 streams_of [] devices = []
 streams_of (r ∷ rows) [] = []
 streams_of (r ∷ rows) (d ∷ devices) = streams_in r.state d ++ streams_of rows devices
+
+-- the streams of a device that a head of this form has: in the first form those of its late sets, which come last, are not among them
+abbrev pub told_in : ℕ → DevState → DeviceStreams → List Stream
+told_in form state d = take (stream_count form state) (streams_in state d)
+
+-- those of all devices, which have these rows
+abbrev pub told_of : ℕ → List DevRow → List DeviceStreams → List Stream
+told_of form [] devices = []
+told_of form (r ∷ rows) [] = []
+told_of form (r ∷ rows) (d ∷ devices) = told_in form r.state d ++ told_of form rows devices
 
 -- the condensing that goes on, as the head tells it, and the streams that it has
 abbrev pub cond_at : Option CondPart → Option CondAt

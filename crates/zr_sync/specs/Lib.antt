@@ -6,6 +6,7 @@ pub mod Commits
 pub mod Holds
 pub mod Objects
 pub mod Heads
+pub mod Empty
 pub mod Checkpoints
 pub mod States
 pub mod Streams
@@ -14,3 +15,4 @@ pub mod Mappings
 pub mod Leads
 pub mod Ends
 pub mod Trees
+pub mod Moves

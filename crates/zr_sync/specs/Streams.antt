@@ -10,7 +10,7 @@ use Rattle.zr_rules.specs.Space.{opened_of}
 use Rattle.zr_store.specs.Store.{Stored}
 use Rattle.zr_vdev.specs.Stores.{HoldsBlocks}
 use Rattle.zr_vdev.specs.declared.kind.Kind.TheVariants.{Meta}
-use Rattle.zr_sync.specs.Checkpoints.{no_stream, no_streams}
+use Rattle.zr_sync.specs.Empty.{no_stream, no_streams}
 use Rattle.zr_sync.specs.Words.{IsLogNow}
 use Rattle.zr_sync.specs.declared.open.DeviceStreams.{DeviceStreams}
 use Rattle.zr_sync.specs.declared.open.OpenPool.{OpenPool}

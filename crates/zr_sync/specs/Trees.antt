@@ -12,6 +12,8 @@ use Rattle.zr_store.specs.Store.{Stored}
 use Rattle.zr_sync.specs.Mappings.{HadFirst, HasFirst, IsSpelled, cond_stream, mapping_stream, mapping_words, with_mapping, words_at}
 use Rattle.zr_sync.specs.Streams.{HasMeta, log_stream, streams_at, with_log}
 use Rattle.zr_sync.specs.Words.{IsLastLog, IsLogNow}
+use Rattle.zr_sync.specs.declared.logs.Logs.{Logs}
+use Rattle.zr_sync.specs.declared.logs.Logs.TheVariants.{Grow, Anew}
 use Rattle.zr_sync.specs.declared.mappings.MappingStream.{MappingStream}
 use Rattle.zr_sync.specs.declared.mappings.MappingStream.TheVariants.{Entries, Counts}
 use Rattle.zr_sync.specs.declared.open.CondStreams.{CondStreams}
@@ -67,33 +69,41 @@ cond_trees t words = of_stream t.entries (words Entries) ∷ of_stream t.counts 
 
 -- ---- how far a commit has come
 
--- A stream is as the last root has it, or given back, or written for the next one. Behind the commit it is recorded.
+-- A stream is as the last root has it, or nothing is told of its words, or it is given back, or written for the next root. Behind the commit it is recorded.
 pub data Stage : Type 0 where
   Had : Stage
+  Untold : Stage
   Given : Stage
   Written : Stage
   Recorded : Stage
 
--- The words of a stream at its stage: a log leads to what its set was at the last root, or is now; those of a mapping are its first ones, or all; a late set is what it will be.
+-- the device's mapping can be spelled
+abbrev pub MaySpell : OpenPool → ℕ → Type 0
+MaySpell pool dev = IsSpelled (part_of pool.space.parts.devs dev).entries (part_of pool.space.parts.devs dev).counts
+
+-- The words of a stream at its stage: a log leads to what its set was at the last root, or is now; those of a mapping, which can be spelled, are its first ones, or all; a late set is what it will be.
 abbrev pub IsAt : Stage → OpenPool → ℕ → Place → List ℕ → Type 0
 IsAt Had pool dev (OfLog log) words = IsLastLog pool.version pool.space dev log words
-IsAt Had pool dev (OfMapping which) words = HadFirst pool dev which words × IsSpelled (part_of pool.space.parts.devs dev).entries (part_of pool.space.parts.devs dev).counts
+IsAt Had pool dev (OfMapping which) words = HadFirst pool dev which words × MaySpell pool dev
 IsAt Had pool dev place words = Unit {0}
+IsAt Untold pool dev (OfMapping which) words = MaySpell pool dev
+IsAt Untold pool dev place words = Unit {0}
 IsAt Given pool dev place words = words ≡ []
 IsAt Written pool dev (OfLog log) words = IsLogNow pool.version pool.space dev log words
-IsAt Written pool dev (OfMapping which) words = words ≡ words_at pool dev which
+IsAt Written pool dev (OfMapping which) words = (words ≡ words_at pool dev which) × MaySpell pool dev
 IsAt Written pool dev FirstLate words = IsLate pool.version dev words (waiting_runs (opened_of pool.space dev))
 IsAt Written pool dev SecondLate words = IsLate pool.version dev words (part_of pool.space.parts.devs dev).late1
 IsAt Recorded pool dev (OfLog log) words = IsLogNow pool.version pool.space dev log words
-IsAt Recorded pool dev (OfMapping which) words = words ≡ words_at pool dev which
+IsAt Recorded pool dev (OfMapping which) words = (words ≡ words_at pool dev which) × MaySpell pool dev
 IsAt Recorded pool dev FirstLate words = IsLate pool.version dev words (part_of pool.space.parts.devs dev).late1
 IsAt Recorded pool dev SecondLate words = IsLate pool.version dev words (part_of pool.space.parts.devs dev).late2
 
 -- the same of a condensing that goes on: what a commit has of one that is done says nothing of its words
 abbrev pub IsCondAt : Stage → OpenPool → MappingStream → List ℕ → Type 0
 IsCondAt Had pool which words = (c : CondPart) → pool.space.parts.cond ≡ Some c → (pool.cond.done ≡ false → HasFirst which c.entries c.counts words) × IsSpelled c.entries c.counts
+IsCondAt Untold pool which words = (c : CondPart) → pool.space.parts.cond ≡ Some c → IsSpelled c.entries c.counts
 IsCondAt Given pool which words = words ≡ []
-IsCondAt stage pool which words = (c : CondPart) → pool.space.parts.cond ≡ Some c → words ≡ mapping_words which c.entries c.counts
+IsCondAt stage pool which words = (c : CondPart) → pool.space.parts.cond ≡ Some c → (words ≡ mapping_words which c.entries c.counts) × IsSpelled c.entries c.counts
 
 -- The disks hold the trees of the pool's streams beside each other, and other trees beside these. In each stream stand as many words as it tells, and they are those of its stage.
 pub record HoldsStreams (stage : ℕ → Place → Stage) (cond_stage : MappingStream → Stage) (others : List Standing) (tells : Type 0) (disks : List (List ℕ)) (pool : OpenPool) : Type 0 where
@@ -107,9 +117,14 @@ pub record HoldsStreams (stage : ℕ → Place → Stage) (cond_stage : MappingS
   pub are : (dev : ℕ) (place : Place) → dev < pool.table.count → IsAt (stage dev place) pool dev place (words dev place)
   pub are_cond : (which : MappingStream) → IsCondAt (cond_stage which) pool which (cond which)
 
+-- What a commit is to be told of the streams before it: a stream that is appended to has what the last root has, and of one that is written anew nothing is asked.
+abbrev pub first_stage : Logs → Stage
+first_stage Grow = Had
+first_stage Anew = Untold
+
 -- one stream of a device was written, and the others are as they were
-pub record WritesPlace (old new : ℕ → Place → Stage) (dev : ℕ) (place : Place) : Type 0 where
-  pub was : old dev place ≡ Had
+pub record WritesPlace (first : Stage) (old new : ℕ → Place → Stage) (dev : ℕ) (place : Place) : Type 0 where
+  pub was : old dev place ≡ first
   pub is : new dev place ≡ Written
   pub others : (e : ℕ) (p : Place) → is_place dev place e p ≡ false → new e p ≡ old e p
 
@@ -124,37 +139,43 @@ abbrev pub HasNoLateYet : (ℕ → Place → Stage) → Type 0
 HasNoLateYet stage = (dev : ℕ) → stage dev FirstLate ≢ Written
 
 -- The stages of a commit, device by device: first all streams but the late sets are written, then the late sets are given back, and then they are written.
-abbrev pub writing : ℕ → ℕ → Place → Stage
-writing done dev place = if nat_lt dev done then (if is_late place then Had else Written) else Had
+abbrev pub writing : Stage → ℕ → ℕ → Place → Stage
+writing first done dev place = if nat_lt dev done then (if is_late place then first else Written) else first
 
-abbrev pub giving : ℕ → ℕ → Place → Stage
-giving done dev place = if is_late place then (if nat_lt dev done then Given else Had) else Written
+abbrev pub giving : Stage → ℕ → ℕ → Place → Stage
+giving first done dev place = if is_late place then (if nat_lt dev done then Given else first) else Written
 
 abbrev pub laying : ℕ → ℕ → Place → Stage
 laying done dev place = if is_late place then (if nat_lt dev done then Written else Given) else Written
 
 -- those behind the late sets of so many devices: a reset writes none
-abbrev pub settling : Bool → ℕ → ℕ → Place → Stage
-settling reset done = if reset then giving done else laying done
+abbrev pub settling : Stage → Bool → ℕ → ℕ → Place → Stage
+settling first reset done = if reset then giving first done else laying done
+
+-- each stream of a device, and of a condensing, is at this stage
+abbrev pub every : Stage → ℕ → Place → Stage
+every stage dev place = stage
 
 abbrev pub one_stage : Stage → MappingStream → Stage
 one_stage stage which = stage
 
--- each stream is recorded
-abbrev pub recorded : ℕ → Place → Stage
-recorded dev place = Recorded
-
 -- nothing is written yet
-pub record AreHad (stage : ℕ → Place → Stage) (cond : MappingStream → Stage) : Type 0 where
-  pub devices : (dev : ℕ) (place : Place) → stage dev place ≡ Had
-  pub cond_is : (which : MappingStream) → cond which ≡ Had
+pub record AreFirst (first : Stage) (stage : ℕ → Place → Stage) (cond : MappingStream → Stage) : Type 0 where
+  pub devices : (dev : ℕ) (place : Place) → stage dev place ≡ first
+  pub cond_is : (which : MappingStream) → cond which ≡ first
 
 -- the tree of a head
 abbrev pub head_tree : Tree → List ℕ → List Standing
 head_tree t bytes = of_tree t bytes ∷ []
 
--- A group has just begun: nothing was done in it yet, and each mapping can be spelled.
-pub record HasJustBegun (pool : OpenPool) : Type 0 where
-  pub opened : (dev : ℕ) → opened_of pool.space dev ≡ nothing_opened
-  pub spelled : (dev : ℕ) → IsSpelled (part_of pool.space.parts.devs dev).entries (part_of pool.space.parts.devs dev).counts
-  pub cond_spelled : (c : CondPart) → pool.space.parts.cond ≡ Some c → IsSpelled c.entries c.counts
+-- The disks hold the trees of all streams of a pool and of its head beside each other, each stream at this stage.
+abbrev pub HasTrees : Stage → Type 0 → List (List ℕ) → OpenPool → Type 0
+HasTrees stage tells disks pool = (bytes : List ℕ) × HoldsStreams (every stage) (one_stage stage) (head_tree pool.head bytes) tells disks pool
+
+-- They stand as the last root has them.
+abbrev pub HasLastTrees : List (List ℕ) → OpenPool → Type 0
+HasLastTrees disks pool = HasTrees Had (Unit {0}) disks pool
+
+-- a group has just begun: nothing was done in it yet
+abbrev pub HasJustBegun : OpenPool → Type 0
+HasJustBegun pool = (dev : ℕ) → opened_of pool.space dev ≡ nothing_opened

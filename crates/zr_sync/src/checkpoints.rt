@@ -12,13 +12,19 @@ ghost use Rattle.zr_model.specs.Objects.{Objects};
 ghost use Rattle.zr_rules.specs.Places.{is_leaving, state_of_dev};
 ghost use Rattle.zr_rules.specs.Steps.{DiscardsSome};
 ghost use Rattle.zr_shelf.specs.Counts.{NoneFell};
-ghost use Rattle.zr_sync.specs.Checkpoints.{CommitsTwice, CommitsWithout, DropsRoot, GivesSavedMeta, GivesUpCheckpoint, GivesUpInPart, SavesRoot, TakesCheckpoint, TakesInPart, no_streams};
+ghost use Rattle.zr_sync.specs.Checkpoints.{CommitsTwice, CommitsWithout, DropsRoot, GivesSavedMeta, GivesUpCheckpoint, GivesUpInPart, SavesRoot, TakesCheckpoint, TakesInPart};
+ghost use Rattle.zr_sync.specs.Empty.{no_streams};
 ghost use Rattle.zr_sync.specs.Heads.{HasHead, HasSafeHead, IsSeen};
 ghost use Rattle.zr_sync.specs.Objects.{HoldsObjects};
+ghost use Rattle.zr_sync.specs.Trees.{HasTrees};
+ghost use Rattle.zr_sync.specs.Trees.Stage.{Had};
 ghost use Rattle.zr_sync.specs.Pools.{IsOpen, IsSameIdentity};
+ghost use Rattle.zr_sync.specs.Trees.{HasTrees};
+ghost use Rattle.zr_sync.specs.Trees.Stage.{Had, Recorded};
 ghost use Rattle.zr_sync.specs.Writes.{WorksOnDisks};
 ghost use Rattle.zr_sync.specs.declared.open.DeviceStreams.{DeviceStreams};
 ghost use Rattle.zr_sync.specs.declared.stop.Stop.TheVariants.{DiskFault};
+ghost use Rattle.zr_sync.specs.Moves.{TellsMoves};
 
 use crate::commits::{commit, commit_anew};
 use crate::open::{Checkpoint, DeviceStreams, EMPTY, NO_COND, NO_STREAMS, OpenPool};
@@ -129,6 +135,8 @@ pub fn checkpoint<S: Shelf, P: Place>(
     ensures safe { IsSeen (S.tells shelf.old) (S.world shelf.old).now.seen pool.old → OnOk result (IfSome pool.new.last (λ u. HasSafeHead (S.world shelf.new).now.seen pool.new u.root u.len)) }
     ensures seen { IsSeen (S.tells shelf.old) (S.world shelf.old).now.seen pool.old → OnOk result (IsSeen (S.tells shelf.new) (S.world shelf.new).now.seen pool.new) }
     ensures empty { OnOk result (pool.new.group.objects ≡ []) }
+    ensures trees { HasTrees Had (S.tells shelf.old) (S.world shelf.old).now.seen pool.old → OnOk result (HasTrees Recorded (S.tells shelf.new) (S.world shelf.new).now.seen pool.new) }
+    ensures moves { HasTrees Had (S.tells shelf.old) (S.world shelf.old).now.seen pool.old → OnOk result (IfSome pool.new.last (λ u. TellsMoves (S.world shelf.new).now.seen pool.new u.root u.len)) }
     ensures txg { OnOk result (pool.new.group.txg ≡ pool.old.group.txg + 2) }
     ensures stays { (objects : Objects) → HoldsObjects (S.tells shelf.old) (S.world shelf.old).now.seen pool.old objects → OnOk result (HoldsObjects (S.tells shelf.new) (S.world shelf.new).now.seen pool.new objects) }
 {
@@ -182,6 +190,7 @@ pub fn discard_some(pool: &mut OpenPool) -> Result<u64, NoMemory>
     ensures ended { IfOk result (λ units. pool.new.space.parts.ckpt ≡ (if units == 0 then Clear else Discarding)) }
     ensures pool { (sizes : List ℕ) → IsOpen sizes pool.old → OnOk result (IsOpen sizes pool.new) }
     ensures stays { (disks : List (List ℕ)) (objects : Objects) → HoldsObjects (Unit {0}) disks pool.old objects → OnOk result (HoldsObjects (Unit {0}) disks pool.new objects) }
+    ensures trees { (disks : List (List ℕ)) → HasTrees Had (Unit {0}) disks pool.old → OnOk result (HasTrees Had (Unit {0}) disks pool.new) }
 {
     pool.space.discard_step()
 }

@@ -21,6 +21,7 @@ ghost use Rattle.zr_sync.specs.Objects.{HoldsObjects};
 ghost use Rattle.zr_sync.specs.Heads.{HasHead, HasSafeHead, IsSeen};
 ghost use Rattle.zr_sync.specs.Holds.{AreTreesStored, HasBlocks, HasWritten};
 ghost use Rattle.zr_sync.specs.Leads.{CommitsObjects};
+ghost use Rattle.zr_sync.specs.Moves.{TellsMoves};
 ghost use Rattle.zr_sync.specs.Pools.{IsOpen, IsSamePool, none_turned};
 ghost use Rattle.zr_sync.specs.Writes.{WorksOnDisks, WritesAll, WritesIntoFree, WritesMetadata};
 ghost use Rattle.zr_sync.specs.declared.logs.Logs.TheVariants.{Anew};
@@ -28,8 +29,8 @@ ghost use Rattle.zr_sync.specs.declared.stop.Stop.TheVariants.{DiskFault};
 ghost use Rattle.zr_beside.specs.Beside.{Standing};
 ghost use Rattle.zr_bptr.specs.declared.Tree.{Tree};
 ghost use Rattle.zr_root.specs.Streams.{IsTreeFor};
-ghost use Rattle.zr_sync.specs.Trees.{HoldsStreams, Place, Stage, giving, head_tree, one_stage, recorded, settling, writing};
-ghost use Rattle.zr_sync.specs.Trees.Stage.{Had, Recorded, Written};
+ghost use Rattle.zr_sync.specs.Trees.{HasLastTrees, HasTrees, HoldsStreams, Place, Stage, first_stage, giving, head_tree, one_stage, settling, writing};
+ghost use Rattle.zr_sync.specs.Trees.Stage.{Had, Recorded, Untold, Written};
 ghost use Rattle.zr_sync.specs.declared.mappings.MappingStream.{MappingStream};
 
 use crate::device_streams::write_streams;
@@ -61,7 +62,7 @@ fn write_late_sets<S: Shelf, P: Place>(
     ensures pool { OnOk result (IsOpen (S.sizes shelf.new) pool.new) }
     ensures fault { IsErrOf result DiskFault → HasRisen (S.counts shelf.old).disk (S.counts shelf.new).disk }
     ensures none { reset ≡ true → pool.new.streams ≡ pool.old.streams }
-    ensures trees { (cond : MappingStream → Stage) (others : List Standing) → HoldsStreams (giving pool.old.table.count) cond others (S.tells shelf.old) (S.world shelf.old).now.seen pool.old → OnOk result (HoldsStreams (settling reset pool.old.table.count) cond others (S.tells shelf.new) (S.world shelf.new).now.seen pool.new) }
+    ensures trees { (first : Stage) (cond : MappingStream → Stage) (others : List Standing) → HoldsStreams (giving first pool.old.table.count) cond others (S.tells shelf.old) (S.world shelf.old).now.seen pool.old → OnOk result (HoldsStreams (settling first reset pool.old.table.count) cond others (S.tells shelf.new) (S.world shelf.new).now.seen pool.new) }
 {
     if reset {
         return Ok(());
@@ -81,7 +82,7 @@ fn turn_metadata<S: Shelf, P: Place>(
     ensures wrote { WritesMetadata (S.sizes shelf.old) (S.sizes shelf.new) (S.counts shelf.old) (S.counts shelf.new) (S.tells shelf.old) (S.tells shelf.new) (S.world shelf.old) (S.world shelf.new) pool.old pool.new }
     ensures pool { OnOk result (IsOpen (S.sizes shelf.new) pool.new) }
     ensures fault { IsErrOf result DiskFault → HasRisen (S.counts shelf.old).disk (S.counts shelf.new).disk }
-    ensures trees { (bytes : List ℕ) → HoldsStreams (writing 0) (one_stage Had) (head_tree pool.old.head bytes) (S.tells shelf.old) (S.world shelf.old).now.seen pool.old → OnOk result (HoldsStreams (giving pool.old.table.count) (one_stage Written) [] (S.tells shelf.new) (S.world shelf.new).now.seen pool.new) }
+    ensures trees { (bytes : List ℕ) → HoldsStreams (writing (first_stage logs) 0) (one_stage (first_stage logs)) (head_tree pool.old.head bytes) (S.tells shelf.old) (S.world shelf.old).now.seen pool.old → OnOk result (HoldsStreams (giving (first_stage logs) pool.old.table.count) (one_stage Written) [] (S.tells shelf.new) (S.world shelf.new).now.seen pool.new) }
     ensures anew { logs ≡ Anew → OnOk result (AreRenewed pool.old.version pool.old.space pool.new.streams.items pool.old.table.count) }
 {
     write_streams(alloc, pool, shelf, pick, logs)?;
@@ -140,7 +141,7 @@ fn write_metadata<S: Shelf, P: Place>(
     ensures short { IfOk result (λ head. head.1 ≤ 35016) }
     ensures stands { IsSeen (S.tells shelf.old) (S.world shelf.old).now.seen pool.old → IfOk result (λ head. HasHead (S.world shelf.new).now.seen pool.new head.0 head.1) }
     ensures safe { IsSeen (S.tells shelf.old) (S.world shelf.old).now.seen pool.old → IfOk result (λ head. HasSafeHead (S.world shelf.new).now.seen pool.new head.0 head.1) }
-    ensures trees { moving ≡ false → (bytes : List ℕ) → HoldsStreams (writing 0) (one_stage Had) (head_tree pool.old.head bytes) (S.tells shelf.old) (S.world shelf.old).now.seen pool.old → IfOk result (λ head. (next : List ℕ) × ((t : Tree) → IsTreeFor head.1 head.0 t → HoldsStreams (settling reset pool.old.table.count) (one_stage Written) (head_tree t next) (S.tells shelf.new) (S.world shelf.new).now.seen pool.new)) }
+    ensures trees { moving ≡ false → (bytes : List ℕ) → HoldsStreams (writing (first_stage logs) 0) (one_stage (first_stage logs)) (head_tree pool.old.head bytes) (S.tells shelf.old) (S.world shelf.old).now.seen pool.old → IfOk result (λ head. (next : List ℕ) × ((t : Tree) → IsTreeFor head.1 head.0 t → HoldsStreams (settling (first_stage logs) reset pool.old.table.count) (one_stage Written) (head_tree t next) (S.tells shelf.new) (S.world shelf.new).now.seen pool.new)) }
     ensures anew { reset ≡ true → logs ≡ Anew → OnOk result (AreRenewed pool.old.version pool.old.space pool.new.streams.items pool.old.table.count) }
 {
     turn_metadata(alloc, pool, shelf, pick, logs)?;
@@ -169,7 +170,7 @@ fn write_all<S: Shelf, P: Place>(
     ensures short { IfOk result (λ head. head.1 ≤ 35016) }
     ensures stands { IsSeen (S.tells shelf.old) (S.world shelf.old).now.seen pool.old → IfOk result (λ head. HasHead (S.world shelf.new).now.seen pool.new head.0 head.1) }
     ensures safe { IsSeen (S.tells shelf.old) (S.world shelf.old).now.seen pool.old → IfOk result (λ head. HasSafeHead (S.world shelf.new).now.seen pool.new head.0 head.1) }
-    ensures trees { moving ≡ false → (bytes : List ℕ) → HoldsStreams (writing 0) (one_stage Had) (head_tree pool.old.head bytes) (S.tells shelf.old) (S.world shelf.old).now.seen pool.old → IfOk result (λ head. (next : List ℕ) × ((t : Tree) → IsTreeFor head.1 head.0 t → HoldsStreams (settling reset pool.old.table.count) (one_stage Written) (head_tree t next) (S.tells shelf.new) (S.world shelf.new).now.seen pool.new)) }
+    ensures trees { moving ≡ false → (bytes : List ℕ) → HoldsStreams (writing (first_stage logs) 0) (one_stage (first_stage logs)) (head_tree pool.old.head bytes) (S.tells shelf.old) (S.world shelf.old).now.seen pool.old → IfOk result (λ head. (next : List ℕ) × ((t : Tree) → IsTreeFor head.1 head.0 t → HoldsStreams (settling (first_stage logs) reset pool.old.table.count) (one_stage Written) (head_tree t next) (S.tells shelf.new) (S.world shelf.new).now.seen pool.new)) }
     ensures seen { IsSeen (S.tells shelf.old) (S.world shelf.old).now.seen pool.old → OnOk result (IsSeen (S.tells shelf.new) (S.world shelf.new).now.seen pool.new) }
     ensures objects { (s : Stored) → HasBlocks (S.tells shelf.old) (S.world shelf.old).now.seen pool.old s → AreTreesStored pool.old s → OnOk result (HasWritten (S.tells shelf.new) (S.world shelf.new).now.seen pool.old pool.new s) }
     ensures anew { reset ≡ true → logs ≡ Anew → OnOk result (RenewsLogs pool.old pool.new) }
@@ -205,12 +206,13 @@ fn commit_with<S: Shelf, P: Place>(
     ensures shown { S.tells shelf.old → OnOk result (IfSome pool.new.last (λ u. (before : World) × IsShownFrom (S.sizes shelf.old) pool.old u before (S.world shelf.new))) }
     ensures written { S.tells shelf.old → OnOk result (IfSome pool.new.last (λ u. (mid : World) × WritesIntoFree pool.old (S.world shelf.old) mid × IsShownFrom (S.sizes shelf.old) pool.old u mid (S.world shelf.new))) }
     ensures order { S.tells shelf.old → WritesRoot (S.sizes shelf.old) pool.old reset (S.world shelf.old) (S.world shelf.new) }
-    ensures leads { (objects : Objects) → HoldsObjects (S.tells shelf.old) (S.world shelf.old).now.seen pool.old objects → CommitsObjects (S.sizes shelf.old) pool.old reset objects (S.world shelf.old) (S.world shelf.new) }
+    ensures leads { (objects : Objects) → HoldsObjects (S.tells shelf.old) (S.world shelf.old).now.seen pool.old objects → CommitsObjects ((moving ≡ false) × HasTrees (first_stage logs) (Unit {0}) (S.world shelf.old).now.seen pool.old) (S.sizes shelf.old) pool.old reset objects (S.world shelf.old) (S.world shelf.new) }
     ensures space { OnOk result ((before : Space) × Commits reset before pool.new.space) }
     ensures ends { OnOk result (EndsGroup reset pool.old.space pool.new.space) }
     ensures anew { reset ≡ true → logs ≡ Anew → OnOk result (RenewsLogs pool.old pool.new) }
     ensures empty { OnOk result (pool.new.group.objects ≡ []) }
-    ensures trees { moving ≡ false → (bytes : List ℕ) → HoldsStreams (writing 0) (one_stage Had) (head_tree pool.old.head bytes) (S.tells shelf.old) (S.world shelf.old).now.seen pool.old → OnOk result ((next : List ℕ) × HoldsStreams recorded (one_stage Recorded) (head_tree pool.new.head next) (S.tells shelf.new) (S.world shelf.new).now.seen pool.new) }
+    ensures trees { moving ≡ false → HasTrees (first_stage logs) (S.tells shelf.old) (S.world shelf.old).now.seen pool.old → OnOk result (HasTrees Recorded (S.tells shelf.new) (S.world shelf.new).now.seen pool.new) }
+    ensures moves { moving ≡ false → HasTrees (first_stage logs) (S.tells shelf.old) (S.world shelf.old).now.seen pool.old → OnOk result (IfSome pool.new.last (λ u. TellsMoves (S.world shelf.new).now.seen pool.new u.root u.len)) }
     ensures turned { OnOk result (pool.new.turned ≡ none_turned) }
     ensures txg { OnOk result (pool.new.group.txg ≡ pool.old.group.txg + 1) }
     ensures objects { (s : Stored) → HasBlocks (S.tells shelf.old) (S.world shelf.old).now.seen pool.old s → AreTreesStored pool.old s → OnOk result (HasWritten (S.tells shelf.new) (S.world shelf.new).now.seen pool.old pool.new s) }
@@ -256,11 +258,12 @@ pub fn commit<S: Shelf, P: Place>(
     ensures shown { S.tells shelf.old → OnOk result (IfSome pool.new.last (λ u. (before : World) × IsShownFrom (S.sizes shelf.old) pool.old u before (S.world shelf.new))) }
     ensures written { S.tells shelf.old → OnOk result (IfSome pool.new.last (λ u. (mid : World) × WritesIntoFree pool.old (S.world shelf.old) mid × IsShownFrom (S.sizes shelf.old) pool.old u mid (S.world shelf.new))) }
     ensures order { S.tells shelf.old → WritesRoot (S.sizes shelf.old) pool.old reset (S.world shelf.old) (S.world shelf.new) }
-    ensures leads { (objects : Objects) → HoldsObjects (S.tells shelf.old) (S.world shelf.old).now.seen pool.old objects → CommitsObjects (S.sizes shelf.old) pool.old reset objects (S.world shelf.old) (S.world shelf.new) }
+    ensures leads { (objects : Objects) → HoldsObjects (S.tells shelf.old) (S.world shelf.old).now.seen pool.old objects → CommitsObjects (HasLastTrees (S.world shelf.old).now.seen pool.old) (S.sizes shelf.old) pool.old reset objects (S.world shelf.old) (S.world shelf.new) }
     ensures space { OnOk result ((before : Space) × Commits reset before pool.new.space) }
     ensures ends { OnOk result (EndsGroup reset pool.old.space pool.new.space) }
     ensures empty { OnOk result (pool.new.group.objects ≡ []) }
-    ensures trees { (bytes : List ℕ) → HoldsStreams (writing 0) (one_stage Had) (head_tree pool.old.head bytes) (S.tells shelf.old) (S.world shelf.old).now.seen pool.old → OnOk result ((next : List ℕ) × HoldsStreams recorded (one_stage Recorded) (head_tree pool.new.head next) (S.tells shelf.new) (S.world shelf.new).now.seen pool.new) }
+    ensures trees { HasTrees Had (S.tells shelf.old) (S.world shelf.old).now.seen pool.old → OnOk result (HasTrees Recorded (S.tells shelf.new) (S.world shelf.new).now.seen pool.new) }
+    ensures moves { HasTrees Had (S.tells shelf.old) (S.world shelf.old).now.seen pool.old → OnOk result (IfSome pool.new.last (λ u. TellsMoves (S.world shelf.new).now.seen pool.new u.root u.len)) }
     ensures turned { OnOk result (pool.new.turned ≡ none_turned) }
     ensures txg { OnOk result (pool.new.group.txg ≡ pool.old.group.txg + 1) }
     ensures objects { (s : Stored) → HasBlocks (S.tells shelf.old) (S.world shelf.old).now.seen pool.old s → AreTreesStored pool.old s → OnOk result (HasWritten (S.tells shelf.new) (S.world shelf.new).now.seen pool.old pool.new s) }
@@ -294,11 +297,13 @@ pub fn commit_anew<S: Shelf, P: Place>(
     ensures shown { S.tells shelf.old → OnOk result (IfSome pool.new.last (λ u. (before : World) × IsShownFrom (S.sizes shelf.old) pool.old u before (S.world shelf.new))) }
     ensures written { S.tells shelf.old → OnOk result (IfSome pool.new.last (λ u. (mid : World) × WritesIntoFree pool.old (S.world shelf.old) mid × IsShownFrom (S.sizes shelf.old) pool.old u mid (S.world shelf.new))) }
     ensures order { S.tells shelf.old → WritesRoot (S.sizes shelf.old) pool.old true (S.world shelf.old) (S.world shelf.new) }
-    ensures leads { (objects : Objects) → HoldsObjects (S.tells shelf.old) (S.world shelf.old).now.seen pool.old objects → CommitsObjects (S.sizes shelf.old) pool.old true objects (S.world shelf.old) (S.world shelf.new) }
+    ensures leads { (objects : Objects) → HoldsObjects (S.tells shelf.old) (S.world shelf.old).now.seen pool.old objects → CommitsObjects (HasTrees Untold (Unit {0}) (S.world shelf.old).now.seen pool.old) (S.sizes shelf.old) pool.old true objects (S.world shelf.old) (S.world shelf.new) }
     ensures space { OnOk result ((before : Space) × Commits true before pool.new.space) }
     ensures ends { OnOk result (EndsGroup true pool.old.space pool.new.space) }
     ensures anew { OnOk result (RenewsLogs pool.old pool.new) }
     ensures empty { OnOk result (pool.new.group.objects ≡ []) }
+    ensures trees { HasTrees Untold (S.tells shelf.old) (S.world shelf.old).now.seen pool.old → OnOk result (HasTrees Recorded (S.tells shelf.new) (S.world shelf.new).now.seen pool.new) }
+    ensures moves { HasTrees Untold (S.tells shelf.old) (S.world shelf.old).now.seen pool.old → OnOk result (IfSome pool.new.last (λ u. TellsMoves (S.world shelf.new).now.seen pool.new u.root u.len)) }
     ensures turned { OnOk result (pool.new.turned ≡ none_turned) }
     ensures txg { OnOk result (pool.new.group.txg ≡ pool.old.group.txg + 1) }
     ensures objects { (s : Stored) → HasBlocks (S.tells shelf.old) (S.world shelf.old).now.seen pool.old s → AreTreesStored pool.old s → OnOk result (HasWritten (S.tells shelf.new) (S.world shelf.new).now.seen pool.old pool.new s) }
@@ -333,7 +338,7 @@ pub fn commit_moving<S: Shelf, P: Place>(
     ensures shown { S.tells shelf.old → OnOk result (IfSome pool.new.last (λ u. (before : World) × IsShownFrom (S.sizes shelf.old) pool.old u before (S.world shelf.new))) }
     ensures written { S.tells shelf.old → OnOk result (IfSome pool.new.last (λ u. (mid : World) × WritesIntoFree pool.old (S.world shelf.old) mid × IsShownFrom (S.sizes shelf.old) pool.old u mid (S.world shelf.new))) }
     ensures order { S.tells shelf.old → WritesRoot (S.sizes shelf.old) pool.old true (S.world shelf.old) (S.world shelf.new) }
-    ensures leads { (objects : Objects) → HoldsObjects (S.tells shelf.old) (S.world shelf.old).now.seen pool.old objects → CommitsObjects (S.sizes shelf.old) pool.old true objects (S.world shelf.old) (S.world shelf.new) }
+    ensures leads { (objects : Objects) → HoldsObjects (S.tells shelf.old) (S.world shelf.old).now.seen pool.old objects → CommitsObjects ⊥ (S.sizes shelf.old) pool.old true objects (S.world shelf.old) (S.world shelf.new) }
     ensures space { OnOk result ((before : Space) × Commits true before pool.new.space) }
     ensures ends { OnOk result (EndsGroup true pool.old.space pool.new.space) }
     ensures anew { OnOk result (RenewsLogs pool.old pool.new) }

@@ -2,7 +2,7 @@
 //!
 //! The next root's late sets name all that the open group has freed, the metadata that this very commit gives back among
 //! it. So all of that is given back before they are written.
-ghost use Rattle.std.specs.Prelude.{◌≡◌, ◌<◌, ◌≤◌, ◌^◌, [], length, IsErrOf, IfOk, OnOk};
+ghost use Rattle.std.specs.Prelude.{◌≡◌, ◌≢◌, ◌<◌, ◌≤◌, ◌^◌, [], length, IsErrOf, IfOk, OnOk};
 ghost use Rattle.zr_base.specs.Counts.{HasRisen};
 ghost use Rattle.zr_commit.specs.Logs.{streams_reach};
 ghost use Rattle.zr_meta.specs.Heads.{IsStream};
@@ -18,6 +18,7 @@ ghost use Rattle.std.specs.Prelude.{◌+◌, ℕ, List};
 ghost use Rattle.zr_beside.specs.Beside.{Standing};
 ghost use Rattle.zr_vdev.specs.Stores.{WaitsStill};
 ghost use Rattle.zr_sync.specs.Trees.{HasNoLateYet, HoldsStreams, Place, Stage, giving, head_tree, laying};
+ghost use Rattle.zr_sync.specs.Trees.Stage.{Written};
 ghost use Rattle.zr_sync.specs.declared.mappings.MappingStream.{MappingStream};
 
 use crate::open::{EMPTY, OpenPool};
@@ -75,7 +76,7 @@ fn give_late<S: Shelf, P: Place>(
     ensures fault { IsErrOf result DiskFault → HasRisen (S.counts shelf.old).disk (S.counts shelf.new).disk }
     ensures gives { (s : Stored) → HasMeta (S.tells shelf.old) (S.world shelf.old).now.seen pool.old s → AreStored (streams_reach s (late_streams (streams_at pool.old dev))) s → OnOk result (Now (HasMeta (S.tells shelf.new) (S.world shelf.new).now.seen pool.new) (λ n. Swaps s n (streams_reach s (late_streams (streams_at pool.old dev))) [])) }
     ensures none { OnOk result (HasNoLates pool.old pool.new dev) }
-    ensures trees { (cond : MappingStream → Stage) (others : List Standing) → HoldsStreams (giving dev) cond others (S.tells shelf.old) (S.world shelf.old).now.seen pool.old → OnOk result (HoldsStreams (giving (dev + 1)) cond others (S.tells shelf.new) (S.world shelf.new).now.seen pool.new) }
+    ensures trees { (first : Stage) (cond : MappingStream → Stage) (others : List Standing) → first ≢ Written → HoldsStreams (giving first dev) cond others (S.tells shelf.old) (S.world shelf.old).now.seen pool.old → OnOk result (HoldsStreams (giving first (dev + 1)) cond others (S.tells shelf.new) (S.world shelf.new).now.seen pool.new) }
 {
     let index = dev as usize;
     let old = pool.streams[index];
@@ -111,7 +112,7 @@ pub fn give_lates<S: Shelf, P: Place>(
     ensures pool { OnOk result (IsOpen (S.sizes shelf.new) pool.new) }
     ensures fault { IsErrOf result DiskFault → HasRisen (S.counts shelf.old).disk (S.counts shelf.new).disk }
     ensures counts { OnOk result (KeepsCounts pool.old pool.new) }
-    ensures trees { (cond : MappingStream → Stage) (others : List Standing) → HoldsStreams (giving 0) cond others (S.tells shelf.old) (S.world shelf.old).now.seen pool.old → OnOk result (HoldsStreams (giving pool.old.table.count) cond others (S.tells shelf.new) (S.world shelf.new).now.seen pool.new) }
+    ensures trees { (first : Stage) (cond : MappingStream → Stage) (others : List Standing) → first ≢ Written → HoldsStreams (giving first 0) cond others (S.tells shelf.old) (S.world shelf.old).now.seen pool.old → OnOk result (HoldsStreams (giving first pool.old.table.count) cond others (S.tells shelf.new) (S.world shelf.new).now.seen pool.new) }
 {
     for dev in 0..pool.table.count {
         give_late(alloc, pool, shelf, pick, dev)?;

@@ -16,7 +16,7 @@ ghost use Rattle.zr_sync.specs.Words.{HasRoomFor, IsLastLog, IsLogNow, words_the
 ghost use Rattle.zr_sync.specs.Writes.{WritesMetadata};
 ghost use Rattle.zr_sync.specs.declared.stop.Stop.TheVariants.{DiskFault};
 ghost use Rattle.zr_beside.specs.Beside.{Standing};
-ghost use Rattle.zr_sync.specs.Trees.{HasNoLateYet, HoldsStreams, Place, Stage, WritesPlace};
+ghost use Rattle.zr_sync.specs.Trees.{HasNoLateYet, HoldsStreams, Place, Stage, WritesPlace, first_stage};
 ghost use Rattle.zr_sync.specs.Trees.Place.{OfLog};
 ghost use Rattle.zr_sync.specs.declared.mappings.MappingStream.{MappingStream};
 
@@ -53,7 +53,7 @@ fn words_for(
     requires dev { dev < pool.now.table.count }
     requires stream { IsStream old.now }
     ensures room { IfOk result (HasRoomFor old.now) }
-    ensures log { (had : List ℕ) → length had ≡ old.now.words → IsLastLog pool.now.version pool.now.space dev log had → IfOk result (λ words. IsLogNow pool.now.version pool.now.space dev log (words_then had words)) }
+    ensures log { (had : List ℕ) → length had ≡ old.now.words → (logs ≡ Logs.Grow → IsLastLog pool.now.version pool.now.space dev log had) → IfOk result (λ words. IsLogNow pool.now.version pool.now.space dev log (words_then had words)) }
     ensures anew { logs ≡ Logs.Anew → IfOk result (AreAnew pool.now.version pool.now.space dev log) }
 {
     match logs {
@@ -113,9 +113,9 @@ pub fn write_log<S: Shelf, P: Place>(
     ensures wrote { WritesMetadata (S.sizes shelf.old) (S.sizes shelf.new) (S.counts shelf.old) (S.counts shelf.new) (S.tells shelf.old) (S.tells shelf.new) (S.world shelf.old) (S.world shelf.new) pool.old pool.new }
     ensures pool { OnOk result (IsOpen (S.sizes shelf.new) pool.new) }
     ensures fault { IsErrOf result DiskFault → HasRisen (S.counts shelf.old).disk (S.counts shelf.new).disk }
-    ensures writes { (s : Stored) (had : List ℕ) → HasMeta (S.tells shelf.old) (S.world shelf.old).now.seen pool.old s → AreStored (tree_reach s (log_stream log (streams_at pool.old dev)).tree) s → HasWords s (log_stream log (streams_at pool.old dev)) had → IsLastLog pool.old.version pool.old.space dev log had
+    ensures writes { (s : Stored) (had : List ℕ) → HasMeta (S.tells shelf.old) (S.world shelf.old).now.seen pool.old s → AreStored (tree_reach s (log_stream log (streams_at pool.old dev)).tree) s → HasWords s (log_stream log (streams_at pool.old dev)) had → (logs ≡ Logs.Grow → IsLastLog pool.old.version pool.old.space dev log had)
         → OnOk result (Now (HasMeta (S.tells shelf.new) (S.world shelf.new).now.seen pool.new) (λ n. WritesLog s n pool.old pool.new dev log)) }
-    ensures trees { (stage next : ℕ → Place → Stage) (cond : MappingStream → Stage) (others : List Standing) → WritesPlace stage next dev (OfLog log) → HasNoLateYet stage → HoldsStreams stage cond others (S.tells shelf.old) (S.world shelf.old).now.seen pool.old → OnOk result (HoldsStreams next cond others (S.tells shelf.new) (S.world shelf.new).now.seen pool.new) }
+    ensures trees { (stage next : ℕ → Place → Stage) (cond : MappingStream → Stage) (others : List Standing) → WritesPlace (first_stage logs) stage next dev (OfLog log) → HasNoLateYet stage → HoldsStreams stage cond others (S.tells shelf.old) (S.world shelf.old).now.seen pool.old → OnOk result (HoldsStreams next cond others (S.tells shelf.new) (S.world shelf.new).now.seen pool.new) }
     ensures anew { logs ≡ Logs.Anew → OnOk result (RenewsLog pool.old pool.new dev log) }
 {
     let index = dev as usize;

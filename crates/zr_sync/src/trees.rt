@@ -9,7 +9,8 @@ ghost use Rattle.zr_sync.specs.Writes.{WritesTrees};
 ghost use Rattle.zr_sync.specs.declared.stop.Stop.TheVariants.{DiskFault};
 ghost use Rattle.std.specs.Prelude.{ℕ, List};
 ghost use Rattle.zr_beside.specs.Beside.{Standing};
-ghost use Rattle.zr_sync.specs.Trees.{AreHad, HoldsStreams, Place, Stage};
+ghost use Rattle.zr_sync.specs.Trees.{AreFirst, HoldsStreams, Place, Stage, first_stage};
+ghost use Rattle.zr_sync.specs.declared.logs.Logs.{Logs};
 ghost use Rattle.zr_sync.specs.declared.mappings.MappingStream.{MappingStream};
 
 use crate::open::OpenPool;
@@ -53,7 +54,7 @@ pub fn write_trees<S: Shelf, P: Place>(
     ensures pool { OnOk result (IsOpen (S.sizes shelf.new) pool.new) }
     ensures fault { IsErrOf result DiskFault → HasRisen (S.counts shelf.old).disk (S.counts shelf.new).disk }
     ensures objects { (s : Stored) → HasBlocks (S.tells shelf.old) (S.world shelf.old).now.seen pool.old s → AreTreesStored pool.old s → OnOk result (HasWritten (S.tells shelf.new) (S.world shelf.new).now.seen pool.old pool.new s) }
-    ensures stay { (stage : ℕ → Place → Stage) (cond : MappingStream → Stage) (others : List Standing) → AreHad stage cond → HoldsStreams stage cond others (S.tells shelf.old) (S.world shelf.old).now.seen pool.old → OnOk result (HoldsStreams stage cond others (S.tells shelf.new) (S.world shelf.new).now.seen pool.new) }
+    ensures stay { (logs : Logs) (stage : ℕ → Place → Stage) (cond : MappingStream → Stage) (others : List Standing) → AreFirst (first_stage logs) stage cond → HoldsStreams stage cond others (S.tells shelf.old) (S.world shelf.old).now.seen pool.old → OnOk result (HoldsStreams stage cond others (S.tells shelf.new) (S.world shelf.new).now.seen pool.new) }
 {
     let mount = Mount {
         slots: &pool.table.slots,

@@ -21,6 +21,12 @@ use Rattle.zr_slots.specs.Phases.{IsPrepared}
 use Rattle.zr_sync.proofs.Ending.{ends_by}
 use Rattle.zr_sync.specs.Ends.{EndsCommitted}
 use Rattle.zr_sync.specs.Leads.{CommitsObjects}
+use Rattle.zr_create.proofs.Trees.{trees_still}
+use Rattle.zr_sync.proofs.Leading.{committed_told}
+use Rattle.zr_sync.proofs.Regrouping.{begins_again}
+use Rattle.zr_sync.proofs.Retelling.{trees_told}
+use Rattle.zr_sync.specs.Trees.{HasLastTrees}
+use Rattle.zr_sync.specs.Trees.Stage.{Had}
 use Rattle.zr_create.proofs.adding.add.Goals as goal
 
 pub returns-in_err-check_next-clause-disks : goal.returns-in_err-check_next-clause-disks
@@ -81,6 +87,24 @@ returns-clause-objects g c = λ objects h.
     let told = h.held.told in
     let before = objects_still (g.S.Shelf.tells c.args.shelf.now) (g.S.Shelf.tells c.check_next.new.shelf) (g.S.Shelf.world c.args.shelf.now) (g.S.Shelf.world c.check_next.new.shelf) c.args.pool.now objects (c.check_next.ensures.told told) (c.check_next.ensures.still told) h in
     c.in_ok-commit-2.ensures.stays objects (c.in_ok-take_on.ensures.stays objects (c.in_ok-commit.ensures.stays objects before))
+
+pub returns-clause-trees : goal.returns-clause-trees
+returns-clause-trees g c = λ h.
+    let told = h.1.held.told in
+    let second = c.commit.new.shelf in
+    let before = trees_still (g.S.Shelf.tells c.args.shelf.now) (g.S.Shelf.tells c.check_next.new.shelf) (g.S.Shelf.world c.args.shelf.now) (g.S.Shelf.world c.check_next.new.shelf) c.args.pool.now (c.check_next.ensures.told told) (c.check_next.ensures.still told) h in
+    let here = c.in_ok-commit.ensures in
+    let again = begins_again (g.S.Shelf.tells second) (g.S.Shelf.world second).now.seen c.commit.new.pool here.ends.ended.opened (here.trees before) in
+    c.in_ok-commit-2.ensures.trees (c.in_ok-take_on.ensures.trees again)
+
+pub returns-clause-moves : goal.returns-clause-moves
+returns-clause-moves g c = λ h.
+    let told = h.1.held.told in
+    let second = c.commit.new.shelf in
+    let before = trees_still (g.S.Shelf.tells c.args.shelf.now) (g.S.Shelf.tells c.check_next.new.shelf) (g.S.Shelf.world c.args.shelf.now) (g.S.Shelf.world c.check_next.new.shelf) c.args.pool.now (c.check_next.ensures.told told) (c.check_next.ensures.still told) h in
+    let here = c.in_ok-commit.ensures in
+    let again = begins_again (g.S.Shelf.tells second) (g.S.Shelf.world second).now.seen c.commit.new.pool here.ends.ended.opened (here.trees before) in
+    c.in_ok-commit-2.ensures.moves (c.in_ok-take_on.ensures.trees again)
 
 -- ---- what is left
 
@@ -148,7 +172,7 @@ returns-in_err-commit-clause-stops g c = λ objects h.
     let first = c.check_next.new.shelf in
     let still = c.check_next.ensures.still h.held.told in
     let before = objects_still (g.S.Shelf.tells old) (g.S.Shelf.tells first) (g.S.Shelf.world old) (g.S.Shelf.world first) c.args.pool.now objects (c.check_next.ensures.told h.held.told) still h in
-    (g.S.Shelf.world first, still, inr (inl (subst (λ (n : List ℕ). CommitsObjects n c.args.pool.now false objects (g.S.Shelf.world first) (g.S.Shelf.world c.commit.new.shelf)) c.check_next.ensures.sizes (c.commit.ensures.leads objects before))))
+    (g.S.Shelf.world first, still, inr (inl (subst (λ (n : List ℕ). CommitsObjects (HasLastTrees (g.S.Shelf.world first).now.seen c.args.pool.now) n c.args.pool.now false objects (g.S.Shelf.world first) (g.S.Shelf.world c.commit.new.shelf)) c.check_next.ensures.sizes (c.commit.ensures.leads objects before))))
 
 pub returns-in_err-take_on-clause-stops : goal.returns-in_err-take_on-clause-stops
 returns-in_err-take_on-clause-stops g c = λ objects h.
@@ -181,7 +205,7 @@ returns-in_err-take_on-clause-stops g c = λ objects h.
     } in
     let ends : EndsCommitted (g.S.Shelf.sizes old) false a b objects (g.S.Shelf.world first) (g.S.Shelf.world second) =
     subst (λ (n : List ℕ). EndsCommitted n false a b objects (g.S.Shelf.world first) (g.S.Shelf.world second)) c.check_next.ensures.sizes
-    (ends_by c.commit.ensures.sizes here.pool here.same here.last here.txg here.written here.ends here.empty here.stands here.safe before (here.stays objects before)) in
+    (ends_by c.commit.ensures.sizes here.pool here.same here.last here.txg here.written here.ends here.empty here.stands here.safe here.trees here.moves before (here.stays objects before)) in
     let prepares = subst (λ (n : List ℕ). PreparesNext n slot c.in-Some.units b (g.S.Shelf.world second) (g.S.Shelf.world c.take_on.new.shelf)) sizes2 (c.take_on.ensures.prepares told2) in
     (g.S.Shelf.world first, still, inr (inr (record { ended = b; mid = g.S.Shelf.world second; first = ends; units = c.in-Some.units; next = next; rest = inl prepares })))
 
@@ -216,12 +240,17 @@ returns-in_err-commit-2-clause-stops g c = λ objects h.
     } in
     let ends : EndsCommitted (g.S.Shelf.sizes old) false a b objects (g.S.Shelf.world first) (g.S.Shelf.world second) =
     subst (λ (n : List ℕ). EndsCommitted n false a b objects (g.S.Shelf.world first) (g.S.Shelf.world second)) c.check_next.ensures.sizes
-    (ends_by c.commit.ensures.sizes here.pool here.same here.last here.txg here.written here.ends here.empty here.stands here.safe before (here.stays objects before)) in
+    (ends_by c.commit.ensures.sizes here.pool here.same here.last here.txg here.written here.ends here.empty here.stands here.safe here.trees here.moves before (here.stays objects before)) in
     let prepares = subst (λ (n : List ℕ). PreparesNext n slot c.in-Some.units b (g.S.Shelf.world second) (g.S.Shelf.world c.take_on.new.shelf)) sizes2 (c.take_on.ensures.prepares told2) in
     let third = c.take_on.new.shelf in
     let fourth = c.commit-2.new.shelf in
     let taken = c.in_ok-take_on.ensures in
     let sizes3 = c.take_on.ensures.sizes ∙ sizes2 in
+    let last = HasLastTrees (g.S.Shelf.world first).now.seen a in
+    let more : last → HasLastTrees (g.S.Shelf.world third).now.seen c.take_on.new.pool = λ had.
+    let was = trees_told Had (Unit {0}) (g.S.Shelf.tells first) (g.S.Shelf.world first).now.seen a told had in
+    let again = begins_again (g.S.Shelf.tells second) (g.S.Shelf.world second).now.seen b here.ends.ended.opened (here.trees was) in
+    trees_told Had (g.S.Shelf.tells third) (Unit {0}) (g.S.Shelf.world third).now.seen c.take_on.new.pool tt (taken.trees again) in
     let held = taken.stays objects (here.stays objects before) in
     let prepared = subst (λ (n : List ℕ). IsPrepared (slice_index n slot) slot (next_label b c.in-Some.units) (g.S.Shelf.world second) (g.S.Shelf.world third)) sizes2 (taken.prepared told2) in (
       g.S.Shelf.world first,
@@ -239,7 +268,8 @@ returns-in_err-commit-2-clause-stops g c = λ objects h.
           taken = c.take_on.new.pool;
           ready = subst (λ (n : List ℕ). IsOpen n c.take_on.new.pool) sizes3 taken.pool;
           takes = taken.taken;
-          commits = subst (λ (n : List ℕ). CommitsObjects n c.take_on.new.pool true objects (g.S.Shelf.world third) (g.S.Shelf.world fourth)) sizes3 (c.commit-2.ensures.leads objects held);
+          commits = subst (λ (n : List ℕ). CommitsObjects last n c.take_on.new.pool true objects (g.S.Shelf.world third) (g.S.Shelf.world fourth)) sizes3
+              (committed_told (HasLastTrees (g.S.Shelf.world third).now.seen c.take_on.new.pool) last (g.S.Shelf.sizes third) c.take_on.new.pool true objects (g.S.Shelf.world third) (g.S.Shelf.world fourth) more (c.commit-2.ensures.leads objects held));
         });
       })),
     )
@@ -275,12 +305,17 @@ returns-clause-stops g c = λ objects h.
     } in
     let ends : EndsCommitted (g.S.Shelf.sizes old) false a b objects (g.S.Shelf.world first) (g.S.Shelf.world second) =
     subst (λ (n : List ℕ). EndsCommitted n false a b objects (g.S.Shelf.world first) (g.S.Shelf.world second)) c.check_next.ensures.sizes
-    (ends_by c.commit.ensures.sizes here.pool here.same here.last here.txg here.written here.ends here.empty here.stands here.safe before (here.stays objects before)) in
+    (ends_by c.commit.ensures.sizes here.pool here.same here.last here.txg here.written here.ends here.empty here.stands here.safe here.trees here.moves before (here.stays objects before)) in
     let prepares = subst (λ (n : List ℕ). PreparesNext n slot c.in-Some.units b (g.S.Shelf.world second) (g.S.Shelf.world c.take_on.new.shelf)) sizes2 (c.take_on.ensures.prepares told2) in
     let third = c.take_on.new.shelf in
     let fourth = c.commit-2.new.shelf in
     let taken = c.in_ok-take_on.ensures in
     let sizes3 = c.take_on.ensures.sizes ∙ sizes2 in
+    let last = HasLastTrees (g.S.Shelf.world first).now.seen a in
+    let more : last → HasLastTrees (g.S.Shelf.world third).now.seen c.take_on.new.pool = λ had.
+    let was = trees_told Had (Unit {0}) (g.S.Shelf.tells first) (g.S.Shelf.world first).now.seen a told had in
+    let again = begins_again (g.S.Shelf.tells second) (g.S.Shelf.world second).now.seen b here.ends.ended.opened (here.trees was) in
+    trees_told Had (g.S.Shelf.tells third) (Unit {0}) (g.S.Shelf.world third).now.seen c.take_on.new.pool tt (taken.trees again) in
     let held = taken.stays objects (here.stays objects before) in
     let prepared = subst (λ (n : List ℕ). IsPrepared (slice_index n slot) slot (next_label b c.in-Some.units) (g.S.Shelf.world second) (g.S.Shelf.world third)) sizes2 (taken.prepared told2) in (
       g.S.Shelf.world first,
@@ -298,7 +333,8 @@ returns-clause-stops g c = λ objects h.
           taken = c.take_on.new.pool;
           ready = subst (λ (n : List ℕ). IsOpen n c.take_on.new.pool) sizes3 taken.pool;
           takes = taken.taken;
-          commits = subst (λ (n : List ℕ). CommitsObjects n c.take_on.new.pool true objects (g.S.Shelf.world third) (g.S.Shelf.world fourth)) sizes3 (c.commit-2.ensures.leads objects held);
+          commits = subst (λ (n : List ℕ). CommitsObjects last n c.take_on.new.pool true objects (g.S.Shelf.world third) (g.S.Shelf.world fourth)) sizes3
+              (committed_told (HasLastTrees (g.S.Shelf.world third).now.seen c.take_on.new.pool) last (g.S.Shelf.sizes third) c.take_on.new.pool true objects (g.S.Shelf.world third) (g.S.Shelf.world fourth) more (c.commit-2.ensures.leads objects held));
         });
       })),
     )

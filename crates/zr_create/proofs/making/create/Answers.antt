@@ -20,6 +20,10 @@ use Rattle.zr_sync.specs.Ends.{EndsCommitted}
 use Rattle.zr_create.proofs.Going.{with_some}
 use Rattle.zr_create.proofs.Lasting.{new_last, new_names, none_rooted}
 use Rattle.zr_create.proofs.Nothing.{new_serve, none_held}
+use Rattle.zr_create.proofs.Trees.{blank_trees}
+use Rattle.zr_sync.proofs.Leading.{committed_told}
+use Rattle.zr_sync.proofs.Regrouping.{begins_again}
+use Rattle.zr_sync.specs.Trees.{HasLastTrees}
 use Rattle.zr_create.proofs.making.create.Goals as goal
 
 pub returns-in_err-check_new-clause-disks : goal.returns-in_err-check_new-clause-disks
@@ -76,6 +80,22 @@ returns-clause-objects g c = λ t.
     (new_serve (g.S.Shelf.sizes c.take_all.new.shelf) (g.S.Shelf.sizes c.check_new.new.shelf) _ c.args.named.now before c.in_ok-take_all.ensures.pool c.in_ok-take_all.ensures.devices) (same.dir ∙ blank.dir) (ap (λ (x : Group). x.objects) same.group ∙ blank.objects)
     (ap entries same.cache ∙ blank.cache))
 
+pub returns-clause-recorded : goal.returns-clause-recorded
+returns-clause-recorded g c = λ t.
+    let told = c.check_new.ensures.told t in
+    let first = c.check_new.new.shelf in
+    let blank = blank_trees (g.S.Shelf.tells first) (g.S.Shelf.world first).now.seen c.in_ok-pool.pool told c.in_ok-pool.ensures.blank in
+    c.in_ok-commit.ensures.trees (c.in_ok-take_all.ensures.trees blank)
+
+pub returns-clause-trees : goal.returns-clause-trees
+returns-clause-trees g c = λ t.
+    let told = c.check_new.ensures.told t in
+    let first = c.check_new.new.shelf in
+    let last = c.commit.new.shelf in
+    let blank = blank_trees (g.S.Shelf.tells first) (g.S.Shelf.world first).now.seen c.in_ok-pool.pool told c.in_ok-pool.ensures.blank in
+    let done = c.in_ok-commit.ensures in
+    begins_again (g.S.Shelf.tells last) (g.S.Shelf.world last).now.seen c.commit.new.pool done.ends.ended.opened (done.trees (c.in_ok-take_all.ensures.trees blank))
+
 pub returns-clause-ends : goal.returns-clause-ends
 returns-clause-ends g c = λ t.
     let told = c.take_all.ensures.told (c.check_new.ensures.told t) in
@@ -86,7 +106,7 @@ returns-clause-ends g c = λ t.
     (new_serve (g.S.Shelf.sizes c.take_all.new.shelf) (g.S.Shelf.sizes c.check_new.new.shelf) _ c.args.named.now before c.in_ok-take_all.ensures.pool c.in_ok-take_all.ensures.devices) (same.dir ∙ blank.dir) (ap (λ (x : Group). x.objects) same.group ∙ blank.objects)
     (ap entries same.cache ∙ blank.cache) in
     let done = c.in_ok-commit.ensures in
-    let commits = ends_by c.commit.ensures.sizes done.pool done.same done.last done.txg done.written done.ends done.empty done.stands done.safe held (done.stays map.empty held) in
+    let commits = ends_by c.commit.ensures.sizes done.pool done.same done.last done.txg done.written done.ends done.empty done.stands done.safe done.trees done.moves held (done.stays map.empty held) in
     record {
       blank = before;
       before = g.S.Shelf.world c.take_all.new.shelf;
@@ -188,7 +208,8 @@ returns-in_err-commit-clause-stops g c = λ t.
           service = service;
           names = new_names (g.S.Shelf.world first) (g.S.Shelf.world second) (g.S.Shelf.sizes old) (g.S.Shelf.sizes first) (g.S.Shelf.sizes second) (g.S.Shelf.tells old) t c.args.version c.args.guid c.in_ok-pool.pool.group.txg named checks inside x
               (taken.same.guid ∙ c.in_ok-pool.ensures.named.guid_is) taken.devices taken.only (taken.labelled told) ready (more ∙ sym count);
-          commits = subst (λ (n : List ℕ). CommitsObjects n x true map.empty (g.S.Shelf.world second) (g.S.Shelf.world c.commit.new.shelf)) sizes2 (c.commit.ensures.leads map.empty held);
+          commits = subst (λ (n : List ℕ). CommitsObjects ⊥ n x true map.empty (g.S.Shelf.world second) (g.S.Shelf.world c.commit.new.shelf)) sizes2
+              (committed_told (HasLastTrees (g.S.Shelf.world second).now.seen x) ⊥ (g.S.Shelf.sizes second) x true map.empty (g.S.Shelf.world second) (g.S.Shelf.world c.commit.new.shelf) (λ never. absurd never) (c.commit.ensures.leads map.empty held));
         });
       }),
     )
@@ -228,7 +249,8 @@ returns-clause-stops g c = λ t.
           service = service;
           names = new_names (g.S.Shelf.world first) (g.S.Shelf.world second) (g.S.Shelf.sizes old) (g.S.Shelf.sizes first) (g.S.Shelf.sizes second) (g.S.Shelf.tells old) t c.args.version c.args.guid c.in_ok-pool.pool.group.txg named checks inside x
               (taken.same.guid ∙ c.in_ok-pool.ensures.named.guid_is) taken.devices taken.only (taken.labelled told) ready (more ∙ sym count);
-          commits = subst (λ (n : List ℕ). CommitsObjects n x true map.empty (g.S.Shelf.world second) (g.S.Shelf.world c.commit.new.shelf)) sizes2 (c.commit.ensures.leads map.empty held);
+          commits = subst (λ (n : List ℕ). CommitsObjects ⊥ n x true map.empty (g.S.Shelf.world second) (g.S.Shelf.world c.commit.new.shelf)) sizes2
+              (committed_told (HasLastTrees (g.S.Shelf.world second).now.seen x) ⊥ (g.S.Shelf.sizes second) x true map.empty (g.S.Shelf.world second) (g.S.Shelf.world c.commit.new.shelf) (λ never. absurd never) (c.commit.ensures.leads map.empty held));
         });
       }),
     )

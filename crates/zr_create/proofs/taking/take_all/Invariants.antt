@@ -3,6 +3,8 @@ use Rattle.std.specs.Prelude.{slice_index}
 use Rattle.zr_shelf.specs.Counts.{NoneFell}
 use Rattle.zr_view.specs.Views.{slot_of}
 use Rattle.zr_sync.specs.Pools.{IsPool}
+use Rattle.zr_sync.specs.Trees.{HasTrees}
+use Rattle.zr_sync.specs.Trees.Stage.{Had}
 use Rattle.zr_sync.specs.Writes.{WorksOnDisks}
 use Rattle.zr_create.specs.Devices.{IsDeviceIn, KeepsRest}
 use Rattle.zr_create.specs.Labelled.{LabelsSlots}
@@ -22,4 +24,5 @@ invariant-loop-i g l = record {
   only : (d slot : ℕ) → slot_of l.pool.table.slots d ≡ Some slot → (k : ℕ) × (k < l.i) × (slice_index l.named k ≡ slot);
   firsts : g.S.Shelf.tells l.fn.shelf → PreparesFirst (g.S.Shelf.sizes l.fn.shelf) l.named l.i (g.S.Shelf.world l.fn.shelf) (g.S.Shelf.world l.shelf);
   labelled : g.S.Shelf.tells l.fn.shelf → LabelsSlots (g.S.Shelf.world l.fn.shelf).now.seen (g.S.Shelf.world l.shelf).now.seen l.named l.i l.pool;
+  trees : HasTrees Had (g.S.Shelf.tells l.fn.shelf) (g.S.Shelf.world l.fn.shelf).now.seen l.fn.pool → HasTrees Had (g.S.Shelf.tells l.shelf) (g.S.Shelf.world l.shelf).now.seen l.pool;
 }

@@ -1,4 +1,4 @@
-use Rattle.std.proofs.Common.{◌≡◌, ℕ, ◌<◌, List, length, map, [], Some, sym, ◌∙◌, ap, subst, get_or, refl}
+use Rattle.std.proofs.Common.{◌≡◌, ℕ, ◌<◌, List, length, map, [], Some, sym, ◌∙◌, ap, subst, get_or}
 use Rattle.std.specs.Prelude.{slice_index}
 use Rattle.std.proofs.lemmas.List.{length-map}
 use Rattle.std.proofs.Math.ListN.{get_or-map}
@@ -12,6 +12,7 @@ use Rattle.zr_create.proofs.Rows.{any_version, sized}
 use Rattle.zr_create.proofs.Beside.{prepared_beside}
 use Rattle.zr_create.proofs.Keeping.{objects_kept}
 use Rattle.zr_create.proofs.Taken.{taken}
+use Rattle.zr_create.proofs.Trees.{trees_kept}
 use Rattle.zr_create.proofs.taking.take_on.Goals as goal
 
 pub returns-in_err-prepare_device-clause-disks : goal.returns-in_err-prepare_device-clause-disks
@@ -40,6 +41,15 @@ returns-clause-stays g c = λ objects h.
     objects_kept (g.S.Shelf.sizes c.args.shelf.now) x c.args.slot c.args.units c.requires.pool c.requires.free c.txg-txg.result c.enter.new.table c.add_dev.new.self c.push_streams.new.streams c.enter.ensures c.in_ok-add_dev.ensures.ok
     w0.now.seen w1.now.seen (prepared_beside (slice_index (g.S.Shelf.sizes c.args.shelf.now) c.args.slot) c.args.slot _ c.prepare_device.result w0 w1 (c.prepare_device.ensures.order told))
     (g.S.Shelf.tells c.args.shelf.now) (g.S.Shelf.tells c.prepare_device.new.shelf) objects (c.prepare_device.ensures.told told) h
+
+pub returns-clause-trees : goal.returns-clause-trees
+returns-clause-trees g c = λ h.
+    let x = c.args.pool.now in
+    let told = h.1.held.told in
+    let w0 = g.S.Shelf.world c.args.shelf.now in
+    let w1 = g.S.Shelf.world c.prepare_device.new.shelf in
+    trees_kept (g.S.Shelf.sizes c.args.shelf.now) x c.args.slot c.args.units c.requires.pool c.requires.free c.txg-txg.result c.enter.new.table c.add_dev.new.self c.push_streams.new.streams c.enter.ensures c.in_ok-add_dev.ensures.ok c.in_ok-add_dev.ensures.opened
+    c.in_ok-push_streams.ensures.items w0.now.seen w1.now.seen (prepared_beside (slice_index (g.S.Shelf.sizes c.args.shelf.now) c.args.slot) c.args.slot _ c.prepare_device.result w0 w1 (c.prepare_device.ensures.order told)) (g.S.Shelf.tells c.args.shelf.now) (g.S.Shelf.tells c.prepare_device.new.shelf) (c.prepare_device.ensures.told told) h
 
 -- ---- the slot
 

@@ -80,10 +80,10 @@ returns-clause-shown g c = λ told h.
 -- ---- one group
 
 pub returns-in_err-blocks-clause-in_group : goal.returns-in_err-blocks-clause-in_group
-returns-in_err-blocks-clause-in_group g c = λ told. in_group_by c.object_blocks.ensures.wrote told
+returns-in_err-blocks-clause-in_group g c = λ told. in_group_by c.requires.pool c.object_blocks.ensures.wrote told
 
 pub returns-in_err-demand_to_drop-clause-in_group : goal.returns-in_err-demand_to_drop-clause-in_group
-returns-in_err-demand_to_drop-clause-in_group g c = λ told. in_group_by c.object_blocks.ensures.wrote told
+returns-in_err-demand_to_drop-clause-in_group g c = λ told. in_group_by c.requires.pool c.object_blocks.ensures.wrote told
 
 pub returns-clause-in_group : goal.returns-clause-in_group
-returns-clause-in_group g c = λ told. in_group_more (in_group_by c.object_blocks.ensures.wrote told) (in_group_by c.free_object.ensures.wrote (c.object_blocks.ensures.wrote.goes.told told))
+returns-clause-in_group g c = λ told. in_group_more (in_group_by c.requires.pool c.object_blocks.ensures.wrote told) (in_group_by c.object_blocks.ensures.pool c.free_object.ensures.wrote (c.object_blocks.ensures.wrote.goes.told told))

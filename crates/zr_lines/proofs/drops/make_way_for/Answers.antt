@@ -38,16 +38,16 @@ pub returns-then-fits-clause-writes : goal.returns-then-fits-clause-writes
 returns-then-fits-clause-writes g c = λ objects h. inl (in_group_itself c.args.pool.now (g.S.Shelf.world c.args.shelf.now)).written
 
 pub returns-in_err-need-clause-one_group : goal.returns-in_err-need-clause-one_group
-returns-in_err-need-clause-one_group g c = λ objects h answered. inl (in_group_by c.need.ensures.wrote h.held.told)
+returns-in_err-need-clause-one_group g c = λ objects h answered. inl (in_group_by c.requires.pool c.need.ensures.wrote h.held.told)
 
 pub returns-in_err-need-clause-writes : goal.returns-in_err-need-clause-writes
 returns-in_err-need-clause-writes g c = λ objects h. inl (c.need.ensures.wrote.goes.written h.held.told)
 
 pub returns-in_err-make_way-clause-writes : goal.returns-in_err-make_way-clause-writes
-returns-in_err-make_way-clause-writes g c = λ objects h. writes_before c.need.ensures.wrote h.held.told (c.make_way.ensures.writes objects (c.need.ensures.stays objects h))
+returns-in_err-make_way-clause-writes g c = λ objects h. writes_before c.requires.pool c.need.ensures.wrote h.held.told (c.make_way.ensures.writes objects (c.need.ensures.stays objects h))
 
 pub returns-clause-one_group : goal.returns-clause-one_group
-returns-clause-one_group g c = λ objects h answered. one_group_before c.need.ensures.wrote h.held.told (c.in_ok-make_way.ensures.one_group objects (c.need.ensures.stays objects h))
+returns-clause-one_group g c = λ objects h answered. one_group_before c.requires.pool c.need.ensures.wrote h.held.told (c.in_ok-make_way.ensures.one_group objects (c.need.ensures.stays objects h))
 
 pub returns-clause-writes : goal.returns-clause-writes
-returns-clause-writes g c = λ objects h. writes_before c.need.ensures.wrote h.held.told (c.make_way.ensures.writes objects (c.need.ensures.stays objects h))
+returns-clause-writes g c = λ objects h. writes_before c.requires.pool c.need.ensures.wrote h.held.told (c.make_way.ensures.writes objects (c.need.ensures.stays objects h))

@@ -140,12 +140,12 @@ returns-in_err-intent-clause-writes g c = λ objects h. c.mean.ensures.writes ob
 pub returns-clause-one_group : goal.returns-clause-one_group
 returns-clause-one_group g c = λ objects h.
     let meant = c.in_ok-intent.ensures in
-    on_ok_weaker c.carry_out.result (λ wrote. one_group_more (meant.one_group objects h) (in_group_by wrote (meant.told h.held.told))) c.carry_out.ensures.wrote
+    on_ok_weaker c.carry_out.result (λ wrote. one_group_more (meant.one_group objects h) (in_group_by meant.pool wrote (meant.told h.held.told))) c.carry_out.ensures.wrote
 
 pub returns-clause-one_group_no : goal.returns-clause-one_group_no
 returns-clause-one_group_no g c = λ objects h r is.
     let meant = c.in_ok-intent.ensures in
-    one_group_more (meant.one_group objects h) (in_group_by (c.carry_out.ensures.wrote_no r is) (meant.told h.held.told))
+    one_group_more (meant.one_group objects h) (in_group_by meant.pool (c.carry_out.ensures.wrote_no r is) (meant.told h.held.told))
 
 pub returns-clause-writes : goal.returns-clause-writes
 returns-clause-writes g c = λ objects h.

@@ -1,12 +1,13 @@
-use Rattle.std.proofs.Common.{Option, false, subst, inl, inr}
+use Rattle.std.proofs.Common.{Option, false, subst, inl, inr, ap, ◌∙◌}
 use Rattle.std.specs.Prelude.{IfSome}
 use Rattle.std.proofs.lemmas.Result.{err_from_is_err_and}
 use Rattle.zr_sync.proofs.Disks.{works_more}
 use Rattle.zr_lines.specs.Intents.{IsIntent, IsFor, IsPlanned, IsReadyFor}
 use Rattle.zr_lines.specs.declared.intent.Intent.{Intent}
+use Rattle.zr_txg.specs.Changes.{Changes}
 use Rattle.zr_lines.proofs.Locating.{behind_commit, absent_here, far_here, means_here, absent_behind, far_behind, means_behind, none_by}
 use Rattle.zr_lines.proofs.Places.{takes_all}
-use Rattle.zr_lines.proofs.Pools.{same_by, works_by}
+use Rattle.zr_lines.proofs.Pools.{same_by, same_more, works_by}
 use Rattle.zr_last.proofs.Lasting.{blocks_last, commit_last}
 use Rattle.zr_sync.proofs.Ending.{ends_by}
 use Rattle.zr_lines.proofs.Stopping.{answered_writes, commits_before, in_group_by, next_group, one_group_before}
@@ -65,6 +66,23 @@ returns-in_err-intent-2-clause-refused g c = λ r is.
     let e = c.in_err-intent-2 in
     let was = err_from_is_err_and c.from_residual-in_err-intent-2.result c.from_residual-in_err-intent-2.ensures.1 in
     e.ensures.refused r cc
+
+pub returns-in_err-intent-2-clause-kept : goal.returns-in_err-intent-2-clause-kept
+returns-in_err-intent-2-clause-kept g c = λ r is.
+    let p = c.args.pool.now in
+    let full = c.in_ok-intent.ensures.full (none_by c.in_ok-intent.field-0 c.in_default.not-Some) in
+    let done = c.in_ok-commit.ensures in
+    let b = behind_commit c.args.reach c.args.id c.args.edit.now p c.look_over.new.pool c.commit.new.pool full (same_by c.look_over.ensures.wrote) c.look_over.ensures.group done.same done.empty done.txg in
+    let group = c.look_over-2.ensures.group in
+    inr (record {
+      due = b.due;
+      same = same_more p c.commit.new.pool c.look_over-2.new.pool b.same (same_by c.look_over-2.ensures.wrote);
+      empty = ap (λ (w : Changes). w.objects) group ∙ b.empty;
+      txg = ap (λ (w : Changes). w.txg) group ∙ b.txg;
+    })
+
+pub returns-clause-told : goal.returns-clause-told
+returns-clause-told g c = λ told. c.look_over-2.ensures.wrote.goes.told (c.commit.ensures.told (c.look_over.ensures.wrote.goes.told told))
 
 pub returns-in_err-intent-2-clause-absent : goal.returns-in_err-intent-2-clause-absent
 returns-in_err-intent-2-clause-absent g c = λ is.
@@ -188,48 +206,48 @@ returns-clause-shown g c = λ told h.
 -- ---- one group
 
 pub returns-in_err-intent-clause-one_group_no : goal.returns-in_err-intent-clause-one_group_no
-returns-in_err-intent-clause-one_group_no g c = λ objects h r is. inl (in_group_by c.look_over.ensures.wrote h.held.told)
+returns-in_err-intent-clause-one_group_no g c = λ objects h r is. inl (in_group_by c.requires.pool c.look_over.ensures.wrote h.held.told)
 
 pub returns-in_err-intent-clause-writes : goal.returns-in_err-intent-clause-writes
 returns-in_err-intent-clause-writes g c = λ objects h. inl (c.look_over.ensures.wrote.goes.written h.held.told)
 
 pub returns-in-Some-clause-one_group : goal.returns-in-Some-clause-one_group
-returns-in-Some-clause-one_group g c = λ objects h. inl (in_group_by c.look_over.ensures.wrote h.held.told)
+returns-in-Some-clause-one_group g c = λ objects h. inl (in_group_by c.requires.pool c.look_over.ensures.wrote h.held.told)
 
 pub returns-in-Some-clause-writes : goal.returns-in-Some-clause-writes
 returns-in-Some-clause-writes g c = λ objects h. inl (c.look_over.ensures.wrote.goes.written h.held.told)
 
 pub returns-in_err-commit-clause-writes : goal.returns-in_err-commit-clause-writes
-returns-in_err-commit-clause-writes g c = λ objects h. inr (inl (commits_before c.look_over.ensures.wrote h.held.told (c.commit.ensures.leads objects (c.look_over.ensures.stays objects h))))
+returns-in_err-commit-clause-writes g c = λ objects h. inr (inl (commits_before c.requires.pool c.look_over.ensures.wrote h.held.told (c.commit.ensures.leads objects (c.look_over.ensures.stays objects h))))
 
 pub returns-in_err-intent-2-clause-one_group_no : goal.returns-in_err-intent-2-clause-one_group_no
 returns-in_err-intent-2-clause-one_group_no g c = λ objects h r is.
     let held = c.look_over.ensures.stays objects h in
     let told = c.commit.ensures.told (c.look_over.ensures.wrote.goes.told h.held.told) in
     let done = c.in_ok-commit.ensures in
-    let ends = ends_by c.commit.ensures.sizes done.pool done.same done.last done.txg done.written done.ends done.empty done.stands done.safe held (done.stays objects held) in
-    one_group_before c.look_over.ensures.wrote h.held.told (next_group ends (in_group_by c.look_over-2.ensures.wrote told))
+    let ends = ends_by c.commit.ensures.sizes done.pool done.same done.last done.txg done.written done.ends done.empty done.stands done.safe done.trees done.moves held (done.stays objects held) in
+    one_group_before c.requires.pool c.look_over.ensures.wrote h.held.told (next_group ends (in_group_by done.pool c.look_over-2.ensures.wrote told))
 
 pub returns-in_err-intent-2-clause-writes : goal.returns-in_err-intent-2-clause-writes
 returns-in_err-intent-2-clause-writes g c = λ objects h.
     let held = c.look_over.ensures.stays objects h in
     let told = c.commit.ensures.told (c.look_over.ensures.wrote.goes.told h.held.told) in
     let done = c.in_ok-commit.ensures in
-    let ends = ends_by c.commit.ensures.sizes done.pool done.same done.last done.txg done.written done.ends done.empty done.stands done.safe held (done.stays objects held) in
-    answered_writes (one_group_before c.look_over.ensures.wrote h.held.told (next_group ends (in_group_by c.look_over-2.ensures.wrote told)))
+    let ends = ends_by c.commit.ensures.sizes done.pool done.same done.last done.txg done.written done.ends done.empty done.stands done.safe done.trees done.moves held (done.stays objects held) in
+    answered_writes (one_group_before c.requires.pool c.look_over.ensures.wrote h.held.told (next_group ends (in_group_by done.pool c.look_over-2.ensures.wrote told)))
 
 pub returns-clause-one_group : goal.returns-clause-one_group
 returns-clause-one_group g c = λ objects h.
     let held = c.look_over.ensures.stays objects h in
     let told = c.commit.ensures.told (c.look_over.ensures.wrote.goes.told h.held.told) in
     let done = c.in_ok-commit.ensures in
-    let ends = ends_by c.commit.ensures.sizes done.pool done.same done.last done.txg done.written done.ends done.empty done.stands done.safe held (done.stays objects held) in
-    one_group_before c.look_over.ensures.wrote h.held.told (next_group ends (in_group_by c.look_over-2.ensures.wrote told))
+    let ends = ends_by c.commit.ensures.sizes done.pool done.same done.last done.txg done.written done.ends done.empty done.stands done.safe done.trees done.moves held (done.stays objects held) in
+    one_group_before c.requires.pool c.look_over.ensures.wrote h.held.told (next_group ends (in_group_by done.pool c.look_over-2.ensures.wrote told))
 
 pub returns-clause-writes : goal.returns-clause-writes
 returns-clause-writes g c = λ objects h.
     let held = c.look_over.ensures.stays objects h in
     let told = c.commit.ensures.told (c.look_over.ensures.wrote.goes.told h.held.told) in
     let done = c.in_ok-commit.ensures in
-    let ends = ends_by c.commit.ensures.sizes done.pool done.same done.last done.txg done.written done.ends done.empty done.stands done.safe held (done.stays objects held) in
-    answered_writes (one_group_before c.look_over.ensures.wrote h.held.told (next_group ends (in_group_by c.look_over-2.ensures.wrote told)))
+    let ends = ends_by c.commit.ensures.sizes done.pool done.same done.last done.txg done.written done.ends done.empty done.stands done.safe done.trees done.moves held (done.stays objects held) in
+    answered_writes (one_group_before c.requires.pool c.look_over.ensures.wrote h.held.told (next_group ends (in_group_by done.pool c.look_over-2.ensures.wrote told)))

@@ -76,19 +76,19 @@ pub returns-then-not-can_make-clause-writes : goal.returns-then-not-can_make-cla
 returns-then-not-can_make-clause-writes g c = λ objects h. inl (in_group_itself c.args.pool.now (g.S.Shelf.world c.args.shelf.now)).written
 
 pub returns-in_err-find-clause-one_group : goal.returns-in_err-find-clause-one_group
-returns-in_err-find-clause-one_group g c = λ objects h answered. inl (in_group_by c.find.ensures.wrote h.held.told)
+returns-in_err-find-clause-one_group g c = λ objects h answered. inl (in_group_by c.requires.pool c.find.ensures.wrote h.held.told)
 
 pub returns-in_err-find-clause-writes : goal.returns-in_err-find-clause-writes
 returns-in_err-find-clause-writes g c = λ objects h. inl (c.find.ensures.wrote.goes.written h.held.told)
 
 pub returns-then-is_some-clause-one_group : goal.returns-then-is_some-clause-one_group
-returns-then-is_some-clause-one_group g c = λ objects h answered. inl (in_group_by c.find.ensures.wrote h.held.told)
+returns-then-is_some-clause-one_group g c = λ objects h answered. inl (in_group_by c.requires.pool c.find.ensures.wrote h.held.told)
 
 pub returns-then-is_some-clause-writes : goal.returns-then-is_some-clause-writes
 returns-then-is_some-clause-writes g c = λ objects h. inl (c.find.ensures.wrote.goes.written h.held.told)
 
 pub returns-clause-one_group : goal.returns-clause-one_group
-returns-clause-one_group g c = λ objects h answered. one_group_before c.find.ensures.wrote h.held.told (c.make_absent.ensures.one_group objects (c.find.ensures.stays objects h) answered)
+returns-clause-one_group g c = λ objects h answered. one_group_before c.requires.pool c.find.ensures.wrote h.held.told (c.make_absent.ensures.one_group objects (c.find.ensures.stays objects h) answered)
 
 pub returns-clause-writes : goal.returns-clause-writes
-returns-clause-writes g c = λ objects h. writes_before c.find.ensures.wrote h.held.told (c.make_absent.ensures.writes objects (c.find.ensures.stays objects h))
+returns-clause-writes g c = λ objects h. writes_before c.requires.pool c.find.ensures.wrote h.held.told (c.make_absent.ensures.writes objects (c.find.ensures.stays objects h))

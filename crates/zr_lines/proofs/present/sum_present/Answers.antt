@@ -1,7 +1,6 @@
-use Rattle.std.proofs.Common.{◌≡◌, ℕ, List, Err, subst, sym, ◌∙◌}
+use Rattle.std.proofs.Common.{◌≡◌, subst, sym, ◌∙◌}
 use Rattle.std.proofs.lemmas.Result.{err_from_is_err_and}
 use Rattle.zr_base.specs.declared.refusal.Refusal.TheVariants.{Damaged}
-use Rattle.zr_bptr.specs.declared.ObjRec.{ObjRec}
 use Rattle.zr_lookup.specs.Errors.{TellsOfObject}
 use Rattle.zr_lookup.specs.Objects.{pointer_now}
 use Rattle.zr_sync.specs.declared.fault.Fault.TheVariants.{No}

@@ -2,7 +2,8 @@ use Rattle.std.proofs.Common.{refl, rules}
 use Rattle.zr_sync.proofs.Objects.{now_held}
 use Rattle.zr_sync.proofs.Stays.{objects_stay}
 use Rattle.zr_lines.proofs.Finding.{if_ok}
-use Rattle.zr_lines.proofs.Reading.{bytes_of_object, outside_of_object, sum_of_object}
+use Rattle.zr_lines.proofs.Reading.{bytes_of_object, outside_of_object}
+use Rattle.zr_lines.proofs.Stopping.{in_group_by}
 use Rattle.zr_sync.proofs.Disks.{works_writes}
 use Rattle.zr_lines.proofs.reads.read.Goals as goal
 
@@ -22,6 +23,4 @@ returns-clause-object g c = λ objects h.
 -- ---- one group
 
 pub returns-clause-in_group : goal.returns-clause-in_group
-returns-clause-in_group g c = λ told.
-    let goes = c.read_bytes.ensures.continues in
-    record { written = goes.written told; space = goes.space; root = record { last = refl; guid = refl; table = refl } }
+returns-clause-in_group g c = λ told. in_group_by c.requires.pool (record { goes = c.read_bytes.ensures.continues; rest = refl; txg = refl }) told

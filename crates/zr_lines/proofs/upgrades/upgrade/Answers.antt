@@ -3,10 +3,13 @@ use Rattle.zr_shelf.proofs.Runs.{still}
 use Rattle.zr_sync.specs.Objects.{HoldsObjects}
 use Rattle.zr_sync.specs.declared.open.OpenPool.{OpenPool}
 use Rattle.zr_lines.proofs.Resetting.{upgraded}
-use Rattle.zr_lines.proofs.Versions.{renewed_objects, upgrades_from}
+use Rattle.zr_lines.proofs.Versions.{renewed_objects, renewed_trees, upgrades_from}
 use Rattle.zr_last.proofs.Ending.{leaves_by}
 use Rattle.zr_last.proofs.Lasting.{commit_last, same_last}
 use Rattle.zr_sync.specs.Heads.{IsSeen}
+use Rattle.zr_sync.proofs.Leading.{committed_told}
+use Rattle.zr_sync.specs.Trees.{HasLastTrees, HasTrees}
+use Rattle.zr_sync.specs.Trees.Stage.{Untold}
 use Rattle.zr_lines.proofs.upgrades.upgrade.Goals as goal
 
 pub commit_anew-requires : goal.commit_anew-requires
@@ -25,6 +28,20 @@ returns-clause-objects g c = λ objects h.
     let disks = (g.S.Shelf.world old).now.seen in
     c.in_ok-commit_anew.ensures.stays objects
     (subst (λ (x : OpenPool). HoldsObjects tells disks x objects) (sym c.renew.ensures.value) (renewed_objects (g.S.Shelf.sizes old) tells disks c.args.pool.now objects c.requires.pool h))
+
+pub returns-clause-trees : goal.returns-clause-trees
+returns-clause-trees g c = λ h.
+    let old = c.args.shelf.now in
+    let tells = g.S.Shelf.tells old in
+    let disks = (g.S.Shelf.world old).now.seen in
+    c.in_ok-commit_anew.ensures.trees (subst (λ (x : OpenPool). HasTrees Untold tells disks x) (sym c.renew.ensures.value) (renewed_trees tells disks c.args.pool.now h))
+
+pub returns-clause-moves : goal.returns-clause-moves
+returns-clause-moves g c = λ h.
+    let old = c.args.shelf.now in
+    let tells = g.S.Shelf.tells old in
+    let disks = (g.S.Shelf.world old).now.seen in
+    c.in_ok-commit_anew.ensures.moves (subst (λ (x : OpenPool). HasTrees Untold tells disks x) (sym c.renew.ensures.value) (renewed_trees tells disks c.args.pool.now h))
 
 -- ---- the last root
 
@@ -65,7 +82,10 @@ returns-in_err-commit_anew-clause-stops g c = λ objects h.
     let disks = (g.S.Shelf.world old).now.seen in
     let renewed = c.renew.new.pool in
     let held : HoldsObjects tells disks renewed objects = subst (λ (x : OpenPool). HoldsObjects tells disks x objects) (sym c.renew.ensures.value) (renewed_objects sizes tells disks c.args.pool.now objects c.requires.pool h) in
-    upgraded sizes objects c.args.pool.now renewed (g.S.Shelf.world old) (g.S.Shelf.world c.commit_anew.new.shelf) c.renew.ensures.value (c.renew.ensures.pool sizes c.requires.pool) (c.commit_anew.ensures.leads objects held)
+    let last = HasLastTrees disks c.args.pool.now in
+    let more : last → HasTrees Untold (Unit {0}) disks renewed = λ had. subst (λ (x : OpenPool). HasTrees Untold (Unit {0}) disks x) (sym c.renew.ensures.value) (renewed_trees (Unit {0}) disks c.args.pool.now had) in
+    upgraded last sizes objects c.args.pool.now renewed (g.S.Shelf.world old) (g.S.Shelf.world c.commit_anew.new.shelf) c.renew.ensures.value (c.renew.ensures.pool sizes c.requires.pool)
+    (committed_told (HasTrees Untold (Unit {0}) disks renewed) last sizes renewed true objects (g.S.Shelf.world old) (g.S.Shelf.world c.commit_anew.new.shelf) more (c.commit_anew.ensures.leads objects held))
 
 pub returns-clause-stops : goal.returns-clause-stops
 returns-clause-stops g c = λ objects h.
@@ -75,4 +95,7 @@ returns-clause-stops g c = λ objects h.
     let disks = (g.S.Shelf.world old).now.seen in
     let renewed = c.renew.new.pool in
     let held : HoldsObjects tells disks renewed objects = subst (λ (x : OpenPool). HoldsObjects tells disks x objects) (sym c.renew.ensures.value) (renewed_objects sizes tells disks c.args.pool.now objects c.requires.pool h) in
-    upgraded sizes objects c.args.pool.now renewed (g.S.Shelf.world old) (g.S.Shelf.world c.commit_anew.new.shelf) c.renew.ensures.value (c.renew.ensures.pool sizes c.requires.pool) (c.commit_anew.ensures.leads objects held)
+    let last = HasLastTrees disks c.args.pool.now in
+    let more : last → HasTrees Untold (Unit {0}) disks renewed = λ had. subst (λ (x : OpenPool). HasTrees Untold (Unit {0}) disks x) (sym c.renew.ensures.value) (renewed_trees (Unit {0}) disks c.args.pool.now had) in
+    upgraded last sizes objects c.args.pool.now renewed (g.S.Shelf.world old) (g.S.Shelf.world c.commit_anew.new.shelf) c.renew.ensures.value (c.renew.ensures.pool sizes c.requires.pool)
+    (committed_told (HasTrees Untold (Unit {0}) disks renewed) last sizes renewed true objects (g.S.Shelf.world old) (g.S.Shelf.world c.commit_anew.new.shelf) more (c.commit_anew.ensures.leads objects held))

@@ -29,8 +29,11 @@ use Rattle.zr_sync.specs.Pools.{IsOpen}
 use Rattle.zr_open.proofs.Flushing.{flushes_read, flushes_still, flushes_work, rests_still}
 use Rattle.zr_open.proofs.Going.{goes_back, scanned_flushed}
 use Rattle.zr_open.proofs.Lasting.{published_if, scanned_last}
+use Rattle.zr_open.proofs.OwnTrees.{own_trees}
 use Rattle.zr_open.proofs.Resting.{leaves_there}
 use Rattle.zr_open.proofs.Slots.{same_refusal}
+use Rattle.zr_vdev.specs.Runs.{view_of}
+use Rattle.zr_view.specs.Views.{address_bytes}
 use Rattle.zr_open.proofs.groups.go_back.Goals as goal
 
 -- ---- what is done to the disks, where nothing is written
@@ -300,7 +303,7 @@ returns-clause-reads g c = λ t r is.
 -- ---- what it leaves
 
 pub returns-then-txg-found-clause-leaves : goal.returns-then-txg-found-clause-leaves
-returns-then-txg-found-clause-leaves g c = λ t on.
+returns-then-txg-found-clause-leaves g c = λ t.
     let l = c.in_ok-now.now in
     let u = l.found.root in
     let disks = (g.S.Shelf.world c.scan.new.shelf).now.seen in
@@ -308,8 +311,20 @@ returns-then-txg-found-clause-leaves g c = λ t on.
     let told = (c.scan.ensures.told (c.settle.ensures.told t)) in
     let still = c.look_at.ensures.still told in
     let stands = subst (λ (slots : List (Option ℕ)). Stands disks slots u l.root) (sym h.same) (h.stands told) in
-    leaves_there disks (g.S.Shelf.sizes c.scan.new.shelf) u l.pool l.root (meta_of l.saved) h.uber h.ready h.fresh h.head h.parts stands on (g.S.Shelf.world c.look_at.new.shelf).now
+    leaves_there disks (g.S.Shelf.sizes c.scan.new.shelf) u l.pool l.root (meta_of l.saved) h.uber h.ready h.fresh h.head h.parts stands (g.S.Shelf.world c.look_at.new.shelf).now
     (ap (λ (stand : Stand). stand.seen) still.now) (rests_still (g.S.Shelf.world c.settle.new.shelf) (g.S.Shelf.world c.look_at.new.shelf) (c.in_ok-settle.ensures.rests t) (still_trans (g.S.Shelf.world c.settle.new.shelf) (g.S.Shelf.world c.scan.new.shelf) (g.S.Shelf.world c.look_at.new.shelf) (c.scan.ensures.still (c.settle.ensures.told t)) (c.look_at.ensures.still (c.scan.ensures.told (c.settle.ensures.told t)))))
+
+pub returns-then-txg-found-clause-trees : goal.returns-then-txg-found-clause-trees
+returns-then-txg-found-clause-trees g c = λ t.
+    let l = c.in_ok-now.now in
+    let u = l.found.root in
+    let disks = (g.S.Shelf.world c.scan.new.shelf).now.seen in
+    let h = c.in_ok-now.ensures.looked in
+    let told = (c.scan.ensures.told (c.settle.ensures.told t)) in
+    let still = c.look_at.ensures.still told in
+    let stands = subst (λ (slots : List (Option ℕ)). Stands disks slots u l.root) (sym h.same) (h.stands told) in
+    own_trees (g.S.Shelf.tells c.look_at.new.shelf) (c.look_at.ensures.told told) disks (g.S.Shelf.world c.look_at.new.shelf).now.seen (g.S.Shelf.sizes c.scan.new.shelf) u l.pool l.root (meta_of l.saved) h.uber h.ready h.fresh h.head h.parts stands
+    (λ a. ap (λ (ds : List (List ℕ)). address_bytes (view_of ds l.pool.table.slots l.pool.space) a) (ap (λ (stand : Stand). stand.seen) still.now))
 
 pub returns-clause-leaves : goal.returns-clause-leaves
 returns-clause-leaves g c = λ t.
@@ -321,6 +336,17 @@ returns-clause-leaves g c = λ t.
     let same : disks4 ≡ disks3 = ap (λ (stand : Stand). stand.seen) (c.look_at-2.ensures.still told3).now in
     let there = looked_moved tells3 (Unit {0}) disks3 disks4 (λ x. told3) (λ x. sym same) (g.S.Shelf.sizes c.look_at.new.shelf) l c.in_ok-then.ensures.looked in
     c.reset.ensures.leaves (c.look_at-2.ensures.told (c.look_at.ensures.told (c.scan.ensures.told (c.settle.ensures.told t)))) (subst (λ (ns : List ℕ). IsLookedAt ns (Unit {0}) disks4 l) (sym c.look_at-2.ensures.sizes) there)
+
+pub returns-clause-trees : goal.returns-clause-trees
+returns-clause-trees g c = λ t.
+    let tells3 = g.S.Shelf.tells c.look_at.new.shelf in
+    let disks3 = (g.S.Shelf.world c.look_at.new.shelf).now.seen in
+    let disks4 = (g.S.Shelf.world c.look_at-2.new.shelf).now.seen in
+    let l = c.in_ok-then.then in
+    let told3 = (c.look_at.ensures.told (c.scan.ensures.told (c.settle.ensures.told t))) in
+    let same : disks4 ≡ disks3 = ap (λ (stand : Stand). stand.seen) (c.look_at-2.ensures.still told3).now in
+    let there = looked_moved tells3 (Unit {0}) disks3 disks4 (λ x. told3) (λ x. sym same) (g.S.Shelf.sizes c.look_at.new.shelf) l c.in_ok-then.ensures.looked in
+    c.reset.ensures.trees (c.look_at-2.ensures.told (c.look_at.ensures.told (c.scan.ensures.told (c.settle.ensures.told t)))) (subst (λ (ns : List ℕ). IsLookedAt ns (Unit {0}) disks4 l) (sym c.look_at-2.ensures.sizes) there)
 
 -- ---- wherever it stops
 

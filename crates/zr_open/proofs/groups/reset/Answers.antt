@@ -15,6 +15,7 @@ use Rattle.zr_open.proofs.Beside.{has_saved, lawful_saved}
 use Rattle.zr_open.proofs.Going.{resets}
 use Rattle.zr_open.proofs.Grouping.{as_reset, back, same_disks_of, stands_back}
 use Rattle.zr_open.proofs.Looking.{looked_moved}
+use Rattle.zr_open.proofs.OwnTrees.{own_trees, shown_bytes}
 use Rattle.zr_open.proofs.Resting.{leaves_shown}
 use Rattle.zr_open.proofs.groups.reset.Goals as goal
 
@@ -78,7 +79,7 @@ open-requires-clause-saved g c = λ told.
 -- ---- what it leaves
 
 pub returns-clause-leaves : goal.returns-clause-leaves
-returns-clause-leaves g c = λ t h on.
+returns-clause-leaves g c = λ t h.
     let sizes = g.S.Shelf.sizes c.args.shelf.now in
     let disks = (g.S.Shelf.world c.args.shelf.now).now.seen in
     let l = c.args.then.now in
@@ -94,8 +95,28 @@ returns-clause-leaves g c = λ t h on.
     let le : u.txg ≤ txg = (let below = c.requires.below in omega (arith, below)) in
     let is = subst IsUber next c.rewound.ensures.lawful in
     let there = stands_back (Unit {0}) tt disks sizes sound.sized l h txg le pool is ready fresh parts own.slots in
-    leaves_shown disks sizes (rewound u txg) pool (back (Unit {0}) tt disks sizes sound.sized l h txg le pool is ready fresh parts own.slots) (meta_of l.saved) is ready fresh h.head parts there on c.args.current.now c.rewound.result
+    leaves_shown disks sizes (rewound u txg) pool (back (Unit {0}) tt disks sizes sound.sized l h txg le pool is ready fresh parts own.slots) (meta_of l.saved) is ready fresh h.head parts there c.args.current.now c.rewound.result
     (g.S.Shelf.world c.args.shelf.now) (g.S.Shelf.world c.show.new.shelf) refl c.rewound.ensures.lawful (c.in_ok-show.ensures.shown t)
+
+pub returns-clause-trees : goal.returns-clause-trees
+returns-clause-trees g c = λ t h.
+    let sizes = g.S.Shelf.sizes c.args.shelf.now in
+    let disks = (g.S.Shelf.world c.args.shelf.now).now.seen in
+    let l = c.args.then.now in
+    let u = l.found.root in
+    let own = c.in_ok-pool.ensures in
+    let pool = c.in_ok-pool.pool in
+    let next = c.rewound.ensures.is in
+    let txg = c.args.current.now.txg + 1 in
+    let sound = g.S.Shelf.sound c.args.shelf.now t in
+    let ready = own.open sizes (same_disks_of sizes l.found.slots c.rewound.result u (ap (λ (x : Uber). x.rows) next) (ap (λ (x : Uber). x.count) next) h.mounted) in
+    let fresh = subst (λ (x : Uber). IsFresh x pool) next own.fresh in
+    let parts = subst (λ (r : Root). HasParts r (meta_of l.saved) pool) c.in_ok-reset.ensures (subst (λ (meta : List Dva). HasParts c.reset.new.self meta pool) c.saved_meta.ensures own.parts) in
+    let le : u.txg ≤ txg = (let below = c.requires.below in omega (arith, below)) in
+    let is = subst IsUber next c.rewound.ensures.lawful in
+    let there = stands_back (Unit {0}) tt disks sizes sound.sized l h txg le pool is ready fresh parts own.slots in
+    own_trees (g.S.Shelf.tells c.show.new.shelf) (c.in_ok-show.ensures.told t) disks (g.S.Shelf.world c.show.new.shelf).now.seen sizes (rewound u txg) pool (back (Unit {0}) tt disks sizes sound.sized l h txg le pool is ready fresh parts own.slots) (meta_of l.saved) is ready fresh h.head parts there
+    (shown_bytes sizes pool c.args.current.now c.rewound.result (g.S.Shelf.world c.args.shelf.now) (g.S.Shelf.world c.show.new.shelf) ready c.rewound.ensures.lawful (c.in_ok-show.ensures.shown t) disks refl)
 
 -- ---- wherever it stops
 

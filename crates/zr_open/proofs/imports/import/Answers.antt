@@ -15,9 +15,12 @@ use Rattle.zr_open.proofs.Beside.{beside_moved}
 use Rattle.zr_open.proofs.Flushing.{flushes_read, flushes_still, rests_still}
 use Rattle.zr_open.proofs.Lasting.{looked_last}
 use Rattle.zr_open.proofs.Looking.{IsRefusedOn, refusal_moved, whole_moved}
+use Rattle.zr_open.proofs.OwnTrees.{own_trees}
 use Rattle.zr_open.proofs.Resting.{leaves_there}
 use Rattle.zr_open.proofs.Showing.{shows_state, shows_saved}
 use Rattle.zr_open.proofs.Views.{stands_same}
+use Rattle.zr_vdev.specs.Runs.{view_of}
+use Rattle.zr_view.specs.Views.{address_bytes}
 use Rattle.zr_open.proofs.imports.import.Goals as goal
 
 -- ---- what is done to the disks
@@ -123,7 +126,7 @@ returns-clause-last g c = λ t.
 -- ---- what it leaves
 
 pub returns-clause-leaves : goal.returns-clause-leaves
-returns-clause-leaves g c = λ t on.
+returns-clause-leaves g c = λ t.
     let old = c.args.shelf.now in
     let mid = c.settle.new.shelf in
     let new = c.look.new.shelf in
@@ -136,5 +139,18 @@ returns-clause-leaves g c = λ t on.
     (subst (λ (ns : List ℕ). IsLooked ns (g.S.Shelf.tells mid) (g.S.Shelf.world mid).now.seen l) c.settle.ensures.sizes c.in_ok-looked.ensures.looked) in
     let u = l.found.root in
     let stands = subst (λ (slots : List (Option ℕ)). Stands disks slots u l.root) (sym h.at.same) (h.at.stands t) in
-    leaves_there disks (g.S.Shelf.sizes old) u l.pool l.root (meta_of l.saved) h.at.uber h.at.ready h.at.fresh h.at.head h.at.parts stands on (g.S.Shelf.world new).now (ap (λ (s : Stand). s.seen) still.now ∙ read.seen)
+    leaves_there disks (g.S.Shelf.sizes old) u l.pool l.root (meta_of l.saved) h.at.uber h.at.ready h.at.fresh h.at.head h.at.parts stands (g.S.Shelf.world new).now (ap (λ (s : Stand). s.seen) still.now ∙ read.seen)
     (rests_still (g.S.Shelf.world mid) (g.S.Shelf.world new) (c.in_ok-settle.ensures.rests t) still)
+
+pub returns-clause-trees : goal.returns-clause-trees
+returns-clause-trees g c = λ t.
+    let mid = c.settle.new.shelf in
+    let new = c.look.new.shelf in
+    let disks = (g.S.Shelf.world mid).now.seen in
+    let told = c.settle.ensures.told t in
+    let l = c.in_ok-looked.looked in
+    let h = c.in_ok-looked.ensures.looked.at in
+    let u = l.found.root in
+    let stands = subst (λ (slots : List (Option ℕ)). Stands disks slots u l.root) (sym h.same) (h.stands told) in
+    own_trees (g.S.Shelf.tells new) (c.look.ensures.told told) disks (g.S.Shelf.world new).now.seen (g.S.Shelf.sizes mid) u l.pool l.root (meta_of l.saved) h.uber h.ready h.fresh h.head h.parts stands
+    (λ a. ap (λ (ds : List (List ℕ)). address_bytes (view_of ds l.pool.table.slots l.pool.space) a) (ap (λ (s : Stand). s.seen) (c.look.ensures.still told).now))

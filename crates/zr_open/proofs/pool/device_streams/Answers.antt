@@ -4,7 +4,7 @@ use Rattle.zr_base.specs.contracts.space.DevState.{the_type}
 use Rattle.zr_base.specs.declared.space.DevState.TheVariants.{Gone}
 use Rattle.zr_bptr.specs.declared.Ptr.TheVariants.{Hole}
 use Rattle.zr_meta.specs.declared.Stream.{Stream}
-use Rattle.zr_open.proofs.Streams.{late_count, with_late}
+use Rattle.zr_open.proofs.Streams.{late_count, late_untold, with_late}
 use Rattle.zr_open.proofs.pool.device_streams.Goals as goal
 use denote.Enum.Bare.{same_false}
 
@@ -22,3 +22,6 @@ returns-clause-are c =
     c.first_streams-streams.ensures.are
     (ap (λ (xs : List Stream). xs ++ late) cut.front ∙ (ap (λ (xs : List Stream). take c.stream_count.result own ++ xs) cut.back ∙ take-append-drop c.stream_count.result own))
     (omega (arith, left, least, all, more))
+
+pub returns-clause-untold : goal.returns-clause-untold
+returns-clause-untold c = late_untold c.args.state c.first_streams-streams.result _ _ (same_false the_type c.args.state Gone (sym c.if-eq.ensures)) c.first_streams-streams.ensures.untold

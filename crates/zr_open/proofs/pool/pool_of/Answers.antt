@@ -11,7 +11,7 @@ pub returns-clause-open : goal.returns-clause-open
 returns-clause-open c = λ sizes disks.
     let u = c.args.found.now.root in
     is_open sizes u c.args.head.now _ c.requires.root c.requires.head disks c.requires.long (subst (λ (s : Space). IsSpaceOf u s) (sym c.space.view_is) c.requires.space)
-    (record { last = refl; name = refl; guid = refl; version = refl; count = refl; rows = refl; txg = c.new-2.ensures.txg; empty = c.new-2.ensures.empty; cache = c.in_ok-new.ensures.empty })
+    (record { last = refl; name = refl; guid = refl; version = refl; count = refl; rows = refl; txg = c.new-2.ensures.txg; empty = c.new-2.ensures.empty; cache = c.in_ok-new.ensures.empty; head = c.head_tree.ensures.tree })
     refl
     c.head_tree.ensures.lawful
     c.in_ok-streams.ensures.lawful (c.in_ok-streams.ensures.count ∙ taken_is u c.requires.root) c.in_ok-streams.ensures.cond refl

@@ -4,8 +4,9 @@ use Rattle.std.proofs.lemmas.List.{take-append-drop}
 use Rattle.zr_meta.specs.declared.Stream.{Stream}
 use Rattle.zr_sync.specs.Pools.{AreStreams}
 use Rattle.zr_sync.specs.declared.open.DeviceStreams.{DeviceStreams}
-use Rattle.zr_open.specs.Streams.{HasNoLate, told_of}
-use Rattle.zr_open.proofs.Streams.{all_more, step_each, step_total}
+use Rattle.zr_open.specs.Streams.{HasNoLate, untold_of}
+use Rattle.zr_sync.specs.Heads.{told_of}
+use Rattle.zr_open.proofs.Streams.{all_more, step_each, step_total, step_untold}
 use Rattle.zr_open.proofs.pool.streams_of.Goals as goal
 
 pub loop-row-preserved : goal.loop-row-preserved
@@ -29,6 +30,7 @@ loop-row-preserved c =
       count = search rules;
       lawful = subst (All AreStreams) (sym items) (all_more AreStreams c.loop-row.devices.items d inv.lawful c.device_streams.ensures.lawful);
       late = λ first. subst (All HasNoLate) (sym items) (all_more HasNoLate c.loop-row.devices.items d (inv.late first) (c.device_streams.ensures.late first));
+      untold = ap (λ (ds : List DeviceStreams). untold_of (take (i + 1) rows) ds) items ∙ step_untold rows i c.loop-row.devices.items d c.loop-row-test.true inv.count c.device_streams.ensures.untold inv.untold;
       left = search rules;
       total = omega (arith, total, sc, back);
       each = subst (λ (ds : List DeviceStreams). told_of form (take (i + 1) rows) ds ++ others ≡ streams) (sym items)

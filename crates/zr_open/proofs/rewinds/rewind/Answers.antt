@@ -36,6 +36,7 @@ use Rattle.zr_open.proofs.Flushing.{flushes_read, flushes_still, flushes_work, r
 use Rattle.zr_open.proofs.Going.{looked_flushed, rewinds}
 use Rattle.zr_open.proofs.Lasting.{published_last, saved_at, saved_own}
 use Rattle.zr_open.proofs.Looking.{IsRefusedOn, refusal_moved, whole_moved}
+use Rattle.zr_open.proofs.OwnTrees.{own_trees, shown_bytes}
 use Rattle.zr_open.proofs.Resting.{leaves_shown}
 use Rattle.zr_open.proofs.Rewinding.{back, rewound_disks, saved_are, saved_held, saved_objects, stands}
 use Rattle.zr_open.proofs.Showing.{ShowsSaved, saved_with, shows_it, state}
@@ -393,7 +394,7 @@ returns-clause-last g c = λ t.
 -- ---- what it leaves
 
 pub returns-clause-leaves : goal.returns-clause-leaves
-returns-clause-leaves g c = λ t on.
+returns-clause-leaves g c = λ t.
     let sizes = g.S.Shelf.sizes c.args.shelf.now in
     let tells = g.S.Shelf.tells c.args.shelf.now in
     let disks = (g.S.Shelf.world c.args.shelf.now).now.seen in
@@ -418,8 +419,37 @@ returns-clause-leaves g c = λ t on.
     let fresh = subst (λ (x : Uber). IsFresh x pool) c.rewound-root.ensures.is own.fresh in
     let parts = subst (λ (r : Root). HasParts r [] pool) c.in_ok-reset.ensures own.parts in
     let there = stands tells t disks sizes sound.sized slots u l.root b.block s txg pool b.saved b.past cut is ready fresh parts in
-    leaves_shown disks sizes (rewound s.uber txg) pool (back tells t disks sizes sound.sized slots u l.root b.block s txg pool b.saved b.past cut is ready fresh parts) [] is ready fresh b.saved.head parts there on u next read now same_disks c.rewound-root.ensures.lawful
+    leaves_shown disks sizes (rewound s.uber txg) pool (back tells t disks sizes sound.sized slots u l.root b.block s txg pool b.saved b.past cut is ready fresh parts) [] is ready fresh b.saved.head parts there u next read now same_disks c.rewound-root.ensures.lawful
     (subst (λ (ns : List ℕ). IsShownFrom ns (record pool { last = Some u }) next read now) (c.look.ensures.sizes ∙ c.settle.ensures.sizes) (c.in_ok-show.ensures.shown told))
+
+pub returns-clause-trees : goal.returns-clause-trees
+returns-clause-trees g c = λ t.
+    let sizes = g.S.Shelf.sizes c.args.shelf.now in
+    let tells = g.S.Shelf.tells c.args.shelf.now in
+    let disks = (g.S.Shelf.world c.args.shelf.now).now.seen in
+    let l = c.in_ok-looked.looked in
+    let s = c.in-Some.saved in
+    let h = looked_flushed (g.S.Shelf.tells c.settle.new.shelf) tells (g.S.Shelf.world c.settle.new.shelf) (g.S.Shelf.world c.args.shelf.now) c.settle.ensures.told c.settle.ensures.flushes (g.S.Shelf.sizes c.settle.new.shelf) sizes c.settle.ensures.sizes l c.in_ok-looked.ensures.looked in
+    let b = back_is sizes tells disks l s h (sym c.into_saved.ensures ∙ c.in-Some.is) in
+    let u = l.found.root in
+    let txg = u.txg + 1 in
+    let pool = c.in_ok-pool.pool in
+    let own = c.in_ok-pool.ensures in
+    let next = c.rewound-root.result in
+    let slots = l.found.slots in
+    let read = g.S.Shelf.world c.look.new.shelf in
+    let now = g.S.Shelf.world c.show.new.shelf in
+    let told = c.look.ensures.told (c.settle.ensures.told t) in
+    let same_disks : (g.S.Shelf.world c.look.new.shelf).now.seen ≡ disks = ap (λ (stand : Stand). stand.seen) (c.look.ensures.still (c.settle.ensures.told t)).now ∙ (flushes_read (g.S.Shelf.world c.args.shelf.now) (g.S.Shelf.world c.settle.new.shelf) (c.settle.ensures.flushes t)).seen in
+    let sound = g.S.Shelf.sound c.args.shelf.now t in
+    let ready = own.open sizes (place_disks sizes slots c.own_slots.result s.uber next txg c.rewound-root.ensures.is c.own_slots.ensures.own b.disks_are) in
+    let cut = subst (IsCut s.uber slots) (sym own.slots) (own_cut slots c.own_slots.result s.uber next txg c.rewound-root.ensures.is c.own_slots.ensures.own) in
+    let is = subst IsUber c.rewound-root.ensures.is c.rewound-root.ensures.lawful in
+    let fresh = subst (λ (x : Uber). IsFresh x pool) c.rewound-root.ensures.is own.fresh in
+    let parts = subst (λ (r : Root). HasParts r [] pool) c.in_ok-reset.ensures own.parts in
+    let there = stands tells t disks sizes sound.sized slots u l.root b.block s txg pool b.saved b.past cut is ready fresh parts in
+    own_trees (g.S.Shelf.tells c.show.new.shelf) (c.in_ok-show.ensures.told told) disks now.now.seen sizes (rewound s.uber txg) pool (back tells t disks sizes sound.sized slots u l.root b.block s txg pool b.saved b.past cut is ready fresh parts) [] is ready fresh b.saved.head parts there
+    (shown_bytes sizes pool u next read now ready c.rewound-root.ensures.lawful (subst (λ (ns : List ℕ). IsShownFrom ns (record pool { last = Some u }) next read now) (c.look.ensures.sizes ∙ c.settle.ensures.sizes) (c.in_ok-show.ensures.shown told)) disks same_disks)
 
 -- ---- wherever it stops
 

@@ -262,6 +262,23 @@ returns-in_ok-rewind-in-ImportRewind-clause-ends g c = λ told create. absurd (l
 pub returns-in_ok-go_back-in-ImportTxg-clause-ends : goal.returns-in_ok-go_back-in-ImportTxg-clause-ends
 returns-in_ok-go_back-in-ImportTxg-clause-ends g c = λ told create. absurd (let e = sym (subst (λ (command : Command). is_create command ≡ true) c.in-ImportTxg.is create) in cc)
 
+-- ---- the trees of its streams
+
+pub returns-in_ok-made-in-Create-clause-trees : goal.returns-in_ok-made-in-Create-clause-trees
+returns-in_ok-made-in-Create-clause-trees g c = λ told. c.in_ok-made-in-Create.ensures.trees told
+
+pub returns-in_ok-made-in-CreateOld-clause-trees : goal.returns-in_ok-made-in-CreateOld-clause-trees
+returns-in_ok-made-in-CreateOld-clause-trees g c = λ told. c.in_ok-made-in-CreateOld.ensures.trees told
+
+pub returns-in_ok-import-in-Import-clause-trees : goal.returns-in_ok-import-in-Import-clause-trees
+returns-in_ok-import-in-Import-clause-trees g c = λ told. c.in_ok-import-in-Import.ensures.trees told
+
+pub returns-in_ok-rewind-in-ImportRewind-clause-trees : goal.returns-in_ok-rewind-in-ImportRewind-clause-trees
+returns-in_ok-rewind-in-ImportRewind-clause-trees g c = λ told. c.in_ok-rewind-in-ImportRewind.ensures.trees told
+
+pub returns-in_ok-go_back-in-ImportTxg-clause-trees : goal.returns-in_ok-go_back-in-ImportTxg-clause-trees
+returns-in_ok-go_back-in-ImportTxg-clause-trees g c = λ told. c.in_ok-go_back-in-ImportTxg.ensures.trees told
+
 -- ---- a pool that was opened stands as a commit left it
 
 pub returns-in_ok-made-in-Create-clause-leaves : goal.returns-in_ok-made-in-Create-clause-leaves

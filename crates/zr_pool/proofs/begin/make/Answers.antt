@@ -35,6 +35,9 @@ returns-clause-ends g c = λ told. c.create.ensures.ends (c.settle.ensures.told 
 pub returns-clause-objects : goal.returns-clause-objects
 returns-clause-objects g c = λ told. c.create.ensures.objects (c.settle.ensures.told told)
 
+pub returns-clause-trees : goal.returns-clause-trees
+returns-clause-trees g c = λ told. c.create.ensures.trees (c.settle.ensures.told told)
+
 pub returns-clause-stops : goal.returns-clause-stops
 returns-clause-stops g c = λ told.
     let shelf = c.args.shelf.now in

@@ -21,6 +21,12 @@ use Rattle.zr_last.proofs.Lasting.{commit_last, same_last}
 use Rattle.zr_shelf.specs.Disks.{Stand}
 use Rattle.zr_pool.proofs.Shown.{same_root, still_last}
 use Rattle.zr_pool.proofs.Staying.{stays_still, same_state, held_state, discarding_state, stepped_state, objects_told, objects_anew_unit, step_answer, some_units}
+use Rattle.zr_pool.proofs.Trees.{recorded_trees, writes_no_trees}
+use Rattle.zr_pool.proofs.Resets.{reset_told}
+use Rattle.zr_pool.specs.Behind.{WritesTold, is_writing_trees}
+use Rattle.zr_sync.proofs.Retelling.{trees_told}
+use Rattle.zr_sync.specs.Trees.{HasLastTrees}
+use Rattle.zr_sync.specs.Trees.Stage.{Had}
 use Rattle.zr_pool.proofs.Tellings.{checks_told, gives_told, stepped_turn, takes_told, upgrades_told}
 use Rattle.zr_pool.proofs.lines.pool_line.Goals as goal
 
@@ -373,7 +379,7 @@ returns-in_err-units-in-StepDiscard-clause-shown_no g c = λ told r is.
 pub returns-in_ok-commit-in-Sync-clause-commits : goal.returns-in_ok-commit-in-Sync-clause-commits
 returns-in_ok-commit-in-Sync-clause-commits g c = λ ends p h.
     let done = c.in_ok-commit-in-Sync.ensures in
-    ends_by c.commit.ensures.sizes done.pool done.same done.last done.txg done.written done.ends done.empty done.stands done.safe h.objects (done.stays p.objects h.objects)
+    ends_by c.commit.ensures.sizes done.pool done.same done.last done.txg done.written done.ends done.empty done.stands done.safe done.trees done.moves h.objects (done.stays p.objects h.objects)
 
 pub returns-in_ok-commit-in-Sync-clause-stops : goal.returns-in_ok-commit-in-Sync-clause-stops
 returns-in_ok-commit-in-Sync-clause-stops g c = λ ends p h. c.commit.ensures.leads p.objects h.objects
@@ -384,7 +390,7 @@ returns-in_err-commit-in-Sync-clause-stops g c = λ ends p h. c.commit.ensures.l
 pub returns-in_ok-commit-in-Export-clause-commits : goal.returns-in_ok-commit-in-Export-clause-commits
 returns-in_ok-commit-in-Export-clause-commits g c = λ ends p h.
     let done = c.in_ok-commit-in-Export.ensures in
-    ends_by c.commit-in-Export.ensures.sizes done.pool done.same done.last done.txg done.written done.ends done.empty done.stands done.safe h.objects (done.stays p.objects h.objects)
+    ends_by c.commit-in-Export.ensures.sizes done.pool done.same done.last done.txg done.written done.ends done.empty done.stands done.safe done.trees done.moves h.objects (done.stays p.objects h.objects)
 
 pub returns-in_ok-commit-in-Export-clause-stops : goal.returns-in_ok-commit-in-Export-clause-stops
 returns-in_ok-commit-in-Export-clause-stops g c = λ ends p h. c.commit-in-Export.ensures.leads p.objects h.objects
@@ -440,6 +446,9 @@ returns-in_err-units-in-StepDiscard-clause-stays_no g c = λ told r is.
 pub returns-in_ok-units-in-StepDiscard-clause-steps : goal.returns-in_ok-units-in-StepDiscard-clause-steps
 returns-in_ok-units-in-StepDiscard-clause-steps g c = λ step. step_opens_none c.args.pool.now c.step.new.pool c.in_ok-units-in-StepDiscard.units c.in_ok-units-in-StepDiscard.ensures.root c.in_ok-units-in-StepDiscard.ensures.steps
 
+pub returns-in_ok-units-in-StepDiscard-clause-step_trees : goal.returns-in_ok-units-in-StepDiscard-clause-step_trees
+returns-in_ok-units-in-StepDiscard-clause-step_trees g c = λ step. c.in_ok-units-in-StepDiscard.ensures.trees (g.S.Shelf.world c.args.shelf.now).now.seen
+
 pub returns-in_ok-units-in-StepDiscard-clause-still : goal.returns-in_ok-units-in-StepDiscard-clause-still
 returns-in_ok-units-in-StepDiscard-clause-still g c = λ step. same_world (g.S.Shelf.world c.args.shelf.now) (g.S.Shelf.world c.args.shelf.now) refl
 
@@ -452,25 +461,37 @@ pub returns-in_ok-add-in-Add-clause-resets : goal.returns-in_ok-add-in-Add-claus
 returns-in_ok-add-in-Add-clause-resets g c = λ on p h.
     let new = c.add.new.shelf in
     let done = c.in_ok-add-in-Add.ensures in
-    record { leaves = done.ends p.objects h.objects; holds = untold (g.S.Shelf.tells new) (g.S.Shelf.world new).now.seen c.add.new.pool p.objects (done.objects p.objects h.objects) }
+    record {
+      resets = record { leaves = done.ends p.objects h.objects; holds = untold (g.S.Shelf.tells new) (g.S.Shelf.world new).now.seen c.add.new.pool p.objects (done.objects p.objects h.objects) };
+      trees = λ writes. recorded_trees (g.S.Shelf.tells c.args.shelf.now) (g.S.Shelf.tells new) (g.S.Shelf.world c.args.shelf.now) (g.S.Shelf.world new) c.args.pool.now c.add.new.pool h.objects.held.told (done.ends p.objects h.objects).settled done.trees;
+      moves = λ told. done.moves (trees_told Had (Unit {0}) (g.S.Shelf.tells c.args.shelf.now) (g.S.Shelf.world c.args.shelf.now).now.seen c.args.pool.now h.objects.held.told told.1);
+    }
 
 pub returns-in_ok-take-in-Checkpoint-clause-resets : goal.returns-in_ok-take-in-Checkpoint-clause-resets
 returns-in_ok-take-in-Checkpoint-clause-resets g c = λ on p h.
     let new = c.take.new.shelf in
     let done = c.in_ok-take-in-Checkpoint.ensures in
-    record { leaves = done.ends p.objects h.objects; holds = untold (g.S.Shelf.tells new) (g.S.Shelf.world new).now.seen c.take.new.pool p.objects (done.objects p.objects h.objects) }
+    record {
+      resets = record { leaves = done.ends p.objects h.objects; holds = untold (g.S.Shelf.tells new) (g.S.Shelf.world new).now.seen c.take.new.pool p.objects (done.objects p.objects h.objects) };
+      trees = λ writes. recorded_trees (g.S.Shelf.tells c.args.shelf.now) (g.S.Shelf.tells new) (g.S.Shelf.world c.args.shelf.now) (g.S.Shelf.world new) c.args.pool.now c.take.new.pool h.objects.held.told (done.ends p.objects h.objects).settled done.trees;
+      moves = λ told. done.moves (trees_told Had (Unit {0}) (g.S.Shelf.tells c.args.shelf.now) (g.S.Shelf.world c.args.shelf.now).now.seen c.args.pool.now h.objects.held.told told.1);
+    }
 
 pub returns-in_ok-give_up-in-Discard-clause-resets : goal.returns-in_ok-give_up-in-Discard-clause-resets
 returns-in_ok-give_up-in-Discard-clause-resets g c = λ on p h.
     let new = c.give_up.new.shelf in
     let done = c.in_ok-give_up-in-Discard.ensures in
-    record { leaves = done.ends p.objects h.objects; holds = untold (g.S.Shelf.tells new) (g.S.Shelf.world new).now.seen c.give_up.new.pool p.objects (done.objects p.objects h.objects) }
+    record { resets = record { leaves = done.ends p.objects h.objects; holds = untold (g.S.Shelf.tells new) (g.S.Shelf.world new).now.seen c.give_up.new.pool p.objects (done.objects p.objects h.objects) }; trees = λ writes. writes_no_trees (sym (ap is_writing_trees c.in-Discard.is) ∙ writes); moves = λ told. writes_no_trees (sym (ap is_writing_trees c.in-Discard.is) ∙ told.0) }
 
 pub returns-in_ok-upgrade-in-Upgrade-clause-resets : goal.returns-in_ok-upgrade-in-Upgrade-clause-resets
 returns-in_ok-upgrade-in-Upgrade-clause-resets g c = λ on p h.
     let new = c.upgrade.new.shelf in
     let done = c.in_ok-upgrade-in-Upgrade.ensures in
-    record { leaves = done.ends p.objects h.objects; holds = untold (g.S.Shelf.tells new) (g.S.Shelf.world new).now.seen c.upgrade.new.pool p.objects (done.objects p.objects h.objects) }
+    record {
+      resets = record { leaves = done.ends p.objects h.objects; holds = untold (g.S.Shelf.tells new) (g.S.Shelf.world new).now.seen c.upgrade.new.pool p.objects (done.objects p.objects h.objects) };
+      trees = λ writes. recorded_trees (g.S.Shelf.tells c.args.shelf.now) (g.S.Shelf.tells new) (g.S.Shelf.world c.args.shelf.now) (g.S.Shelf.world new) c.args.pool.now c.upgrade.new.pool h.objects.held.told (done.ends p.objects h.objects).settled done.trees;
+      moves = λ told. done.moves (trees_told Had (Unit {0}) (g.S.Shelf.tells c.args.shelf.now) (g.S.Shelf.world c.args.shelf.now).now.seen c.args.pool.now h.objects.held.told told.1);
+    }
 
 -- ---- wherever such a line stops
 
@@ -481,19 +502,19 @@ pub returns-in_err-add-in-Add-clause-stops_reset : goal.returns-in_err-add-in-Ad
 returns-in_err-add-in-Add-clause-stops_reset g c = λ on p h. inr (c.in-Some.slot, c.add.ensures.stops p.objects h.objects)
 
 pub returns-in_ok-take-in-Checkpoint-clause-stops_reset : goal.returns-in_ok-take-in-Checkpoint-clause-stops_reset
-returns-in_ok-take-in-Checkpoint-clause-stops_reset g c = λ on p h. inl (c.take.ensures.stops p.objects h.objects)
+returns-in_ok-take-in-Checkpoint-clause-stops_reset g c = λ on p h. inl (reset_told (HasLastTrees (g.S.Shelf.world c.args.shelf.now).now.seen c.args.pool.now) (WritesTold c.args.command.now c.args.pool.now (g.S.Shelf.world c.args.shelf.now)) (g.S.Shelf.sizes c.args.shelf.now) p.objects c.args.pool.now (g.S.Shelf.world c.args.shelf.now) (g.S.Shelf.world c.take.new.shelf) (λ told. told.1) (c.take.ensures.stops p.objects h.objects))
 
 pub returns-in_err-take-in-Checkpoint-clause-stops_reset : goal.returns-in_err-take-in-Checkpoint-clause-stops_reset
-returns-in_err-take-in-Checkpoint-clause-stops_reset g c = λ on p h. inl (c.take.ensures.stops p.objects h.objects)
+returns-in_err-take-in-Checkpoint-clause-stops_reset g c = λ on p h. inl (reset_told (HasLastTrees (g.S.Shelf.world c.args.shelf.now).now.seen c.args.pool.now) (WritesTold c.args.command.now c.args.pool.now (g.S.Shelf.world c.args.shelf.now)) (g.S.Shelf.sizes c.args.shelf.now) p.objects c.args.pool.now (g.S.Shelf.world c.args.shelf.now) (g.S.Shelf.world c.take.new.shelf) (λ told. told.1) (c.take.ensures.stops p.objects h.objects))
 
 pub returns-in_ok-give_up-in-Discard-clause-stops_reset : goal.returns-in_ok-give_up-in-Discard-clause-stops_reset
-returns-in_ok-give_up-in-Discard-clause-stops_reset g c = λ on p h. inl (c.give_up.ensures.stops p.objects h.objects)
+returns-in_ok-give_up-in-Discard-clause-stops_reset g c = λ on p h. inl (reset_told ⊥ (WritesTold c.args.command.now c.args.pool.now (g.S.Shelf.world c.args.shelf.now)) (g.S.Shelf.sizes c.args.shelf.now) p.objects c.args.pool.now (g.S.Shelf.world c.args.shelf.now) (g.S.Shelf.world c.give_up.new.shelf) (λ told. writes_no_trees (sym (ap is_writing_trees c.in-Discard.is) ∙ told.0)) (c.give_up.ensures.stops p.objects h.objects))
 
 pub returns-in_err-give_up-in-Discard-clause-stops_reset : goal.returns-in_err-give_up-in-Discard-clause-stops_reset
-returns-in_err-give_up-in-Discard-clause-stops_reset g c = λ on p h. inl (c.give_up.ensures.stops p.objects h.objects)
+returns-in_err-give_up-in-Discard-clause-stops_reset g c = λ on p h. inl (reset_told ⊥ (WritesTold c.args.command.now c.args.pool.now (g.S.Shelf.world c.args.shelf.now)) (g.S.Shelf.sizes c.args.shelf.now) p.objects c.args.pool.now (g.S.Shelf.world c.args.shelf.now) (g.S.Shelf.world c.give_up.new.shelf) (λ told. writes_no_trees (sym (ap is_writing_trees c.in-Discard.is) ∙ told.0)) (c.give_up.ensures.stops p.objects h.objects))
 
 pub returns-in_ok-upgrade-in-Upgrade-clause-stops_reset : goal.returns-in_ok-upgrade-in-Upgrade-clause-stops_reset
-returns-in_ok-upgrade-in-Upgrade-clause-stops_reset g c = λ on p h. inl (c.upgrade.ensures.stops p.objects h.objects)
+returns-in_ok-upgrade-in-Upgrade-clause-stops_reset g c = λ on p h. inl (reset_told (HasLastTrees (g.S.Shelf.world c.args.shelf.now).now.seen c.args.pool.now) (WritesTold c.args.command.now c.args.pool.now (g.S.Shelf.world c.args.shelf.now)) (g.S.Shelf.sizes c.args.shelf.now) p.objects c.args.pool.now (g.S.Shelf.world c.args.shelf.now) (g.S.Shelf.world c.upgrade.new.shelf) (λ told. told.1) (c.upgrade.ensures.stops p.objects h.objects))
 
 pub returns-in_err-upgrade-in-Upgrade-clause-stops_reset : goal.returns-in_err-upgrade-in-Upgrade-clause-stops_reset
-returns-in_err-upgrade-in-Upgrade-clause-stops_reset g c = λ on p h. inl (c.upgrade.ensures.stops p.objects h.objects)
+returns-in_err-upgrade-in-Upgrade-clause-stops_reset g c = λ on p h. inl (reset_told (HasLastTrees (g.S.Shelf.world c.args.shelf.now).now.seen c.args.pool.now) (WritesTold c.args.command.now c.args.pool.now (g.S.Shelf.world c.args.shelf.now)) (g.S.Shelf.sizes c.args.shelf.now) p.objects c.args.pool.now (g.S.Shelf.world c.args.shelf.now) (g.S.Shelf.world c.upgrade.new.shelf) (λ told. told.1) (c.upgrade.ensures.stops p.objects h.objects))

@@ -7,6 +7,7 @@ use Rattle.zr_script.specs.declared.command.Command.{Command}
 use Rattle.zr_vdev.specs.Stores.{IsWriteInto}
 use Rattle.zr_vdev.specs.declared.kind.Kind.TheVariants.{Block}
 use Rattle.zr_lines.proofs.Stopping.{in_group_itself}
+use Rattle.zr_pool.proofs.Trees.{removal_writes_none}
 use Rattle.zr_pool.proofs.Groups.{commit_alone, commits_in_group, copy_step, ends_none, none_of_them, not_of_removal, not_opener, no_way, opens_no_reset, pool_commits, refused_stays, resets_elsewhere, resets_somewhere, return_elsewhere, same_world}
 use Rattle.zr_pool.proofs.Leavings.{opener_refused}
 use Rattle.zr_pool.proofs.Refused.{fault_same}
@@ -135,10 +136,10 @@ returns-in_err-object_line-clause-writes g c = λ group p h. c.object_line.ensur
 
 pub returns-in_err-table_line-clause-one_group_no : goal.returns-in_err-table_line-clause-one_group_no
 returns-in_err-table_line-clause-one_group_no g c = λ p h r is.
-    inl (c.table_line.ensures.in_group h.objects.held.told)
+    inl (c.table_line.ensures.in_group p h)
 
 pub returns-in_err-table_line-clause-writes : goal.returns-in_err-table_line-clause-writes
-returns-in_err-table_line-clause-writes g c = λ group p h. inl (c.table_line.ensures.in_group h.objects.held.told).written
+returns-in_err-table_line-clause-writes g c = λ group p h. inl (c.table_line.ensures.in_group p h).written
 
 pub returns-in_err-pool_line-clause-one_group_no : goal.returns-in_err-pool_line-clause-one_group_no
 returns-in_err-pool_line-clause-one_group_no g c = λ p h r is.
@@ -185,12 +186,12 @@ pub returns-then-is_on_objects-clause-one_group : goal.returns-then-is_on_object
 returns-then-is_on_objects-clause-one_group g c = λ group p h. inl (c.in_ok-object_line.ensures.one_group p h)
 
 pub returns-then-is_table-clause-one_group : goal.returns-then-is_table-clause-one_group
-returns-then-is_table-clause-one_group g c = λ group p h. inl (inl (c.table_line.ensures.in_group h.objects.held.told))
+returns-then-is_table-clause-one_group g c = λ group p h. inl (inl (c.table_line.ensures.in_group p h))
 
 pub returns-then-is_on_pool-clause-one_group : goal.returns-then-is_on_pool-clause-one_group
 returns-then-is_on_pool-clause-one_group g c = λ group p h. elim (pool_commits c.args.command.now (sym c.is_on_pool.ensures ∙ c.if-is_on_pool.true) group) [
   | inl ends ↦ inl (commit_alone (g.S.Shelf.sizes c.args.shelf.now) p.objects c.args.pool.now c.pool_line.new.pool (g.S.Shelf.world c.args.shelf.now) (g.S.Shelf.world c.pool_line.new.shelf) (c.in_ok-pool_line.ensures.commits ends p h))
-  | inr step ↦ inr (c.pool_line.ensures.still step, c.in_ok-pool_line.ensures.steps step)
+  | inr step ↦ inr (c.pool_line.ensures.still step, (c.in_ok-pool_line.ensures.steps step, c.in_ok-pool_line.ensures.step_trees step))
 ]
 
 pub returns-then-is_on_pool-clause-writes : goal.returns-then-is_on_pool-clause-writes
@@ -206,6 +207,13 @@ returns-then-is_on_objects-clause-resets g c = λ on p h. absurd (resets_elsewhe
 
 pub returns-then-is_table-clause-resets : goal.returns-then-is_table-clause-resets
 returns-then-is_table-clause-resets g c = λ on p h. absurd (resets_elsewhere c.args.command.now on (inr (sym c.is_table.ensures ∙ c.if-is_table.true)))
+
+pub returns-then-is_of_removal-clause-resets : goal.returns-then-is_of_removal-clause-resets
+returns-then-is_of_removal-clause-resets g c = λ on p h. record {
+  resets = c.in_ok-removal_line.ensures.resets on p h;
+  trees = λ writes. absurd (removal_writes_none c.args.command.now (sym c.is_of_removal.ensures ∙ c.if-is_of_removal.true) writes);
+  moves = λ told. absurd (removal_writes_none c.args.command.now (sym c.is_of_removal.ensures ∙ c.if-is_of_removal.true) told.0);
+}
 
 pub returns-clause-resets : goal.returns-clause-resets
 returns-clause-resets g c = λ on p h. absurd (resets_somewhere c.args.command.now on (sym c.is_on_pool.ensures ∙ c.if-is_on_pool.false) (sym c.is_of_removal.ensures ∙ c.if-is_of_removal.false))

@@ -14,7 +14,7 @@ use Rattle.zr_last.specs.Last.{KeepsRoot}
 use Rattle.zr_lines.specs.Stops.{OpensNoUnit}
 use Rattle.zr_sync.specs.Writes.{WritesIntoFree}
 use Rattle.zr_sync.specs.declared.open.OpenPool.{OpenPool}
-use Rattle.zr_pool.specs.Behind.{HasReset, ends_no_removal, is_resetting, is_return}
+use Rattle.zr_pool.specs.Behind.{HasReset, WritesTold, ends_no_removal, is_resetting, is_return, is_writing_trees}
 use Rattle.zr_pool.specs.Plain.{IsDone, IsPlainOf, is_copy, is_untold_behind}
 use Rattle.zr_pool.specs.Replies.{TellsFault}
 use Rattle.zr_pool.proofs.Acting.{back_ckpt, condense_done, condense_no_return, evac_acts, evac_copies, evac_returns, evac_shows, removed_as}
@@ -301,13 +301,13 @@ pub returns-in_ok-remove-in-Remove-clause-stops_reset : goal.returns-in_ok-remov
 returns-in_ok-remove-in-Remove-clause-stops_reset g c = λ on p h.
     let old = c.args.shelf.now in
     let dev = c.in_ok-dev-in-Remove.ensures in
-    inl (begun (g.S.Shelf.sizes old) p.objects c.args.pool.now c.in_ok-dev-in-Remove.dev (g.S.Shelf.world old) (g.S.Shelf.world c.remove.new.shelf) c.requires.pool dev.on dev.known (c.remove.ensures.stops p.objects h.objects))
+    inl (begun (WritesTold c.args.command.now c.args.pool.now (g.S.Shelf.world old)) (λ told. no_way (subst (λ (command : Command). is_writing_trees command ≡ true) c.in-Remove.is told.0)) (g.S.Shelf.sizes old) p.objects c.args.pool.now c.in_ok-dev-in-Remove.dev (g.S.Shelf.world old) (g.S.Shelf.world c.remove.new.shelf) c.requires.pool dev.on dev.known (c.remove.ensures.stops p.objects h.objects))
 
 pub returns-in_err-remove-in-Remove-clause-stops_reset : goal.returns-in_err-remove-in-Remove-clause-stops_reset
 returns-in_err-remove-in-Remove-clause-stops_reset g c = λ on p h.
     let old = c.args.shelf.now in
     let dev = c.in_ok-dev-in-Remove.ensures in
-    inl (begun (g.S.Shelf.sizes old) p.objects c.args.pool.now c.in_ok-dev-in-Remove.dev (g.S.Shelf.world old) (g.S.Shelf.world c.remove.new.shelf) c.requires.pool dev.on dev.known (c.remove.ensures.stops p.objects h.objects))
+    inl (begun (WritesTold c.args.command.now c.args.pool.now (g.S.Shelf.world old)) (λ told. no_way (subst (λ (command : Command). is_writing_trees command ≡ true) c.in-Remove.is told.0)) (g.S.Shelf.sizes old) p.objects c.args.pool.now c.in_ok-dev-in-Remove.dev (g.S.Shelf.world old) (g.S.Shelf.world c.remove.new.shelf) c.requires.pool dev.on dev.known (c.remove.ensures.stops p.objects h.objects))
 
 pub returns-in_ok-cancel-in-Cancel-clause-stops_reset : goal.returns-in_ok-cancel-in-Cancel-clause-stops_reset
 returns-in_ok-cancel-in-Cancel-clause-stops_reset g c = λ on p h. no_way (subst (λ (command : Command). is_resetting command ≡ true) c.in-Cancel.is on)

@@ -116,31 +116,31 @@ returns-in_err-audit-in-Audit-clause-shown_no g c = λ told r is.
 -- ---- the group
 
 pub returns-in_ok-list-in-List-clause-in_group : goal.returns-in_ok-list-in-List-clause-in_group
-returns-in_ok-list-in-List-clause-in_group g c = λ told. in_group_itself c.args.pool.now (g.S.Shelf.world c.args.shelf.now)
+returns-in_ok-list-in-List-clause-in_group g c = λ p h. in_group_itself c.args.pool.now (g.S.Shelf.world c.args.shelf.now)
 
 pub returns-in_err-list-in-List-clause-in_group : goal.returns-in_err-list-in-List-clause-in_group
-returns-in_err-list-in-List-clause-in_group g c = λ told. in_group_itself c.args.pool.now (g.S.Shelf.world c.args.shelf.now)
+returns-in_err-list-in-List-clause-in_group g c = λ p h. in_group_itself c.args.pool.now (g.S.Shelf.world c.args.shelf.now)
 
 pub returns-in_ok-status-in-Status-clause-in_group : goal.returns-in_ok-status-in-Status-clause-in_group
-returns-in_ok-status-in-Status-clause-in_group g c = λ told. in_group_itself c.args.pool.now (g.S.Shelf.world c.args.shelf.now)
+returns-in_ok-status-in-Status-clause-in_group g c = λ p h. in_group_itself c.args.pool.now (g.S.Shelf.world c.args.shelf.now)
 
 pub returns-in_err-status-in-Status-clause-in_group : goal.returns-in_err-status-in-Status-clause-in_group
-returns-in_err-status-in-Status-clause-in_group g c = λ told. in_group_itself c.args.pool.now (g.S.Shelf.world c.args.shelf.now)
+returns-in_err-status-in-Status-clause-in_group g c = λ p h. in_group_itself c.args.pool.now (g.S.Shelf.world c.args.shelf.now)
 
 pub returns-in_ok-estimate_of-in-Estimate-clause-in_group : goal.returns-in_ok-estimate_of-in-Estimate-clause-in_group
-returns-in_ok-estimate_of-in-Estimate-clause-in_group g c = λ told. in_group_itself c.args.pool.now (g.S.Shelf.world c.args.shelf.now)
+returns-in_ok-estimate_of-in-Estimate-clause-in_group g c = λ p h. in_group_itself c.args.pool.now (g.S.Shelf.world c.args.shelf.now)
 
 pub returns-in_err-estimate_of-in-Estimate-clause-in_group : goal.returns-in_err-estimate_of-in-Estimate-clause-in_group
-returns-in_err-estimate_of-in-Estimate-clause-in_group g c = λ told. in_group_itself c.args.pool.now (g.S.Shelf.world c.args.shelf.now)
+returns-in_err-estimate_of-in-Estimate-clause-in_group g c = λ p h. in_group_itself c.args.pool.now (g.S.Shelf.world c.args.shelf.now)
 
 pub returns-in_ok-map_lines-in-Map-clause-in_group : goal.returns-in_ok-map_lines-in-Map-clause-in_group
-returns-in_ok-map_lines-in-Map-clause-in_group g c = λ told. in_group_itself c.args.pool.now (g.S.Shelf.world c.args.shelf.now)
+returns-in_ok-map_lines-in-Map-clause-in_group g c = λ p h. in_group_itself c.args.pool.now (g.S.Shelf.world c.args.shelf.now)
 
 pub returns-in_err-map_lines-in-Map-clause-in_group : goal.returns-in_err-map_lines-in-Map-clause-in_group
-returns-in_err-map_lines-in-Map-clause-in_group g c = λ told. in_group_itself c.args.pool.now (g.S.Shelf.world c.args.shelf.now)
+returns-in_err-map_lines-in-Map-clause-in_group g c = λ p h. in_group_itself c.args.pool.now (g.S.Shelf.world c.args.shelf.now)
 
 pub returns-in_ok-audit-in-Audit-clause-in_group : goal.returns-in_ok-audit-in-Audit-clause-in_group
-returns-in_ok-audit-in-Audit-clause-in_group g c = λ told. table_stays c.args.pool.now c.audit.new.pool (g.S.Shelf.world c.args.shelf.now) (g.S.Shelf.world c.audit.new.shelf) c.audit.ensures.same (c.audit.ensures.still told)
+returns-in_ok-audit-in-Audit-clause-in_group g c = λ p h. let kept = (c.audit.ensures.stays p.objects h.objects).held in table_stays (g.S.Shelf.tells c.audit.new.shelf) c.args.pool.now c.audit.new.pool (g.S.Shelf.world c.args.shelf.now) (g.S.Shelf.world c.audit.new.shelf) c.audit.ensures.same (record { told = kept.told; read = kept.read }) (c.audit.ensures.still h.objects.held.told)
 
 pub returns-in_err-audit-in-Audit-clause-in_group : goal.returns-in_err-audit-in-Audit-clause-in_group
-returns-in_err-audit-in-Audit-clause-in_group g c = λ told. table_stays c.args.pool.now c.audit.new.pool (g.S.Shelf.world c.args.shelf.now) (g.S.Shelf.world c.audit.new.shelf) c.audit.ensures.same (c.audit.ensures.still told)
+returns-in_err-audit-in-Audit-clause-in_group g c = λ p h. let kept = (c.audit.ensures.stays p.objects h.objects).held in table_stays (g.S.Shelf.tells c.audit.new.shelf) c.args.pool.now c.audit.new.pool (g.S.Shelf.world c.args.shelf.now) (g.S.Shelf.world c.audit.new.shelf) c.audit.ensures.same (record { told = kept.told; read = kept.read }) (c.audit.ensures.still h.objects.held.told)

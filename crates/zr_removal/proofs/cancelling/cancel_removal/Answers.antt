@@ -1,10 +1,12 @@
-use Rattle.std.proofs.Common.{ℕ, List, inl, subst}
+use Rattle.std.proofs.Common.{ℕ, List, true, inl, subst}
 use Rattle.std.specs.Prelude.{IfSome}
 use Rattle.zr_last.proofs.Ending.{leaves_by}
 use Rattle.zr_shelf.specs.Moments.{World}
 use Rattle.zr_sync.proofs.Disks.{works_more}
 use Rattle.zr_sync.specs.Commits.{IsShownFrom}
+use Rattle.zr_sync.proofs.Leading.{committed_told}
 use Rattle.zr_sync.specs.Heads.{IsSeen}
+use Rattle.zr_sync.specs.Trees.{HasLastTrees}
 use Rattle.zr_removal.proofs.Returning.{back_last, stops_back}
 use Rattle.zr_removal.proofs.cancelling.cancel_removal.Goals as goal
 
@@ -62,11 +64,13 @@ returns-in_err-commit-clause-stops g c = λ objects h.
     let mid = c.come_back.new.shelf in
     let first = c.in_ok-dev.ensures in
     stops_back (g.S.Shelf.sizes c.args.shelf.now) (g.S.Shelf.sizes mid) objects c.args.pool.now c.come_back.new.pool c.in_ok-dev.dev (g.S.Shelf.world c.args.shelf.now) (g.S.Shelf.world mid) (g.S.Shelf.world c.commit.new.shelf) c.come_back.ensures.sizes
-    first.leaving first.pool first.comes (c.come_back.ensures.written h.held.told) (c.commit.ensures.leads objects (first.objects objects h))
+    first.leaving first.pool first.comes (c.come_back.ensures.written h.held.told)
+    (committed_told (HasLastTrees (g.S.Shelf.world mid).now.seen c.come_back.new.pool) ⊥ (g.S.Shelf.sizes mid) c.come_back.new.pool true objects (g.S.Shelf.world mid) (g.S.Shelf.world c.commit.new.shelf) (λ never. absurd never) (c.commit.ensures.leads objects (first.objects objects h)))
 
 pub returns-clause-stops : goal.returns-clause-stops
 returns-clause-stops g c = λ objects h.
     let mid = c.come_back.new.shelf in
     let first = c.in_ok-dev.ensures in
     stops_back (g.S.Shelf.sizes c.args.shelf.now) (g.S.Shelf.sizes mid) objects c.args.pool.now c.come_back.new.pool c.in_ok-dev.dev (g.S.Shelf.world c.args.shelf.now) (g.S.Shelf.world mid) (g.S.Shelf.world c.commit.new.shelf) c.come_back.ensures.sizes
-    first.leaving first.pool first.comes (c.come_back.ensures.written h.held.told) (c.commit.ensures.leads objects (first.objects objects h))
+    first.leaving first.pool first.comes (c.come_back.ensures.written h.held.told)
+    (committed_told (HasLastTrees (g.S.Shelf.world mid).now.seen c.come_back.new.pool) ⊥ (g.S.Shelf.sizes mid) c.come_back.new.pool true objects (g.S.Shelf.world mid) (g.S.Shelf.world c.commit.new.shelf) (λ never. absurd never) (c.commit.ensures.leads objects (first.objects objects h)))

@@ -1,6 +1,6 @@
 use Rattle.std.proofs.Common.{refl, arith}
 use Rattle.std.proofs.Math.ListN.{length-set}
-use Rattle.zr_sync.specs.Checkpoints.{no_stream}
+use Rattle.zr_sync.specs.Empty.{no_stream}
 use Rattle.zr_sync.specs.declared.open.DeviceStreams.{DeviceStreams}
 use Rattle.zr_sync.proofs.Pools.{step_open, streams_at, streams_set}
 use Rattle.zr_removal.proofs.streams.give_mapping.Goals as goal

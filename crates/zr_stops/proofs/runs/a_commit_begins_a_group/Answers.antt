@@ -3,10 +3,10 @@ use Rattle.zr_stops.proofs.Within.{same_behind}
 use Rattle.zr_stops.proofs.runs.a_commit_begins_a_group.Goals as goal
 
 pub returns-clause-stood : goal.returns-clause-stood
-returns-clause-stood c = λ sizes u pool objects now was from on. begins_behind sizes u pool objects now was from on
+returns-clause-stood c = λ sizes u pool objects now was from. begins_behind sizes u pool objects now was from
 
 pub returns-clause-shown : goal.returns-clause-shown
-returns-clause-shown c = λ sizes reset last old new objects before now ready from sized was on ends. shown_behind sizes reset last old new objects before now ready from sized was on ends
+returns-clause-shown c = λ sizes reset last old new objects before now ready from sized was told ends. shown_behind sizes reset last old new objects before now ready from sized was told ends
 
 pub returns-clause-disks : goal.returns-clause-disks
 returns-clause-disks c = λ sizes objects pool a b same h. same_behind sizes objects pool a b same h

@@ -2,4 +2,4 @@ use Rattle.zr_stops.proofs.Returning.{returns_either}
 use Rattle.zr_stops.proofs.runs.a_pool_goes_back.Goals as goal
 
 pub returns : goal.returns
-returns c = λ sizes before after read now h on on_back. returns_either sizes before after read now h on on_back
+returns c = λ sizes before after read now h. returns_either sizes before after read now h

@@ -9,10 +9,15 @@ use Rattle.zr_sync.specs.Checkpoints.{CommitsOn}
 use Rattle.zr_sync.specs.Commits.{IsNextRoot, IsShownFrom}
 use Rattle.zr_sync.specs.Leads.{CommitsObjects}
 use Rattle.zr_sync.specs.Pools.{IsOpen}
+use Rattle.zr_sync.specs.Trees.{HasLastTrees, HasTrees}
+use Rattle.zr_sync.specs.Trees.Stage.{Had, Untold}
 use Rattle.zr_sync.specs.declared.open.OpenPool.{OpenPool}
 use Rattle.zr_sync.proofs.Disks.{works_more}
+use Rattle.zr_sync.proofs.Emptied.{emptied}
 use Rattle.zr_sync.proofs.Ending.{ends_by}
 use Rattle.zr_sync.proofs.Groups.{ends_row}
+use Rattle.zr_sync.proofs.Leading.{committed_told}
+use Rattle.zr_sync.proofs.Retelling.{trees_told}
 use Rattle.zr_sync.proofs.SavedRoots.{saves_seen, saves_objects, saves_same}
 use Rattle.zr_sync.proofs.checkpoints.checkpoint.Goals as goal
 
@@ -70,6 +75,16 @@ pub returns-clause-safe : goal.returns-clause-safe
 returns-clause-safe g c = λ seen.
     let mid = c.commit.new.shelf in
     c.in_ok-commit_anew.ensures.safe (saves_seen c.commit.new.pool c.save_root.new.pool c.in_ok-save_root.ensures.saves (g.S.Shelf.tells mid) (g.S.Shelf.world mid).now.seen (c.in_ok-commit.ensures.seen seen))
+
+pub returns-clause-trees : goal.returns-clause-trees
+returns-clause-trees g c = λ trees.
+    let mid = c.commit.new.shelf in
+    c.in_ok-commit_anew.ensures.trees (emptied (g.S.Shelf.tells mid) (g.S.Shelf.world mid).now.seen c.commit.new.pool c.save_root.new.pool c.in_ok-save_root.ensures.saves (c.in_ok-commit.ensures.trees trees))
+
+pub returns-clause-moves : goal.returns-clause-moves
+returns-clause-moves g c = λ trees.
+    let mid = c.commit.new.shelf in
+    c.in_ok-commit_anew.ensures.moves (emptied (g.S.Shelf.tells mid) (g.S.Shelf.world mid).now.seen c.commit.new.pool c.save_root.new.pool c.in_ok-save_root.ensures.saves (c.in_ok-commit.ensures.trees trees))
 
 pub returns-clause-txg : goal.returns-clause-txg
 returns-clause-txg g c =
@@ -146,14 +161,20 @@ returns-in_err-commit_anew-clause-leads g c = λ objects h.
     let saves = c.in_ok-save_root.ensures.saves in
     let behind = done.stays objects h in
     let kept = saves_objects c.commit.new.pool held saves (g.S.Shelf.sizes mid) (g.S.Shelf.counts mid) (g.S.Shelf.tells mid) (g.S.Shelf.world mid) objects done.pool behind in
+    let disks = (g.S.Shelf.world mid).now.seen in
+    let last = HasLastTrees (g.S.Shelf.world old).now.seen c.args.pool.now in
+    let more : last → HasTrees Untold (Unit {0}) disks held = λ had.
+    let trees = trees_told Had (Unit {0}) (g.S.Shelf.tells old) (g.S.Shelf.world old).now.seen c.args.pool.now h.held.told had in
+    trees_told Untold (g.S.Shelf.tells mid) (Unit {0}) disks held tt (emptied (g.S.Shelf.tells mid) disks c.commit.new.pool held saves (done.trees trees)) in
     inr (record {
       ended = c.commit.new.pool;
       mid = g.S.Shelf.world mid;
-      first = ends_by c.commit.ensures.sizes done.pool done.same done.last done.txg done.written done.ends done.empty done.stands done.safe h behind;
+      first = ends_by c.commit.ensures.sizes done.pool done.same done.last done.txg done.written done.ends done.empty done.stands done.safe done.trees done.moves h behind;
       held = held;
       ready = c.in_ok-save_root.ensures.pool (g.S.Shelf.sizes old) (subst (λ (n : List ℕ). IsOpen n c.commit.new.pool) c.commit.ensures.sizes done.pool);
       saves = saves;
-      second = subst (λ (n : List ℕ). CommitsObjects n held true objects (g.S.Shelf.world mid) (g.S.Shelf.world new)) c.commit.ensures.sizes (c.commit_anew.ensures.leads objects kept);
+      second = subst (λ (n : List ℕ). CommitsObjects last n held true objects (g.S.Shelf.world mid) (g.S.Shelf.world new)) c.commit.ensures.sizes
+          (committed_told (HasTrees Untold (Unit {0}) disks held) last (g.S.Shelf.sizes mid) held true objects (g.S.Shelf.world mid) (g.S.Shelf.world new) more (c.commit_anew.ensures.leads objects kept));
     })
 
 pub returns-clause-leads : goal.returns-clause-leads
@@ -166,12 +187,18 @@ returns-clause-leads g c = λ objects h.
     let saves = c.in_ok-save_root.ensures.saves in
     let behind = done.stays objects h in
     let kept = saves_objects c.commit.new.pool held saves (g.S.Shelf.sizes mid) (g.S.Shelf.counts mid) (g.S.Shelf.tells mid) (g.S.Shelf.world mid) objects done.pool behind in
+    let disks = (g.S.Shelf.world mid).now.seen in
+    let last = HasLastTrees (g.S.Shelf.world old).now.seen c.args.pool.now in
+    let more : last → HasTrees Untold (Unit {0}) disks held = λ had.
+    let trees = trees_told Had (Unit {0}) (g.S.Shelf.tells old) (g.S.Shelf.world old).now.seen c.args.pool.now h.held.told had in
+    trees_told Untold (g.S.Shelf.tells mid) (Unit {0}) disks held tt (emptied (g.S.Shelf.tells mid) disks c.commit.new.pool held saves (done.trees trees)) in
     inr (record {
       ended = c.commit.new.pool;
       mid = g.S.Shelf.world mid;
-      first = ends_by c.commit.ensures.sizes done.pool done.same done.last done.txg done.written done.ends done.empty done.stands done.safe h behind;
+      first = ends_by c.commit.ensures.sizes done.pool done.same done.last done.txg done.written done.ends done.empty done.stands done.safe done.trees done.moves h behind;
       held = held;
       ready = c.in_ok-save_root.ensures.pool (g.S.Shelf.sizes old) (subst (λ (n : List ℕ). IsOpen n c.commit.new.pool) c.commit.ensures.sizes done.pool);
       saves = saves;
-      second = subst (λ (n : List ℕ). CommitsObjects n held true objects (g.S.Shelf.world mid) (g.S.Shelf.world new)) c.commit.ensures.sizes (c.commit_anew.ensures.leads objects kept);
+      second = subst (λ (n : List ℕ). CommitsObjects last n held true objects (g.S.Shelf.world mid) (g.S.Shelf.world new)) c.commit.ensures.sizes
+          (committed_told (HasTrees Untold (Unit {0}) disks held) last (g.S.Shelf.sizes mid) held true objects (g.S.Shelf.world mid) (g.S.Shelf.world new) more (c.commit_anew.ensures.leads objects kept));
     })

@@ -1,7 +1,9 @@
-use Rattle.std.proofs.Common.{ℕ, List, inl, inr, refl, ◌∙◌, ap, subst, arith}
+use Rattle.std.proofs.Common.{ℕ, List, true, inl, inr, refl, ◌∙◌, ap, subst, arith}
 use Rattle.zr_shelf.proofs.Runs.{still}
 use Rattle.zr_sync.specs.Pools.{IsOpen}
+use Rattle.zr_sync.specs.Trees.{HasLastTrees}
 use Rattle.zr_sync.specs.declared.open.OpenPool.{OpenPool}
+use Rattle.zr_sync.proofs.Leading.{committed_told}
 use Rattle.zr_sync.proofs.SavedRoots.{drops_seen, drops_objects, drops_same}
 use Rattle.zr_sync.proofs.checkpoints.give_up_checkpoint.Goals as goal
 
@@ -80,11 +82,13 @@ returns-in_err-commit-clause-leads g c = λ objects h.
     let old = c.args.shelf.now in
     let dropped = c.drop_root.new.pool in
     let first = c.in_ok-drop_root.ensures in
-    inr (dropped, first.pool (g.S.Shelf.sizes old) c.requires.pool, first.drops, c.commit.ensures.leads objects (drops_objects c.args.pool.now dropped first.drops (g.S.Shelf.sizes old) (g.S.Shelf.counts old) (g.S.Shelf.tells old) (g.S.Shelf.world old) objects c.requires.pool h))
+    let leads = c.commit.ensures.leads objects (drops_objects c.args.pool.now dropped first.drops (g.S.Shelf.sizes old) (g.S.Shelf.counts old) (g.S.Shelf.tells old) (g.S.Shelf.world old) objects c.requires.pool h) in
+    inr (dropped, first.pool (g.S.Shelf.sizes old) c.requires.pool, first.drops, committed_told (HasLastTrees (g.S.Shelf.world old).now.seen dropped) ⊥ (g.S.Shelf.sizes old) dropped true objects (g.S.Shelf.world old) (g.S.Shelf.world c.commit.new.shelf) (λ never. absurd never) leads)
 
 pub returns-clause-leads : goal.returns-clause-leads
 returns-clause-leads g c = λ objects h.
     let old = c.args.shelf.now in
     let dropped = c.drop_root.new.pool in
     let first = c.in_ok-drop_root.ensures in
-    inr (dropped, first.pool (g.S.Shelf.sizes old) c.requires.pool, first.drops, c.commit.ensures.leads objects (drops_objects c.args.pool.now dropped first.drops (g.S.Shelf.sizes old) (g.S.Shelf.counts old) (g.S.Shelf.tells old) (g.S.Shelf.world old) objects c.requires.pool h))
+    let leads = c.commit.ensures.leads objects (drops_objects c.args.pool.now dropped first.drops (g.S.Shelf.sizes old) (g.S.Shelf.counts old) (g.S.Shelf.tells old) (g.S.Shelf.world old) objects c.requires.pool h) in
+    inr (dropped, first.pool (g.S.Shelf.sizes old) c.requires.pool, first.drops, committed_told (HasLastTrees (g.S.Shelf.world old).now.seen dropped) ⊥ (g.S.Shelf.sizes old) dropped true objects (g.S.Shelf.world old) (g.S.Shelf.world c.commit.new.shelf) (λ never. absurd never) leads)

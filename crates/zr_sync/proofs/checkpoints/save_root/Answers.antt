@@ -4,7 +4,7 @@ use Rattle.std.specs.Global.{Global}
 use Rattle.zr_label.specs.Blocks.{SpellsUber}
 use Rattle.zr_base.specs.declared.space.DevRow.{DevRow}
 use Rattle.zr_rules.specs.Places.{is_leaving}
-use Rattle.zr_sync.specs.Checkpoints.{no_streams}
+use Rattle.zr_sync.specs.Empty.{no_streams}
 use Rattle.zr_sync.specs.declared.open.DeviceStreams.{DeviceStreams}
 use Rattle.zr_sync.proofs.SavedRoots.{saves_open}
 use Rattle.zr_sync.proofs.checkpoints.save_root.Goals as goal

@@ -1,5 +1,17 @@
-use Rattle.std.proofs.Common.{refl}
+use Rattle.std.proofs.Common.{◌≡◌, false, refl}
+use Rattle.zr_sync.specs.Trees.{HasLastTrees}
+use Rattle.zr_sync.proofs.Leading.{committed_told}
 use Rattle.zr_sync.proofs.commits.commit.Goals as goal
 
 pub returns-clause-trees : goal.returns-clause-trees
-returns-clause-trees g c = λ bytes h. c.commit_with.ensures.trees refl bytes h
+returns-clause-trees g c = λ trees. c.commit_with.ensures.trees refl trees
+
+pub returns-clause-moves : goal.returns-clause-moves
+returns-clause-moves g c = λ trees. c.commit_with.ensures.moves refl trees
+
+pub returns-clause-leads : goal.returns-clause-leads
+returns-clause-leads g c = λ objects h.
+    let old = c.args.shelf.now in
+    let x = c.args.pool.now in
+    let last = HasLastTrees (g.S.Shelf.world old).now.seen x in
+    committed_told ((false ≡ false) × last) last (g.S.Shelf.sizes old) x c.args.reset objects (g.S.Shelf.world old) (g.S.Shelf.world c.commit_with.new.shelf) (λ trees. (refl, trees)) (c.commit_with.ensures.leads objects h)

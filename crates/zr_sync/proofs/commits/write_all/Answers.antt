@@ -4,9 +4,9 @@ use Rattle.zr_sync.specs.declared.open.OpenPool.{OpenPool}
 use Rattle.std.specs.Prelude.{IfOk}
 use Rattle.zr_bptr.specs.declared.Tree.{Tree}
 use Rattle.zr_root.specs.Streams.{IsTreeFor}
-use Rattle.zr_sync.specs.Trees.{HoldsStreams, head_tree, one_stage, settling, writing}
-use Rattle.zr_sync.specs.Trees.Stage.{Had, Written}
-use Rattle.zr_sync.proofs.Recording.{begins_had}
+use Rattle.zr_sync.specs.Trees.{HoldsStreams, first_stage, head_tree, one_stage, settling, writing}
+use Rattle.zr_sync.specs.Trees.Stage.{Written}
+use Rattle.zr_sync.proofs.Recording.{begins_first}
 use Rattle.zr_sync.proofs.Anew.{renewed_behind}
 use Rattle.zr_sync.proofs.Holding.{metadata_written, on_ok_of}
 use Rattle.zr_sync.proofs.Pools.{all_written, trees_written}
@@ -63,11 +63,12 @@ returns-clause-anew g c = λ reset is.
 pub returns-clause-trees : goal.returns-clause-trees
 returns-clause-trees g c = λ still bytes h.
     let x = c.args.pool.now in
+    let s = first_stage c.args.logs in
     let mid = c.write_trees.new in
     let last = c.write_metadata.new in
     let rest = c.write_trees.ensures.wrote.rest in
-    let stay = c.in_ok-write_trees.ensures.stay (writing 0) (one_stage Had) (head_tree x.head bytes) begins_had h in
+    let stay = c.in_ok-write_trees.ensures.stay c.args.logs (writing s 0) (one_stage s) (head_tree x.head bytes) (begins_first s) h in
     let head : mid.pool.head ≡ x.head = ap (λ (o : OpenPool). o.head) rest in
     let count : mid.pool.table.count ≡ x.table.count = ap (λ (o : OpenPool). o.table.count) rest in
-    subst (λ (k : ℕ). IfOk c.write_metadata.result (λ root. (next : List ℕ) × ((t : Tree) → IsTreeFor root.1 root.0 t → HoldsStreams (settling c.args.reset k) (one_stage Written) (head_tree t next) (g.S.Shelf.tells last.shelf) (g.S.Shelf.world last.shelf).now.seen last.pool))) count
-    (c.write_metadata.ensures.trees still bytes (subst (λ (t : Tree). HoldsStreams (writing 0) (one_stage Had) (head_tree t bytes) (g.S.Shelf.tells mid.shelf) (g.S.Shelf.world mid.shelf).now.seen mid.pool) (sym head) stay))
+    subst (λ (k : ℕ). IfOk c.write_metadata.result (λ root. (next : List ℕ) × ((t : Tree) → IsTreeFor root.1 root.0 t → HoldsStreams (settling s c.args.reset k) (one_stage Written) (head_tree t next) (g.S.Shelf.tells last.shelf) (g.S.Shelf.world last.shelf).now.seen last.pool))) count
+    (c.write_metadata.ensures.trees still bytes (subst (λ (t : Tree). HoldsStreams (writing s 0) (one_stage s) (head_tree t bytes) (g.S.Shelf.tells mid.shelf) (g.S.Shelf.world mid.shelf).now.seen mid.pool) (sym head) stay))

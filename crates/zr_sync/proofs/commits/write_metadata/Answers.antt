@@ -1,4 +1,4 @@
-use Rattle.zr_sync.specs.Trees.{HoldsStreams, giving, one_stage, settling}
+use Rattle.zr_sync.specs.Trees.{HoldsStreams, first_stage, giving, one_stage, settling}
 use Rattle.zr_sync.specs.Trees.Stage.{Written}
 use Rattle.zr_sync.specs.declared.open.Table.{Table}
 use Rattle.zr_sync.proofs.Anew.{renewed_still, streams_counts}
@@ -69,15 +69,16 @@ returns-clause-anew g c = λ reset is.
 pub returns-clause-trees : goal.returns-clause-trees
 returns-clause-trees g c = λ still bytes h.
     let n = c.args.pool.now.table.count in
+    let s = first_stage c.args.logs in
     let turned = c.turn_metadata.new in
     let left = c.leave_devices.new.pool in
     let late = c.write_late_sets.new in
     let one = c.in_ok-turn_metadata.ensures.trees bytes h in
     let same : left ≡ turned.pool = c.leave_devices.ensures.stays still in
-    let two = subst (λ (o : OpenPool). HoldsStreams (giving n) (one_stage Written) [] (g.S.Shelf.tells turned.shelf) (g.S.Shelf.world turned.shelf).now.seen o) (sym same) one in
+    let two = subst (λ (o : OpenPool). HoldsStreams (giving s n) (one_stage Written) [] (g.S.Shelf.tells turned.shelf) (g.S.Shelf.world turned.shelf).now.seen o) (sym same) one in
     let count : left.table.count ≡ n = ap (λ (o : OpenPool). o.table.count) same ∙ ap (λ (t : Table). t.count) (metadata_table c.turn_metadata.ensures.wrote) in
     let three =
-    c.in_ok-write_late_sets.ensures.trees (one_stage Written) []
-    (subst (λ (k : ℕ). HoldsStreams (giving k) (one_stage Written) [] (g.S.Shelf.tells turned.shelf) (g.S.Shelf.world turned.shelf).now.seen left) (sym count) two) in
-    c.write_head.ensures.trees (settling c.args.reset n) (one_stage Written) []
-    (subst (λ (k : ℕ). HoldsStreams (settling c.args.reset k) (one_stage Written) [] (g.S.Shelf.tells late.shelf) (g.S.Shelf.world late.shelf).now.seen late.pool) count three)
+    c.in_ok-write_late_sets.ensures.trees s (one_stage Written) []
+    (subst (λ (k : ℕ). HoldsStreams (giving s k) (one_stage Written) [] (g.S.Shelf.tells turned.shelf) (g.S.Shelf.world turned.shelf).now.seen left) (sym count) two) in
+    c.write_head.ensures.trees (settling s c.args.reset n) (one_stage Written) []
+    (subst (λ (k : ℕ). HoldsStreams (settling s c.args.reset k) (one_stage Written) [] (g.S.Shelf.tells late.shelf) (g.S.Shelf.world late.shelf).now.seen late.pool) count three)

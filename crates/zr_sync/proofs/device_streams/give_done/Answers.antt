@@ -5,8 +5,7 @@ use Rattle.zr_store.specs.Store.{AreStored, Now, Swaps}
 use Rattle.zr_vdev.specs.Stores.{HoldsBlocks}
 use Rattle.zr_vdev.specs.declared.kind.Kind.TheVariants.{Meta}
 use Rattle.zr_sync.specs.Mappings.{done_streams}
-use Rattle.zr_sync.specs.Trees.{one_stage}
-use Rattle.zr_sync.specs.Trees.Stage.{Had}
+use Rattle.zr_sync.specs.Trees.{first_stage, one_stage}
 use Rattle.zr_sync.proofs.CondTrees.{both_stored, cond_given}
 use Rattle.zr_sync.proofs.device_streams.give_done.Goals as goal
 
@@ -23,7 +22,7 @@ returns-clause-gives g c = λ s held stored.
     (c.in_ok-give_streams.ensures.gives s held (subst (λ (xs : List Stream). AreStored (streams_reach s xs) s) is stored))
 
 pub returns-clause-trees : goal.returns-clause-trees
-returns-clause-trees g c = λ stage others none h.
+returns-clause-trees g c = λ logs stage others none h.
     let x = c.args.pool.now in
-    let gives = c.in_ok-give_streams.ensures.gives h.stored h.held (both_stored stage (one_stage Had) others (g.S.Shelf.tells c.args.shelf.now) (g.S.Shelf.world c.args.shelf.now).now.seen x h) in
-    cond_given stage others (g.S.Shelf.tells c.args.shelf.now) _ (g.S.Shelf.world c.args.shelf.now).now.seen _ x _ (record { version = refl; turned = refl; lawful_old = c.requires.pool.lawful; lawful = c.give_streams.ensures.continues.space.rows.lawful c.requires.pool.lawful }) c.give_streams.ensures.continues.space refl refl none refl h gives
+    let gives = c.in_ok-give_streams.ensures.gives h.stored h.held (both_stored stage (one_stage (first_stage logs)) others (g.S.Shelf.tells c.args.shelf.now) (g.S.Shelf.world c.args.shelf.now).now.seen x h) in
+    cond_given logs stage others (g.S.Shelf.tells c.args.shelf.now) _ (g.S.Shelf.world c.args.shelf.now).now.seen _ x _ (record { version = refl; turned = refl; lawful_old = c.requires.pool.lawful; lawful = c.give_streams.ensures.continues.space.rows.lawful c.requires.pool.lawful }) c.give_streams.ensures.continues.space refl refl none refl h gives

@@ -10,6 +10,7 @@ use Rattle.zr_sync.specs.Words.{words_then}
 use Rattle.zr_sync.specs.declared.open.CondStreams.{CondStreams}
 use Rattle.zr_sync.proofs.CondTrees.{cond_stands, cond_written, still_done}
 use Rattle.zr_sync.proofs.Pools.{step_open}
+use Rattle.zr_sync.proofs.Stages.{cond_spelled, told_of_cond}
 use Rattle.zr_sync.proofs.device_streams.write_cond.Goals as goal
 
 pub returns-clause-pool : goal.returns-clause-pool
@@ -50,4 +51,6 @@ returns-clause-trees g c = λ stage cond next others was turned rest goes_on non
     let o = returns-clause-pool g c in
     cond_written stage cond next others (g.S.Shelf.tells c.args.shelf.now) _ (g.S.Shelf.world c.args.shelf.now).now.seen _ x _ (record { version = refl; turned = refl; lawful_old = c.requires.pool.lawful; lawful = o.lawful }) c.put_log.ensures.continues.space refl refl none h which c.in_ok-stream.stream words c.with_cond-pool.ensures.value
     (record { stored = wrote.stored; held = wrote.held; is = subst (λ (t : Stream). Rewrites h.stored wrote.stored t c.in_ok-stream.stream words) old_is wrote.is })
-    (λ k at. let then = had k at in c.in_ok-words.ensures.words k at then.1 (h.cond which) here.count (then.0 goes_on)) turned rest
+    (λ k at.
+    let spelled = cond_spelled c.args.logs x which (h.cond which) had k at in
+    (c.in_ok-words.ensures.words k at spelled (h.cond which) here.count (λ grows. (told_of_cond c.args.logs x which (h.cond which) had grows k at).0 goes_on), spelled)) turned rest

@@ -1,7 +1,7 @@
 use Rattle.std.proofs.Common.{◌∙◌, refl}
 use Rattle.std.proofs.lemmas.Result.{on_ok_weaker}
-use Rattle.zr_sync.specs.Trees.{one_stage}
-use Rattle.zr_sync.specs.Trees.Stage.{Had, Written}
+use Rattle.zr_sync.specs.Trees.{first_stage, one_stage}
+use Rattle.zr_sync.specs.Trees.Stage.{Written}
 use Rattle.zr_sync.proofs.Anew.{streams_counts}
 use Rattle.zr_sync.proofs.CondTrees.{all_more, half, half_more, none_done}
 use Rattle.zr_sync.proofs.Pools.{metadata_then}
@@ -19,7 +19,8 @@ returns-clause-counts g c =
 
 pub returns-clause-trees : goal.returns-clause-trees
 returns-clause-trees g c = λ stage others none h.
-    let given = c.in_ok-give_done.ensures.trees stage others none h in
+    let s = first_stage c.args.logs in
+    let given = c.in_ok-give_done.ensures.trees c.args.logs stage others none h in
     let goes_on = none_done c.args.pool.now.cond c.give_done.new.pool.cond c.in_ok-give_done.ensures.none in
-    let first = c.in_ok-write_cond.ensures.trees stage (one_stage Had) half others refl refl half_more goes_on none given in
-    c.write_cond-2.ensures.trees stage half (one_stage Written) others refl refl all_more (c.in_ok-write_cond.ensures.done ∙ goes_on) none first
+    let first = c.in_ok-write_cond.ensures.trees stage (one_stage s) (half s) others refl refl (half_more s) goes_on none given in
+    c.write_cond-2.ensures.trees stage (half s) (one_stage Written) others refl refl (all_more s) (c.in_ok-write_cond.ensures.done ∙ goes_on) none first

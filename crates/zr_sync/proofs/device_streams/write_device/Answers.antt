@@ -2,12 +2,13 @@ use Rattle.std.proofs.Common.{◌+◌, ap, arith}
 use Rattle.std.proofs.lemmas.Result.{on_ok_weaker}
 use Rattle.zr_sync.specs.declared.open.OpenPool.{OpenPool}
 use Rattle.zr_sync.specs.declared.open.Table.{Table}
-use Rattle.zr_sync.specs.Trees.{writing}
+use Rattle.zr_sync.specs.Trees.{first_stage, writing}
 use Rattle.zr_sync.specs.Trees.Place.{OfLog, OfMapping}
 use Rattle.zr_sync.specs.declared.mappings.MappingStream.TheVariants.{Entries, Counts}
 use Rattle.zr_sync.specs.declared.words.Log.TheVariants.{Held, Kept, Fresh}
 use Rattle.zr_sync.proofs.Pools.{metadata_then, metadata_table}
 use Rattle.zr_sync.proofs.Progress.{restaged, within, within_all, within_next, within_no_late, within_none}
+use Rattle.zr_sync.proofs.Stages.{not_written}
 use Rattle.zr_sync.proofs.device_streams.write_device.Goals as goal
 
 pub write_log-requires-2-clause-dev : goal.write_log-requires-2-clause-dev
@@ -67,11 +68,13 @@ returns-clause-anew g c = λ is.
 pub returns-clause-trees : goal.returns-clause-trees
 returns-clause-trees g c = λ cond others h.
     let dev = c.args.dev in
-    let first = restaged (writing dev) (within dev 0) cond others (g.S.Shelf.tells c.args.shelf.now) (g.S.Shelf.world c.args.shelf.now).now.seen c.args.pool.now (λ e p lt. within_none dev e p) h in
-    let one = c.in_ok-write_log.ensures.trees (within dev 0) (within dev 1) cond others (within_next dev (OfLog Held)) (within_no_late dev 0 (omega arith)) first in
-    let two = c.in_ok-write_log-2.ensures.trees (within dev 1) (within dev 2) cond others (within_next dev (OfLog Kept)) (within_no_late dev 1 (omega arith)) one in
-    let three = c.in_ok-write_mapping.ensures.trees (within dev 2) (within dev 3) cond others (within_next dev (OfMapping Entries)) (within_no_late dev 2 (omega arith)) two in
-    let four = c.in_ok-write_mapping-2.ensures.trees (within dev 3) (within dev 4) cond others (within_next dev (OfMapping Counts)) (within_no_late dev 3 (omega arith)) three in
+    let s = first_stage c.args.logs in
+    let unwritten = not_written c.args.logs in
+    let first = restaged (writing s dev) (within s dev 0) cond others (g.S.Shelf.tells c.args.shelf.now) (g.S.Shelf.world c.args.shelf.now).now.seen c.args.pool.now (λ e p lt. within_none s dev e p) h in
+    let one = c.in_ok-write_log.ensures.trees (within s dev 0) (within s dev 1) cond others (within_next s dev (OfLog Held)) (within_no_late s unwritten dev 0 (omega arith)) first in
+    let two = c.in_ok-write_log-2.ensures.trees (within s dev 1) (within s dev 2) cond others (within_next s dev (OfLog Kept)) (within_no_late s unwritten dev 1 (omega arith)) one in
+    let three = c.in_ok-write_mapping.ensures.trees (within s dev 2) (within s dev 3) cond others (within_next s dev (OfMapping Entries)) (within_no_late s unwritten dev 2 (omega arith)) two in
+    let four = c.in_ok-write_mapping-2.ensures.trees (within s dev 3) (within s dev 4) cond others (within_next s dev (OfMapping Counts)) (within_no_late s unwritten dev 3 (omega arith)) three in
     on_ok_weaker c.write_log-3.result
-    (λ last. restaged (within dev 5) (writing (dev + 1)) cond others (g.S.Shelf.tells c.write_log-3.new.shelf) (g.S.Shelf.world c.write_log-3.new.shelf).now.seen c.write_log-3.new.pool (λ e p lt. within_all dev e p) last)
-    (c.write_log-3.ensures.trees (within dev 4) (within dev 5) cond others (within_next dev (OfLog Fresh)) (within_no_late dev 4 (omega arith)) four)
+    (λ last. restaged (within s dev 5) (writing s (dev + 1)) cond others (g.S.Shelf.tells c.write_log-3.new.shelf) (g.S.Shelf.world c.write_log-3.new.shelf).now.seen c.write_log-3.new.pool (λ e p lt. within_all s dev e p) last)
+    (c.write_log-3.ensures.trees (within s dev 4) (within s dev 5) cond others (within_next s dev (OfLog Fresh)) (within_no_late s unwritten dev 4 (omega arith)) four)

@@ -9,14 +9,15 @@ use Rattle.zr_root.specs.Streams.{HasWords}
 use Rattle.zr_store.specs.Store.{AreStored}
 use Rattle.zr_tree.specs.Trees.{tree_reach}
 use Rattle.zr_commit.specs.Logs.{Rewrites}
-use Rattle.zr_sync.specs.Checkpoints.{no_streams}
+use Rattle.zr_sync.specs.Empty.{no_streams}
 use Rattle.zr_sync.specs.Mappings.{HasFirst, IsSpelled, mapping_stream, mapping_words, with_mapping, words_at}
 use Rattle.zr_sync.specs.Streams.{streams_at as device_streams}
-use Rattle.zr_sync.specs.Trees.{IsAt, Stage}
+use Rattle.zr_sync.specs.Trees.{IsAt, Stage, first_stage}
 use Rattle.zr_sync.specs.Trees.Place.{OfMapping}
 use Rattle.zr_sync.specs.Words.{words_then}
 use Rattle.zr_sync.specs.declared.open.DeviceStreams.{DeviceStreams}
 use Rattle.zr_sync.proofs.Pools.{step_open, streams_at, streams_set}
+use Rattle.zr_sync.proofs.Stages.{appends, told_at, told_spelled}
 use Rattle.zr_sync.proofs.Steps.{mapping_written}
 use Rattle.zr_sync.proofs.TreeRows.{place_stands}
 use Rattle.zr_sync.proofs.device_streams.write_mapping.Goals as goal
@@ -63,7 +64,7 @@ returns-clause-writes g c = λ spelled s had held stored has first.
     let counts : m.counts ≡ p.counts = c.moves.ensures.counts in
     let words : words_then had c.in_ok-words.words ≡ words_at pool dev which =
     c.in_ok-words.ensures.words (subst (λ (es : List Entry). IsSpelled es m.counts) (sym entries) (subst (λ (cs : List ℕ). IsSpelled p.entries cs) (sym counts) spelled)) had here.count
-    (λ same. subst (λ (es : List Entry). HasFirst which es m.counts had) (sym entries) (subst (λ (cs : List ℕ). HasFirst which p.entries cs had) (sym counts) (first (c.is_anew-anew.ensures same))))
+    (λ same. subst (λ (es : List Entry). HasFirst which es m.counts had) (sym entries) (subst (λ (cs : List ℕ). HasFirst which p.entries cs had) (sym counts) (first (appends c.args.logs c.is_anew-anew.result c.is_anew-anew.ensures.anew same) (c.is_anew-anew.ensures.turned same))))
     ∙ (ap (λ (es : List Entry). mapping_words which es m.counts) entries ∙ ap (λ (cs : List ℕ). mapping_words which p.entries cs) counts) in
     record {
       stored = wrote.stored;
@@ -85,6 +86,7 @@ returns-clause-trees g c = λ stage next cond others turn none h.
     let count = c.requires.pool.count in
     let stands = place_stands stage cond others (g.S.Shelf.tells c.args.shelf.now) (g.S.Shelf.world c.args.shelf.now).now.seen x h dev place c.requires.dev in
     let had = subst (λ (s : Stage). IsAt s x dev place (h.words dev place)) turn.was (h.are dev place c.requires.dev) in
-    let wrote = returns-clause-writes g c had.1 h.stored (h.words dev place) h.held stands.0 stands.1 had.0 in
+    let spelled = told_spelled c.args.logs x dev which (h.words dev place) had in
+    let wrote = returns-clause-writes g c spelled h.stored (h.words dev place) h.held stands.0 stands.1 (λ grows. (told_at c.args.logs x dev place (h.words dev place) had grows).0) in
     let o = returns-clause-pool g c in
-    mapping_written stage next cond others (g.S.Shelf.tells c.args.shelf.now) _ (g.S.Shelf.world c.args.shelf.now).now.seen _ x _ (record { version = refl; turned = refl; lawful_old = c.requires.pool.lawful; lawful = o.lawful }) c.put_log.ensures.continues.space refl refl dev c.requires.dev (omega (arith, count, c.requires.dev)) none h which turn wrote
+    mapping_written (first_stage c.args.logs) stage next cond others (g.S.Shelf.tells c.args.shelf.now) _ (g.S.Shelf.world c.args.shelf.now).now.seen _ x _ (record { version = refl; turned = refl; lawful_old = c.requires.pool.lawful; lawful = o.lawful }) c.put_log.ensures.continues.space refl refl dev c.requires.dev (omega (arith, count, c.requires.dev)) none h which turn spelled wrote

@@ -1,9 +1,9 @@
 use Rattle.std.proofs.lemmas.Result.{on_ok_weaker}
-use Rattle.zr_sync.specs.Trees.{one_stage, writing}
-use Rattle.zr_sync.specs.Trees.Stage.{Had}
+use Rattle.zr_sync.specs.Trees.{first_stage, one_stage, writing}
 use Rattle.zr_sync.proofs.Anew.{renewed_still}
 use Rattle.zr_sync.proofs.Progress.{writing_no_late}
 use Rattle.zr_sync.proofs.Pools.{metadata_then}
+use Rattle.zr_sync.proofs.Stages.{not_written}
 use Rattle.zr_sync.proofs.device_streams.write_streams.Goals as goal
 
 pub returns-clause-wrote : goal.returns-clause-wrote
@@ -17,4 +17,5 @@ returns-clause-anew g c = λ is.
 pub returns-clause-trees : goal.returns-clause-trees
 returns-clause-trees g c = λ others h.
     let done = c.args.pool.now.table.count in
-    c.write_condensing.ensures.trees (writing done) others (writing_no_late done) (c.in_ok-write_devices.ensures.trees (one_stage Had) others h)
+    let s = first_stage c.args.logs in
+    c.write_condensing.ensures.trees (writing s done) others (writing_no_late s (not_written c.args.logs) done) (c.in_ok-write_devices.ensures.trees (one_stage s) others h)

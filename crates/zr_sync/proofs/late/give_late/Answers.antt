@@ -6,7 +6,7 @@ use Rattle.zr_commit.specs.Logs.{streams_reach}
 use Rattle.zr_store.specs.Store.{AreStored, Now, Swaps}
 use Rattle.zr_vdev.specs.Stores.{HoldsBlocks}
 use Rattle.zr_vdev.specs.declared.kind.Kind.TheVariants.{Meta}
-use Rattle.zr_sync.specs.Checkpoints.{no_stream, no_streams}
+use Rattle.zr_sync.specs.Empty.{no_stream, no_streams}
 use Rattle.zr_sync.specs.Streams.{late_streams, streams_at}
 use Rattle.zr_sync.specs.Trees.{giving}
 use Rattle.zr_sync.specs.declared.open.DeviceStreams.{DeviceStreams}
@@ -36,7 +36,7 @@ returns-clause-gives g c = λ s held stored.
     (c.in_ok-give_streams.ensures.gives s held (subst (λ (x : DeviceStreams). AreStored (streams_reach s (late_streams x)) s) (sym is) stored))
 
 pub returns-clause-trees : goal.returns-clause-trees
-returns-clause-trees g c = λ cond others h.
+returns-clause-trees g c = λ first cond others unwritten h.
     let x = c.args.pool.now in
     let dev = c.args.dev in
     let count = c.requires.pool.count in
@@ -44,7 +44,7 @@ returns-clause-trees g c = λ cond others h.
     let seen = (g.S.Shelf.world c.args.shelf.now).now.seen in
     let was = c.index_mut-device.result.now in
     let is : was ≡ streams_at x dev = c.index_mut-device.ensures.value ∙ get_or_default x.streams.items dev was no_streams (omega (arith, count, c.requires.dev)) in
-    let gave = returns-clause-gives g c h.stored h.held (lates_stored (giving dev) cond others tells seen x h dev c.requires.dev) in
+    let gave = returns-clause-gives g c h.stored h.held (lates_stored (giving first dev) cond others tells seen x h dev c.requires.dev) in
     let o = returns-clause-pool g c in
-    lates_given cond others tells _ seen _ x _ (record { version = refl; turned = refl; lawful_old = c.requires.pool.lawful; lawful = o.lawful }) c.give_streams.ensures.continues.space refl refl dev c.requires.dev (omega (arith, count, c.requires.dev)) h
+    lates_given first unwritten cond others tells _ seen _ x _ (record { version = refl; turned = refl; lawful_old = c.requires.pool.lawful; lawful = o.lawful }) c.give_streams.ensures.continues.space refl refl dev c.requires.dev (omega (arith, count, c.requires.dev)) h
     (ap (λ (t : DeviceStreams). slice_set x.streams.items dev (record t { late1 = no_stream; late2 = no_stream })) is) gave

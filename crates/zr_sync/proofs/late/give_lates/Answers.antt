@@ -9,7 +9,7 @@ loop-dev-init g c = record {
   wrote = metadata_itself (g.S.Shelf.sizes c.args.shelf.now) (g.S.Shelf.counts c.args.shelf.now) (g.S.Shelf.tells c.args.shelf.now) (g.S.Shelf.world c.args.shelf.now) c.args.pool.now;
   pool = c.requires.pool;
   counts = same_counts c.args.pool.now;
-  trees = λ cond others h. h;
+  trees = λ first cond others unwritten h. h;
 }
 
 pub give_late-requires-clause-dev : goal.give_late-requires-clause-dev
@@ -28,5 +28,5 @@ loop-dev-preserved g c = record {
       let count = c.loop-dev.invariant.pool.count in
       let same = ap (λ (t : Table). t.count) (metadata_table c.loop-dev.invariant.wrote) in
       no_lates_counts c.args.pool.now c.loop-dev.pool c.give_late.new.pool c.loop-dev.dev (omega (arith, same, count, c.loop-dev-test.true)) c.loop-dev.invariant.counts c.in_ok-give_late.ensures.none;
-  trees = λ cond others h. c.in_ok-give_late.ensures.trees cond others (c.loop-dev.invariant.trees cond others h);
+  trees = λ first cond others unwritten h. c.in_ok-give_late.ensures.trees first cond others unwritten (c.loop-dev.invariant.trees first cond others unwritten h);
 }

@@ -10,6 +10,9 @@ anew_words-requires-clause-small c = small_device c.requires.pool.0 c.args.pool.
 pub returns-in-Anew-clause-room : goal.returns-in-Anew-clause-room
 returns-in-Anew-clause-room c = c.anew_words.ensures.room c.args.old.now
 
+pub returns-in-Grow-clause-log : goal.returns-in-Grow-clause-log
+returns-in-Grow-clause-log c = λ had long last. c.log_words.ensures.log had long (last c.in-Grow.is)
+
 pub returns-in-Anew-clause-log : goal.returns-in-Anew-clause-log
 returns-in-Anew-clause-log c = λ had long last. c.anew_words.ensures.log had
 

@@ -7,13 +7,14 @@ use Rattle.zr_root.specs.Streams.{HasWords}
 use Rattle.zr_store.specs.Store.{AreStored}
 use Rattle.zr_tree.specs.Trees.{tree_reach}
 use Rattle.zr_commit.specs.Logs.{Rewrites}
-use Rattle.zr_sync.specs.Checkpoints.{no_streams}
+use Rattle.zr_sync.specs.Empty.{no_streams}
 use Rattle.zr_sync.specs.Streams.{log_stream, streams_at as device_streams, with_log}
 use Rattle.zr_sync.specs.Words.{words_then}
 use Rattle.zr_sync.specs.declared.open.DeviceStreams.{DeviceStreams}
-use Rattle.zr_sync.specs.Trees.{IsAt, Stage}
+use Rattle.zr_sync.specs.Trees.{IsAt, Stage, first_stage}
 use Rattle.zr_sync.specs.Trees.Place.{OfLog}
 use Rattle.zr_sync.proofs.Anew.{counted}
+use Rattle.zr_sync.proofs.Stages.{told_at}
 use Rattle.zr_sync.proofs.Steps.{log_written}
 use Rattle.zr_sync.proofs.TreeRows.{place_stands}
 use Rattle.zr_sync.proofs.Pools.{step_open, streams_at, streams_set}
@@ -63,9 +64,9 @@ returns-clause-trees g c = λ stage next cond others turn none h.
     let count = c.requires.pool.count in
     let stands = place_stands stage cond others (g.S.Shelf.tells c.args.shelf.now) (g.S.Shelf.world c.args.shelf.now).now.seen x h dev place c.requires.dev in
     let had = subst (λ (s : Stage). IsAt s x dev place (h.words dev place)) turn.was (h.are dev place c.requires.dev) in
-    let wrote = returns-clause-writes g c h.stored (h.words dev place) h.held stands.0 stands.1 had in
+    let wrote = returns-clause-writes g c h.stored (h.words dev place) h.held stands.0 stands.1 (told_at c.args.logs x dev place (h.words dev place) had) in
     let o = returns-clause-pool g c in
-    log_written stage next cond others (g.S.Shelf.tells c.args.shelf.now) _ (g.S.Shelf.world c.args.shelf.now).now.seen _ x _ (record { version = refl; turned = refl; lawful_old = c.requires.pool.lawful; lawful = o.lawful }) c.put_log.ensures.continues.space refl refl dev c.requires.dev (omega (arith, count, c.requires.dev)) none h c.args.log turn wrote
+    log_written (first_stage c.args.logs) stage next cond others (g.S.Shelf.tells c.args.shelf.now) _ (g.S.Shelf.world c.args.shelf.now).now.seen _ x _ (record { version = refl; turned = refl; lawful_old = c.requires.pool.lawful; lawful = o.lawful }) c.put_log.ensures.continues.space refl refl dev c.requires.dev (omega (arith, count, c.requires.dev)) none h c.args.log turn wrote
 
 pub returns-clause-anew : goal.returns-clause-anew
 returns-clause-anew g c = λ is.

@@ -15,8 +15,8 @@ returns-clause-objects g c = λ s held stored.
     (c.in_ok-tree.ensures.writes s held stored)
 
 pub returns-clause-stay : goal.returns-clause-stay
-returns-clause-stay g c = λ stage cond others had h.
+returns-clause-stay g c = λ logs stage cond others told h.
     let first = c.args.shelf.now in
     let last = c.put_group.new.shelf in
     trees_leave (g.S.Shelf.sizes first) (g.S.Shelf.sizes last) (g.S.Shelf.counts first) (g.S.Shelf.counts last) (g.S.Shelf.tells first) (g.S.Shelf.tells last) (g.S.Shelf.world first) (g.S.Shelf.world last) c.args.pool.now _ c.requires.pool
-    (record { goes = c.put_group.ensures.continues; rest = refl }) stage cond others had h
+    (record { goes = c.put_group.ensures.continues; rest = refl }) logs stage cond others told h

@@ -1,16 +1,21 @@
-use Rattle.std.proofs.Common.{◌<◌, ◌≤◌, ◌^◌, ℕ, List, map, length, subst, sym, arith}
+use Rattle.std.proofs.Common.{◌≡◌, ◌∙◌, refl, ◌<◌, ◌≤◌, ◌^◌, ℕ, Bool, true, false, List, map, length, ap, subst, sym, arith}
 use Rattle.std.proofs.lemmas.List.{length-map}
 use Rattle.zr_base.specs.declared.space.DevPart.{DevPart}
 use Rattle.zr_base.specs.Extents.{IsMaximal}
 use Rattle.zr_rules.specs.Columns.{late_blocks}
-use Rattle.zr_rules.specs.Places.{part_of, units_of_dev}
+use Rattle.zr_base.specs.declared.space.DevState.{DevState}
+use Rattle.zr_base.specs.declared.space.DevState.TheVariants.{On, Leaving, Gone}
+use Rattle.zr_rules.specs.Places.{is_on, part_of, units_of_dev}
 use Rattle.zr_rules.specs.Space.{Space, IsLawful}
 use Rattle.zr_metaslab.specs.Devices.{Devices}
-use Rattle.zr_space.specs.Views.{Kept, part_in, IsSpace}
+use Rattle.zr_indirect.specs.Mapped.{Mapped}
+use Rattle.zr_space.specs.Paths.{HasNoMapping}
+use Rattle.zr_space.specs.Views.{Kept, kept_of, part_in, IsMoved, IsSpace}
 use Rattle.zr_rules.specs.Mappings.{IsRising}
 use Rattle.zr_rules.specs.Equation.{devices_in}
 use Rattle.zr_space.proofs.Freeables.{all_rising}
 use Rattle.zr_space.specs.declared.whole.Whole.{Whole}
+use Rattle.zr_space.proofs.Drops.{never}
 use Rattle.zr_space.proofs.Keeps.{lawful}
 use Rattle.zr_space.proofs.Totalling.{first_late_maximal, second_late_maximal}
 use Rattle.zr_space.proofs.Views.{part_is}
@@ -36,3 +41,17 @@ returns-clause-first_late c = subst (λ (s : Space). (d : ℕ) → IsMaximal (la
 
 pub returns-clause-second_late : goal.returns-clause-second_late
 returns-clause-second_late c = subst (λ (s : Space). (d : ℕ) → IsMaximal (late_blocks (part_of s.parts.devs d).late2)) c.self.view_is (second_late_maximal c.self.inside.whole c.self.inside.slabs c.self.inside.devs.items c.self.invariant)
+
+is_in_service : (state : DevState) → is_on state ≡ true → state ≡ On
+is_in_service On is = refl
+is_in_service Leaving is = absurd (never is)
+is_in_service Gone is = absurd (never is)
+
+unmapped : {whole : Whole} (slabs : Devices) (devs : List Kept) (d : ℕ) → IsSpace whole slabs devs → is_on (part_of (map part_in devs) d).row.state ≡ true → HasNoMapping (part_of (map part_in devs) d)
+unmapped slabs devs d s is =
+    let on = is_in_service (kept_of devs d).row.state (sym (ap (λ (p : DevPart). is_on p.row.state) (part_is devs d)) ∙ is) in
+    let none = (s.moved d).service on in
+    subst HasNoMapping (sym (part_is devs d)) (record { entries = ap (λ (m : Mapped). m.entries) none; counts = ap (λ (m : Mapped). m.counts) none; fresh = ap (λ (m : Mapped). m.fresh) none })
+
+pub returns-clause-unmapped : goal.returns-clause-unmapped
+returns-clause-unmapped c = subst (λ (s : Space). (d : ℕ) → is_on (part_of s.parts.devs d).row.state ≡ true → HasNoMapping (part_of s.parts.devs d)) c.self.view_is (λ d. unmapped c.self.inside.slabs c.self.inside.devs.items d c.self.invariant)
