@@ -5,6 +5,7 @@
 //! from then on waits for the next condensing. The old mapping stays in use until the last step puts the new one in its
 //! place. No unit changes its role, and what is in use leads where it led.
 ghost use Rattle.std.specs.Prelude.{◌≡◌, ℕ, ◌<◌, None, Some, [], true, nat_le, length, IfOk, IfSome, OnOk};
+ghost use Rattle.zr_base.specs.declared.space.CondPart.{CondPart};
 ghost use Rattle.zr_base.specs.declared.space.DevState.TheVariants.{Gone};
 ghost use Rattle.zr_indirect.specs.Mapped.{Mapped};
 ghost use Rattle.zr_condense.specs.Condensing.{HasWorked};
@@ -95,6 +96,14 @@ impl Space {
         self.fold(dev)?;
         let cond = Condense::begin(self.alloc, dev);
         self.work(cond)
+    }
+
+    /// Of the entries that a condensing has worked through, those with a unit in use are kept, and its device is gone. It does
+    /// nothing: a caller learns this by it.
+    pub fn condenses_in_order(&self)
+        ensures { (c : CondPart) → self.now.parts.cond ≡ Some c → IsUnderWay self.now c }
+    {
+        let _whole = &self.whole;
     }
 
     // Takes out the condensing that goes on.
