@@ -24,12 +24,14 @@ use Rattle.zr_base.specs.declared.space.Policy.{Policy}
 use Rattle.zr_shelf.specs.Counts.{Counts}
 use Rattle.zr_shelf.specs.Moments.{World}
 use Rattle.zr_sync.specs.declared.open.OpenPool.{OpenPool}
+use Rattle.zr_last.specs.Last.{KeepsRoot}
+use Rattle.zr_removal.specs.Condensing.{CondensesPool}
 use Rattle.zr_removal.specs.Steps.{StepsOn}
 use Rattle.zr_removal.specs.Turns.{CancelsRemoval}
 use Rattle.zr_removal.specs.declared.evacuate.Evacuated.{Evacuated}
 use Rattle.zr_removal.specs.declared.evacuate.Evacuated.TheVariants.{Copied, Gone, Cancelled}
 use Rattle.zr_pool.specs.Behind.{is_return}
-use Rattle.zr_pool.specs.Plain.{IsBeyond, IsDone, IsMissing, IsObjectCause, IsPlainOf, IsPlainOn, IsThere, is_copy, is_untold_behind}
+use Rattle.zr_pool.specs.Plain.{IsBeyond, IsMissing, IsObjectCause, IsPlainOf, IsPlainOn, IsThere, is_background, is_untold_behind}
 use Rattle.zr_pool.specs.Replies.{condense_reply, evac_reply}
 
 pub plain_refusal : (objects : Objects) (command : Command) (r : Refusal) → (r ≡ refusal.NoSuchObject → IsMissing objects command) → (r ≡ refusal.OutOfRange → IsBeyond objects command) → (r ≡ refusal.ObjectExists → IsThere objects command)
@@ -152,7 +154,7 @@ evac_acts policy sizes told c1 c2 w1 w2 x y Holds p (Gone index) steps holds ret
 evac_acts policy sizes told c1 c2 w1 w2 x y Holds p (Cancelled index) steps holds returns =
     record { after = p; holds = returns (back_ckpt sizes told w2 steps.tried y index steps.cancels ∙ ap (λ (pool : OpenPool). pool.space.parts.ckpt) steps.same) index refl; step = (record { objects = refl; saved = refl; discarding = refl }, refl) }
 
-pub evac_copies : (P : Type 0) (done : Evacuated) → ((n : ℕ) → done ≡ Copied n → P) → is_copy cmd.StepEvac (evac_reply done) ≡ true → P
+pub evac_copies : (P : Type 0) (done : Evacuated) → ((n : ℕ) → done ≡ Copied n → P) → is_background cmd.StepEvac (evac_reply done) ≡ true → P
 evac_copies P (Copied n) copies on = copies n refl
 evac_copies P (Gone index) copies on = absurd (let no_way : false ≡ true = on in cc)
 evac_copies P (Cancelled index) copies on = absurd (let no_way : false ≡ true = on in cc)
@@ -172,7 +174,14 @@ condense_no_return (condensed.Kept entries) command on = let no_way : false ≡ 
 condense_no_return condensed.Done command on = let no_way : false ≡ true = on in cc
 condense_no_return condensed.Nothing command on = let no_way : false ≡ true = on in cc
 
-pub condense_done : (done : Condensed) → IsDone (condense_reply done)
-condense_done (condensed.Kept entries) = tt
-condense_done condensed.Done = tt
-condense_done condensed.Nothing = tt
+-- a step of condensing leaves the objects
+pub condense_acts : (Holds : PoolState → Type 0) (p : PoolState) (done : Condensed) → Holds p → IsPlainOf Holds p cmd.StepCondense (condense_reply done)
+condense_acts Holds p (condensed.Kept entries) h = record { after = p; holds = h; step = (refl, refl) }
+condense_acts Holds p condensed.Done h = record { after = p; holds = h; step = (refl, refl) }
+condense_acts Holds p condensed.Nothing h = record { after = p; holds = h; step = (refl, refl) }
+
+-- it goes on from the root from which the pool went on
+pub condensed_root : (x y : OpenPool) (done : Condensed) → CondensesPool x y done → KeepsRoot x y
+condensed_root x y done h =
+    let rest = h.mapping.rest in
+    record { last = ap (λ (p : OpenPool). p.last) rest; guid = ap (λ (p : OpenPool). p.guid) rest; table = ap (λ (p : OpenPool). p.table) rest }

@@ -52,14 +52,14 @@ use Rattle.zr_open.specs.Shown.{Shows}
 use Rattle.zr_stops.proofs.Returning.{returns_either}
 use Rattle.zr_stops.proofs.Preparing.{settled_left}
 use Rattle.zr_pool.proofs.Closed.{StandsAs, closed_behind, closed_shows, flushes_keep, still_closed, stands_as}
-use Rattle.zr_pool.proofs.Groups.{acknowledged_commits, commits_in_group, copy_no_commit, copy_no_reset, ends_told, not_ending, opening_stops, opens_no_commit, opens_no_end, writing_resets}
+use Rattle.zr_pool.proofs.Groups.{acknowledged_commits, background_no_commit, background_no_reset, commits_in_group, ends_told, not_ending, opening_stops, opens_no_commit, opens_no_end, tables_silent, writing_resets}
 use Rattle.zr_pool.proofs.Outside.{keeps_outside}
 use Rattle.zr_pool.proofs.Resets.{behind_last, reset_behind}
 use Rattle.zr_pool.proofs.Turning.{left_of}
-use Rattle.zr_pool.specs.Behind.{ComesFrom, HasReset, IsBehindTurn, LeavesEither, LeavesOnly, StaysTold, StopsInReset, WritesTold, is_acknowledged, is_commit, is_create, is_import, is_in_group, is_known, is_refusal, is_resetting, leaves_told, may_stop, all_there, are_there, StopsInCreate, OpensTo, StopsInOpening, ends_no_removal, ends_reset, is_readable, is_writing_trees, keeps_trees, none_gone}
+use Rattle.zr_pool.specs.Behind.{ComesFrom, HasReset, IsBehindTurn, LeavesEither, LeavesOnly, OpensTo, StaysTold, StopsInCreate, StopsInOpening, StopsInReset, WritesTold, all_there, are_there, ends_no_removal, ends_reset, is_acknowledged, is_commit, is_create, is_import, is_in_group, is_known, is_readable, is_refusal, is_resetting, is_silent, is_writing_trees, keeps_trees, leaves_told, may_commit, may_stop, none_gone}
 use Rattle.zr_pool.specs.Behind.ComesFrom.{kept, committed, changed, made, found}
 use Rattle.zr_pool.specs.Ends.{answer_of, is_closing}
-use Rattle.zr_pool.specs.Plain.{IsDone, is_copy, is_untold_behind}
+use Rattle.zr_pool.specs.Plain.{IsDone, is_background, is_untold_behind}
 use Rattle.zr_pool.specs.Pools.{DeviceState, IsBehind, IsClosedBehind, IsPartOf, stand_of, IsAsBegun, IsUnwritten}
 use Rattle.zr_pool.specs.Turns.{IsClosedAnswer, IsTurn, IsWithin, is_on_objects, is_opened, is_opener, is_table}
 
@@ -316,15 +316,6 @@ none_acknowledged answer command none = by (is_acknowledged answer command) refl
     by true is = absurd (none is)
     by false is = is
 
--- a table is no line on objects
-pub off_objects : (command : Command) → is_table command ≡ true → is_on_objects command ≡ false
-off_objects cmd.List table = refl
-off_objects cmd.Status table = refl
-off_objects cmd.Audit table = refl
-off_objects (cmd.Estimate dev) table = refl
-off_objects (cmd.Map index) table = refl
-off_objects command table = no_way table
-
 -- ---- where a pool is open
 
 module _ (old new : World) (before : DeviceState) (command : Command) (x y : OpenPool) (sizes : List ℕ) (lawful : IsOpen sizes x) (sized_old : map length old.now.seen ≡ sizes) (sized_new : map length new.now.seen ≡ sizes)
@@ -349,17 +340,17 @@ module _ (old new : World) (before : DeviceState) (command : Command) (x y : Ope
   ]
 
   group_leaves : (answer : Reply) → is_in_group command ≡ true → leaves_told before.account answer command ≡ true
-  group_leaves answer group = subst (λ (o : Option OpenPool). leaves_told o answer command ≡ true) (sym account) (or_second (is_refusal answer) (is_in_group command || is_copy command answer) (or_either (is_in_group command) (is_copy command answer) group))
+  group_leaves answer group = subst (λ (o : Option OpenPool). leaves_told o answer command ≡ true) (sym account) (or_second (is_refusal answer) (is_in_group command || is_background command answer) (or_either (is_in_group command) (is_background command answer) group))
 
   refused_leaves : (n : Refusal) → leaves_told before.account (reply.No n) command ≡ true
   refused_leaves n = subst (λ (o : Option OpenPool). leaves_told o (reply.No n) command ≡ true) (sym account) refl
 
-  copy_leaves : (answer : Reply) → is_copy command answer ≡ true → leaves_told before.account answer command ≡ true
-  copy_leaves answer copy = subst (λ (o : Option OpenPool). leaves_told o answer command ≡ true) (sym account) (or_second (is_refusal answer) (is_in_group command || is_copy command answer) (or_second (is_in_group command) (is_copy command answer) copy))
+  background_leaves : (answer : Reply) → is_background command answer ≡ true → leaves_told before.account answer command ≡ true
+  background_leaves answer step = subst (λ (o : Option OpenPool). leaves_told o answer command ≡ true) (sym account) (or_second (is_refusal answer) (is_in_group command || is_background command answer) (or_second (is_in_group command) (is_background command answer) step))
 
-  -- what is done leaves it told only in the group, or by a copy
-  done_leaves : (answer : Reply) → IsDone answer → leaves_told before.account answer command ≡ true → (is_in_group command || is_copy command answer) ≡ true
-  done_leaves answer done leaves = or_first (is_refusal answer) (is_in_group command || is_copy command answer) (no_refusal answer done) (subst (λ (o : Option OpenPool). leaves_told o answer command ≡ true) account leaves)
+  -- what is done leaves it told only in the group, or by a step in the background
+  done_leaves : (answer : Reply) → IsDone answer → leaves_told before.account answer command ≡ true → (is_in_group command || is_background command answer) ≡ true
+  done_leaves answer done leaves = or_first (is_refusal answer) (is_in_group command || is_background command answer) (no_refusal answer done) (subst (λ (o : Option OpenPool). leaves_told o answer command ≡ true) account leaves)
 
   -- what is told is held
   held : (p : PoolState) → before.told.shelf ≡ Is p → HoldsState (Unit {0}) old.now.seen x p
@@ -406,18 +397,18 @@ module _ (old new : World) (before : DeviceState) (command : Command) (x y : Ope
                 ])
                 (to_disks sizes c.all y new.now sized_new c.behind) (λ on. absurd (no_reset on)) (λ acknowledged. absurd (no_commit acknowledged))
 
-    -- a step that copies
-    copied_told : (answer : Reply) (p : PoolState) → before.told.shelf ≡ Is p → is_copy command answer ≡ true → WritesIntoFree x old new → OpensNoUnit x y → Behinds new before command now_told (Some y) answer
-    copied_told answer p told copy wrote opens = by_last before.behind refl
+    -- a step in the background
+    background_told : (answer : Reply) (p : PoolState) → before.told.shelf ≡ Is p → is_background command answer ≡ true → WritesIntoFree x old new → OpensNoUnit x y → Behinds new before command now_told (Some y) answer
+    background_told answer p told step wrote opens = by_last before.behind refl
       where
         by_last : (o : Option Objects) → before.behind ≡ o → Behinds new before command now_told (Some y) answer
         by_last None is =
-            untold new before command now_told (Some y) answer (not_made (Some y)) (not_opened now_told answer) (λ q told_q some readable left. no_way (sym (ap (λ (o : Option Objects). is_some o) is) ∙ some)) (λ q told_q known on there. copy_no_reset command answer copy on)
-            (λ q told_q known acknowledged. copy_no_commit command answer copy acknowledged)
+            untold new before command now_told (Some y) answer (not_made (Some y)) (not_opened now_told answer) (λ q told_q some readable left. no_way (sym (ap (λ (o : Option Objects). is_some o) is) ∙ some)) (λ q told_q known on there. background_no_reset command answer step on)
+            (λ q told_q known acknowledged. background_no_commit command answer step acknowledged)
         by_last (Some objects) is =
-            told_behind new before command now_told (Some y) answer p objects (λ none create done. is_open none) (λ none import done. is_open none) told (kept p told (copy_leaves answer copy) (none_acknowledged answer command (copy_no_commit command answer copy)) is)
-            (to_disks sizes objects y new.now sized_new (line_behind sizes objects x old (stood objects is) y new wrote opens.units opens.root.table opens.root.last opens.root.guid)) (λ on. absurd (copy_no_reset command answer copy on))
-            (λ acknowledged. absurd (copy_no_commit command answer copy acknowledged))
+            told_behind new before command now_told (Some y) answer p objects (λ none create done. is_open none) (λ none import done. is_open none) told (kept p told (background_leaves answer step) (none_acknowledged answer command (background_no_commit command answer step)) is)
+            (to_disks sizes objects y new.now sized_new (line_behind sizes objects x old (stood objects is) y new wrote opens.units opens.root.table opens.root.last opens.root.guid)) (λ on. absurd (background_no_reset command answer step on))
+            (λ acknowledged. absurd (background_no_commit command answer step acknowledged))
 
     -- a `sync`, or an `export`, behind which the pool is closed
     commit_told : (pool : Option OpenPool) (answer : Reply) (p : PoolState) → before.told.shelf ≡ Is p → leaves_told before.account answer command ≡ true → (ends_reset answer command ≡ true → ⊥) → EndsCommitted sizes false x y p.objects old new → (StandsBehind sizes p.objects y new.now → IsBehind pool (disks_of new.now) p.objects) → Behinds new before command now_told pool answer
@@ -428,23 +419,23 @@ module _ (old new : World) (before : DeviceState) (command : Command) (x y : Ope
         by_known false known = untold new before command now_told pool answer (not_made pool) (not_opened now_told answer) (λ q told_q some readable left. no_way (sym known ∙ known_some before some readable)) (λ q told_q knows on there. no_reset on) (λ q told_q knows acknowledged. no_way (sym known ∙ knows))
 
     pub open_behinds : (r : Result (Option Reply) Fault) → IfOk r (λ answered. IfSome answered IsDone) → OnOk r (IsOpen sizes y) → IfOk r (λ answered. IfSome answered (λ answer. is_untold_behind command answer ≡ false → KeepsLast old new x y)) → ((p : PoolState) → HoldsState (Unit {0}) old.now.seen x p → IfOk r (λ answered. IfSome answered (λ answer. ends_reset answer command ≡ true → HasReset y new.now p.objects))) → ((p : PoolState) → HoldsState (Unit {0}) old.now.seen x p → WritesTold command x old → OnOk r (IfSome y.last (λ u. TellsMoves new.now.seen y u.root u.len))) → (is_in_group command ≡ true → (p : PoolState) → HoldsState (Unit {0}) old.now.seen x p → OnOk r (StaysTold sizes p.objects x y old new))
-        → ((p : PoolState) → HoldsState (Unit {0}) old.now.seen x p → (n : Refusal) → r ≡ Err (No n) → StaysInOneGroup sizes p.objects x y old new) → IfOk r (λ answered. IfSome answered (λ answer. is_copy command answer ≡ true → WritesIntoFree x old new × OpensNoUnit x y))
+        → ((p : PoolState) → HoldsState (Unit {0}) old.now.seen x p → (n : Refusal) → r ≡ Err (No n) → StaysInOneGroup sizes p.objects x y old new) → IfOk r (λ answered. IfSome answered (λ answer. is_background command answer ≡ true → WritesIntoFree x old new × OpensNoUnit x y))
         → (is_commit command ≡ true → (p : PoolState) → HoldsState (Unit {0}) old.now.seen x p → OnOk r (EndsCommitted sizes false x y p.objects old new))
         → IfOk (answer_of r) (λ answered. IfSome answered (λ answer. Behinds new before command now_told (left_of (is_closing command r) y) answer))
-    open_behinds (Ok None) done ready keeps resets moves one one_no copied commits = tt
-    open_behinds (Ok (Some answer)) done ready keeps resets moves one one_no copied commits = by_closing (is_closing command (Ok (Some answer))) refl
+    open_behinds (Ok None) done ready keeps resets moves one one_no stepped commits = tt
+    open_behinds (Ok (Some answer)) done ready keeps resets moves one one_no stepped commits = by_closing (is_closing command (Ok (Some answer))) refl
       where
-        untold_off : is_in_group command ≡ false → is_copy command answer ≡ false → ((p : PoolState) → before.told.shelf ≡ Is p → is_known before ≡ true → ends_reset answer command ≡ true → (are_there (Some y) || (before.trees && is_writing_trees command)) ≡ true → ⊥) → Behinds new before command now_told (Some y) answer
-        untold_off off no_copy none =
-            untold new before command now_told (Some y) answer (not_made (Some y)) (not_opened now_told answer) (λ p told some readable leaves. no_way (sym (or_neither (is_in_group command) (is_copy command answer) off no_copy) ∙ done_leaves answer done leaves)) (λ p told known on there. none p told known on there)
+        untold_off : is_in_group command ≡ false → is_background command answer ≡ false → ((p : PoolState) → before.told.shelf ≡ Is p → is_known before ≡ true → ends_reset answer command ≡ true → (are_there (Some y) || (before.trees && is_writing_trees command)) ≡ true → ⊥) → Behinds new before command now_told (Some y) answer
+        untold_off off no_step none =
+            untold new before command now_told (Some y) answer (not_made (Some y)) (not_opened now_told answer) (λ p told some readable leaves. no_way (sym (or_neither (is_in_group command) (is_background command answer) off no_step) ∙ done_leaves answer done leaves)) (λ p told known on there. none p told known on there)
             (λ p told known acknowledged. no_way (sym off ∙ commits_in_group command (acknowledged_commits answer command acknowledged)))
 
-        resets_no_copy : ends_reset answer command ≡ true → is_copy command answer ≡ false
-        resets_no_copy on = by_copy (is_copy command answer) refl
+        resets_no_background : ends_reset answer command ≡ true → is_background command answer ≡ false
+        resets_no_background on = by_background (is_background command answer) refl
           where
-            by_copy : (b : Bool) → is_copy command answer ≡ b → is_copy command answer ≡ false
-            by_copy true copy = absurd (copy_no_reset command answer copy on)
-            by_copy false none = none
+            by_background : (b : Bool) → is_background command answer ≡ b → is_background command answer ≡ false
+            by_background true step = absurd (background_no_reset command answer step on)
+            by_background false none = none
 
         reads : (p : PoolState) → before.told.shelf ≡ Is p → (are_there (Some y) || (before.trees && is_writing_trees command)) ≡ true → (u : Uber) → GoesOnFrom u y → IsReadable new.now.seen y u
         reads p told read u from = elim (one_of (are_there (Some y)) (before.trees && is_writing_trees command) read) [
@@ -460,17 +451,17 @@ module _ (old new : World) (before : DeviceState) (command : Command) (x y : Ope
 
         reset_known : is_in_group command ≡ false → ends_reset answer command ≡ true → (p : PoolState) → before.told.shelf ≡ Is p → (a b : Bool) → is_known before ≡ a → (are_there (Some y) || (before.trees && is_writing_trees command)) ≡ b → Behinds new before command now_told (Some y) answer
         reset_known off on p told true true known there = reset_told off on p told known there
-        reset_known off on p told false b known there = untold_off off (resets_no_copy on) (λ q told_q knows also there_all. no_way (sym known ∙ knows))
-        reset_known off on p told true false known out = untold_off off (resets_no_copy on) (λ q told_q knows also there_all. no_way (sym out ∙ there_all))
+        reset_known off on p told false b known there = untold_off off (resets_no_background on) (λ q told_q knows also there_all. no_way (sym known ∙ knows))
+        reset_known off on p told true false known out = untold_off off (resets_no_background on) (λ q told_q knows also there_all. no_way (sym out ∙ there_all))
 
         reset_part : is_in_group command ≡ false → ends_reset answer command ≡ true → (s : ShelfPart) → before.told.shelf ≡ s → Behinds new before command now_told (Some y) answer
         reset_part off on (Is p) told = reset_known off on p told (is_known before) (are_there (Some y) || (before.trees && is_writing_trees command)) refl refl
-        reset_part off on Empty told = untold_off off (resets_no_copy on) (λ p is known also there. let both = sym told ∙ is in absurd cc)
-        reset_part off on (Refused r) told = untold_off off (resets_no_copy on) (λ p is known also there. let both = sym told ∙ is in absurd cc)
+        reset_part off on Empty told = untold_off off (resets_no_background on) (λ p is known also there. let both = sym told ∙ is in absurd cc)
+        reset_part off on (Refused r) told = untold_off off (resets_no_background on) (λ p is known also there. let both = sym told ∙ is in absurd cc)
 
-        by_reset : (b : Bool) → ends_reset answer command ≡ b → is_in_group command ≡ false → is_copy command answer ≡ false → Behinds new before command now_told (Some y) answer
-        by_reset true on off no_copy = reset_part off on before.told.shelf refl
-        by_reset false not_on off no_copy = untold_off off no_copy (λ p told known on there. no_way (sym not_on ∙ on))
+        by_reset : (b : Bool) → ends_reset answer command ≡ b → is_in_group command ≡ false → is_background command answer ≡ false → Behinds new before command now_told (Some y) answer
+        by_reset true on off no_step = reset_part off on before.told.shelf refl
+        by_reset false not_on off no_step = untold_off off no_step (λ p told known on there. no_way (sym not_on ∙ on))
 
         untold_part : (pool : Option OpenPool) → ((p : PoolState) → before.told.shelf ≡ Is p → ⊥) → Behinds new before command now_told pool answer
         untold_part pool none = untold new before command now_told pool answer (not_made pool) (not_opened now_told answer) (λ p told some readable leaves. none p told) (λ p told known on there. none p told) (λ p told known acknowledged. none p told)
@@ -484,18 +475,18 @@ module _ (old new : World) (before : DeviceState) (command : Command) (x y : Ope
         by_part Empty told group = untold_part (Some y) (λ p is. let both = sym told ∙ is in absurd cc)
         by_part (Refused r) told group = untold_part (Some y) (λ p is. let both = sym told ∙ is in absurd cc)
 
-        copy_part : (s : ShelfPart) → before.told.shelf ≡ s → is_copy command answer ≡ true → Behinds new before command now_told (Some y) answer
-        copy_part (Is p) told copy = let c = copied copy in copied_told answer p told copy c.0 c.1
-        copy_part Empty told copy = untold_part (Some y) (λ p is. let both = sym told ∙ is in absurd cc)
-        copy_part (Refused r) told copy = untold_part (Some y) (λ p is. let both = sym told ∙ is in absurd cc)
+        background_part : (s : ShelfPart) → before.told.shelf ≡ s → is_background command answer ≡ true → Behinds new before command now_told (Some y) answer
+        background_part (Is p) told step = let c = stepped step in background_told answer p told step c.0 c.1
+        background_part Empty told step = untold_part (Some y) (λ p is. let both = sym told ∙ is in absurd cc)
+        background_part (Refused r) told step = untold_part (Some y) (λ p is. let both = sym told ∙ is in absurd cc)
 
-        by_copy : (b : Bool) → is_copy command answer ≡ b → is_in_group command ≡ false → Behinds new before command now_told (Some y) answer
-        by_copy true copy off = copy_part before.told.shelf refl copy
-        by_copy false no_copy off = by_reset (ends_reset answer command) refl off no_copy
+        by_background : (b : Bool) → is_background command answer ≡ b → is_in_group command ≡ false → Behinds new before command now_told (Some y) answer
+        by_background true step off = background_part before.told.shelf refl step
+        by_background false no_step off = by_reset (ends_reset answer command) refl off no_step
 
         by_group : (b : Bool) → is_in_group command ≡ b → Behinds new before command now_told (Some y) answer
         by_group true group = by_part before.told.shelf refl group
-        by_group false off = by_copy (is_copy command answer) refl off
+        by_group false off = by_background (is_background command answer) refl off
 
         by_export : command ≡ cmd.Export → (s : ShelfPart) → before.told.shelf ≡ s → Behinds new before command now_told None answer
         by_export exports (Is p) told =
@@ -508,7 +499,7 @@ module _ (old new : World) (before : DeviceState) (command : Command) (x y : Ope
         by_closing : (b : Bool) → is_closing command (Ok (Some answer)) ≡ b → Behinds new before command now_told (left_of b y) answer
         by_closing true is = by_export (closing_export command answer is) before.told.shelf refl
         by_closing false is = by_group (is_in_group command) refl
-    open_behinds (Err (No n)) done ready keeps resets moves one one_no copied commits = by_part before.told.shelf refl
+    open_behinds (Err (No n)) done ready keeps resets moves one one_no stepped commits = by_part before.told.shelf refl
       where
         untold_no : ((p : PoolState) → before.told.shelf ≡ Is p → ⊥) → Behinds new before command now_told (Some y) (reply.No n)
         untold_no none = untold new before command now_told (Some y) (reply.No n) (not_made (Some y)) (not_opened now_told (reply.No n)) (λ p told some readable leaves. none p told) (λ p told known on there. no_way on) (λ p told known acknowledged. no_way acknowledged)
@@ -517,7 +508,7 @@ module _ (old new : World) (before : DeviceState) (command : Command) (x y : Ope
         by_part (Is p) told = line_told (reply.No n) p told (refused_leaves n) (λ on. no_way on) (λ acknowledged. no_way acknowledged) (inl (one_no p (held p told) n refl))
         by_part Empty told = untold_no (λ p is. let both = sym told ∙ is in absurd cc)
         by_part (Refused r) told = untold_no (λ p is. let both = sym told ∙ is in absurd cc)
-    open_behinds (Err (Stops s)) done ready keeps resets moves one one_no copied commits = tt
+    open_behinds (Err (Stops s)) done ready keeps resets moves one one_no stepped commits = tt
 
   -- ---- the moments of a line
 
@@ -527,24 +518,24 @@ module _ (old new : World) (before : DeviceState) (command : Command) (x y : Ope
   at_table : (s : Stand) → (is_table command ≡ true → s.seen ≡ old.now.seen) → IfSome before.account (λ pool. is_table command ≡ true → s.seen ≡ old.now.seen)
   at_table s h = subst (λ (o : Option OpenPool). IfSome o (λ pool. is_table command ≡ true → s.seen ≡ old.now.seen)) (sym account) h
 
-  pub open_within : (is_table command ≡ true → IsStill old new) → WorksOnDisks old new → (is_in_group command ≡ true → (p : PoolState) → HoldsState (Unit {0}) old.now.seen x p → WritesInOneGroup sizes p.objects x old new)
+  pub open_within : (is_silent command ≡ true → IsStill old new) → WorksOnDisks old new → (is_in_group command ≡ true → (p : PoolState) → HoldsState (Unit {0}) old.now.seen x p → WritesInOneGroup sizes p.objects x old new)
       → (is_resetting command ≡ true → (p : PoolState) → HoldsState (Unit {0}) old.now.seen x p → StopsInReset sizes p.objects command x old new)
       → (ends_no_removal (Some x) command ≡ true → (p : PoolState) → HoldsState (Unit {0}) old.now.seen x p → CancelsInPart sizes p.objects x old new) → Throughout Within old new
-  open_within nothing_done works writes resets returns = by_table (is_table command) refl
+  open_within nothing_done works writes resets returns = by_silent (is_silent command) refl
     where
       -- what was committed shows all the time
       still_shows : (objects : Objects) (q : PoolState) → before.behind ≡ Some objects → LeavesEither objects q.objects (disks_of old.now)
       still_shows objects q is = leaves_there objects q.objects old.now (first_of objects q.objects old.now (behind_shows sizes objects x old.now (stood objects is)))
 
-      nothing : is_table command ≡ false → ((objects : Objects) (q : PoolState) → before.behind ≡ Some objects → before.told.shelf ≡ Is q → may_stop before.account before.trees command ≡ true → ⊥) → Throughout Within old new
-      nothing off none = weaker _ Within old new (λ s _. record { tables = at_table s (λ on. no_way (sym off ∙ on)); shows = λ objects q is told group. absurd (none objects q is told group); opens = λ objects closed is. absurd (is_open closed); begins = λ first is. absurd (not_begun first is) }) (keeps_outside old new works).since
+      nothing : is_silent command ≡ false → ((objects : Objects) (q : PoolState) → before.behind ≡ Some objects → before.told.shelf ≡ Is q → may_stop before.account before.trees command ≡ true → ⊥) → Throughout Within old new
+      nothing off none = weaker _ Within old new (λ s _. record { tables = at_table s (λ on. no_way (sym off ∙ tables_silent command on)); shows = λ objects q is told group. absurd (none objects q is told group); opens = λ objects closed is. absurd (is_open closed); begins = λ first is. absurd (not_begun first is) }) (keeps_outside old new works).since
 
-      by_part : (o : Option Objects) (s : ShelfPart) → before.behind ≡ o → before.told.shelf ≡ s → is_table command ≡ false → ((objects : Objects) → before.behind ≡ Some objects → (p : PoolState) → before.told.shelf ≡ Is p → Throughout (ShowsEither objects p.objects) old new) → Throughout Within old new
+      by_part : (o : Option Objects) (s : ShelfPart) → before.behind ≡ o → before.told.shelf ≡ s → is_silent command ≡ false → ((objects : Objects) → before.behind ≡ Some objects → (p : PoolState) → before.told.shelf ≡ Is p → Throughout (ShowsEither objects p.objects) old new) → Throughout Within old new
       by_part None s is told off shown = nothing off (λ objects q also told_q on. none_some objects (sym is ∙ also))
       by_part (Some objects) (Is p) is told off shown =
           weaker (ShowsEither objects p.objects) Within old new
           (λ s shows. record {
-            tables = at_table s (λ on. no_way (sym off ∙ on));
+            tables = at_table s (λ on. no_way (sym off ∙ tables_silent command on));
             shows = λ all q also told_q on.
                 let first : objects ≡ all = (let both = sym is ∙ also in cc) in
                 let second : p ≡ q = (let both = sym told ∙ told_q in cc) in
@@ -557,32 +548,35 @@ module _ (old new : World) (before : DeviceState) (command : Command) (x y : Ope
       by_part (Some objects) (Refused r) is told off shown = nothing off (λ all q also told_q on. let both = sym told ∙ told_q in absurd cc)
 
       -- it may be stopped at any moment only where whoever reads a root is led where the pool is
-      may_be : may_stop before.account before.trees command ≡ true → (keeps_trees command || (none_gone before.account && (is_resetting command || ends_no_removal before.account command))) ≡ true
-      may_be may = and_second (is_readable before.account before.trees) (keeps_trees command || (none_gone before.account && (is_resetting command || ends_no_removal before.account command))) may
+      may_commit_so : is_silent command ≡ false → may_stop before.account before.trees command ≡ true → may_commit before.account before.trees command ≡ true
+      may_commit_so off may = or_first (is_silent command) (may_commit before.account before.trees command) off may
+
+      may_be : is_silent command ≡ false → may_stop before.account before.trees command ≡ true → (keeps_trees command || (none_gone before.account && (is_resetting command || ends_no_removal before.account command))) ≡ true
+      may_be off may = and_second (is_readable before.account before.trees) (keeps_trees command || (none_gone before.account && (is_resetting command || ends_no_removal before.account command))) (may_commit_so off may)
 
       there_of : none_gone before.account ≡ true → AreThere (devices_in x.space)
       there_of none = devices_there x (sym (ap none_gone account) ∙ none)
 
       -- where it keeps no trees, no device is gone
-      may_reset : keeps_trees command ≡ false → may_stop before.account before.trees command ≡ true → none_gone before.account ≡ true
-      may_reset off may = and_first (none_gone before.account) (is_resetting command || ends_no_removal before.account command) (or_first (keeps_trees command) (none_gone before.account && (is_resetting command || ends_no_removal before.account command)) off (may_be may))
+      may_reset : is_silent command ≡ false → keeps_trees command ≡ false → may_stop before.account before.trees command ≡ true → none_gone before.account ≡ true
+      may_reset silent off may = and_first (none_gone before.account) (is_resetting command || ends_no_removal before.account command) (or_first (keeps_trees command) (none_gone before.account && (is_resetting command || ends_no_removal before.account command)) off (may_be silent may))
 
-      by_return : (b : Bool) → ends_no_removal before.account command ≡ b → keeps_trees command ≡ false → is_resetting command ≡ false → is_table command ≡ false → Throughout Within old new
+      by_return : (b : Bool) → ends_no_removal before.account command ≡ b → keeps_trees command ≡ false → is_resetting command ≡ false → is_silent command ≡ false → Throughout Within old new
       by_return true on out none off = by_there (none_gone before.account) refl
         where
           by_there : (b : Bool) → none_gone before.account ≡ b → Throughout Within old new
           by_there true there =
               by_part before.behind before.told.shelf refl refl off
               (λ objects is p told. return_shows sizes objects p.objects x old (stood objects is) lawful (there_of there) new (returns (subst (λ (o : Option OpenPool). ends_no_removal o command ≡ true) account on) p (held p told)))
-          by_there false gone = nothing off (λ objects q is told may. no_way (sym gone ∙ may_reset out may))
+          by_there false gone = nothing off (λ objects q is told may. no_way (sym gone ∙ may_reset off out may))
       by_return false ends out none off =
-          nothing off (λ objects q is told may. no_way (sym ends ∙ or_first (is_resetting command) (ends_no_removal before.account command) none (and_second (none_gone before.account) (is_resetting command || ends_no_removal before.account command) (or_first (keeps_trees command) (none_gone before.account && (is_resetting command || ends_no_removal before.account command)) out (may_be may)))))
+          nothing off (λ objects q is told may. no_way (sym ends ∙ or_first (is_resetting command) (ends_no_removal before.account command) none (and_second (none_gone before.account) (is_resetting command || ends_no_removal before.account command) (or_first (keeps_trees command) (none_gone before.account && (is_resetting command || ends_no_removal before.account command)) out (may_be off may)))))
 
       -- a line that ends with a reset: it writes the trees of the streams, or no device is gone
-      resets_show : WillBeReadable old.now.seen x → StaysReadable x (WritesTold command x old) → is_resetting command ≡ true → is_table command ≡ false → Throughout Within old new
+      resets_show : WillBeReadable old.now.seen x → StaysReadable x (WritesTold command x old) → is_resetting command ≡ true → is_silent command ≡ false → Throughout Within old new
       resets_show will stays_so once off = by_part before.behind before.told.shelf refl refl off (λ objects is p told. stop_in_reset sizes objects p.objects x old (stood objects is) lawful command will stays_so new (resets once p (held p told)))
 
-      by_reset : (b : Bool) → is_resetting command ≡ b → WillBeReadable old.now.seen x → is_in_group command ≡ false → is_table command ≡ false → Throughout Within old new
+      by_reset : (b : Bool) → is_resetting command ≡ b → WillBeReadable old.now.seen x → is_in_group command ≡ false → is_silent command ≡ false → Throughout Within old new
       by_reset true once will out off = by_writing (is_writing_trees command) refl
         where
           told_so : is_writing_trees command ≡ true → WillBeReadable old.now.seen x → StaysReadable x (WritesTold command x old)
@@ -591,7 +585,7 @@ module _ (old new : World) (before : DeviceState) (command : Command) (x y : Ope
 
           by_there : is_writing_trees command ≡ false → (b : Bool) → none_gone before.account ≡ b → Throughout Within old new
           by_there other true there = resets_show will (inl (there_of there)) once off
-          by_there other false gone = nothing off (λ objects q is told may. no_way (sym gone ∙ may_reset (or_neither (is_writing_trees command) (is_in_group command) other out) may))
+          by_there other false gone = nothing off (λ objects q is told may. no_way (sym gone ∙ may_reset off (or_neither (is_writing_trees command) (is_in_group command) other out) may))
 
           by_writing : (b : Bool) → is_writing_trees command ≡ b → Throughout Within old new
           by_writing true writes_them = resets_show will (told_so writes_them will) once off
@@ -605,16 +599,16 @@ module _ (old new : World) (before : DeviceState) (command : Command) (x y : Ope
               by_writer true on = no_way (sym no_reset ∙ writing_resets command on)
               by_writer false is_none = is_none
 
-      by_group : (b : Bool) → is_in_group command ≡ b → WillBeReadable old.now.seen x → is_table command ≡ false → Throughout Within old new
+      by_group : (b : Bool) → is_in_group command ≡ b → WillBeReadable old.now.seen x → is_silent command ≡ false → Throughout Within old new
       by_group true group will off = by_part before.behind before.told.shelf refl refl off (λ objects is p told. writes_show sizes objects p.objects x old (stood objects is) lawful will new (writes group p (held p told)))
       by_group false out will off = by_reset (is_resetting command) refl will out off
 
-      by_readable : (b : Bool) → is_readable before.account before.trees ≡ b → is_table command ≡ false → Throughout Within old new
+      by_readable : (b : Bool) → is_readable before.account before.trees ≡ b → is_silent command ≡ false → Throughout Within old new
       by_readable true readable off = by_group (is_in_group command) refl (will_read readable) off
-      by_readable false gone off = nothing off (λ objects q is told may. no_way (sym gone ∙ and_first (is_readable before.account before.trees) (keeps_trees command || (none_gone before.account && (is_resetting command || ends_no_removal before.account command))) may))
+      by_readable false gone off = nothing off (λ objects q is told may. no_way (sym gone ∙ and_first (is_readable before.account before.trees) (keeps_trees command || (none_gone before.account && (is_resetting command || ends_no_removal before.account command))) (may_commit_so off may)))
 
-      by_table : (b : Bool) → is_table command ≡ b → Throughout Within old new
-      by_table true on =
+      by_silent : (b : Bool) → is_silent command ≡ b → Throughout Within old new
+      by_silent true on =
           weaker _ Within old new
           (λ s same. record {
             tables = at_table s (λ _. ap (λ (t : Stand). t.seen) same);
@@ -623,7 +617,7 @@ module _ (old new : World) (before : DeviceState) (command : Command) (x y : Ope
             begins = λ first is. absurd (not_begun first is);
           })
           (nothing_done on).since
-      by_table false off = by_readable (is_readable before.account before.trees) refl off
+      by_silent false off = by_readable (is_readable before.account before.trees) refl off
 
 -- ---- where none is open
 

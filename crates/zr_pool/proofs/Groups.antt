@@ -33,9 +33,9 @@ use Rattle.zr_sync.specs.declared.open.OpenPool.{OpenPool}
 use Rattle.zr_vdev.proofs.Follows.{others_itself}
 use Rattle.zr_vdev.specs.Stores.{IsWriteInto, KeepsOthers, is_open_role}
 use Rattle.zr_vdev.specs.declared.kind.Kind.TheVariants.{Block}
-use Rattle.zr_pool.specs.Behind.{StopsInOpening, ends_no_removal, ends_reset, is_acknowledged, is_commit, is_in_group, is_readable, is_resetting, is_return, is_writing_trees, may_stop, none_gone}
+use Rattle.zr_pool.specs.Behind.{StopsInOpening, ends_no_removal, ends_reset, is_acknowledged, is_commit, is_in_group, is_readable, is_resetting, is_return, is_silent, is_writing_trees, may_stop, none_gone}
 use Rattle.zr_pool.proofs.Working.{removal_works}
-use Rattle.zr_pool.specs.Plain.{is_copy, is_of_removal, is_untold_behind}
+use Rattle.zr_pool.specs.Plain.{is_background, is_of_removal, is_untold_behind}
 use Rattle.zr_pool.specs.Pools.{is_evacuating}
 use Rattle.zr_pool.specs.Turns.{is_on_objects, is_on_pool, is_opener, is_table}
 
@@ -86,6 +86,46 @@ opening_stops account trees cmd.Import on may = never (is_readable account trees
 opening_stops account trees cmd.ImportRewind on may = never (is_readable account trees) (none_gone account) may
 opening_stops account trees (cmd.ImportTxg txg) on may = never (is_readable account trees) (none_gone account) may
 opening_stops account trees command on may = no_way on
+
+-- ---- lines that write nothing
+
+pub silent_objects : (command : Command) → is_silent command ≡ true → is_on_objects command ≡ false
+silent_objects cmd.List on = refl
+silent_objects cmd.Status on = refl
+silent_objects cmd.Audit on = refl
+silent_objects (cmd.Estimate dev) on = refl
+silent_objects (cmd.Map index) on = refl
+silent_objects cmd.StepDiscard on = refl
+silent_objects cmd.StepCondense on = refl
+silent_objects command on = no_way on
+
+pub silent_pool : (command : Command) → is_silent command ≡ true → is_on_pool command ≡ true → command ≡ cmd.StepDiscard
+silent_pool cmd.List on pool = no_way pool
+silent_pool cmd.Status on pool = no_way pool
+silent_pool cmd.Audit on pool = no_way pool
+silent_pool (cmd.Estimate dev) on pool = no_way pool
+silent_pool (cmd.Map index) on pool = no_way pool
+silent_pool cmd.StepDiscard on pool = refl
+silent_pool cmd.StepCondense on pool = no_way pool
+silent_pool command on pool = no_way on
+
+pub silent_removal : (command : Command) → is_silent command ≡ true → is_of_removal command ≡ true → command ≡ cmd.StepCondense
+silent_removal cmd.List on removal = no_way removal
+silent_removal cmd.Status on removal = no_way removal
+silent_removal cmd.Audit on removal = no_way removal
+silent_removal (cmd.Estimate dev) on removal = no_way removal
+silent_removal (cmd.Map index) on removal = no_way removal
+silent_removal cmd.StepDiscard on removal = no_way removal
+silent_removal cmd.StepCondense on removal = refl
+silent_removal command on removal = no_way on
+
+pub tables_silent : (command : Command) → is_table command ≡ true → is_silent command ≡ true
+tables_silent cmd.List on = refl
+tables_silent cmd.Status on = refl
+tables_silent cmd.Audit on = refl
+tables_silent (cmd.Estimate dev) on = refl
+tables_silent (cmd.Map index) on = refl
+tables_silent command on = no_way on
 
 -- what a line wrote that makes no pool and does not go back is nothing
 pub opening_nothing : (sizes : List ℕ) (command : Command) (before now : World) → ((name : List ℕ) (guid : ℕ) (devs : List (List ℕ)) → command ≡ cmd.Create name guid devs → ⊥) → ((name : List ℕ) (guid : ℕ) (devs : List (List ℕ)) → command ≡ cmd.CreateOld name guid devs → ⊥) → (command ≡ cmd.ImportRewind → ⊥) → ((txg : ℕ) → command ≡ cmd.ImportTxg txg → ⊥)
@@ -281,23 +321,23 @@ table_stays tells x y before now same seen still = record {
       cache_leaves (Unit {0}) (Unit {0}) now.now.seen x y same (record { told = tt; read = seen.read }) there;
 }
 
--- ---- a step that copies
+-- ---- a step in the background
 
-pub copy_step : (command : Command) (answer : Reply) → is_copy command answer ≡ true → command ≡ cmd.StepEvac
-copy_step cmd.StepEvac answer is = refl
-copy_step command answer is = no_way is
+pub background_no_reset : (command : Command) (answer : Reply) → is_background command answer ≡ true → ends_reset answer command ≡ true → ⊥
+background_no_reset cmd.StepEvac (reply.Copied units) step on = no_way on
+background_no_reset cmd.StepEvac answer step on = no_way step
+background_no_reset cmd.StepCondense (reply.Kept entries) step on = no_way on
+background_no_reset cmd.StepCondense reply.Ended step on = no_way on
+background_no_reset cmd.StepCondense answer step on = no_way step
+background_no_reset command answer step on = no_way step
 
-pub copy_no_reset : (command : Command) (answer : Reply) → is_copy command answer ≡ true → ends_reset answer command ≡ true → ⊥
-copy_no_reset cmd.StepEvac (reply.Copied units) copy on = no_way on
-copy_no_reset cmd.StepEvac answer copy on = no_way copy
-copy_no_reset command answer copy on = no_way copy
-
-pub copy_no_commit : (command : Command) (answer : Reply) → is_copy command answer ≡ true → is_acknowledged answer command ≡ true → ⊥
-copy_no_commit cmd.StepEvac (reply.Copied units) copy is = no_way is
-copy_no_commit cmd.StepEvac answer copy is = no_way copy
-copy_no_commit command answer copy is = no_way copy
-
--- ---- a line that ends no removal, and may give one up
+pub background_no_commit : (command : Command) (answer : Reply) → is_background command answer ≡ true → is_acknowledged answer command ≡ true → ⊥
+background_no_commit cmd.StepEvac (reply.Copied units) step is = no_way is
+background_no_commit cmd.StepEvac answer step is = no_way step
+background_no_commit cmd.StepCondense (reply.Kept entries) step is = no_way is
+background_no_commit cmd.StepCondense reply.Ended step is = no_way is
+background_no_commit cmd.StepCondense answer step is = no_way step
+background_no_commit command answer step is = no_way step
 
 -- it is a line of a removal or of condensing, and none of the others
 pub record IsOfRemoval (command : Command) : Type 0 where
@@ -305,6 +345,13 @@ pub record IsOfRemoval (command : Command) : Type 0 where
   pub objects : is_on_objects command ≡ false
   pub table : is_table command ≡ false
   pub pool : is_on_pool command ≡ false
+
+pub background_removal : (command : Command) (answer : Reply) → is_background command answer ≡ true → IsOfRemoval command
+background_removal cmd.StepEvac answer is = record { removal = refl; objects = refl; table = refl; pool = refl }
+background_removal cmd.StepCondense answer is = record { removal = refl; objects = refl; table = refl; pool = refl }
+background_removal command answer is = no_way is
+
+-- ---- a line that ends no removal, and may give one up
 
 pub ends_none : (account : Option OpenPool) (command : Command) → ends_no_removal account command ≡ true → IsOfRemoval command
 ends_none account cmd.Cancel on = record { removal = refl; objects = refl; table = refl; pool = refl }

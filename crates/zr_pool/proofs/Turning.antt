@@ -159,8 +159,6 @@ module _ (old new : Stand) (told : Type 0) (y : OpenPool) (before : State) (is_o
   told_turns cmd.Export p answer shelf a on = absurd a
   told_turns cmd.StepEvac p (reply.No r) shelf a on = absurd on.step.0
   told_turns cmd.StepEvac p (reply.Gone i) shelf a on = untold_open old new told cmd.StepEvac y before (Is p) (reply.Gone i) is_open shelf a refl (is_untold_so (work_of y.space))
-  told_turns cmd.StepCondense p (reply.No r) shelf a on = absurd on
-  told_turns cmd.StepCondense p answer shelf a on = untold_open old new told cmd.StepCondense y before (Is p) answer is_open shelf a refl (is_untold_so (work_of y.space))
   told_turns command p (reply.No r) shelf a on = absurd on.step.0
   told_turns command p answer shelf a on = plain_open old new told command y before p answer is_open shelf on a refl (on.after, on.step, is_opened_so y on.after)
 

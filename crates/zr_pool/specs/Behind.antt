@@ -29,7 +29,7 @@ use Rattle.zr_sync.specs.Objects.{HoldsObjects}
 use Rattle.zr_sync.specs.Trees.{HasLastTrees, HasTrees}
 use Rattle.zr_sync.specs.Trees.Stage.{Had}
 use Rattle.zr_sync.specs.declared.open.OpenPool.{OpenPool}
-use Rattle.zr_pool.specs.Plain.{is_copy}
+use Rattle.zr_pool.specs.Plain.{is_background}
 use Rattle.zr_pool.specs.Pools.{DeviceState, is_evacuating, settled, stand_of}
 
 -- The lines that work in the group that is open, or end it by a commit: those on objects, tables, `step discard`, `sync` and `export`.
@@ -142,10 +142,25 @@ none_gone (Some pool) = all_there pool.space.parts.devs
 abbrev pub is_readable : Option OpenPool → Bool → Bool
 is_readable account trees = none_gone account || trees
 
--- What a crash shows is told at each moment of the line, by whether the trees of the streams are told to stand there: it works in the group that is open, or commits it, or writes the trees. Where no device is gone
--- it may be any that ends with a reset, or one of a removal or of condensing that ends no removal.
+-- the lines that write nothing on a disk: the tables, and the steps of discarding and of condensing
+abbrev pub is_silent : Command → Bool
+is_silent cmd.List = true
+is_silent cmd.Status = true
+is_silent cmd.Audit = true
+is_silent (cmd.Estimate dev) = true
+is_silent (cmd.Map index) = true
+is_silent cmd.StepDiscard = true
+is_silent cmd.StepCondense = true
+is_silent _ = false
+
+-- The line is told to commit nothing that cannot be read: it works in the group that is open, or commits it, or writes the trees of the streams. Where no device is gone it may be any that ends with a reset, or one of a removal that
+-- ends none.
+abbrev pub may_commit : Option OpenPool → Bool → Command → Bool
+may_commit account trees command = is_readable account trees && (keeps_trees command || (none_gone account && (is_resetting command || ends_no_removal account command)))
+
+-- What a crash shows is told at each moment of the line, by whether the trees of the streams are told to stand there: it writes nothing, or commits nothing that cannot be read.
 abbrev pub may_stop : Option OpenPool → Bool → Command → Bool
-may_stop account trees command = is_readable account trees && (keeps_trees command || (none_gone account && (is_resetting command || ends_no_removal account command)))
+may_stop account trees command = is_silent command || may_commit account trees command
 
 -- The line stayed in one group: it did nothing to the disks, or wrote units of the group that is open, or of the next one behind a commit of that.
 abbrev pub StaysTold : List ℕ → Objects → OpenPool → OpenPool → World → World → Type 0
@@ -228,9 +243,9 @@ is_acknowledged (reply.Synced txg) cmd.Sync = true
 is_acknowledged reply.Done cmd.Export = true
 is_acknowledged answer command = false
 
--- The line leaves it told which objects were committed last: it works in the group that is open, copies units, or is refused.
+-- The line leaves it told which objects were committed last: it works in the group that is open, does a step in the background, or is refused.
 abbrev pub leaves_told : Option OpenPool → Reply → Command → Bool
-leaves_told (Some pool) answer command = is_refusal answer || (is_in_group command || is_copy command answer)
+leaves_told (Some pool) answer command = is_refusal answer || (is_in_group command || is_background command answer)
 leaves_told None answer command = is_refusal answer
 
 -- the pool that is told has these objects

@@ -117,15 +117,16 @@ is_of_removal cmd.StepEvac = true
 is_of_removal cmd.StepCondense = true
 is_of_removal command = false
 
--- the answer tells of units of a device that is leaving that were copied, into units that were free
-abbrev pub is_copy : Command → Reply → Bool
-is_copy cmd.StepEvac (reply.Copied units) = true
-is_copy command answer = false
+-- A step in the background was done that commits nothing: units of a device that is leaving were copied, into units that were free, or entries of a mapping were worked through.
+abbrev pub is_background : Command → Reply → Bool
+is_background cmd.StepEvac (reply.Copied units) = true
+is_background cmd.StepCondense (reply.Kept entries) = true
+is_background cmd.StepCondense reply.Ended = true
+is_background command answer = false
 
--- What the objects are behind the line is not told yet: a device is gone, or a mapping was condensed.
+-- What the objects are behind the line is not told yet: a device is gone.
 abbrev pub is_untold_behind : Command → Reply → Bool
 is_untold_behind cmd.StepEvac (reply.Gone i) = true
-is_untold_behind cmd.StepCondense answer = true
 is_untold_behind command answer = false
 
 -- What a line makes of the objects of an open pool: an export closes it, behind some steps of a removal nothing is told of them, and all else that is done is a step of plain objects.

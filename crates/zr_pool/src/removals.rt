@@ -1,7 +1,8 @@
 //! The lines of a removal, and of condensing a mapping.
 //!
-//! Each goes to its call. A removal that begins or is given up and a step that copies leave the objects as they are. What the
-//! devices hold of them behind any other that is done is not told yet; a line that is refused changes nothing.
+//! Each goes to its call. A removal that begins or is given up, a step that copies, and one of condensing leave the objects as
+//! they are. What the devices hold of them behind a step that ends a removal is not told yet; a line that is refused changes
+//! nothing.
 ghost use Rattle.std.specs.Prelude.{◌≡◌, ◌≤◌, ◌<◌, ◌*◌, ℕ, List, Some, true, false, length, IfOk, IfErr, OnOk, IsErrOf};
 ghost use Rattle.zr_base.specs.Counts.{HasRisen};
 ghost use Rattle.zr_base.specs.declared.refusal.Refusal.{Refusal};
@@ -16,14 +17,16 @@ ghost use Rattle.zr_removal.specs.Devices.{IsDeviceOn, IsOnlyOne, copy_pieces};
 ghost use Rattle.zr_removal.specs.Refusals.{HasNoRemoval};
 ghost use Rattle.zr_removal.specs.Turns.{CancelsInPart};
 ghost use Rattle.zr_rules.specs.Places.{part_of, state_of_dev};
+ghost use Rattle.zr_script.specs.declared.command.Command.TheVariants.{StepCondense};
 ghost use Rattle.zr_shelf.specs.Counts.{NoneFell};
+ghost use Rattle.zr_shelf.specs.Moments.{IsStill};
 ghost use Rattle.zr_sync.specs.Pools.{IsOpen};
 ghost use Rattle.zr_sync.specs.States.{HasCheckpoint, HoldsState};
 ghost use Rattle.zr_sync.specs.Writes.{WorksOnDisks, WritesIntoFree};
 ghost use Rattle.zr_sync.specs.declared.fault.Fault.TheVariants.{No, Stops};
 ghost use Rattle.zr_sync.specs.declared.stop.Stop.TheVariants.{DiskFault};
 ghost use Rattle.zr_pool.specs.Behind.{HasReset, StopsInReset, ends_no_removal, is_resetting, is_return};
-ghost use Rattle.zr_pool.specs.Plain.{IsCheckpointCause, IsDone, IsPlainOf, IsPlainRefusal, is_copy, is_of_removal, is_untold_behind};
+ghost use Rattle.zr_pool.specs.Plain.{IsCheckpointCause, IsDone, IsPlainOf, IsPlainRefusal, is_background, is_of_removal, is_untold_behind};
 ghost use Rattle.zr_pool.specs.Accounts.{IsRemovable, IsRemovalCause, Refuses, Turns};
 ghost use Rattle.zr_pool.specs.Replies.{TellsFault, condense_reply, evac_reply};
 ghost use Rattle.zr_pool.specs.Turns.{IsOpenAnswer, IsOpenRefusal, IsRemoveRefusal};
@@ -133,7 +136,8 @@ pub fn removal_line<S: Shelf>(
     ensures acts { (p : PoolState) → HoldsState (S.tells shelf.old) (S.world shelf.old).now.seen pool.old p → IfOk result (IsPlainOf (HoldsState (S.tells shelf.new) (S.world shelf.new).now.seen pool.new) p command.now) }
     ensures cause { (p : PoolState) → HoldsState (S.tells shelf.old) (S.world shelf.old).now.seen pool.old p → (r : Refusal) → IsErrOf result (No r) → IsPlainRefusal p command.now r }
     ensures shown { S.tells shelf.old → IfOk result (λ reply. is_untold_behind command.now reply ≡ false → KeepsLast (S.world shelf.old) (S.world shelf.new) pool.old pool.new) }
-    ensures copies { S.tells shelf.old → IfOk result (λ reply. is_copy command.now reply ≡ true → WritesIntoFree pool.old (S.world shelf.old) (S.world shelf.new) × OpensNoUnit pool.old pool.new) }
+    ensures background { S.tells shelf.old → IfOk result (λ reply. is_background command.now reply ≡ true → WritesIntoFree pool.old (S.world shelf.old) (S.world shelf.new) × OpensNoUnit pool.old pool.new) }
+    ensures still { command.now ≡ StepCondense → IsStill (S.world shelf.old) (S.world shelf.new) }
     ensures comes_back { (p : PoolState) → HoldsState (S.tells shelf.old) (S.world shelf.old).now.seen pool.old p → IfOk result (λ reply. is_return reply command.now ≡ true → HasReset pool.new (S.world shelf.new).now p.objects) }
     ensures resets { is_resetting command.now ≡ true → (p : PoolState) → HoldsState (S.tells shelf.old) (S.world shelf.old).now.seen pool.old p → OnOk result (HasReset pool.new (S.world shelf.new).now p.objects) }
     ensures stops_reset { is_resetting command.now ≡ true → (p : PoolState) → HoldsState (S.tells shelf.old) (S.world shelf.old).now.seen pool.old p → StopsInReset (S.sizes shelf.old) p.objects command.now pool.old (S.world shelf.old) (S.world shelf.new) }

@@ -7,7 +7,7 @@ use Rattle.zr_model.specs.Objects.{Objects}
 use Rattle.zr_model.specs.Runs.{Shelf}
 use Rattle.zr_model.specs.State.{State, PoolState, ShelfPart, Empty, Refused, Is, created}
 use Rattle.zr_pool.specs.Behind.{TellsOf, begun_behind, is_acknowledged, is_create, is_in_group, is_known, is_refusal, leaves_told, are_there, ends_reset}
-use Rattle.zr_pool.specs.Plain.{IsObjectsTurn, IsPlainTurn, is_copy}
+use Rattle.zr_pool.specs.Plain.{IsObjectsTurn, IsPlainTurn, is_background}
 use Rattle.zr_pool.specs.Pools.{DeviceState}
 use Rattle.zr_pool.specs.Turns.{IsClosedAnswer, IsOpenAnswer, IsTurn}
 use Rattle.zr_script.specs.declared.command.Command.{Command}
@@ -87,8 +87,8 @@ one_of false true c is = inl refl
 one_of false false c is = inr (inl is)
 
 -- a line that leaves it told which objects were committed last works in the group, copies units, or is refused
-pub leaves_small : (account : Option OpenPool) (answer : Reply) (command : Command) → leaves_told account answer command ≡ true → (is_in_group command ≡ true) ⊎ ((is_copy command answer ≡ true) ⊎ (is_refusal answer ≡ true))
-leaves_small (Some pool) answer command leaves = one_of (is_refusal answer) (is_in_group command) (is_copy command answer) leaves
+pub leaves_small : (account : Option OpenPool) (answer : Reply) (command : Command) → leaves_told account answer command ≡ true → (is_in_group command ≡ true) ⊎ ((is_background command answer ≡ true) ⊎ (is_refusal answer ≡ true))
+leaves_small (Some pool) answer command leaves = one_of (is_refusal answer) (is_in_group command) (is_background command answer) leaves
 leaves_small None answer command leaves = inr (inr leaves)
 
 -- a refusal acknowledges nothing

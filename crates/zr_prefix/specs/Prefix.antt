@@ -7,7 +7,7 @@ use Rattle.zr_model.specs.Objects.{Objects}
 use Rattle.zr_model.specs.Runs.{Point, Turn, end_of}
 use Rattle.zr_model.specs.State.{PoolState, Is}
 use Rattle.zr_open.specs.Shown.{Shows}
-use Rattle.zr_pool.specs.Plain.{is_copy}
+use Rattle.zr_pool.specs.Plain.{is_background}
 use Rattle.zr_pool.specs.Behind.{IsOfBeginning, OpensTo, Showed, TellsOf, is_acknowledged, is_in_group, is_refusal, may_stop}
 use Rattle.zr_pool.specs.Pools.{DeviceState, stand_of}
 use Rattle.zr_script.specs.declared.command.Command.{Command}
@@ -18,7 +18,7 @@ IsTold p = (is_some p.state.behind ≡ true) ⊎ (is_some p.state.begun ≡ true
 
 -- A stop may lose the line: it works in the group that is open, copied units, or was refused, and its answer acknowledges no commit.
 pub record MayBeLost (t : Turn DeviceState) : Type 0 where
-  pub small : (is_in_group t.command ≡ true) ⊎ ((is_copy t.command t.answer ≡ true) ⊎ (is_refusal t.answer ≡ true))
+  pub small : (is_in_group t.command ≡ true) ⊎ ((is_background t.command t.answer ≡ true) ⊎ (is_refusal t.answer ≡ true))
   pub unacknowledged : is_acknowledged t.answer t.command ≡ false
 
 -- These objects are told behind a prefix of the lines, and a stop may lose each line behind it.

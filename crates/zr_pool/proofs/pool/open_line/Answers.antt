@@ -8,7 +8,7 @@ use Rattle.zr_vdev.specs.Stores.{IsWriteInto}
 use Rattle.zr_vdev.specs.declared.kind.Kind.TheVariants.{Block}
 use Rattle.zr_lines.proofs.Stopping.{in_group_itself}
 use Rattle.zr_pool.proofs.Trees.{removal_writes_none}
-use Rattle.zr_pool.proofs.Groups.{commit_alone, commits_in_group, copy_step, ends_none, none_of_them, not_of_removal, not_opener, no_way, opens_no_reset, pool_commits, refused_stays, resets_elsewhere, resets_somewhere, return_elsewhere, same_world}
+use Rattle.zr_pool.proofs.Groups.{commit_alone, commits_in_group, background_removal, ends_none, none_of_them, not_of_removal, not_opener, no_way, opens_no_reset, pool_commits, refused_stays, resets_elsewhere, resets_somewhere, return_elsewhere, same_world, silent_objects, silent_pool, silent_removal}
 use Rattle.zr_pool.proofs.Leavings.{opener_refused}
 use Rattle.zr_pool.proofs.Refused.{fault_same}
 use Rattle.zr_pool.proofs.Shown.{same_root, still_last}
@@ -110,17 +110,37 @@ returns-in_err-removal_line-clause-shown_no g c = λ told r is.
     let was = c.in_err-removal_line.was ∙ ap Err e in
     still_last (g.S.Shelf.world c.args.shelf.now) (g.S.Shelf.world c.removal_line.new.shelf) c.args.pool.now c.removal_line.new.pool (same_root c.args.pool.now c.removal_line.new.pool (c.removal_line.ensures.unchanged r was)) (ap (λ (w : World). w.now.seen) (c.removal_line.ensures.untouched r was))
 
+-- ---- lines that write nothing
+
+pub returns-then-is_on_objects-clause-still : goal.returns-then-is_on_objects-clause-still
+returns-then-is_on_objects-clause-still g c = λ told on. no_way (sym (silent_objects _ on) ∙ (sym c.is_on_objects.ensures ∙ c.if-is_on_objects.true))
+
 pub returns-in_err-object_line-clause-still : goal.returns-in_err-object_line-clause-still
-returns-in_err-object_line-clause-still g c = λ told table off. absurd (let on = sym c.is_on_objects.ensures ∙ c.if-is_on_objects.true in let both = sym on ∙ off in cc)
+returns-in_err-object_line-clause-still g c = λ told on. no_way (sym (silent_objects _ on) ∙ (sym c.is_on_objects.ensures ∙ c.if-is_on_objects.true))
+
+pub returns-then-is_table-clause-still : goal.returns-then-is_table-clause-still
+returns-then-is_table-clause-still g c = λ told on. c.table_line.ensures.still told
 
 pub returns-in_err-table_line-clause-still : goal.returns-in_err-table_line-clause-still
-returns-in_err-table_line-clause-still g c = λ told table off. c.table_line.ensures.still told
+returns-in_err-table_line-clause-still g c = λ told on. c.table_line.ensures.still told
+
+pub returns-then-is_on_pool-clause-still : goal.returns-then-is_on_pool-clause-still
+returns-then-is_on_pool-clause-still g c = λ told on. c.pool_line.ensures.still (silent_pool _ on (sym c.is_on_pool.ensures ∙ c.if-is_on_pool.true))
 
 pub returns-in_err-pool_line-clause-still : goal.returns-in_err-pool_line-clause-still
-returns-in_err-pool_line-clause-still g c = λ told table off. absurd (let none = sym c.is_table.ensures ∙ c.if-is_table.false in let both = sym none ∙ table in cc)
+returns-in_err-pool_line-clause-still g c = λ told on. c.pool_line.ensures.still (silent_pool _ on (sym c.is_on_pool.ensures ∙ c.if-is_on_pool.true))
+
+pub returns-then-is_of_removal-clause-still : goal.returns-then-is_of_removal-clause-still
+returns-then-is_of_removal-clause-still g c = λ told on. c.removal_line.ensures.still (silent_removal _ on (sym c.is_of_removal.ensures ∙ c.if-is_of_removal.true))
 
 pub returns-in_err-removal_line-clause-still : goal.returns-in_err-removal_line-clause-still
-returns-in_err-removal_line-clause-still g c = λ told table off. absurd (let none = sym c.is_table.ensures ∙ c.if-is_table.false in let both = sym none ∙ table in cc)
+returns-in_err-removal_line-clause-still g c = λ told on. c.removal_line.ensures.still (silent_removal _ on (sym c.is_of_removal.ensures ∙ c.if-is_of_removal.true))
+
+pub returns-then-is_opener-clause-still : goal.returns-then-is_opener-clause-still
+returns-then-is_opener-clause-still g c = λ told on. same_world (g.S.Shelf.world c.args.shelf.now) (g.S.Shelf.world c.args.shelf.now) refl
+
+pub returns-clause-still : goal.returns-clause-still
+returns-clause-still g c = λ told on. same_world (g.S.Shelf.world c.args.shelf.now) (g.S.Shelf.world c.args.shelf.now) refl
 
 -- ---- one group
 
@@ -255,14 +275,14 @@ returns-clause-stops_reset g c = λ on p h. absurd (resets_somewhere c.args.comm
 
 -- ---- what copies is a step of a removal
 
-pub returns-then-is_on_objects-clause-copies : goal.returns-then-is_on_objects-clause-copies
-returns-then-is_on_objects-clause-copies g c = λ told copy. no_way (subst (λ (k : Command). is_on_objects k ≡ true) (copy_step _ _ copy) (sym c.is_on_objects.ensures ∙ c.if-is_on_objects.true))
+pub returns-then-is_on_objects-clause-background : goal.returns-then-is_on_objects-clause-background
+returns-then-is_on_objects-clause-background g c = λ told step. no_way (sym (background_removal _ _ step).objects ∙ (sym c.is_on_objects.ensures ∙ c.if-is_on_objects.true))
 
-pub returns-then-is_table-clause-copies : goal.returns-then-is_table-clause-copies
-returns-then-is_table-clause-copies g c = λ told copy. no_way (subst (λ (k : Command). is_table k ≡ true) (copy_step _ _ copy) (sym c.is_table.ensures ∙ c.if-is_table.true))
+pub returns-then-is_table-clause-background : goal.returns-then-is_table-clause-background
+returns-then-is_table-clause-background g c = λ told step. no_way (sym (background_removal _ _ step).table ∙ (sym c.is_table.ensures ∙ c.if-is_table.true))
 
-pub returns-then-is_on_pool-clause-copies : goal.returns-then-is_on_pool-clause-copies
-returns-then-is_on_pool-clause-copies g c = λ told copy. no_way (subst (λ (k : Command). is_on_pool k ≡ true) (copy_step _ _ copy) (sym c.is_on_pool.ensures ∙ c.if-is_on_pool.true))
+pub returns-then-is_on_pool-clause-background : goal.returns-then-is_on_pool-clause-background
+returns-then-is_on_pool-clause-background g c = λ told step. no_way (sym (background_removal _ _ step).pool ∙ (sym c.is_on_pool.ensures ∙ c.if-is_on_pool.true))
 
 -- ---- a line that ends no removal is one of a removal, or of condensing
 

@@ -2,6 +2,7 @@ use Rattle.std.proofs.Common.{◌≡◌, ◌∙◌, inl, inr, true, false, map, 
 use Rattle.std.proofs.lemmas.Result.{err_from_is_err_and}
 use Rattle.zr_base.specs.declared.refusal.Refusal.{Refusal}
 use Rattle.zr_moves.specs.Answers.{leave_at, with_devs}
+use Rattle.zr_removal.proofs.Condensed.{step_keeps}
 use Rattle.zr_removal.specs.Refusals.{IsRemoveRefusal}
 use Rattle.zr_script.specs.declared.command.Command.{Command}
 use Rattle.zr_script.specs.declared.command.Command.TheVariants as cmd
@@ -10,23 +11,24 @@ use Rattle.zr_script.specs.declared.reply.Reply.TheVariants as reply
 use Rattle.zr_pool.specs.Accounts.{IsRemovable, IsRemovalCause, Refuses, TakesAway, Turns}
 use Rattle.zr_sync.proofs.Leading.{untold}
 use Rattle.zr_sync.specs.States.{HoldsState}
+use Rattle.zr_last.proofs.Lasting.{same_last}
 use Rattle.zr_last.specs.Last.{KeepsRoot}
 use Rattle.zr_lines.specs.Stops.{OpensNoUnit}
 use Rattle.zr_sync.specs.Writes.{WritesIntoFree}
 use Rattle.zr_sync.specs.declared.open.OpenPool.{OpenPool}
 use Rattle.zr_pool.specs.Behind.{HasReset, WritesTold, ends_no_removal, is_resetting, is_return, is_writing_trees}
-use Rattle.zr_pool.specs.Plain.{IsDone, IsPlainOf, is_copy, is_untold_behind}
+use Rattle.zr_pool.specs.Plain.{IsPlainOf, is_background, is_untold_behind}
 use Rattle.zr_pool.specs.Replies.{TellsFault}
-use Rattle.zr_pool.proofs.Acting.{back_ckpt, condense_done, condense_no_return, evac_acts, evac_copies, evac_returns, evac_shows, removed_as}
+use Rattle.zr_pool.proofs.Acting.{back_ckpt, condense_acts, condense_no_return, condensed_root, evac_acts, evac_copies, evac_returns, evac_shows, removed_as}
 use Rattle.zr_pool.proofs.Blaming.{step_blames}
-use Rattle.zr_pool.proofs.Groups.{left_to_copy, no_way}
-use Rattle.zr_pool.proofs.Staying.{same_state}
+use Rattle.zr_pool.proofs.Groups.{left_to_copy, no_way, same_world}
+use Rattle.zr_pool.proofs.Staying.{same_state, told_anew}
 use Rattle.zr_pool.proofs.Leavings.{back_told, begins_told, condense_turn, evac_turn, evacuates_told, refusal_same, removal_more}
 use Rattle.zr_pool.proofs.Refused.{fault_same}
 use Rattle.zr_pool.proofs.Resets.{begun}
 use Rattle.zr_shelf.proofs.Doings.{writes_nothing}
 use Rattle.zr_shelf.proofs.Runs.{still}
-use Rattle.zr_vdev.specs.Stores.{IsWriteInto}
+use Rattle.zr_vdev.specs.Stores.{IsWriteInto, is_open_role}
 use Rattle.zr_vdev.specs.declared.kind.Kind.TheVariants.{Block}
 use Rattle.zr_pool.proofs.removals.removal_line.Goals as goal
 
@@ -213,8 +215,17 @@ returns-in_ok-step_evac-in-StepEvac-clause-acts g c = λ p h.
 pub returns-in_ok-step_condense-in-StepCondense-clause-acts : goal.returns-in_ok-step_condense-in-StepCondense-clause-acts
 returns-in_ok-step_condense-in-StepCondense-clause-acts g c = λ p h.
     let shelf = c.args.shelf.now in
-    subst (λ (command : Command). IsPlainOf (HoldsState (g.S.Shelf.tells shelf) (g.S.Shelf.world shelf).now.seen c.step_condense.new.pool) p command c.condense_reply.result) (sym c.in-StepCondense.is)
-    (subst IsDone (sym c.condense_reply.ensures) (condense_done c.in_ok-step_condense-in-StepCondense.field-0))
+    let tells = g.S.Shelf.tells shelf in
+    let disks = (g.S.Shelf.world shelf).now.seen in
+    let x = c.args.pool.now in
+    let y = c.step_condense.new.pool in
+    let Holds = HoldsState tells disks y in
+    let done = c.in_ok-step_condense-in-StepCondense.field-0 in
+    let step = c.in_ok-step_condense-in-StepCondense.ensures in
+    let ckpt = (step_keeps x.space y.space done step.condenses.mapping.step).ckpt in
+    let holds = told_anew (Unit {0}) tells disks y p h.objects.held.told (same_state (Unit {0}) disks x y p p h.checkpoint ckpt refl refl (step.objects disks p.objects (untold tells disks x p.objects h.objects))) in
+    subst (λ (command : Command). IsPlainOf Holds p command c.condense_reply.result) (sym c.in-StepCondense.is)
+    (subst (λ (answer : Reply). IsPlainOf Holds p cmd.StepCondense answer) (sym c.condense_reply.ensures) (condense_acts Holds p done holds))
 
 -- ---- what the disks show
 
@@ -230,7 +241,8 @@ returns-in_ok-step_evac-in-StepEvac-clause-shown g c = λ told off.
     (subst (λ (answer : Reply). is_untold_behind cmd.StepEvac answer ≡ false) c.evac_reply.ensures (subst (λ (command : Command). is_untold_behind command c.evac_reply.result ≡ false) c.in-StepEvac.is off))
 
 pub returns-in_ok-step_condense-in-StepCondense-clause-shown : goal.returns-in_ok-step_condense-in-StepCondense-clause-shown
-returns-in_ok-step_condense-in-StepCondense-clause-shown g c = λ told off. no_way (sym (subst (λ (command : Command). is_untold_behind command c.condense_reply.result ≡ false) c.in-StepCondense.is off))
+returns-in_ok-step_condense-in-StepCondense-clause-shown g c = λ told off h.
+    same_last (g.S.Shelf.world c.args.shelf.now).now.seen c.args.pool.now c.step_condense.new.pool (condensed_root c.args.pool.now c.step_condense.new.pool c.in_ok-step_condense-in-StepCondense.field-0 c.in_ok-step_condense-in-StepCondense.ensures.condenses) h
 
 pub returns-in_ok-remove-in-Remove-clause-resets : goal.returns-in_ok-remove-in-Remove-clause-resets
 returns-in_ok-remove-in-Remove-clause-resets g c = λ on p h.
@@ -270,16 +282,16 @@ returns-in_ok-step_evac-in-StepEvac-clause-comes_back g c = λ p h on.
 pub returns-in_ok-step_condense-in-StepCondense-clause-comes_back : goal.returns-in_ok-step_condense-in-StepCondense-clause-comes_back
 returns-in_ok-step_condense-in-StepCondense-clause-comes_back g c = λ p h on. absurd (condense_no_return c.in_ok-step_condense-in-StepCondense.field-0 c.args.command.now (subst (λ (answer : Reply). is_return answer c.args.command.now ≡ true) c.condense_reply.ensures on))
 
--- ---- a step that copies
+-- ---- a step in the background
 
-pub returns-in_ok-remove-in-Remove-clause-copies : goal.returns-in_ok-remove-in-Remove-clause-copies
-returns-in_ok-remove-in-Remove-clause-copies g c = λ told on. no_way (subst (λ (command : Command). is_copy command reply.Done ≡ true) c.in-Remove.is on)
+pub returns-in_ok-remove-in-Remove-clause-background : goal.returns-in_ok-remove-in-Remove-clause-background
+returns-in_ok-remove-in-Remove-clause-background g c = λ told on. no_way (subst (λ (command : Command). is_background command reply.Done ≡ true) c.in-Remove.is on)
 
-pub returns-in_ok-cancel-in-Cancel-clause-copies : goal.returns-in_ok-cancel-in-Cancel-clause-copies
-returns-in_ok-cancel-in-Cancel-clause-copies g c = λ told on. no_way (subst (λ (command : Command). is_copy command (reply.Cancelled c.in_ok-cancel-in-Cancel.field-0) ≡ true) c.in-Cancel.is on)
+pub returns-in_ok-cancel-in-Cancel-clause-background : goal.returns-in_ok-cancel-in-Cancel-clause-background
+returns-in_ok-cancel-in-Cancel-clause-background g c = λ told on. no_way (subst (λ (command : Command). is_background command (reply.Cancelled c.in_ok-cancel-in-Cancel.field-0) ≡ true) c.in-Cancel.is on)
 
-pub returns-in_ok-step_evac-in-StepEvac-clause-copies : goal.returns-in_ok-step_evac-in-StepEvac-clause-copies
-returns-in_ok-step_evac-in-StepEvac-clause-copies g c = λ told on.
+pub returns-in_ok-step_evac-in-StepEvac-clause-background : goal.returns-in_ok-step_evac-in-StepEvac-clause-background
+returns-in_ok-step_evac-in-StepEvac-clause-background g c = λ told on.
     let step = c.in_ok-step_evac-in-StepEvac.ensures in
     let x = c.args.pool.now in
     let y = c.step_evac.new.pool in
@@ -287,10 +299,20 @@ returns-in_ok-step_evac-in-StepEvac-clause-copies g c = λ told on.
     (λ n is. let rest = step.rest n is in
     let root : KeepsRoot x y = record { last = ap (λ (p : OpenPool). p.last) rest; guid = ap (λ (p : OpenPool). p.guid) rest; table = ap (λ (p : OpenPool). p.table) rest } in
     (step.written told n is, record { root = root; units = step.opens n is }))
-    (subst (λ (answer : Reply). is_copy cmd.StepEvac answer ≡ true) c.evac_reply.ensures (subst (λ (command : Command). is_copy command c.evac_reply.result ≡ true) c.in-StepEvac.is on))
+    (subst (λ (answer : Reply). is_background cmd.StepEvac answer ≡ true) c.evac_reply.ensures (subst (λ (command : Command). is_background command c.evac_reply.result ≡ true) c.in-StepEvac.is on))
 
-pub returns-in_ok-step_condense-in-StepCondense-clause-copies : goal.returns-in_ok-step_condense-in-StepCondense-clause-copies
-returns-in_ok-step_condense-in-StepCondense-clause-copies g c = λ told on. no_way (subst (λ (command : Command). is_copy command c.condense_reply.result ≡ true) c.in-StepCondense.is on)
+pub returns-in_ok-step_condense-in-StepCondense-clause-background : goal.returns-in_ok-step_condense-in-StepCondense-clause-background
+returns-in_ok-step_condense-in-StepCondense-clause-background g c = λ told on.
+    let x = c.args.pool.now in
+    let y = c.step_condense.new.pool in
+    let step = c.in_ok-step_condense-in-StepCondense.ensures in
+    (writes_nothing (IsWriteInto Block x.table.slots x.space) (g.S.Shelf.world c.args.shelf.now), record { root = condensed_root x y c.in_ok-step_condense-in-StepCondense.field-0 step.condenses; units = λ d u is. ap is_open_role (sym (step.roles d u)) ∙ is })
+
+pub returns-in_ok-step_condense-in-StepCondense-clause-still : goal.returns-in_ok-step_condense-in-StepCondense-clause-still
+returns-in_ok-step_condense-in-StepCondense-clause-still g c = λ step. same_world (g.S.Shelf.world c.args.shelf.now) (g.S.Shelf.world c.args.shelf.now) refl
+
+pub returns-in_err-step_condense-in-StepCondense-clause-still : goal.returns-in_err-step_condense-in-StepCondense-clause-still
+returns-in_err-step_condense-in-StepCondense-clause-still g c = λ step. same_world (g.S.Shelf.world c.args.shelf.now) (g.S.Shelf.world c.args.shelf.now) refl
 
 -- ---- a removal that begins, wherever it stops
 

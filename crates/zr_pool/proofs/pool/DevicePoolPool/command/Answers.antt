@@ -22,7 +22,7 @@ use Rattle.zr_pool.proofs.Trees.{closed_standing, made_standing, open_standing}
 use Rattle.zr_pool.proofs.Turning.{closed_turns, open_turns, left_of}
 use Rattle.zr_base.specs.declared.refusal.Refusal.TheVariants as refusal
 use Rattle.zr_script.specs.declared.command.Command.TheVariants.{Sync}
-use Rattle.zr_pool.proofs.Behind.{closed_behinds, closed_within, off_objects, open_behinds, open_within}
+use Rattle.zr_pool.proofs.Behind.{closed_behinds, closed_within, open_behinds, open_within}
 use Rattle.zr_pool.proofs.Groups.{writing_resets}
 use Rattle.zr_pool.proofs.Outside.{keeps_outside}
 use Rattle.zr_pool.proofs.pool.DevicePoolPool.command.Goals.{then-is_closing+in-Some-1, then-is_closing+in-None-1, else-is_closing}
@@ -91,7 +91,7 @@ returns-clause-step g c = λ told paths before stood.
     (λ p held writes. on_ok_weaker r (λ (ends : EndsReset command x y p.objects (g.S.Shelf.world shelf) (g.S.Shelf.world c.open_line-done.new.shelf)). ends.moves writes) (c.open_line-done.ensures.resets (writing_resets command writes.0) p (told_anew (Unit {0}) (g.S.Shelf.tells shelf) old.seen x p told held)))
     (λ group p held. c.open_line-done.ensures.one_group group p (told_anew (Unit {0}) (g.S.Shelf.tells shelf) old.seen x p told held))
     (λ p held. c.open_line-done.ensures.one_group_no p (told_anew (Unit {0}) (g.S.Shelf.tells shelf) old.seen x p told held))
-    (c.open_line-done.ensures.copies told)
+    (c.open_line-done.ensures.background told)
     (λ ends p held. c.open_line-done.ensures.commits ends p (told_anew (Unit {0}) (g.S.Shelf.tells shelf) old.seen x p told held)) in
     let standing_part = subst (λ (b : Bool). IfOk (answer_of r) (λ found. IfSome found (λ answer. is_standing b before.told.shelf before.trees command answer ≡ true → AreStanding (left_of (is_closing command r) y) new.seen))) (sym there.is_open)
     (open_standing (g.S.Shelf.sizes shelf) (g.S.Shelf.world shelf) (g.S.Shelf.world c.open_line-done.new.shelf) before.told.shelf before.trees command x y there.part (λ stands. subst (λ (o : Option OpenPool). AreStanding o old.seen) c.in-Some.is (stood.trees stands)) r c.open_line-done.ensures.done
@@ -135,7 +135,7 @@ returns-clause-moments g c = λ told paths before stood.
     let there : StandsFor (Some x) old.seen before.told = subst (λ (o : Option OpenPool). StandsFor o old.seen before.told) c.in-Some.is stood.told in
     open_within (g.S.Shelf.world shelf) (g.S.Shelf.world c.open_line-done.new.shelf) before c.args.command.now x c.open_line-done.new.pool (g.S.Shelf.sizes shelf) (subst (λ (o : Option OpenPool). IfSome o (IsOpen (g.S.Shelf.sizes shelf))) c.in-Some.is c.requires.fits.is_open) (g.S.Shelf.sound shelf told).sized ((g.S.Shelf.sound c.open_line-done.new.shelf behind).sized ∙ c.open_line-done.ensures.sizes)
     there.part (stood.account ∙ c.in-Some.is) (λ shown. subst (λ (o : Option OpenPool). AreShown o old.seen before.told.shelf before.trees) c.in-Some.is (stood.shown shown)) (λ stands. subst (λ (o : Option OpenPool). AreStanding o old.seen) c.in-Some.is (stood.trees stands)) (subst (λ (o : Option OpenPool). IfSome before.behind (IsBehind o (disks_of old))) c.in-Some.is stood.behind) (subst (λ (o : Option OpenPool). IfSome before.begun (IsAsBegun o (disks_of old))) c.in-Some.is stood.begun)
-    (λ table. c.open_line-done.ensures.still told table (off_objects c.args.command.now table)) (c.open_line-done.ensures.disks told)
+    (λ silent. c.open_line-done.ensures.still told silent) (c.open_line-done.ensures.disks told)
     (λ group p held. c.open_line-done.ensures.writes group p (told_anew (Unit {0}) (g.S.Shelf.tells shelf) old.seen x p told held))
     (λ once p held. c.open_line-done.ensures.stops_reset once p (told_anew (Unit {0}) (g.S.Shelf.tells shelf) old.seen x p told held))
     (λ on p held. c.open_line-done.ensures.stops_back on p (told_anew (Unit {0}) (g.S.Shelf.tells shelf) old.seen x p told held))
