@@ -13,7 +13,7 @@ use Rattle.zr_rules.specs.Space.{IsLawful, Space}
 use Rattle.zr_rules.specs.Steps.{Condenses, CondensesFrom, CondensesSome, Remaps, due_device, due_from, with_cond, worked}
 use Rattle.zr_removal.proofs.Turned.{KeepsPlaces}
 
-both_ways : {A B C : Type 0} (b : Bool) → MatchBool b A B → (A → C) → (B → C) → C
+pub both_ways : {A B C : Type 0} (b : Bool) → MatchBool b A B → (A → C) → (B → C) → C
 both_ways true m f g = f m
 both_ways false m f g = g m
 

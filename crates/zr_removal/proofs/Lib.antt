@@ -8,3 +8,7 @@ pub mod Alike
 pub mod Outgoing
 pub mod Returning
 pub mod Uncopied
+pub mod AlikePassed
+pub mod Recasts
+pub mod Fitting
+pub mod CondensedObjects

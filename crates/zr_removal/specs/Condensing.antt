@@ -39,11 +39,11 @@ none_turned = record { entries = false; counts = false }
 abbrev pub cond_behind : CondStreams → Condensed → CondStreams
 cond_behind t outcome = record t { done = t.done || is_done outcome }
 
--- A step was made, and what it turned and whether it was the last is noted. Nothing else changed.
+-- A step was made, and what it turned and whether it was the last is noted. Nothing else changed but what is cached.
 pub record CondensesMapping (old new : OpenPool) (d : ℕ) (outcome : Condensed) : Type 0 where
   pub step : CondensesSome old.space outcome new.space
   pub turned : d < length old.turned → new.turned ≡ slice_set old.turned d (turned_by (slice_index_or old.turned d none_turned) (is_first old.space.parts.cond) (leaves_out old.space new.space d))
-  pub rest : new ≡ record old { space = new.space; turned = new.turned; cond = cond_behind old.cond outcome }
+  pub rest : new ≡ record old { space = new.space; turned = new.turned; cache = new.cache; cond = cond_behind old.cond outcome }
 
 -- A step was made on the mapping that is condensed, or on that of the lowest device that is due.
 pub record CondensesPool (old new : OpenPool) (outcome : Condensed) : Type 0 where

@@ -4,17 +4,26 @@
 //! commit has to write what changed of the mapping's streams anew: the counts behind the first step, and both where the last
 //! one left entries out. In between the mapping stays, and what was kept so far
 //! has streams of its own: the last root has them until the commit behind the last step, which gives them back.
-ghost use Rattle.std.specs.Prelude.{◌≡◌, ◌<◌, ℕ, List, Some, true, IsErrOf, IfErr, IfOk, OnOk, length, slice_index_or, slice_set};
+//!
+//! The pool holds the objects that it held: what pointers pass leads through the new mapping where it led through the old
+//! one. What is cached may be of a block that was given back, and its address leads nowhere once the entry on its way is left
+//! out. So the last step empties the cache.
+ghost use Rattle.std.specs.Prelude.{◌≡◌, ◌<◌, ℕ, List, [], Some, true, IsErrOf, IfErr, IfOk, OnOk, if◌then◌else◌, length, slice_index_or, slice_set};
 ghost use Rattle.zr_base.specs.declared.refusal.Refusal.{Refusal};
+ghost use Rattle.zr_cache.specs.Entries.{capacity, entries};
+ghost use Rattle.zr_model.specs.Objects.{Objects};
 ghost use Rattle.zr_rules.specs.Places.{part_of};
+ghost use Rattle.zr_rules.specs.Space.{role_at};
 ghost use Rattle.zr_rules.specs.Steps.{due_device, has_condensing};
+ghost use Rattle.zr_sync.specs.Objects.{HoldsObjects};
 ghost use Rattle.zr_sync.specs.Pools.{IsOpen};
 ghost use Rattle.zr_sync.specs.declared.fault.Fault.TheVariants.{No, Stops};
 ghost use Rattle.zr_sync.specs.declared.stop.Stop.TheVariants.{DiskFault};
-ghost use Rattle.zr_removal.specs.Condensing.{CondensesPool, CondensesMapping, cond_behind, condensed_next, is_first, leaves_out, none_turned, turned_by};
+ghost use Rattle.zr_removal.specs.Condensing.{CondensesPool, CondensesMapping, cond_behind, condensed_next, is_done, is_first, leaves_out, none_turned, turned_by};
 ghost use Rattle.zr_removal.specs.Refusals.{IsCondenseRefusal};
 
 use zr_base::{Condensed, DevState, NoMemory, Refusal};
+use zr_cache::Cache;
 use zr_space::Space;
 use zr_sync::{CondStreams, Fault, OpenPool, Turned};
 
@@ -108,30 +117,47 @@ fn note_done(cond: &mut CondStreams, outcome: Condensed)
     }
 }
 
+// Empties the cache behind the last step: what is cached knows the places to which its address led through the old mapping.
+fn forget_places(cache: &mut Cache, outcome: Condensed)
+    ensures entries { entries cache.new ≡ (if is_done outcome then [] else entries cache.old) }
+    ensures room { capacity cache.new ≡ capacity cache.old }
+{
+    if matches!(outcome, Condensed::Done) {
+        cache.clear();
+    }
+}
+
 // Works through the next entries of a mapping, and notes what the next commit has to do with its streams and with those of
 // the condensing.
 fn condense_mapping(pool: &mut OpenPool, dev: u32) -> Result<Condensed, NoMemory>
     requires pool { (sizes : List ℕ) × IsOpen sizes pool.old }
     ensures condenses { IfOk result (CondensesMapping pool.old pool.new dev) }
     ensures pool { (sizes : List ℕ) → IsOpen sizes pool.old → OnOk result (IsOpen sizes pool.new) }
+    ensures roles { OnOk result ((d u : ℕ) → role_at pool.new.space d u ≡ role_at pool.old.space d u) }
+    ensures objects { (disks : List (List ℕ)) (objects : Objects) → HoldsObjects (Unit {0}) disks pool.old objects → OnOk result (HoldsObjects (Unit {0}) disks pool.new objects) }
 {
     let first = is_first(&pool.space);
     let before = entry_count(&pool.space, dev);
+    pool.space.condenses_in_order();
     let outcome = pool.space.condense_step()?;
     let fewer = entry_count(&pool.space, dev) < before;
     note_turned(&mut pool.turned, dev, first, fewer);
     note_done(&mut pool.cond, outcome);
+    forget_places(&mut pool.cache, outcome);
     Ok(outcome)
 }
 
 /// Works through 64 entries of the mapping that is condensed, or of the lowest removed device whose mapping is due. It
-/// answers how many of them it kept, or that these were the last. No device is touched. It costs a step for each entry; the
-/// first counts all fresh obsolete units of the mapping.
+/// answers how many of them it kept, or that these were the last. No device is touched, and the pool holds the objects that
+/// it held. It costs a step for each entry; the first counts all fresh obsolete units of the mapping, and the last empties
+/// the cache.
 pub fn step_condense(pool: &mut OpenPool) -> Result<Condensed, Fault>
     requires pool { (sizes : List ℕ) × IsOpen sizes pool.old }
     ensures pool { (sizes : List ℕ) → IsOpen sizes pool.old → OnOk result (IsOpen sizes pool.new) }
     ensures due { OnOk result (has_condensing pool.old.space ≡ true) }
     ensures condenses { IfOk result (CondensesPool pool.old pool.new) }
+    ensures roles { OnOk result ((d u : ℕ) → role_at pool.new.space d u ≡ role_at pool.old.space d u) }
+    ensures objects { (disks : List (List ℕ)) (objects : Objects) → HoldsObjects (Unit {0}) disks pool.old objects → OnOk result (HoldsObjects (Unit {0}) disks pool.new objects) }
     ensures fault { IsErrOf result (Stops DiskFault) → ⊥ }
     ensures refused { (r : Refusal) → IsErrOf result (No r) → IsCondenseRefusal pool.old.space r }
     ensures unchanged { (r : Refusal) → IsErrOf result (No r) → pool.new ≡ pool.old }
