@@ -52,16 +52,19 @@ use Rattle.zr_open.specs.Shown.{Shows}
 use Rattle.zr_stops.proofs.Returning.{returns_either}
 use Rattle.zr_stops.proofs.Preparing.{settled_left}
 use Rattle.zr_pool.proofs.Closed.{StandsAs, closed_behind, closed_shows, flushes_keep, still_closed, stands_as}
-use Rattle.zr_pool.proofs.Groups.{acknowledged_commits, background_no_commit, background_no_reset, commits_in_group, ends_told, not_ending, opening_stops, opens_no_commit, opens_no_end, tables_silent, writing_resets}
+use Rattle.zr_pool.proofs.Groups.{acknowledged_commits, background_no_commit, background_no_reset, commits_in_group, ends_told, not_ending, opening_stops, opens_no_commit, opens_no_end, silent_leaves, silent_no_commit, silent_no_reset, tables_silent, writing_resets}
 use Rattle.zr_pool.proofs.Outside.{keeps_outside}
 use Rattle.zr_pool.proofs.Resets.{behind_last, reset_behind}
 use Rattle.zr_pool.proofs.Turning.{left_of}
-use Rattle.zr_pool.specs.Behind.{ComesFrom, HasReset, IsBehindTurn, LeavesEither, LeavesOnly, OpensTo, StaysTold, StopsInCreate, StopsInOpening, StopsInReset, WritesTold, all_there, are_there, ends_no_removal, ends_reset, is_acknowledged, is_commit, is_create, is_import, is_in_group, is_known, is_readable, is_refusal, is_resetting, is_silent, is_writing_trees, keeps_trees, leaves_told, may_commit, may_stop, none_gone}
+use Rattle.zr_pool.specs.Behind.{ComesFrom, HasReset, IsBehindTurn, LeavesEither, LeavesOnly, OpensTo, StaysTold, StopsInCreate, StopsInOpening, StopsInReset, WritesTold, all_there, are_there, commits_nothing, ends_no_removal, ends_reset, is_acknowledged, is_commit, is_create, is_import, is_in_group, is_known, is_readable, is_refusal, is_resetting, is_silent, is_writing_trees, keeps_trees, leaves_told, may_commit, may_stop, none_gone}
 use Rattle.zr_pool.specs.Behind.ComesFrom.{kept, committed, changed, made, found}
 use Rattle.zr_pool.specs.Ends.{answer_of, is_closing}
 use Rattle.zr_pool.specs.Plain.{IsDone, is_background, is_untold_behind}
 use Rattle.zr_pool.specs.Pools.{DeviceState, IsBehind, IsClosedBehind, IsPartOf, stand_of, IsAsBegun, IsUnwritten}
 use Rattle.zr_pool.specs.Turns.{IsClosedAnswer, IsTurn, IsWithin, is_on_objects, is_opened, is_opener, is_table}
+use Rattle.zr_shelf.proofs.Doings.{writes_still}
+use Rattle.zr_vdev.specs.Stores.{IsWriteInto}
+use Rattle.zr_vdev.specs.declared.kind.Kind.TheVariants.{Block}
 
 no_way : {P : Type 0} → false ≡ true → P
 no_way e = absurd cc
@@ -223,7 +226,7 @@ module _ (new : World) (before : DeviceState) (command : Command) (part : ShelfP
     pub turn : IsBehindTurn before command answer part pool behind
 
   -- nothing is told
-  untold : (pool : Option OpenPool) (answer : Reply) → (before.account ≡ None → is_create command ≡ true → are_there pool ≡ true → ⊥) → (before.account ≡ None → is_import command ≡ true → answer ≡ reply.Done → (p : PoolState) → part ≡ Is p → ⊥) → ((p : PoolState) → before.told.shelf ≡ Is p → is_some before.behind ≡ true → is_readable before.account before.trees ≡ true → leaves_told before.account answer command ≡ true → ⊥)
+  untold : (pool : Option OpenPool) (answer : Reply) → (before.account ≡ None → is_create command ≡ true → are_there pool ≡ true → ⊥) → (before.account ≡ None → is_import command ≡ true → answer ≡ reply.Done → (p : PoolState) → part ≡ Is p → ⊥) → ((p : PoolState) → before.told.shelf ≡ Is p → is_some before.behind ≡ true → (is_readable before.account before.trees || commits_nothing command answer) ≡ true → leaves_told before.account answer command ≡ true → ⊥)
       → ((p : PoolState) → before.told.shelf ≡ Is p → is_known before ≡ true → ends_reset answer command ≡ true → (are_there pool || (before.trees && is_writing_trees command)) ≡ true → ⊥) → ((p : PoolState) → before.told.shelf ≡ Is p → is_known before ≡ true → is_acknowledged answer command ≡ true → ⊥) → Behinds pool answer
   untold pool answer makes opens keeps resets commits = record {
     behind = None;
@@ -258,6 +261,10 @@ or_first : (a b : Bool) → a ≡ false → (a || b) ≡ true → b ≡ true
 or_first true b off is = no_way (sym off)
 or_first false b off is = is
 
+or_last : (a b : Bool) → b ≡ false → (a || b) ≡ true → a ≡ true
+or_last true b off is = refl
+or_last false b off is = no_way (sym off ∙ is)
+
 or_second : (a b : Bool) → b ≡ true → (a || b) ≡ true
 or_second true b is = refl
 or_second false b is = is
@@ -273,6 +280,11 @@ or_neither false b off none = none
 no_refusal : (answer : Reply) → IsDone answer → is_refusal answer ≡ false
 no_refusal (reply.No r) done = absurd done
 no_refusal answer done = refl
+
+-- what is done commits nothing where it writes nothing, or is a step in the background
+commits_done : (command : Command) (answer : Reply) → IsDone answer → commits_nothing command answer ≡ (is_silent command || is_background command answer)
+commits_done command (reply.No r) done = absurd done
+commits_done command answer done = refl
 
 closing_export : (command : Command) (answer : Reply) → is_closing command (Ok (Some answer)) ≡ true → command ≡ cmd.Export
 closing_export cmd.Export answer is = refl
@@ -339,14 +351,17 @@ module _ (old new : World) (before : DeviceState) (command : Command) (x y : Ope
     | inr trees ↦ inr (was_standing trees)
   ]
 
+  quiet_leaves : (answer : Reply) → (is_in_group command || is_background command answer) ≡ true → leaves_told before.account answer command ≡ true
+  quiet_leaves answer quiet = subst (λ (o : Option OpenPool). leaves_told o answer command ≡ true) (sym account) (or_second (is_refusal answer) (is_in_group command || is_background command answer) quiet)
+
   group_leaves : (answer : Reply) → is_in_group command ≡ true → leaves_told before.account answer command ≡ true
-  group_leaves answer group = subst (λ (o : Option OpenPool). leaves_told o answer command ≡ true) (sym account) (or_second (is_refusal answer) (is_in_group command || is_background command answer) (or_either (is_in_group command) (is_background command answer) group))
+  group_leaves answer group = quiet_leaves answer (or_either (is_in_group command) (is_background command answer) group)
 
   refused_leaves : (n : Refusal) → leaves_told before.account (reply.No n) command ≡ true
   refused_leaves n = subst (λ (o : Option OpenPool). leaves_told o (reply.No n) command ≡ true) (sym account) refl
 
   background_leaves : (answer : Reply) → is_background command answer ≡ true → leaves_told before.account answer command ≡ true
-  background_leaves answer step = subst (λ (o : Option OpenPool). leaves_told o answer command ≡ true) (sym account) (or_second (is_refusal answer) (is_in_group command || is_background command answer) (or_second (is_in_group command) (is_background command answer) step))
+  background_leaves answer step = quiet_leaves answer (or_second (is_in_group command) (is_background command answer) step)
 
   -- what is done leaves it told only in the group, or by a step in the background
   done_leaves : (answer : Reply) → IsDone answer → leaves_told before.account answer command ≡ true → (is_in_group command || is_background command answer) ≡ true
@@ -377,17 +392,20 @@ module _ (old new : World) (before : DeviceState) (command : Command) (x y : Ope
       by_last (Some objects) is = behind_last sizes objects x old.now (stood objects is)
       by_last None is = was_shown (known_shown before is known)
 
+  readable_then : (answer : Reply) → commits_nothing command answer ≡ false → (is_readable before.account before.trees || commits_nothing command answer) ≡ true → is_readable before.account before.trees ≡ true
+  readable_then answer commits either = or_last (is_readable before.account before.trees) (commits_nothing command answer) commits either
+
   module _ (now_told : ShelfPart) where
     -- a line that stays in one group
-    line_told : (answer : Reply) (p : PoolState) → before.told.shelf ≡ Is p → leaves_told before.account answer command ≡ true → (ends_reset answer command ≡ true → ⊥) → (is_acknowledged answer command ≡ true → ⊥) → StaysTold sizes p.objects x y old new → Behinds new before command now_told (Some y) answer
-    line_told answer p told leaves no_reset no_commit stays = by_last before.behind refl
+    line_told : (answer : Reply) (p : PoolState) → before.told.shelf ≡ Is p → commits_nothing command answer ≡ false → leaves_told before.account answer command ≡ true → (ends_reset answer command ≡ true → ⊥) → (is_acknowledged answer command ≡ true → ⊥) → StaysTold sizes p.objects x y old new → Behinds new before command now_told (Some y) answer
+    line_told answer p told commits leaves no_reset no_commit stays = by_last before.behind refl
       where
         by_last : (o : Option Objects) → before.behind ≡ o → Behinds new before command now_told (Some y) answer
         by_last None is = untold new before command now_told (Some y) answer (not_made (Some y)) (not_opened now_told answer) (λ q told_q some readable left. no_way (sym (ap (λ (o : Option Objects). is_some o) is) ∙ some)) (λ q told_q known on there. no_reset on) (λ q told_q known acknowledged. no_commit acknowledged)
         by_last (Some objects) is = by_readable (is_readable before.account before.trees) refl
           where
             by_readable : (b : Bool) → is_readable before.account before.trees ≡ b → Behinds new before command now_told (Some y) answer
-            by_readable false out = untold new before command now_told (Some y) answer (not_made (Some y)) (not_opened now_told answer) (λ q told_q some readable left. no_way (sym out ∙ readable)) (λ q told_q known on there. no_reset on) (λ q told_q known acknowledged. no_commit acknowledged)
+            by_readable false out = untold new before command now_told (Some y) answer (not_made (Some y)) (not_opened now_told answer) (λ q told_q some readable left. no_way (sym out ∙ readable_then answer commits readable)) (λ q told_q known on there. no_reset on) (λ q told_q known acknowledged. no_commit acknowledged)
             by_readable true readable =
                 let c = told_still sizes objects p.objects x old (stood objects is) lawful (will_read readable) y new stays in
                 told_behind new before command now_told (Some y) answer p c.all (λ none create done. is_open none) (λ none import done. is_open none) told
@@ -397,34 +415,38 @@ module _ (old new : World) (before : DeviceState) (command : Command) (x y : Ope
                 ])
                 (to_disks sizes c.all y new.now sized_new c.behind) (λ on. absurd (no_reset on)) (λ acknowledged. absurd (no_commit acknowledged))
 
-    -- a step in the background
-    background_told : (answer : Reply) (p : PoolState) → before.told.shelf ≡ Is p → is_background command answer ≡ true → WritesIntoFree x old new → OpensNoUnit x y → Behinds new before command now_told (Some y) answer
-    background_told answer p told step wrote opens = by_last before.behind refl
+    -- a line that commits nothing
+    quiet_told : (answer : Reply) (p : PoolState) → before.told.shelf ≡ Is p → leaves_told before.account answer command ≡ true → (ends_reset answer command ≡ true → ⊥) → (is_acknowledged answer command ≡ true → ⊥) → WritesIntoFree x old new → OpensNoUnit x y → Behinds new before command now_told (Some y) answer
+    quiet_told answer p told leaves no_reset no_commit wrote opens = by_last before.behind refl
       where
         by_last : (o : Option Objects) → before.behind ≡ o → Behinds new before command now_told (Some y) answer
         by_last None is =
-            untold new before command now_told (Some y) answer (not_made (Some y)) (not_opened now_told answer) (λ q told_q some readable left. no_way (sym (ap (λ (o : Option Objects). is_some o) is) ∙ some)) (λ q told_q known on there. background_no_reset command answer step on)
-            (λ q told_q known acknowledged. background_no_commit command answer step acknowledged)
+            untold new before command now_told (Some y) answer (not_made (Some y)) (not_opened now_told answer) (λ q told_q some readable left. no_way (sym (ap (λ (o : Option Objects). is_some o) is) ∙ some)) (λ q told_q known on there. no_reset on)
+            (λ q told_q known acknowledged. no_commit acknowledged)
         by_last (Some objects) is =
-            told_behind new before command now_told (Some y) answer p objects (λ none create done. is_open none) (λ none import done. is_open none) told (kept p told (background_leaves answer step) (none_acknowledged answer command (background_no_commit command answer step)) is)
-            (to_disks sizes objects y new.now sized_new (line_behind sizes objects x old (stood objects is) y new wrote opens.units opens.root.table opens.root.last opens.root.guid)) (λ on. absurd (background_no_reset command answer step on))
-            (λ acknowledged. absurd (background_no_commit command answer step acknowledged))
+            told_behind new before command now_told (Some y) answer p objects (λ none create done. is_open none) (λ none import done. is_open none) told (kept p told leaves (none_acknowledged answer command no_commit) is)
+            (to_disks sizes objects y new.now sized_new (line_behind sizes objects x old (stood objects is) y new wrote opens.units opens.root.table opens.root.last opens.root.guid)) (λ on. absurd (no_reset on))
+            (λ acknowledged. absurd (no_commit acknowledged))
 
     -- a `sync`, or an `export`, behind which the pool is closed
-    commit_told : (pool : Option OpenPool) (answer : Reply) (p : PoolState) → before.told.shelf ≡ Is p → leaves_told before.account answer command ≡ true → (ends_reset answer command ≡ true → ⊥) → EndsCommitted sizes false x y p.objects old new → (StandsBehind sizes p.objects y new.now → IsBehind pool (disks_of new.now) p.objects) → Behinds new before command now_told pool answer
-    commit_told pool answer p told leaves no_reset ends to = by_known (is_known before) refl
+    commit_told : (pool : Option OpenPool) (answer : Reply) (p : PoolState) → before.told.shelf ≡ Is p → commits_nothing command answer ≡ false → leaves_told before.account answer command ≡ true → (ends_reset answer command ≡ true → ⊥) → EndsCommitted sizes false x y p.objects old new → (StandsBehind sizes p.objects y new.now → IsBehind pool (disks_of new.now) p.objects) → Behinds new before command now_told pool answer
+    commit_told pool answer p told commits_some leaves no_reset ends to = by_known (is_known before) refl
       where
         by_known : (b : Bool) → is_known before ≡ b → Behinds new before command now_told pool answer
         by_known true known = told_behind new before command now_told pool answer p p.objects (λ none create done. is_open none) (λ none import done. is_open none) told (committed leaves (p, told, refl)) (to (commit_stands p known ends)) (λ on. refl) (λ acknowledged. refl)
-        by_known false known = untold new before command now_told pool answer (not_made pool) (not_opened now_told answer) (λ q told_q some readable left. no_way (sym known ∙ known_some before some readable)) (λ q told_q knows on there. no_reset on) (λ q told_q knows acknowledged. no_way (sym known ∙ knows))
+        by_known false known = untold new before command now_told pool answer (not_made pool) (not_opened now_told answer) (λ q told_q some readable left. no_way (sym known ∙ known_some before some (readable_then answer commits_some readable))) (λ q told_q knows on there. no_reset on) (λ q told_q knows acknowledged. no_way (sym known ∙ knows))
 
     pub open_behinds : (r : Result (Option Reply) Fault) → IfOk r (λ answered. IfSome answered IsDone) → OnOk r (IsOpen sizes y) → IfOk r (λ answered. IfSome answered (λ answer. is_untold_behind command answer ≡ false → KeepsLast old new x y)) → ((p : PoolState) → HoldsState (Unit {0}) old.now.seen x p → IfOk r (λ answered. IfSome answered (λ answer. ends_reset answer command ≡ true → HasReset y new.now p.objects))) → ((p : PoolState) → HoldsState (Unit {0}) old.now.seen x p → WritesTold command x old → OnOk r (IfSome y.last (λ u. TellsMoves new.now.seen y u.root u.len))) → (is_in_group command ≡ true → (p : PoolState) → HoldsState (Unit {0}) old.now.seen x p → OnOk r (StaysTold sizes p.objects x y old new))
-        → ((p : PoolState) → HoldsState (Unit {0}) old.now.seen x p → (n : Refusal) → r ≡ Err (No n) → StaysInOneGroup sizes p.objects x y old new) → IfOk r (λ answered. IfSome answered (λ answer. is_background command answer ≡ true → WritesIntoFree x old new × OpensNoUnit x y))
+        → ((p : PoolState) → HoldsState (Unit {0}) old.now.seen x p → (n : Refusal) → r ≡ Err (No n) → StaysInOneGroup sizes p.objects x y old new) → IfOk r (λ answered. IfSome answered (λ answer. is_background command answer ≡ true → WritesIntoFree x old new × OpensNoUnit x y)) → (is_silent command ≡ true → IsStill old new) → (is_silent command ≡ true → (p : PoolState) → HoldsState (Unit {0}) old.now.seen x p → OnOk r (OpensNoUnit x y))
         → (is_commit command ≡ true → (p : PoolState) → HoldsState (Unit {0}) old.now.seen x p → OnOk r (EndsCommitted sizes false x y p.objects old new))
         → IfOk (answer_of r) (λ answered. IfSome answered (λ answer. Behinds new before command now_told (left_of (is_closing command r) y) answer))
-    open_behinds (Ok None) done ready keeps resets moves one one_no stepped commits = tt
-    open_behinds (Ok (Some answer)) done ready keeps resets moves one one_no stepped commits = by_closing (is_closing command (Ok (Some answer))) refl
+    open_behinds (Ok None) done ready keeps resets moves one one_no stepped still opens commits = tt
+    open_behinds (Ok (Some answer)) done ready keeps resets moves one one_no stepped still opens commits = by_closing (is_closing command (Ok (Some answer))) refl
       where
+        -- what commits something
+        commits_some : is_silent command ≡ false → is_background command answer ≡ false → commits_nothing command answer ≡ false
+        commits_some loud no_step = commits_done command answer done ∙ or_neither (is_silent command) (is_background command answer) loud no_step
+
         untold_off : is_in_group command ≡ false → is_background command answer ≡ false → ((p : PoolState) → before.told.shelf ≡ Is p → is_known before ≡ true → ends_reset answer command ≡ true → (are_there (Some y) || (before.trees && is_writing_trees command)) ≡ true → ⊥) → Behinds new before command now_told (Some y) answer
         untold_off off no_step none =
             untold new before command now_told (Some y) answer (not_made (Some y)) (not_opened now_told answer) (λ p told some readable leaves. no_way (sym (or_neither (is_in_group command) (is_background command answer) off no_step) ∙ done_leaves answer done leaves)) (λ p told known on there. none p told known on there)
@@ -466,49 +488,63 @@ module _ (old new : World) (before : DeviceState) (command : Command) (x y : Ope
         untold_part : (pool : Option OpenPool) → ((p : PoolState) → before.told.shelf ≡ Is p → ⊥) → Behinds new before command now_told pool answer
         untold_part pool none = untold new before command now_told pool answer (not_made pool) (not_opened now_told answer) (λ p told some readable leaves. none p told) (λ p told known on there. none p told) (λ p told known acknowledged. none p told)
 
-        by_commit : (b : Bool) → is_commit command ≡ b → is_in_group command ≡ true → (p : PoolState) → before.told.shelf ≡ Is p → Behinds new before command now_told (Some y) answer
-        by_commit true ends group p told = commit_told (Some y) answer p told (group_leaves answer group) (λ on. not_ending answer command on group) (commits ends p (held p told)) (to_disks sizes p.objects y new.now sized_new)
-        by_commit false ends group p told = line_told answer p told (group_leaves answer group) (λ on. not_ending answer command on group) (λ acknowledged. no_way (sym ends ∙ acknowledged_commits answer command acknowledged)) (one group p (held p told))
+        by_commit : (b : Bool) → is_commit command ≡ b → is_in_group command ≡ true → commits_nothing command answer ≡ false → (p : PoolState) → before.told.shelf ≡ Is p → Behinds new before command now_told (Some y) answer
+        by_commit true ends group some p told = commit_told (Some y) answer p told some (group_leaves answer group) (λ on. not_ending answer command on group) (commits ends p (held p told)) (to_disks sizes p.objects y new.now sized_new)
+        by_commit false ends group some p told = line_told answer p told some (group_leaves answer group) (λ on. not_ending answer command on group) (λ acknowledged. no_way (sym ends ∙ acknowledged_commits answer command acknowledged)) (one group p (held p told))
 
-        by_part : (s : ShelfPart) → before.told.shelf ≡ s → is_in_group command ≡ true → Behinds new before command now_told (Some y) answer
-        by_part (Is p) told group = by_commit (is_commit command) refl group p told
-        by_part Empty told group = untold_part (Some y) (λ p is. let both = sym told ∙ is in absurd cc)
-        by_part (Refused r) told group = untold_part (Some y) (λ p is. let both = sym told ∙ is in absurd cc)
+        by_part : (s : ShelfPart) → before.told.shelf ≡ s → is_in_group command ≡ true → commits_nothing command answer ≡ false → Behinds new before command now_told (Some y) answer
+        by_part (Is p) told group some = by_commit (is_commit command) refl group some p told
+        by_part Empty told group some = untold_part (Some y) (λ p is. let both = sym told ∙ is in absurd cc)
+        by_part (Refused r) told group some = untold_part (Some y) (λ p is. let both = sym told ∙ is in absurd cc)
 
+        by_group : (b : Bool) → is_in_group command ≡ b → is_silent command ≡ false → is_background command answer ≡ false → Behinds new before command now_told (Some y) answer
+        by_group true group loud no_step = by_part before.told.shelf refl group (commits_some loud no_step)
+        by_group false off loud no_step = by_reset (ends_reset answer command) refl off no_step
+
+        -- a step in the background
         background_part : (s : ShelfPart) → before.told.shelf ≡ s → is_background command answer ≡ true → Behinds new before command now_told (Some y) answer
-        background_part (Is p) told step = let c = stepped step in background_told answer p told step c.0 c.1
+        background_part (Is p) told step = let c = stepped step in quiet_told answer p told (background_leaves answer step) (background_no_reset command answer step) (background_no_commit command answer step) c.0 c.1
         background_part Empty told step = untold_part (Some y) (λ p is. let both = sym told ∙ is in absurd cc)
         background_part (Refused r) told step = untold_part (Some y) (λ p is. let both = sym told ∙ is in absurd cc)
 
-        by_background : (b : Bool) → is_background command answer ≡ b → is_in_group command ≡ false → Behinds new before command now_told (Some y) answer
-        by_background true step off = background_part before.told.shelf refl step
-        by_background false no_step off = by_reset (ends_reset answer command) refl off no_step
+        by_background : (b : Bool) → is_background command answer ≡ b → is_silent command ≡ false → Behinds new before command now_told (Some y) answer
+        by_background true step loud = background_part before.told.shelf refl step
+        by_background false no_step loud = by_group (is_in_group command) refl loud no_step
 
-        by_group : (b : Bool) → is_in_group command ≡ b → Behinds new before command now_told (Some y) answer
-        by_group true group = by_part before.told.shelf refl group
-        by_group false off = by_background (is_background command answer) refl off
+        -- a line that writes nothing
+        silent_part : (s : ShelfPart) → before.told.shelf ≡ s → is_silent command ≡ true → Behinds new before command now_told (Some y) answer
+        silent_part (Is p) told on =
+            quiet_told answer p told (quiet_leaves answer (silent_leaves command answer done on)) (silent_no_reset command answer done on) (silent_no_commit command answer on)
+            (writes_still (IsWriteInto Block x.table.slots x.space) old new (still on)) (opens on p (held p told))
+        silent_part Empty told on = untold_part (Some y) (λ p is. let both = sym told ∙ is in absurd cc)
+        silent_part (Refused r) told on = untold_part (Some y) (λ p is. let both = sym told ∙ is in absurd cc)
+
+        by_silent : (b : Bool) → is_silent command ≡ b → Behinds new before command now_told (Some y) answer
+        by_silent true on = silent_part before.told.shelf refl on
+        by_silent false loud = by_background (is_background command answer) refl loud
 
         by_export : command ≡ cmd.Export → (s : ShelfPart) → before.told.shelf ≡ s → Behinds new before command now_told None answer
         by_export exports (Is p) told =
             let ends = commits (subst (λ (c : Command). is_commit c ≡ true) (sym exports) refl) p (held p told) in
             let group = subst (λ (c : Command). is_in_group c ≡ true) (sym exports) refl in
-            commit_told None answer p told (group_leaves answer group) (λ on. not_ending answer command on group) ends (λ stands. closed_behind sizes false x y p.objects old new lawful ends (to_disks sizes p.objects y new.now sized_new stands))
+            let some = commits_done command answer done ∙ subst (λ (c : Command). (is_silent c || is_background c answer) ≡ false) (sym exports) refl in
+            commit_told None answer p told some (group_leaves answer group) (λ on. not_ending answer command on group) ends (λ stands. closed_behind sizes false x y p.objects old new lawful ends (to_disks sizes p.objects y new.now sized_new stands))
         by_export exports Empty told = untold_part None (λ p is. let both = sym told ∙ is in absurd cc)
         by_export exports (Refused r) told = untold_part None (λ p is. let both = sym told ∙ is in absurd cc)
 
         by_closing : (b : Bool) → is_closing command (Ok (Some answer)) ≡ b → Behinds new before command now_told (left_of b y) answer
         by_closing true is = by_export (closing_export command answer is) before.told.shelf refl
-        by_closing false is = by_group (is_in_group command) refl
-    open_behinds (Err (No n)) done ready keeps resets moves one one_no stepped commits = by_part before.told.shelf refl
+        by_closing false is = by_silent (is_silent command) refl
+    open_behinds (Err (No n)) done ready keeps resets moves one one_no stepped still opens commits = by_part before.told.shelf refl
       where
         untold_no : ((p : PoolState) → before.told.shelf ≡ Is p → ⊥) → Behinds new before command now_told (Some y) (reply.No n)
         untold_no none = untold new before command now_told (Some y) (reply.No n) (not_made (Some y)) (not_opened now_told (reply.No n)) (λ p told some readable leaves. none p told) (λ p told known on there. no_way on) (λ p told known acknowledged. no_way acknowledged)
 
         by_part : (s : ShelfPart) → before.told.shelf ≡ s → Behinds new before command now_told (Some y) (reply.No n)
-        by_part (Is p) told = line_told (reply.No n) p told (refused_leaves n) (λ on. no_way on) (λ acknowledged. no_way acknowledged) (inl (one_no p (held p told) n refl))
+        by_part (Is p) told = line_told (reply.No n) p told refl (refused_leaves n) (λ on. no_way on) (λ acknowledged. no_way acknowledged) (inl (one_no p (held p told) n refl))
         by_part Empty told = untold_no (λ p is. let both = sym told ∙ is in absurd cc)
         by_part (Refused r) told = untold_no (λ p is. let both = sym told ∙ is in absurd cc)
-    open_behinds (Err (Stops s)) done ready keeps resets moves one one_no stepped commits = tt
+    open_behinds (Err (Stops s)) done ready keeps resets moves one one_no stepped still opens commits = tt
 
   -- ---- the moments of a line
 
@@ -706,7 +742,7 @@ module _ (old new : World) (before : DeviceState) (command : Command) (account :
 
     -- a refusal writes nothing, and leaves what is told
     module _ (n : Refusal) (flushes : FlushesOnly old new) where
-      untold_no : ((p : PoolState) → before.told.shelf ≡ Is p → is_some before.behind ≡ true → is_readable before.account before.trees ≡ true → leaves_told before.account (reply.No n) command ≡ true → ⊥) → Behinds new before command now_told None (reply.No n)
+      untold_no : ((p : PoolState) → before.told.shelf ≡ Is p → is_some before.behind ≡ true → (is_readable before.account before.trees || commits_nothing command (reply.No n)) ≡ true → leaves_told before.account (reply.No n) command ≡ true → ⊥) → Behinds new before command now_told None (reply.No n)
       untold_no none = untold new before command now_told None (reply.No n) (λ also create there. no_way there) (λ also import done p told. let e : reply.No n ≡ reply.Done = done in cc) none (λ p told known on there. no_way on) (λ p told known acknowledged. no_way acknowledged)
 
       refused_part : (objects : Objects) → before.behind ≡ Some objects → (s : ShelfPart) → before.told.shelf ≡ s → Behinds new before command now_told None (reply.No n)

@@ -35,7 +35,7 @@ use Rattle.zr_vdev.specs.Stores.{IsWriteInto, KeepsOthers, is_open_role}
 use Rattle.zr_vdev.specs.declared.kind.Kind.TheVariants.{Block}
 use Rattle.zr_pool.specs.Behind.{StopsInOpening, ends_no_removal, ends_reset, is_acknowledged, is_commit, is_in_group, is_readable, is_resetting, is_return, is_silent, is_writing_trees, may_stop, none_gone}
 use Rattle.zr_pool.proofs.Working.{removal_works}
-use Rattle.zr_pool.specs.Plain.{is_background, is_of_removal, is_untold_behind}
+use Rattle.zr_pool.specs.Plain.{IsDone, is_background, is_of_removal, is_untold_behind}
 use Rattle.zr_pool.specs.Pools.{is_evacuating}
 use Rattle.zr_pool.specs.Turns.{is_on_objects, is_on_pool, is_opener, is_table}
 
@@ -86,46 +86,6 @@ opening_stops account trees cmd.Import on may = never (is_readable account trees
 opening_stops account trees cmd.ImportRewind on may = never (is_readable account trees) (none_gone account) may
 opening_stops account trees (cmd.ImportTxg txg) on may = never (is_readable account trees) (none_gone account) may
 opening_stops account trees command on may = no_way on
-
--- ---- lines that write nothing
-
-pub silent_objects : (command : Command) → is_silent command ≡ true → is_on_objects command ≡ false
-silent_objects cmd.List on = refl
-silent_objects cmd.Status on = refl
-silent_objects cmd.Audit on = refl
-silent_objects (cmd.Estimate dev) on = refl
-silent_objects (cmd.Map index) on = refl
-silent_objects cmd.StepDiscard on = refl
-silent_objects cmd.StepCondense on = refl
-silent_objects command on = no_way on
-
-pub silent_pool : (command : Command) → is_silent command ≡ true → is_on_pool command ≡ true → command ≡ cmd.StepDiscard
-silent_pool cmd.List on pool = no_way pool
-silent_pool cmd.Status on pool = no_way pool
-silent_pool cmd.Audit on pool = no_way pool
-silent_pool (cmd.Estimate dev) on pool = no_way pool
-silent_pool (cmd.Map index) on pool = no_way pool
-silent_pool cmd.StepDiscard on pool = refl
-silent_pool cmd.StepCondense on pool = no_way pool
-silent_pool command on pool = no_way on
-
-pub silent_removal : (command : Command) → is_silent command ≡ true → is_of_removal command ≡ true → command ≡ cmd.StepCondense
-silent_removal cmd.List on removal = no_way removal
-silent_removal cmd.Status on removal = no_way removal
-silent_removal cmd.Audit on removal = no_way removal
-silent_removal (cmd.Estimate dev) on removal = no_way removal
-silent_removal (cmd.Map index) on removal = no_way removal
-silent_removal cmd.StepDiscard on removal = no_way removal
-silent_removal cmd.StepCondense on removal = refl
-silent_removal command on removal = no_way on
-
-pub tables_silent : (command : Command) → is_table command ≡ true → is_silent command ≡ true
-tables_silent cmd.List on = refl
-tables_silent cmd.Status on = refl
-tables_silent cmd.Audit on = refl
-tables_silent (cmd.Estimate dev) on = refl
-tables_silent (cmd.Map index) on = refl
-tables_silent command on = no_way on
 
 -- what a line wrote that makes no pool and does not go back is nothing
 pub opening_nothing : (sizes : List ℕ) (command : Command) (before now : World) → ((name : List ℕ) (guid : ℕ) (devs : List (List ℕ)) → command ≡ cmd.Create name guid devs → ⊥) → ((name : List ℕ) (guid : ℕ) (devs : List (List ℕ)) → command ≡ cmd.CreateOld name guid devs → ⊥) → (command ≡ cmd.ImportRewind → ⊥) → ((txg : ℕ) → command ≡ cmd.ImportTxg txg → ⊥)
@@ -326,17 +286,17 @@ table_stays tells x y before now same seen still = record {
 pub background_no_reset : (command : Command) (answer : Reply) → is_background command answer ≡ true → ends_reset answer command ≡ true → ⊥
 background_no_reset cmd.StepEvac (reply.Copied units) step on = no_way on
 background_no_reset cmd.StepEvac answer step on = no_way step
-background_no_reset cmd.StepCondense (reply.Kept entries) step on = no_way on
-background_no_reset cmd.StepCondense reply.Ended step on = no_way on
-background_no_reset cmd.StepCondense answer step on = no_way step
+background_no_reset cmd.StepCondense (reply.No r) step on = no_way step
+background_no_reset cmd.StepCondense (reply.Cancelled i) step on = no_way on
+background_no_reset cmd.StepCondense answer step on = no_way on
 background_no_reset command answer step on = no_way step
 
 pub background_no_commit : (command : Command) (answer : Reply) → is_background command answer ≡ true → is_acknowledged answer command ≡ true → ⊥
 background_no_commit cmd.StepEvac (reply.Copied units) step is = no_way is
 background_no_commit cmd.StepEvac answer step is = no_way step
-background_no_commit cmd.StepCondense (reply.Kept entries) step is = no_way is
-background_no_commit cmd.StepCondense reply.Ended step is = no_way is
-background_no_commit cmd.StepCondense answer step is = no_way step
+background_no_commit cmd.StepCondense (reply.Synced txg) step is = no_way is
+background_no_commit cmd.StepCondense reply.Done step is = no_way is
+background_no_commit cmd.StepCondense answer step is = no_way is
 background_no_commit command answer step is = no_way step
 
 -- it is a line of a removal or of condensing, and none of the others
@@ -350,6 +310,83 @@ pub background_removal : (command : Command) (answer : Reply) → is_background 
 background_removal cmd.StepEvac answer is = record { removal = refl; objects = refl; table = refl; pool = refl }
 background_removal cmd.StepCondense answer is = record { removal = refl; objects = refl; table = refl; pool = refl }
 background_removal command answer is = no_way is
+
+-- ---- lines that write nothing
+
+pub silent_objects : (command : Command) → is_silent command ≡ true → is_on_objects command ≡ false
+silent_objects cmd.List on = refl
+silent_objects cmd.Status on = refl
+silent_objects cmd.Audit on = refl
+silent_objects (cmd.Estimate dev) on = refl
+silent_objects (cmd.Map index) on = refl
+silent_objects cmd.StepDiscard on = refl
+silent_objects cmd.StepCondense on = refl
+silent_objects command on = no_way on
+
+pub silent_pool : (command : Command) → is_silent command ≡ true → is_on_pool command ≡ true → command ≡ cmd.StepDiscard
+silent_pool cmd.List on pool = no_way pool
+silent_pool cmd.Status on pool = no_way pool
+silent_pool cmd.Audit on pool = no_way pool
+silent_pool (cmd.Estimate dev) on pool = no_way pool
+silent_pool (cmd.Map index) on pool = no_way pool
+silent_pool cmd.StepDiscard on pool = refl
+silent_pool cmd.StepCondense on pool = no_way pool
+silent_pool command on pool = no_way on
+
+pub silent_removal : (command : Command) → is_silent command ≡ true → is_of_removal command ≡ true → command ≡ cmd.StepCondense
+silent_removal cmd.List on removal = no_way removal
+silent_removal cmd.Status on removal = no_way removal
+silent_removal cmd.Audit on removal = no_way removal
+silent_removal (cmd.Estimate dev) on removal = no_way removal
+silent_removal (cmd.Map index) on removal = no_way removal
+silent_removal cmd.StepDiscard on removal = no_way removal
+silent_removal cmd.StepCondense on removal = refl
+silent_removal command on removal = no_way on
+
+-- one that is done leaves it told what was committed last, and commits nothing
+pub silent_leaves : (command : Command) (answer : Reply) → IsDone answer → is_silent command ≡ true → (is_in_group command || is_background command answer) ≡ true
+silent_leaves cmd.List answer done on = refl
+silent_leaves cmd.Status answer done on = refl
+silent_leaves cmd.Audit answer done on = refl
+silent_leaves (cmd.Estimate dev) answer done on = refl
+silent_leaves (cmd.Map index) answer done on = refl
+silent_leaves cmd.StepDiscard answer done on = refl
+silent_leaves cmd.StepCondense (reply.No r) done on = absurd done
+silent_leaves cmd.StepCondense answer done on = refl
+silent_leaves command answer done on = no_way on
+
+pub silent_no_reset : (command : Command) (answer : Reply) → IsDone answer → is_silent command ≡ true → ends_reset answer command ≡ true → ⊥
+silent_no_reset cmd.List answer done on ends = not_ending answer cmd.List ends refl
+silent_no_reset cmd.Status answer done on ends = not_ending answer cmd.Status ends refl
+silent_no_reset cmd.Audit answer done on ends = not_ending answer cmd.Audit ends refl
+silent_no_reset (cmd.Estimate dev) answer done on ends = not_ending answer (cmd.Estimate dev) ends refl
+silent_no_reset (cmd.Map index) answer done on ends = not_ending answer (cmd.Map index) ends refl
+silent_no_reset cmd.StepDiscard answer done on ends = not_ending answer cmd.StepDiscard ends refl
+silent_no_reset cmd.StepCondense (reply.No r) done on ends = absurd done
+silent_no_reset cmd.StepCondense answer done on ends = background_no_reset cmd.StepCondense answer refl ends
+silent_no_reset command answer done on ends = no_way on
+
+pub silent_no_commit : (command : Command) (answer : Reply) → is_silent command ≡ true → is_acknowledged answer command ≡ true → ⊥
+silent_no_commit cmd.Sync answer on is = no_way on
+silent_no_commit cmd.Export answer on is = no_way on
+silent_no_commit command (reply.Synced txg) on is = no_way is
+silent_no_commit command reply.Done on is = no_way is
+silent_no_commit command answer on is = no_way is
+
+pub condense_background : (command : Command) (answer : Reply) → command ≡ cmd.StepCondense → IsDone answer → is_background command answer ≡ true
+condense_background command answer is done = subst (λ (k : Command). is_background k answer ≡ true) (sym is) (by answer done)
+  where
+    by : (a : Reply) → IsDone a → is_background cmd.StepCondense a ≡ true
+    by (reply.No r) done = absurd done
+    by a done = refl
+
+pub tables_silent : (command : Command) → is_table command ≡ true → is_silent command ≡ true
+tables_silent cmd.List on = refl
+tables_silent cmd.Status on = refl
+tables_silent cmd.Audit on = refl
+tables_silent (cmd.Estimate dev) on = refl
+tables_silent (cmd.Map index) on = refl
+tables_silent command on = no_way on
 
 -- ---- a line that ends no removal, and may give one up
 

@@ -153,6 +153,11 @@ is_silent cmd.StepDiscard = true
 is_silent cmd.StepCondense = true
 is_silent _ = false
 
+-- the line was done and committed nothing: it writes nothing, or was a step in the background
+abbrev pub commits_nothing : Command → Reply → Bool
+commits_nothing command (reply.No r) = false
+commits_nothing command answer = is_silent command || is_background command answer
+
 -- The line is told to commit nothing that cannot be read: it works in the group that is open, or commits it, or writes the trees of the streams. Where no device is gone it may be any that ends with a reset, or one of a removal that
 -- ends none.
 abbrev pub may_commit : Option OpenPool → Bool → Command → Bool
@@ -272,8 +277,8 @@ pub record IsBehindTurn (old : DeviceState) (command : Command) (answer : Reply)
   pub makes : old.account ≡ None → is_create command ≡ true → answer ≡ reply.Done → are_there account ≡ true → behind ≡ Some map.empty
   -- of a pool that is opened they are those that are told behind it
   pub opens : old.account ≡ None → is_import command ≡ true → answer ≡ reply.Done → (p : PoolState) → told ≡ Is p → behind ≡ Some p.objects
-  -- a line that leaves them told does so
-  pub keeps : (p : PoolState) → old.told.shelf ≡ Is p → is_some old.behind ≡ true → is_readable old.account old.trees ≡ true → leaves_told old.account answer command ≡ true → is_some behind ≡ true
+  -- a line that leaves them told does so, where a commit could be read, or it commits nothing
+  pub keeps : (p : PoolState) → old.told.shelf ≡ Is p → is_some old.behind ≡ true → (is_readable old.account old.trees || commits_nothing command answer) ≡ true → leaves_told old.account answer command ≡ true → is_some behind ≡ true
   -- behind one that ended with a reset they are those that were told before it, while no device is gone, or the line writes the trees of the streams
   pub resets : (p : PoolState) → old.told.shelf ≡ Is p → is_known old ≡ true → ends_reset answer command ≡ true → (are_there account || (old.trees && is_writing_trees command)) ≡ true → behind ≡ Some p.objects
   -- behind a `sync` and an `export` they are those that were told before it

@@ -120,8 +120,8 @@ is_of_removal command = false
 -- A step in the background was done that commits nothing: units of a device that is leaving were copied, into units that were free, or entries of a mapping were worked through.
 abbrev pub is_background : Command → Reply → Bool
 is_background cmd.StepEvac (reply.Copied units) = true
-is_background cmd.StepCondense (reply.Kept entries) = true
-is_background cmd.StepCondense reply.Ended = true
+is_background cmd.StepCondense (reply.No r) = false
+is_background cmd.StepCondense answer = true
 is_background command answer = false
 
 -- What the objects are behind the line is not told yet: a device is gone.

@@ -8,7 +8,7 @@ use Rattle.zr_vdev.specs.Stores.{IsWriteInto}
 use Rattle.zr_vdev.specs.declared.kind.Kind.TheVariants.{Block}
 use Rattle.zr_lines.proofs.Stopping.{in_group_itself}
 use Rattle.zr_pool.proofs.Trees.{removal_writes_none}
-use Rattle.zr_pool.proofs.Groups.{commit_alone, commits_in_group, background_removal, ends_none, none_of_them, not_of_removal, not_opener, no_way, opens_no_reset, pool_commits, refused_stays, resets_elsewhere, resets_somewhere, return_elsewhere, same_world, silent_objects, silent_pool, silent_removal}
+use Rattle.zr_pool.proofs.Groups.{background_removal, commit_alone, commits_in_group, condense_background, ends_none, none_of_them, not_of_removal, not_opener, no_way, opens_no_reset, pool_commits, refused_stays, resets_elsewhere, resets_somewhere, return_elsewhere, same_world, silent_objects, silent_pool, silent_removal}
 use Rattle.zr_pool.proofs.Leavings.{opener_refused}
 use Rattle.zr_pool.proofs.Refused.{fault_same}
 use Rattle.zr_pool.proofs.Shown.{same_root, still_last}
@@ -141,6 +141,23 @@ returns-then-is_opener-clause-still g c = λ told on. same_world (g.S.Shelf.worl
 
 pub returns-clause-still : goal.returns-clause-still
 returns-clause-still g c = λ told on. same_world (g.S.Shelf.world c.args.shelf.now) (g.S.Shelf.world c.args.shelf.now) refl
+
+pub returns-then-is_on_objects-clause-opens : goal.returns-then-is_on_objects-clause-opens
+returns-then-is_on_objects-clause-opens g c = λ on p h. no_way (sym (silent_objects _ on) ∙ (sym c.is_on_objects.ensures ∙ c.if-is_on_objects.true))
+
+pub returns-then-is_table-clause-opens : goal.returns-then-is_table-clause-opens
+returns-then-is_table-clause-opens g c = λ on p h. let stays = c.table_line.ensures.in_group p h in record { root = stays.root; units = λ d u is. stays.space.writable d u is }
+
+pub returns-then-is_on_pool-clause-opens : goal.returns-then-is_on_pool-clause-opens
+returns-then-is_on_pool-clause-opens g c = λ on p h. c.in_ok-pool_line.ensures.steps (silent_pool _ on (sym c.is_on_pool.ensures ∙ c.if-is_on_pool.true))
+
+pub returns-then-is_of_removal-clause-opens : goal.returns-then-is_of_removal-clause-opens
+returns-then-is_of_removal-clause-opens g c = λ on p h.
+    let step = c.in_ok-removal_line.ensures in
+    (step.background h.objects.held.told (condense_background _ _ (silent_removal _ on (sym c.is_of_removal.ensures ∙ c.if-is_of_removal.true)) step.done)).1
+
+pub returns-clause-opens : goal.returns-clause-opens
+returns-clause-opens g c = λ on p h. record { root = record { last = refl; guid = refl; table = refl }; units = λ d u is. is }
 
 -- ---- one group
 

@@ -91,7 +91,7 @@ returns-clause-step g c = λ told paths before stood.
     (λ p held writes. on_ok_weaker r (λ (ends : EndsReset command x y p.objects (g.S.Shelf.world shelf) (g.S.Shelf.world c.open_line-done.new.shelf)). ends.moves writes) (c.open_line-done.ensures.resets (writing_resets command writes.0) p (told_anew (Unit {0}) (g.S.Shelf.tells shelf) old.seen x p told held)))
     (λ group p held. c.open_line-done.ensures.one_group group p (told_anew (Unit {0}) (g.S.Shelf.tells shelf) old.seen x p told held))
     (λ p held. c.open_line-done.ensures.one_group_no p (told_anew (Unit {0}) (g.S.Shelf.tells shelf) old.seen x p told held))
-    (c.open_line-done.ensures.background told)
+    (c.open_line-done.ensures.background told) (λ silent. c.open_line-done.ensures.still told silent) (λ silent p held. c.open_line-done.ensures.opens silent p (told_anew (Unit {0}) (g.S.Shelf.tells shelf) old.seen x p told held))
     (λ ends p held. c.open_line-done.ensures.commits ends p (told_anew (Unit {0}) (g.S.Shelf.tells shelf) old.seen x p told held)) in
     let standing_part = subst (λ (b : Bool). IfOk (answer_of r) (λ found. IfSome found (λ answer. is_standing b before.told.shelf before.trees command answer ≡ true → AreStanding (left_of (is_closing command r) y) new.seen))) (sym there.is_open)
     (open_standing (g.S.Shelf.sizes shelf) (g.S.Shelf.world shelf) (g.S.Shelf.world c.open_line-done.new.shelf) before.told.shelf before.trees command x y there.part (λ stands. subst (λ (o : Option OpenPool). AreStanding o old.seen) c.in-Some.is (stood.trees stands)) r c.open_line-done.ensures.done
