@@ -3,3 +3,4 @@ pub mod Spelled
 pub mod Parts
 pub mod Crashes
 pub mod Behind
+pub mod Found

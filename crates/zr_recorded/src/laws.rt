@@ -1,5 +1,5 @@
 //! The laws, as calls that do nothing: a caller learns them by their contracts.
-ghost use Rattle.std.specs.Prelude.{◌≡◌, ℕ, ◌<◌, Bool, List, [], length, map, None};
+ghost use Rattle.std.specs.Prelude.{◌≡◌, ℕ, ◌<◌, Bool, true, List, [], length, map, None};
 ghost use Rattle.zr_beside.specs.Beside.{Standing};
 ghost use Rattle.zr_current.specs.Current.{GoesOnFrom, IsShownFor};
 ghost use Rattle.zr_label.specs.declared.root.Uber.{Uber};
@@ -10,11 +10,15 @@ ghost use Rattle.zr_open.specs.Left.{RecordsParts};
 ghost use Rattle.zr_open.specs.Shown.{Shows};
 ghost use Rattle.zr_open.specs.There.{AreThere};
 ghost use Rattle.zr_recorded.specs.Crashes.{ShowsPool};
+ghost use Rattle.zr_recorded.specs.Found.{StandsFound};
 ghost use Rattle.zr_recorded.specs.Service.{AreInService, IsWhole};
 ghost use Rattle.zr_root.specs.Streams.{HasWords};
 ghost use Rattle.zr_roots.specs.Standing.{image_of};
 ghost use Rattle.zr_rules.specs.Equation.{devices_in};
+ghost use Rattle.zr_rules.specs.Space.{role_at};
+ghost use Rattle.zr_shelf.specs.Disks.{Stand};
 ghost use Rattle.zr_shelf.specs.Moments.{Throughout, World};
+ghost use Rattle.zr_stops.specs.Behind.{AreSameDisks, StandsBehind};
 ghost use Rattle.zr_stops.specs.Last.{IsCommitted};
 ghost use Rattle.zr_sync.specs.Ends.{EndsCommitted};
 ghost use Rattle.zr_sync.specs.Heads.{HasHead};
@@ -23,11 +27,12 @@ ghost use Rattle.zr_sync.specs.Objects.{HoldsObjects};
 ghost use Rattle.zr_sync.specs.Pools.{IsOpen};
 ghost use Rattle.zr_sync.specs.States.{HoldsState};
 ghost use Rattle.zr_sync.specs.Streams.{streams_at};
-ghost use Rattle.zr_sync.specs.Trees.{HasTrees, HoldsStreams, Place, Stage, stream_in};
+ghost use Rattle.zr_sync.specs.Trees.{HasLastTrees, HasTrees, HoldsStreams, Place, Stage, stream_in};
 ghost use Rattle.zr_sync.specs.Trees.Stage.{Had, Recorded};
 ghost use Rattle.zr_sync.specs.Writes.{WritesIntoFree};
 ghost use Rattle.zr_sync.specs.declared.mappings.MappingStream.{MappingStream};
 ghost use Rattle.zr_sync.specs.declared.open.OpenPool.{OpenPool};
+ghost use Rattle.zr_vdev.specs.Stores.{is_open_role};
 
 use zr_shelf::Shelf;
 
@@ -71,4 +76,33 @@ pub fn a_commit_is_shown_after_a_crash()
     ensures { (paths : List (List ℕ)) (sizes : List ℕ) (reset : Bool) (last : Uber) (old new : OpenPool) (objects : Objects) (before after now : World) → IsOpen sizes old → GoesOnFrom last old → map length before.now.seen ≡ sizes → IsNewestOn before.now.seen last old.table.slots
         → IsShownFor before.now.seen last old → HasTrees Had (Unit {0}) before.now.seen old → EndsCommitted sizes reset old new objects before after → IsWhole new → new.saved ≡ None → WritesIntoFree new after now
         → Throughout (ShowsPool paths objects) after now }
+{}
+
+/// Behind a commit that an import finds, whatever a crash leaves shows a pool, with the objects of that commit. Its root is the one that the slots show, also now.
+pub fn a_found_commit_is_shown()
+    ensures pool { (paths : List (List ℕ)) (sizes : List ℕ) (objects : Objects) (pool : OpenPool) (now : Stand) → StandsFound sizes objects pool now → ShowsPool paths objects now }
+    ensures slots { (sizes : List ℕ) (objects : Objects) (u : Uber) (pool : OpenPool) (now : Stand) → StandsFound sizes objects pool now → GoesOnFrom u pool → IsShownFor now.seen u pool }
+{}
+
+/// A line that writes into free units, behind which no others may be written, leaves it so, and whatever a crash leaves at each moment of
+/// it shows a pool with the objects of that commit. What is taken of the input, and what is sent, does not matter.
+pub fn a_line_keeps_it_found()
+    ensures stands { (sizes : List ℕ) (objects : Objects) (old new : OpenPool) (before now : World) → StandsFound sizes objects old before.now → WritesIntoFree old before now
+        → ((d u : ℕ) → is_open_role (role_at new.space d u) ≡ true → is_open_role (role_at old.space d u) ≡ true) → new.table ≡ old.table → new.last ≡ old.last → new.guid ≡ old.guid → StandsFound sizes objects new now.now }
+    ensures shows { (paths : List (List ℕ)) (sizes : List ℕ) (objects : Objects) (old : OpenPool) (before now : World) → StandsFound sizes objects old before.now → WritesIntoFree old before now → Throughout (ShowsPool paths objects) before now }
+    ensures disks { (sizes : List ℕ) (objects : Objects) (pool : OpenPool) (a b : Stand) → AreSameDisks a b → StandsFound sizes objects pool a → StandsFound sizes objects pool b }
+{}
+
+/// A commit is found where the trees of the pool's streams stood on its disks before, each device of the pool that it leaves is in service and
+/// no root is saved: the first one of which that is known, and one that ends a group, behind whatever commit it is. The slots show its root
+/// in any case, where they showed the last one.
+pub fn a_commit_is_found()
+    ensures first { (sizes : List ℕ) (reset : Bool) (last : Uber) (old new : OpenPool) (objects : Objects) (before now : World) → IsOpen sizes old → GoesOnFrom last old → map length before.now.seen ≡ sizes → IsNewestOn before.now.seen last old.table.slots
+        → IsShownFor before.now.seen last old → HasLastTrees before.now.seen old → EndsCommitted sizes reset old new objects before now → IsWhole new → new.saved ≡ None → StandsFound sizes objects new now.now }
+    ensures shown { (sizes : List ℕ) (reset : Bool) (last u : Uber) (old new : OpenPool) (objects : Objects) (before now : World) → IsOpen sizes old → GoesOnFrom last old → map length before.now.seen ≡ sizes
+        → IsShownFor before.now.seen last old → EndsCommitted sizes reset old new objects before now → GoesOnFrom u new → IsShownFor now.now.seen u new }
+    ensures behind { (sizes : List ℕ) (reset : Bool) (before after : Objects) (last : Uber) (old new : OpenPool) (start now : World) → StandsBehind sizes before old start.now → IsOpen sizes old → GoesOnFrom last old
+        → IsShownFor start.now.seen last old → HasLastTrees start.now.seen old → EndsCommitted sizes reset old new after start now → IsWhole new → new.saved ≡ None → StandsFound sizes after new now.now }
+    ensures next { (sizes : List ℕ) (reset : Bool) (before after : Objects) (old new : OpenPool) (start now : World) → StandsFound sizes before old start.now → IsOpen sizes old
+        → HasLastTrees start.now.seen old → EndsCommitted sizes reset old new after start now → IsWhole new → new.saved ≡ None → StandsFound sizes after new now.now }
 {}
