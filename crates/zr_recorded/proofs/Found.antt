@@ -10,7 +10,7 @@ use Rattle.zr_recorded.proofs.Behind.{head_new, serves_new, shown_new}
 use Rattle.zr_recorded.proofs.Crashes.{pending_shows, shown_there}
 use Rattle.zr_recorded.specs.Crashes.{ShowsPool}
 use Rattle.zr_recorded.specs.Found.{StandsFound}
-use Rattle.zr_recorded.specs.Service.{IsWhole}
+use Rattle.zr_recorded.specs.Service.{AreInService, IsWhole}
 use Rattle.zr_rules.specs.Space.{role_at}
 use Rattle.zr_shelf.proofs.Doings.{added_throughout}
 use Rattle.zr_shelf.proofs.Runs.{weaker}
@@ -23,8 +23,10 @@ use Rattle.zr_stops.proofs.Within.{begins_within, in_group, line_within, same_wi
 use Rattle.zr_stops.specs.Behind.{AreSameDisks, StandsBehind, StandsChanged, StandsInGroup}
 use Rattle.zr_stops.specs.Last.{IsCommitted}
 use Rattle.zr_sync.specs.Ends.{EndsCommitted}
+use Rattle.zr_sync.specs.Heads.{HasHead}
 use Rattle.zr_sync.specs.Pools.{IsOpen}
-use Rattle.zr_sync.specs.Trees.{HasLastTrees, head_tree}
+use Rattle.zr_sync.specs.Trees.{HasLastTrees, HasTrees, head_tree}
+use Rattle.zr_sync.specs.Trees.Stage.{Recorded}
 use Rattle.zr_sync.specs.Writes.{WritesIntoFree}
 use Rattle.zr_sync.specs.declared.open.OpenPool.{OpenPool}
 use Rattle.zr_sync.specs.declared.open.Table.{Table}
@@ -115,18 +117,23 @@ module _ (sizes : List ℕ) (objects : Objects) (old : OpenPool) (start : World)
 
 -- ---- a commit
 
+pub stood_found : (sizes : List ℕ) (u : Uber) (pool : OpenPool) (objects : Objects) (now : Stand) → IsCommitted sizes now u pool objects → GoesOnFrom u pool → AreInService u pool → pool.saved ≡ None → IsShownFor now.seen u pool → HasHead now.seen pool u.root u.len → HasTrees Recorded (Unit {0}) now.seen pool
+    → StandsFound sizes objects pool now
+stood_found sizes u pool objects now was from serves unsaved shown head trees = record {
+  behind = record { first = pool; root = u; begin = now; committed = was; from = from; within = begins_within sizes u pool objects now was };
+  serves = serves;
+  unsaved = unsaved;
+  shown = shown;
+  head = head;
+  trees = trees;
+}
+
 pub commit_found : (sizes : List ℕ) (reset : Bool) (last : Uber) (old new : OpenPool) (objects : Objects) (before now : World) → IsOpen sizes old → GoesOnFrom last old → map length before.now.seen ≡ sizes → IsNewestOn before.now.seen last old.table.slots
     → IsShownFor before.now.seen last old → HasLastTrees before.now.seen old → EndsCommitted sizes reset old new objects before now → IsWhole new → new.saved ≡ None → StandsFound sizes objects new now.now
 commit_found sizes reset last old new objects before now ready from sized newest shown had ends whole unsaved =
     let left = leaves_committed sizes reset last old new objects before now ready from sized newest (inr had) ends in
-    record {
-      behind = record { first = new; root = left.0; begin = now.now; committed = left.2; from = left.1; within = begins_within sizes left.0 new objects now.now left.2 };
-      serves = serves_new sizes reset last old new objects before now ready from sized shown ends left.0 left.1 whole;
-      unsaved = unsaved;
-      shown = shown_new sizes reset last old new objects before now ready from sized shown ends left.0 left.1;
-      head = head_new sizes reset last old new objects before now ready from sized shown ends left.0 left.1;
-      trees = ends.trees had;
-    }
+    stood_found sizes left.0 new objects now.now left.2 left.1 (serves_new sizes reset last old new objects before now ready from sized shown ends left.0 left.1 whole) unsaved
+    (shown_new sizes reset last old new objects before now ready from sized shown ends left.0 left.1) (head_new sizes reset last old new objects before now ready from sized shown ends left.0 left.1) (ends.trees had)
 
 -- behind whatever commit it is
 module _ (sizes : List ℕ) (objects : Objects) (old : OpenPool) (start : World) (b : StandsBehind sizes objects old start.now) where

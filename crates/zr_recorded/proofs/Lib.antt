@@ -4,3 +4,4 @@ pub mod Parts
 pub mod Crashes
 pub mod Behind
 pub mod Found
+pub mod Whole

@@ -32,7 +32,8 @@ ghost use Rattle.zr_sync.specs.Trees.Stage.{Had, Recorded};
 ghost use Rattle.zr_sync.specs.Writes.{WritesIntoFree};
 ghost use Rattle.zr_sync.specs.declared.mappings.MappingStream.{MappingStream};
 ghost use Rattle.zr_sync.specs.declared.open.OpenPool.{OpenPool};
-ghost use Rattle.zr_vdev.specs.Stores.{is_open_role};
+ghost use Rattle.zr_vdev.specs.Stores.{KeepsOthers, is_open_role};
+ghost use Rattle.zr_vdev.specs.declared.kind.Kind.TheVariants.{Block};
 
 use zr_shelf::Shelf;
 
@@ -78,14 +79,15 @@ pub fn a_commit_is_shown_after_a_crash()
         → Throughout (ShowsPool paths objects) after now }
 {}
 
-/// Behind a commit that an import finds, whatever a crash leaves shows a pool, with the objects of that commit. Its root is the one that the slots show, also now.
+/// Behind a commit that an import finds, whatever a crash leaves between two lines shows a pool, with the objects of that commit. The slots show
+/// the root that the pool goes on from.
 pub fn a_found_commit_is_shown()
     ensures pool { (paths : List (List ℕ)) (sizes : List ℕ) (objects : Objects) (pool : OpenPool) (now : Stand) → StandsFound sizes objects pool now → ShowsPool paths objects now }
     ensures slots { (sizes : List ℕ) (objects : Objects) (u : Uber) (pool : OpenPool) (now : Stand) → StandsFound sizes objects pool now → GoesOnFrom u pool → IsShownFor now.seen u pool }
 {}
 
-/// A line that writes into free units, behind which no others may be written, leaves it so, and whatever a crash leaves at each moment of
-/// it shows a pool with the objects of that commit. What is taken of the input, and what is sent, does not matter.
+/// A line that writes into free units, behind which no others may be written, leaves that commit to be found, and whatever a crash leaves at each moment of
+/// the line shows a pool with its objects. What is taken of the input, and what is sent, does not matter.
 pub fn a_line_keeps_it_found()
     ensures stands { (sizes : List ℕ) (objects : Objects) (old new : OpenPool) (before now : World) → StandsFound sizes objects old before.now → WritesIntoFree old before now
         → ((d u : ℕ) → is_open_role (role_at new.space d u) ≡ true → is_open_role (role_at old.space d u) ≡ true) → new.table ≡ old.table → new.last ≡ old.last → new.guid ≡ old.guid → StandsFound sizes objects new now.now }
@@ -93,10 +95,12 @@ pub fn a_line_keeps_it_found()
     ensures disks { (sizes : List ℕ) (objects : Objects) (pool : OpenPool) (a b : Stand) → AreSameDisks a b → StandsFound sizes objects pool a → StandsFound sizes objects pool b }
 {}
 
-/// A commit is found where the trees of the pool's streams stood on its disks before, each device of the pool that it leaves is in service and
-/// no root is saved: the first one of which that is known, and one that ends a group, behind whatever commit it is. The slots show its root
-/// in any case, where they showed the last one.
+/// A commit is found by an import where all that an import reads of it stands there, each device of the pool is in service, and no root is saved. So it is where
+/// the trees of the pool's streams stood on its disks before, and the slots showed the last root: the first commit of which that is known, one that ends the group behind
+/// some commit, and one that ends the group behind a commit that is found itself. That the slots show its root needs no more than that they showed the last one.
 pub fn a_commit_is_found()
+    ensures stood { (sizes : List ℕ) (u : Uber) (pool : OpenPool) (objects : Objects) (now : Stand) → IsCommitted sizes now u pool objects → GoesOnFrom u pool → AreInService u pool → pool.saved ≡ None
+        → IsShownFor now.seen u pool → HasHead now.seen pool u.root u.len → HasTrees Recorded (Unit {0}) now.seen pool → StandsFound sizes objects pool now }
     ensures first { (sizes : List ℕ) (reset : Bool) (last : Uber) (old new : OpenPool) (objects : Objects) (before now : World) → IsOpen sizes old → GoesOnFrom last old → map length before.now.seen ≡ sizes → IsNewestOn before.now.seen last old.table.slots
         → IsShownFor before.now.seen last old → HasLastTrees before.now.seen old → EndsCommitted sizes reset old new objects before now → IsWhole new → new.saved ≡ None → StandsFound sizes objects new now.now }
     ensures shown { (sizes : List ℕ) (reset : Bool) (last u : Uber) (old new : OpenPool) (objects : Objects) (before now : World) → IsOpen sizes old → GoesOnFrom last old → map length before.now.seen ≡ sizes
@@ -105,4 +109,11 @@ pub fn a_commit_is_found()
         → IsShownFor start.now.seen last old → HasLastTrees start.now.seen old → EndsCommitted sizes reset old new after start now → IsWhole new → new.saved ≡ None → StandsFound sizes after new now.now }
     ensures next { (sizes : List ℕ) (reset : Bool) (before after : Objects) (old new : OpenPool) (start now : World) → StandsFound sizes before old start.now → IsOpen sizes old
         → HasLastTrees start.now.seen old → EndsCommitted sizes reset old new after start now → IsWhole new → new.saved ≡ None → StandsFound sizes after new now.now }
+{}
+
+/// A pool that is whole behind a line that stores and frees blocks was so before it, and one that is so behind a commit was so before that: units that are
+/// obsolete, or kept for a checkpoint, stay so. Nothing is said the other way: a free may make units obsolete, or keep them.
+pub fn a_whole_pool_was_whole()
+    ensures line { (sizes : List ℕ) (old new : OpenPool) → IsOpen sizes old → KeepsOthers Block old.space new.space → new.table ≡ old.table → IsWhole new → IsWhole old }
+    ensures commit { (sizes : List ℕ) (reset : Bool) (old new : OpenPool) (objects : Objects) (before now : World) → IsOpen sizes old → EndsCommitted sizes reset old new objects before now → IsWhole new → IsWhole old }
 {}

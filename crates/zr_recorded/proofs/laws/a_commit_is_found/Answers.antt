@@ -1,6 +1,9 @@
 use Rattle.zr_recorded.proofs.Behind.{shown_new}
-use Rattle.zr_recorded.proofs.Found.{behind_found, commit_found, next_found}
+use Rattle.zr_recorded.proofs.Found.{behind_found, commit_found, next_found, stood_found}
 use Rattle.zr_recorded.proofs.laws.a_commit_is_found.Goals as goal
+
+pub returns-clause-stood : goal.returns-clause-stood
+returns-clause-stood c = λ sizes u pool objects now was from serves unsaved shown head trees. stood_found sizes u pool objects now was from serves unsaved shown head trees
 
 pub returns-clause-first : goal.returns-clause-first
 returns-clause-first c = λ sizes reset last old new objects before now ready from sized newest shown had ends whole unsaved. commit_found sizes reset last old new objects before now ready from sized newest shown had ends whole unsaved
