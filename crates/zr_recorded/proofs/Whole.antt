@@ -1,10 +1,12 @@
--- A pool that is whole behind a line of a group, or behind a commit, was so before it.
-use Rattle.std.proofs.Common.{◌≡◌, ℕ, ◌<◌, Bool, true, false, List, [], None, refl, sym, ◌∙◌, ap, subst, arith, if◌then◌else◌}
+-- A pool that is whole behind a line of a group, or behind a commit, was so before it, and no root was saved where none is.
+use Rattle.std.proofs.Common.{◌≡◌, ℕ, ◌<◌, Bool, true, false, List, [], Option, None, Some, refl, sym, ◌∙◌, ap, subst, arith, if◌then◌else◌}
 use Rattle.std.proofs.lemmas.Bool.Decides.{nat_tests}
 use Rattle.zr_base.proofs.ExtentSets.{same_extents}
 use Rattle.zr_base.specs.Extents.{IsMaximal, has_unit}
-use Rattle.zr_base.specs.declared.space.CkptPart.TheVariants.{Clear}
+use Rattle.zr_base.specs.declared.space.CkptPart.{CkptPart}
+use Rattle.zr_base.specs.declared.space.CkptPart.TheVariants.{Clear, Discarding, Held}
 use Rattle.zr_base.specs.declared.space.Extent.{Extent}
+use Rattle.zr_meta.specs.Heads.{IsSaved}
 use Rattle.zr_model.specs.Objects.{Objects}
 use Rattle.zr_recorded.specs.Service.{IsWhole, ServesWhole}
 use Rattle.zr_rules.specs.Places.{is_fresh, part_of}
@@ -14,7 +16,8 @@ use Rattle.zr_rules.specs.Steps.{Commits}
 use Rattle.zr_shelf.specs.Moments.{World}
 use Rattle.zr_sync.proofs.KeptSets.{kept_is}
 use Rattle.zr_sync.specs.Ends.{EndsCommitted}
-use Rattle.zr_sync.specs.Pools.{IsOpen}
+use Rattle.zr_sync.specs.Pools.{IsOpen, saved_block}
+use Rattle.zr_sync.specs.declared.open.Checkpoint.{Checkpoint}
 use Rattle.zr_sync.specs.declared.open.OpenPool.{OpenPool}
 use Rattle.zr_sync.specs.declared.open.Table.{Table}
 use Rattle.zr_vdev.specs.Stores.{KeepsOthers, may_change}
@@ -135,3 +138,15 @@ commit_whole sizes reset old new objects before now ready ends whole =
     let all = whole_before old.table.count e.all new.space (end_keeps reset e.all new.space e.ended) at_all last in
     let trees = whole_before old.table.count e.trees e.all (store_keeps Meta e.trees e.all e.metadata) at_trees all in
     pool_whole old (whole_before old.table.count old.space e.trees (store_keeps Block old.space e.trees e.blocks) ready.lawful trees)
+
+-- ---- saved roots
+
+no_root : (ckpt : CkptPart) (old new : Option Checkpoint) → IsSaved ckpt (saved_block old) → IsSaved ckpt (saved_block new) → new ≡ None → old ≡ None
+no_root ckpt None new was is none = refl
+no_root Clear (Some c) new was is none = absurd was
+no_root Discarding (Some c) new was is none = absurd was
+no_root (Held txg) (Some c) None was is none = absurd is
+no_root (Held txg) (Some c) (Some d) was is none = absurd (cc)
+
+pub none_saved : (sizes : List ℕ) (old new : OpenPool) → IsOpen sizes old → IsOpen sizes new → new.space.parts.ckpt ≡ old.space.parts.ckpt → new.saved ≡ None → old.saved ≡ None
+none_saved sizes old new was is same none = no_root old.space.parts.ckpt old.saved new.saved was.saved (subst (λ (c : CkptPart). IsSaved c (saved_block new.saved)) same is.saved) none

@@ -117,3 +117,9 @@ pub fn a_whole_pool_was_whole()
     ensures line { (sizes : List ℕ) (old new : OpenPool) → IsOpen sizes old → KeepsOthers Block old.space new.space → new.table ≡ old.table → IsWhole new → IsWhole old }
     ensures commit { (sizes : List ℕ) (reset : Bool) (old new : OpenPool) (objects : Objects) (before now : World) → IsOpen sizes old → EndsCommitted sizes reset old new objects before now → IsWhole new → IsWhole old }
 {}
+
+/// A root is saved exactly while a checkpoint is held: so where the account of two pools has the same of checkpoints, as over a line or a commit, and the one has no saved root,
+/// the other has none.
+pub fn a_saved_root_goes_with_its_checkpoint()
+    ensures { (sizes : List ℕ) (old new : OpenPool) → IsOpen sizes old → IsOpen sizes new → new.space.parts.ckpt ≡ old.space.parts.ckpt → new.saved ≡ None → old.saved ≡ None }
+{}

@@ -12,5 +12,6 @@ mod laws;
 pub use laws::{
     a_commit_is_found, a_commit_is_shown_after_a_crash, a_condensing_is_read,
     a_crash_shows_the_pool, a_found_commit_is_shown, a_line_keeps_it_found, a_pool_is_shown,
-    a_stream_is_read, a_whole_pool_was_whole, recorded_streams_record_parts,
+    a_saved_root_goes_with_its_checkpoint, a_stream_is_read, a_whole_pool_was_whole,
+    recorded_streams_record_parts,
 };
