@@ -115,6 +115,9 @@ module _ (paths : List (List ℕ)) (sizes : List ℕ) (u : Uber) (pool : OpenPoo
     shown_still : ShowsAll image shown.seen
     shown_still = all_shown image shown.seen (long_seen start.seen shown.seen shown.shown ∙ sym rings.labels.count) (λ slot lt. still slot (seen_at shown.seen slot) (shows_at start.seen shown.seen shown.shown slot lt))
 
+    pub shown_there : IsShownFor image u pool
+    shown_there = record { seen = shown.seen; shown = shown_still; current = shown.current; slots = shown.slots }
+
     -- ---- the pool
 
     last : HasLast image u pool objects
@@ -171,7 +174,7 @@ module _ (paths : List (List ℕ)) (sizes : List ℕ) (u : Uber) (pool : OpenPoo
   abbrev IsPending : Stand → Type 0
   IsPending = images.IsPending sizes u pool objects start was
 
-  pending_shows : (stand : Stand) → IsPending stand → ShowsPool paths objects stand
+  pub pending_shows : (stand : Stand) → IsPending stand → ShowsPool paths objects stand
   pending_shows stand pending image left = one_shown image (crash_clear sizes start stands.rest stands.sized (IsWriteInto Block pool.table.slots pool.space) alone.aside stand pending image left)
 
 -- at each moment from where the group began

@@ -3,3 +3,5 @@ pub mod Spelled
 pub mod Parts
 pub mod Crashes
 pub mod Behind
+pub mod Found
+pub mod Whole
