@@ -527,7 +527,7 @@ module _ (old new : World) (before : DeviceState) (command : Command) (x y : Ope
             quiet_told answer p told (quiet_leaves answer (silent_leaves command answer done on)) (silent_no_reset command answer done on) (silent_no_commit command answer on)
             (writes_still (IsWriteInto Block x.table.slots x.space) old new (still on)) (opens on p (held p told))
             (λ is_so. let f = found_silent x before.trees before.current before.found command answer done on (of_open answer is_so) in
-                (f.1, one_group_whole sizes p.objects x y old new lawful ready (in_one sizes p.objects command x y old new (table_no_step command f.0) (one (found_in_group x before.trees before.current before.found command answer done (of_open answer is_so)) p (held p told)))))
+            (f.1, one_group_whole sizes p.objects x y old new lawful ready (in_one sizes p.objects command x y old new (table_no_step command f.0) (one (found_in_group x before.trees before.current before.found command answer done (of_open answer is_so)) p (held p told)))))
         silent_part Empty told on = untold_part (Some y) (λ p is. let both = sym told ∙ is in absurd cc)
         silent_part (Refused r) told on = untold_part (Some y) (λ p is. let both = sym told ∙ is in absurd cc)
 

@@ -137,13 +137,16 @@ import_current : (old new : World) (y : OpenPool) (p : PoolState) → FlushesOnl
 import_current old new y p flushes shows last =
     let same = (flushes_read old new flushes).seen in
     let there : Shows old.now.paths new.now.seen p = subst (λ (ds : List (List ℕ)). Shows old.now.paths ds p) (sym same) shows in
-    let one = only_newest new.now.seen last.root y.table.slots there.seen last.newest there.shown there.root.uber there.current in
-    (last.root, last.from, record {
-      seen = there.seen;
-      shown = there.shown;
-      current = subst (λ (u : Uber). FindsCurrent there.seen (Ok u)) one there.current;
-      slots = λ d. devices_seen new.now.seen last.root y.table.slots there.seen last.newest there.shown d;
-    })
+    let one = only_newest new.now.seen last.root y.table.slots there.seen last.newest there.shown there.root.uber there.current in (
+      last.root,
+      last.from,
+      record {
+        seen = there.seen;
+        shown = there.shown;
+        current = subst (λ (u : Uber). FindsCurrent there.seen (Ok u)) one there.current;
+        slots = λ d. devices_seen new.now.seen last.root y.table.slots there.seen last.newest there.shown d;
+      },
+    )
 
 module _ (sizes : List ℕ) (old new : World) (part : ShelfPart) (current : Bool) (Holds : OpenPool → PoolState → Type 0) where
   opened_current : (command : Command) (pool : Option OpenPool) → StopsInOpening sizes command old new → IfSome pool (λ y. IsMade (shelf_of old.now) (Holds y) command) → IfSome pool (ShowsLast new.now.seen) → is_current false part current command reply.Done ≡ true → AreCurrent pool new.now.seen
