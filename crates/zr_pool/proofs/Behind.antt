@@ -1,11 +1,9 @@
 -- Which objects are told to be committed last behind a line, and what a crash shows at each moment of it.
 use Rattle.std.proofs.Common.{◌≡◌, ◌⊎◌, inl, inr, ℕ, zero, suc, List, [], ◌∷◌, Bool, true, false, length, map, Option, Some, None, Result, Ok, Err, refl, sym, ◌∙◌, ap, subst, ⊎_elim}
 use Rattle.std.specs.FinMap as map
-use Rattle.std.specs.Prelude.{IfOk, IfSome, OnErr, OnOk, is_some, not, if◌then◌else◌, ◌&&◌, ◌||◌, All}
+use Rattle.std.specs.Prelude.{IfOk, IfSome, OnErr, OnOk, is_some, not, if◌then◌else◌, ◌&&◌, ◌||◌}
 use Rattle.zr_base.specs.declared.refusal.Refusal.{Refusal}
 use Rattle.zr_base.specs.declared.space.DevPart.{DevPart}
-use Rattle.zr_base.specs.declared.space.DevState.{DevState}
-use Rattle.zr_base.specs.declared.space.DevState.TheVariants.{On, Leaving, Gone}
 use Rattle.zr_command.specs.Meanings.{disks_of, Disks}
 use Rattle.zr_current.specs.Current.{GoesOnFrom}
 use Rattle.zr_label.specs.declared.root.Uber.{Uber}
@@ -14,14 +12,14 @@ use Rattle.zr_sync.specs.Ends.{ComesCommitted, EndsCommitted}
 use Rattle.zr_lines.specs.Stops.{OpensNoUnit, StaysInOneGroup, WritesInOneGroup, WritesOneReset, WritesReset}
 use Rattle.zr_model.specs.Objects.{Objects}
 use Rattle.zr_model.specs.Runs.{point}
-use Rattle.zr_model.specs.State.{PoolState, ShelfPart, Empty, Refused, Is, Saved}
+use Rattle.zr_model.specs.State.{PoolState, ShelfPart, Empty, Refused, Is}
 use Rattle.zr_open.specs.Flushed.{FlushesOnly}
 use Rattle.zr_open.specs.Left.{IsLeftCommitted}
 use Rattle.zr_recorded.proofs.Found.{same_found}
 use Rattle.zr_recorded.specs.Found.{StandsFound}
 use Rattle.zr_recorded.specs.Service.{IsWhole}
 use Rattle.zr_rules.specs.Equation.{devices_in}
-use Rattle.zr_rules.specs.Places.{is_gone, is_leaving, is_on, part_of}
+use Rattle.zr_rules.specs.Places.{is_gone, part_of}
 use Rattle.zr_script.specs.declared.command.Command.{Command}
 use Rattle.zr_script.specs.declared.command.Command.TheVariants as cmd
 use Rattle.zr_script.specs.declared.reply.Reply.{Reply}
@@ -54,7 +52,7 @@ use Rattle.zr_open.specs.Going.{PutsBack}
 use Rattle.zr_open.specs.Shown.{Shows}
 use Rattle.zr_stops.proofs.Returning.{returns_either}
 use Rattle.zr_stops.proofs.Preparing.{settled_left}
-use Rattle.zr_pool.proofs.Closed.{StandsAs, closed_behind, closed_shows, flushes_keep, still_closed, stands_as}
+use Rattle.zr_pool.proofs.Closed.{closed_behind, closed_shows, flushes_keep, still_closed, stands_as}
 use Rattle.zr_pool.proofs.Groups.{acknowledged_commits, background_no_commit, background_no_reset, commits_in_group, ends_told, not_ending, opening_stops, opens_no_commit, opens_no_end, silent_leaves, silent_no_commit, silent_no_reset, tables_silent, writing_resets}
 use Rattle.zr_pool.proofs.Founding.{WasWhole, background_alone, ends_found, found_commit, found_in_group, found_line, found_silent, group_found, in_one, loud_no_step, next_group_found, one_group_whole, refused_found, stays_found, table_no_step}
 use Rattle.zr_pool.proofs.Outside.{keeps_outside}
@@ -65,7 +63,7 @@ use Rattle.zr_pool.specs.Behind.ComesFrom.{kept, committed, changed, made, found
 use Rattle.zr_pool.specs.Ends.{answer_of, is_closing}
 use Rattle.zr_pool.specs.Plain.{IsDone, is_background, is_untold_behind}
 use Rattle.zr_pool.specs.Pools.{AreCurrent, DeviceState, IsBehind, IsClosedBehind, IsFoundBehind, IsPartOf, stand_of, IsAsBegun, IsUnwritten}
-use Rattle.zr_pool.specs.Turns.{IsClosedAnswer, IsTurn, IsWithin, is_found, is_on_objects, is_opened, is_opener, is_table}
+use Rattle.zr_pool.specs.Turns.{IsClosedAnswer, IsTurn, IsWithin, is_found, is_opened, is_opener, is_table}
 use Rattle.zr_shelf.proofs.Doings.{writes_still}
 use Rattle.zr_vdev.specs.Stores.{IsWriteInto}
 use Rattle.zr_vdev.specs.declared.kind.Kind.TheVariants.{Block}

@@ -1,6 +1,6 @@
 -- Whether the slots show the last root as the current one behind a line, and whether an import finds what was committed last.
 use Rattle.std.proofs.Common.{◌≡◌, ◌⊎◌, inl, inr, ℕ, List, Bool, true, false, length, map, Option, Some, None, Result, Ok, Err, refl, sym, ◌∙◌, ap, subst, arith}
-use Rattle.std.specs.Prelude.{IfOk, IfSome, OnErr, OnOk, is_some, ◌&&◌, ◌||◌}
+use Rattle.std.specs.Prelude.{IfOk, IfSome, OnOk, ◌&&◌, ◌||◌}
 use Rattle.zr_base.specs.declared.refusal.Refusal.{Refusal}
 use Rattle.zr_current.proofs.Committed.{goes_on, sizes_kept}
 use Rattle.zr_current.proofs.Kept.{shown_still}
@@ -26,7 +26,6 @@ use Rattle.zr_script.specs.declared.command.Command.TheVariants as cmd
 use Rattle.zr_script.specs.declared.reply.Reply.{Reply}
 use Rattle.zr_script.specs.declared.reply.Reply.TheVariants as reply
 use Rattle.zr_shelf.proofs.Doings.{writes_still}
-use Rattle.zr_shelf.specs.Disks.{Stand}
 use Rattle.zr_shelf.specs.Moments.{World}
 use Rattle.zr_sync.specs.Commits.{IsNextRoot}
 use Rattle.zr_sync.specs.Ends.{EndsCommitted}
@@ -44,7 +43,7 @@ use Rattle.zr_pool.specs.Behind.{StaysTold, StopsInOpening, is_commit, is_in_gro
 use Rattle.zr_pool.specs.Ends.{answer_of, is_closing}
 use Rattle.zr_pool.specs.Plain.{IsDone, IsMade, is_background, shelf_of}
 use Rattle.zr_pool.specs.Pools.{AreCurrent, IsPartOf}
-use Rattle.zr_pool.specs.Turns.{is_current, is_found, is_on_objects, is_table, is_told}
+use Rattle.zr_pool.specs.Turns.{is_current, is_found, is_table, is_told}
 use Rattle.zr_pool.proofs.Groups.{no_way}
 use Rattle.zr_pool.proofs.Turning.{left_of}
 

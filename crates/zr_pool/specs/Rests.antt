@@ -1,5 +1,5 @@
 -- How the disks stand between two lines, by what the pool stands for: the law of the trait.
-use Rattle.std.proofs.Common.{◌≡◌, Bool, true, Option, Some, List, ℕ, refl, sym, subst}
+use Rattle.std.proofs.Common.{◌≡◌, true, Option, Some, List, ℕ, refl, sym, subst}
 use Rattle.std.specs.Prelude.{IfSome, None}
 use Rattle.zr_command.specs.Meanings.{Disks, disks_of}
 use Rattle.zr_model.specs.Objects.{Objects}
