@@ -1,5 +1,5 @@
 -- What a crash shows between two lines and at a moment of one.
-use Rattle.std.proofs.Common.{◌≡◌, ◌⊎◌, inl, inr, ℕ, Bool, true, false, List, [], Option, Some, None, refl, sym, ◌∙◌, ap, subst, ⊎_elim}
+use Rattle.std.proofs.Common.{◌≡◌, ◌⊎◌, inl, inr, ℕ, true, List, [], Option, Some, None, refl, sym, subst}
 use Rattle.std.proofs.lemmas.List.{append-nil}
 use Rattle.std.specs.List.{AllByRecursion}
 use Rattle.std.specs.Prelude.{IfSome, IsSomeAnd, is_some}
@@ -19,7 +19,7 @@ use Rattle.zr_script.specs.declared.command.Command.{Command}
 use Rattle.zr_sync.specs.declared.open.OpenPool.{OpenPool}
 use Rattle.zr_prefix.proofs.Prefixes.{begun_told, prefix_told}
 use Rattle.zr_prefix.proofs.Tells.{no_way}
-use Rattle.zr_prefix.specs.Prefix.{ComesOf, IsAsBegan, IsCovered, IsOfPrefix, IsTold, MayBeLost, ShowsPrefix}
+use Rattle.zr_prefix.specs.Prefix.{ComesOf, IsCovered, IsOfPrefix, IsTold, MayBeLost, ShowsPrefix}
 use Rattle.zr_prefix.specs.Prefix.ComesOf.{of_beginning, of_opening, of_prefix}
 use Rattle.zr_prefix.specs.Prefix.IsCovered.{while_closed, while_open}
 
