@@ -1,11 +1,9 @@
 -- Which objects are told to be committed last behind a line, and what a crash shows at each moment of it.
 use Rattle.std.proofs.Common.{◌≡◌, ◌⊎◌, inl, inr, ℕ, zero, suc, List, [], ◌∷◌, Bool, true, false, length, map, Option, Some, None, Result, Ok, Err, refl, sym, ◌∙◌, ap, subst, ⊎_elim}
 use Rattle.std.specs.FinMap as map
-use Rattle.std.specs.Prelude.{IfOk, IfSome, OnErr, OnOk, is_some, not, if◌then◌else◌, ◌&&◌, ◌||◌, All}
+use Rattle.std.specs.Prelude.{IfOk, IfSome, OnErr, OnOk, is_some, not, if◌then◌else◌, ◌&&◌, ◌||◌}
 use Rattle.zr_base.specs.declared.refusal.Refusal.{Refusal}
 use Rattle.zr_base.specs.declared.space.DevPart.{DevPart}
-use Rattle.zr_base.specs.declared.space.DevState.{DevState}
-use Rattle.zr_base.specs.declared.space.DevState.TheVariants.{On, Leaving, Gone}
 use Rattle.zr_command.specs.Meanings.{disks_of, Disks}
 use Rattle.zr_current.specs.Current.{GoesOnFrom}
 use Rattle.zr_label.specs.declared.root.Uber.{Uber}
@@ -14,11 +12,14 @@ use Rattle.zr_sync.specs.Ends.{ComesCommitted, EndsCommitted}
 use Rattle.zr_lines.specs.Stops.{OpensNoUnit, StaysInOneGroup, WritesInOneGroup, WritesOneReset, WritesReset}
 use Rattle.zr_model.specs.Objects.{Objects}
 use Rattle.zr_model.specs.Runs.{point}
-use Rattle.zr_model.specs.State.{PoolState, ShelfPart, Empty, Refused, Is, Saved}
+use Rattle.zr_model.specs.State.{PoolState, ShelfPart, Empty, Refused, Is}
 use Rattle.zr_open.specs.Flushed.{FlushesOnly}
 use Rattle.zr_open.specs.Left.{IsLeftCommitted}
+use Rattle.zr_recorded.proofs.Found.{same_found}
+use Rattle.zr_recorded.specs.Found.{StandsFound}
+use Rattle.zr_recorded.specs.Service.{IsWhole}
 use Rattle.zr_rules.specs.Equation.{devices_in}
-use Rattle.zr_rules.specs.Places.{is_gone, is_leaving, is_on, part_of}
+use Rattle.zr_rules.specs.Places.{is_gone, part_of}
 use Rattle.zr_script.specs.declared.command.Command.{Command}
 use Rattle.zr_script.specs.declared.command.Command.TheVariants as cmd
 use Rattle.zr_script.specs.declared.reply.Reply.{Reply}
@@ -51,8 +52,9 @@ use Rattle.zr_open.specs.Going.{PutsBack}
 use Rattle.zr_open.specs.Shown.{Shows}
 use Rattle.zr_stops.proofs.Returning.{returns_either}
 use Rattle.zr_stops.proofs.Preparing.{settled_left}
-use Rattle.zr_pool.proofs.Closed.{StandsAs, closed_behind, closed_shows, flushes_keep, still_closed, stands_as}
+use Rattle.zr_pool.proofs.Closed.{closed_behind, closed_shows, flushes_keep, still_closed, stands_as}
 use Rattle.zr_pool.proofs.Groups.{acknowledged_commits, background_no_commit, background_no_reset, commits_in_group, ends_told, not_ending, opening_stops, opens_no_commit, opens_no_end, silent_leaves, silent_no_commit, silent_no_reset, tables_silent, writing_resets}
+use Rattle.zr_pool.proofs.Founding.{WasWhole, background_alone, ends_found, found_commit, found_in_group, found_line, found_silent, group_found, in_one, loud_no_step, next_group_found, one_group_whole, refused_found, stays_found, table_no_step}
 use Rattle.zr_pool.proofs.Outside.{keeps_outside}
 use Rattle.zr_pool.proofs.Resets.{behind_last, reset_behind}
 use Rattle.zr_pool.proofs.Turning.{left_of}
@@ -60,8 +62,8 @@ use Rattle.zr_pool.specs.Behind.{ComesFrom, HasReset, IsBehindTurn, LeavesEither
 use Rattle.zr_pool.specs.Behind.ComesFrom.{kept, committed, changed, made, found}
 use Rattle.zr_pool.specs.Ends.{answer_of, is_closing}
 use Rattle.zr_pool.specs.Plain.{IsDone, is_background, is_untold_behind}
-use Rattle.zr_pool.specs.Pools.{DeviceState, IsBehind, IsClosedBehind, IsPartOf, stand_of, IsAsBegun, IsUnwritten}
-use Rattle.zr_pool.specs.Turns.{IsClosedAnswer, IsTurn, IsWithin, is_on_objects, is_opened, is_opener, is_table}
+use Rattle.zr_pool.specs.Pools.{AreCurrent, DeviceState, IsBehind, IsClosedBehind, IsFoundBehind, IsPartOf, stand_of, IsAsBegun, IsUnwritten}
+use Rattle.zr_pool.specs.Turns.{IsClosedAnswer, IsTurn, IsWithin, is_found, is_opened, is_opener, is_table}
 use Rattle.zr_shelf.proofs.Doings.{writes_still}
 use Rattle.zr_vdev.specs.Stores.{IsWriteInto}
 use Rattle.zr_vdev.specs.declared.kind.Kind.TheVariants.{Block}
@@ -111,6 +113,12 @@ to_disks sizes objects pool s sized h = subst (λ (n : List ℕ). StandsBehind n
 from_disks : (sizes : List ℕ) (objects : Objects) (pool : OpenPool) (s : Stand) → map length s.seen ≡ sizes → IsBehind (Some pool) (disks_of s) objects → StandsBehind sizes objects pool s
 from_disks sizes objects pool s sized h = same_behind sizes objects pool (stand_of (disks_of s)) s (back_again s) (subst (λ (n : List ℕ). StandsBehind n objects pool (stand_of (disks_of s))) sized h)
 
+to_found : (sizes : List ℕ) (objects : Objects) (pool : OpenPool) (s : Stand) → map length s.seen ≡ sizes → StandsFound sizes objects pool s → StandsFound (map length s.seen) objects pool (stand_of (disks_of s))
+to_found sizes objects pool s sized h = subst (λ (n : List ℕ). StandsFound n objects pool (stand_of (disks_of s))) (sym sized) (same_found sizes objects pool s h (stand_of (disks_of s)) (same_disks s))
+
+from_found : (sizes : List ℕ) (objects : Objects) (pool : OpenPool) (s : Stand) → map length s.seen ≡ sizes → StandsFound (map length s.seen) objects pool (stand_of (disks_of s)) → StandsFound sizes objects pool s
+from_found sizes objects pool s sized h = same_found sizes objects pool (stand_of (disks_of s)) (subst (λ (n : List ℕ). StandsFound n objects pool (stand_of (disks_of s))) sized h) s (back_again s)
+
 leaves_there : (a b : Objects) (s : Stand) → ShowsEither a b s → LeavesEither a b (disks_of s)
 leaves_there a b s shows image left paths p is = shows image (left_by s (stand_of (disks_of s)) (same_disks s) image left) paths p is
 
@@ -136,35 +144,11 @@ module _ (sizes : List ℕ) (objects told : Objects) (x : OpenPool) (old : World
     pub which : (all ≡ objects) ⊎ (all ≡ told)
     pub behind : StandsBehind sizes all y new.now
 
-  still_behind : (y : OpenPool) (new : World) → IsStill old new → OpensNoUnit x y → StandsBehind sizes objects y new.now
-  still_behind y new nothing opens =
-      subst (StandsBehind sizes objects y) (sym nothing.now)
-      (record {
-        first = h.first;
-        root = h.root;
-        begin = h.begin;
-        committed = h.committed;
-        from = h.from;
-        within = record {
-          table = opens.root.table ∙ h.within.table;
-          last = opens.root.last ∙ h.within.last;
-          guid = opens.root.guid ∙ h.within.guid;
-          open_units = λ d u is. h.within.open_units d u (opens.units d u is);
-          durable = h.within.durable;
-          writes = h.within.writes;
-          seen = h.within.seen;
-        };
-      })
-
   one_group_behind : (y : OpenPool) (new : World) → StaysInOneGroup sizes told x y old new → Committed y new
   one_group_behind y new (inl stays) = record { all = objects; which = inl refl; behind = line_behind sizes objects x old h y new stays.written stays.space.writable stays.root.table stays.root.last stays.root.guid }
   one_group_behind y new (inr more) =
       let b = commit_behind sizes objects x old h lawful false told more.start more.next will more.commits in
       record { all = told; which = inr refl; behind = line_behind sizes told more.next more.start b y new more.stays.written more.stays.space.writable more.stays.root.table more.stays.root.last more.stays.root.guid }
-
-  told_still : (y : OpenPool) (new : World) → StaysTold sizes told x y old new → Committed y new
-  told_still y new (inl stays) = one_group_behind y new stays
-  told_still y new (inr (nothing, (opens, trees))) = record { all = objects; which = inl refl; behind = still_behind y new nothing opens }
 
   writes_show : (new : World) → WritesInOneGroup sizes told x old new → Throughout (ShowsEither objects told) old new
   writes_show new (inl wrote) = weaker (ShowsOnly objects) (ShowsEither objects told) old new (first_of objects told) (line_shows sizes objects x old h new wrote)
@@ -224,6 +208,7 @@ module _ (new : World) (before : DeviceState) (command : Command) (part : ShelfP
     pub behind : Option Objects
     pub stands : IfSome behind (IsBehind pool (disks_of new.now))
     pub turn : IsBehindTurn before command answer part pool behind
+    pub found : is_found before.account before.trees before.current before.found command answer ≡ true → IfSome behind (IsFoundBehind pool (disks_of new.now))
 
   -- nothing is told
   untold : (pool : Option OpenPool) (answer : Reply) → (before.account ≡ None → is_create command ≡ true → are_there pool ≡ true → ⊥) → (before.account ≡ None → is_import command ≡ true → answer ≡ reply.Done → (p : PoolState) → part ≡ Is p → ⊥) → ((p : PoolState) → before.told.shelf ≡ Is p → is_some before.behind ≡ true → (is_readable before.account before.trees || commits_nothing command answer) ≡ true → leaves_told before.account answer command ≡ true → ⊥)
@@ -239,14 +224,16 @@ module _ (new : World) (before : DeviceState) (command : Command) (part : ShelfP
       resets = λ p told known on there. absurd (resets p told known on there);
       commits = λ p told known acknowledged. absurd (commits p told known acknowledged);
     };
+    found = λ is. tt;
   }
 
   -- these are
   told_behind : (pool : Option OpenPool) (answer : Reply) (p : PoolState) (all : Objects) → (before.account ≡ None → is_create command ≡ true → answer ≡ reply.Done → ⊥) → (before.account ≡ None → is_import command ≡ true → answer ≡ reply.Done → ⊥) → before.told.shelf ≡ Is p → ComesFrom before command answer part all
-      → IsBehind pool (disks_of new.now) all → (ends_reset answer command ≡ true → all ≡ p.objects) → (is_acknowledged answer command ≡ true → all ≡ p.objects) → Behinds pool answer
-  told_behind pool answer p all not_made not_opened told comes stands reset_all committed_all = record {
+      → IsBehind pool (disks_of new.now) all → (ends_reset answer command ≡ true → all ≡ p.objects) → (is_acknowledged answer command ≡ true → all ≡ p.objects) → (is_found before.account before.trees before.current before.found command answer ≡ true → IsFoundBehind pool (disks_of new.now) all) → Behinds pool answer
+  told_behind pool answer p all not_made not_opened told comes stands reset_all committed_all finds = record {
     behind = Some all;
     stands = stands;
+    found = finds;
     turn = record {
       from = λ objects is. let same : all ≡ objects = cc in subst (ComesFrom before command answer part) same comes;
       makes = λ none create done there. absurd (not_made none create done);
@@ -331,7 +318,7 @@ none_acknowledged answer command none = by (is_acknowledged answer command) refl
 -- ---- where a pool is open
 
 module _ (old new : World) (before : DeviceState) (command : Command) (x y : OpenPool) (sizes : List ℕ) (lawful : IsOpen sizes x) (sized_old : map length old.now.seen ≡ sizes) (sized_new : map length new.now.seen ≡ sizes)
-    (part : IsPartOf old.now.seen x before.told.shelf) (account : before.account ≡ Some x) (was_shown : before.shown ≡ true → ShowsLast old.now.seen x) (was_standing : before.trees ≡ true → HasLastTrees old.now.seen x) (was : IfSome before.behind (IsBehind (Some x) (disks_of old.now))) (since : IfSome before.begun (IsAsBegun (Some x) (disks_of old.now))) where
+    (part : IsPartOf old.now.seen x before.told.shelf) (account : before.account ≡ Some x) (was_shown : before.shown ≡ true → ShowsLast old.now.seen x) (was_standing : before.trees ≡ true → HasLastTrees old.now.seen x) (was : IfSome before.behind (IsBehind (Some x) (disks_of old.now))) (since : IfSome before.begun (IsAsBegun (Some x) (disks_of old.now))) (was_current : before.current ≡ true → AreCurrent (Some x) old.now.seen) (was_found : before.found ≡ true → IfSome before.behind (IsFoundBehind (Some x) (disks_of old.now))) where
   not_begun : (first : Disks) → before.begun ≡ Some first → ⊥
   not_begun first is = let some : Some x ≡ None = (subst (λ (o : Option Disks). IfSome o (IsAsBegun (Some x) (disks_of old.now))) is since).0 in cc
 
@@ -374,6 +361,17 @@ module _ (old new : World) (before : DeviceState) (command : Command) (x y : Ope
   stood : (objects : Objects) → before.behind ≡ Some objects → StandsBehind sizes objects x old.now
   stood objects is = from_disks sizes objects x old.now sized_old (subst (λ (o : Option Objects). IfSome o (IsBehind (Some x) (disks_of old.now))) is was)
 
+  -- it is found where it was told so
+  found_at : (objects : Objects) → before.behind ≡ Some objects → before.found ≡ true → IsWhole x → x.saved ≡ None → StandsFound sizes objects x old.now
+  found_at objects is on whole unsaved = from_found sizes objects x old.now sized_old (subst (λ (o : Option Objects). IfSome o (IsFoundBehind (Some x) (disks_of old.now))) is (was_found on) whole unsaved)
+
+  -- what is told to be found behind the line
+  abbrev IsFoundFor : Reply → Type 0
+  IsFoundFor answer = is_found before.account before.trees before.current before.found command answer ≡ true
+
+  of_open : (answer : Reply) → IsFoundFor answer → is_found (Some x) before.trees before.current before.found command answer ≡ true
+  of_open answer is = subst (λ (o : Option OpenPool). is_found o before.trees before.current before.found command answer ≡ true) account is
+
   -- a commit of what is told
   commit_stands : (p : PoolState) → is_known before ≡ true → EndsCommitted sizes false x y p.objects old new → StandsBehind sizes p.objects y new.now
   commit_stands p known ends = by_last before.behind refl
@@ -397,8 +395,9 @@ module _ (old new : World) (before : DeviceState) (command : Command) (x y : Ope
 
   module _ (now_told : ShelfPart) where
     -- a line that stays in one group
-    line_told : (answer : Reply) (p : PoolState) → before.told.shelf ≡ Is p → commits_nothing command answer ≡ false → leaves_told before.account answer command ≡ true → (ends_reset answer command ≡ true → ⊥) → (is_acknowledged answer command ≡ true → ⊥) → StaysTold sizes p.objects x y old new → Behinds new before command now_told (Some y) answer
-    line_told answer p told commits leaves no_reset no_commit stays = by_last before.behind refl
+    line_told : (answer : Reply) (p : PoolState) → before.told.shelf ≡ Is p → commits_nothing command answer ≡ false → leaves_told before.account answer command ≡ true → (ends_reset answer command ≡ true → ⊥) → (is_acknowledged answer command ≡ true → ⊥) → IsOpen sizes y → (IsFoundFor answer → (before.trees ≡ true) × (before.found ≡ true)) → StaysInOneGroup sizes p.objects x y old new → Behinds new before command now_told (Some y) answer
+    unfolding one_group_behind
+    line_told answer p told commits leaves no_reset no_commit ready keeps_found stays = by_last before.behind refl
       where
         by_last : (o : Option Objects) → before.behind ≡ o → Behinds new before command now_told (Some y) answer
         by_last None is = untold new before command now_told (Some y) answer (not_made (Some y)) (not_opened now_told answer) (λ q told_q some readable left. no_way (sym (ap (λ (o : Option Objects). is_some o) is) ∙ some)) (λ q told_q known on there. no_reset on) (λ q told_q known acknowledged. no_commit acknowledged)
@@ -407,17 +406,23 @@ module _ (old new : World) (before : DeviceState) (command : Command) (x y : Ope
             by_readable : (b : Bool) → is_readable before.account before.trees ≡ b → Behinds new before command now_told (Some y) answer
             by_readable false out = untold new before command now_told (Some y) answer (not_made (Some y)) (not_opened now_told answer) (λ q told_q some readable left. no_way (sym out ∙ readable_then answer commits readable)) (λ q told_q known on there. no_reset on) (λ q told_q known acknowledged. no_commit acknowledged)
             by_readable true readable =
-                let c = told_still sizes objects p.objects x old (stood objects is) lawful (will_read readable) y new stays in
+                let c = one_group_behind sizes objects p.objects x old (stood objects is) lawful (will_read readable) y new stays in
                 told_behind new before command now_told (Some y) answer p c.all (λ none create done. is_open none) (λ none import done. is_open none) told
                 (elim c.which [
                   | inl same ↦ kept p told leaves (none_acknowledged answer command no_commit) (is ∙ ap Some (sym same))
                   | inr same ↦ committed leaves (p, told, sym same)
                 ])
                 (to_disks sizes c.all y new.now sized_new c.behind) (λ on. absurd (no_reset on)) (λ acknowledged. absurd (no_commit acknowledged))
+                (λ is_so whole unsaved. let f = keeps_found is_so in to_found sizes c.all y new.now sized_new (line_finds objects is readable stays whole unsaved f.0 f.1))
+              where
+                line_finds : (objects : Objects) (is : before.behind ≡ Some objects) (readable : is_readable before.account before.trees ≡ true) (stays : StaysInOneGroup sizes p.objects x y old new) → IsWhole y → y.saved ≡ None → before.trees ≡ true → before.found ≡ true
+                    → StandsFound sizes (one_group_behind sizes objects p.objects x old (stood objects is) lawful (will_read readable) y new stays).all y new.now
+                line_finds objects is readable (inl stays) whole unsaved trees on = let w = one_group_whole sizes p.objects x y old new lawful ready (inl stays) in group_found sizes objects x y old new (found_at objects is on (w.whole whole) (w.unsaved unsaved)) stays
+                line_finds objects is readable (inr more) whole unsaved trees on = next_group_found sizes objects p.objects x y old new lawful ready (found_at objects is on) (was_standing trees) more whole unsaved
 
     -- a line that commits nothing
-    quiet_told : (answer : Reply) (p : PoolState) → before.told.shelf ≡ Is p → leaves_told before.account answer command ≡ true → (ends_reset answer command ≡ true → ⊥) → (is_acknowledged answer command ≡ true → ⊥) → WritesIntoFree x old new → OpensNoUnit x y → Behinds new before command now_told (Some y) answer
-    quiet_told answer p told leaves no_reset no_commit wrote opens = by_last before.behind refl
+    quiet_told : (answer : Reply) (p : PoolState) → before.told.shelf ≡ Is p → leaves_told before.account answer command ≡ true → (ends_reset answer command ≡ true → ⊥) → (is_acknowledged answer command ≡ true → ⊥) → WritesIntoFree x old new → OpensNoUnit x y → (IsFoundFor answer → (before.found ≡ true) × WasWhole x y) → Behinds new before command now_told (Some y) answer
+    quiet_told answer p told leaves no_reset no_commit wrote opens keeps_found = by_last before.behind refl
       where
         by_last : (o : Option Objects) → before.behind ≡ o → Behinds new before command now_told (Some y) answer
         by_last None is =
@@ -427,21 +432,22 @@ module _ (old new : World) (before : DeviceState) (command : Command) (x y : Ope
             told_behind new before command now_told (Some y) answer p objects (λ none create done. is_open none) (λ none import done. is_open none) told (kept p told leaves (none_acknowledged answer command no_commit) is)
             (to_disks sizes objects y new.now sized_new (line_behind sizes objects x old (stood objects is) y new wrote opens.units opens.root.table opens.root.last opens.root.guid)) (λ on. absurd (no_reset on))
             (λ acknowledged. absurd (no_commit acknowledged))
+            (λ is_so whole unsaved. let f = keeps_found is_so in to_found sizes objects y new.now sized_new (stays_found sizes objects x y old new (found_at objects is f.0 (f.1.whole whole) (f.1.unsaved unsaved)) wrote opens))
 
     -- a `sync`, or an `export`, behind which the pool is closed
-    commit_told : (pool : Option OpenPool) (answer : Reply) (p : PoolState) → before.told.shelf ≡ Is p → commits_nothing command answer ≡ false → leaves_told before.account answer command ≡ true → (ends_reset answer command ≡ true → ⊥) → EndsCommitted sizes false x y p.objects old new → (StandsBehind sizes p.objects y new.now → IsBehind pool (disks_of new.now) p.objects) → Behinds new before command now_told pool answer
-    commit_told pool answer p told commits_some leaves no_reset ends to = by_known (is_known before) refl
+    commit_told : (pool : Option OpenPool) (answer : Reply) (p : PoolState) → before.told.shelf ≡ Is p → commits_nothing command answer ≡ false → leaves_told before.account answer command ≡ true → (ends_reset answer command ≡ true → ⊥) → EndsCommitted sizes false x y p.objects old new → (StandsBehind sizes p.objects y new.now → IsBehind pool (disks_of new.now) p.objects) → (is_known before ≡ true → IsFoundFor answer → IsFoundBehind pool (disks_of new.now) p.objects) → Behinds new before command now_told pool answer
+    commit_told pool answer p told commits_some leaves no_reset ends to finds = by_known (is_known before) refl
       where
         by_known : (b : Bool) → is_known before ≡ b → Behinds new before command now_told pool answer
-        by_known true known = told_behind new before command now_told pool answer p p.objects (λ none create done. is_open none) (λ none import done. is_open none) told (committed leaves (p, told, refl)) (to (commit_stands p known ends)) (λ on. refl) (λ acknowledged. refl)
+        by_known true known = told_behind new before command now_told pool answer p p.objects (λ none create done. is_open none) (λ none import done. is_open none) told (committed leaves (p, told, refl)) (to (commit_stands p known ends)) (λ on. refl) (λ acknowledged. refl) (finds known)
         by_known false known = untold new before command now_told pool answer (not_made pool) (not_opened now_told answer) (λ q told_q some readable left. no_way (sym known ∙ known_some before some (readable_then answer commits_some readable))) (λ q told_q knows on there. no_reset on) (λ q told_q knows acknowledged. no_way (sym known ∙ knows))
 
-    pub open_behinds : (r : Result (Option Reply) Fault) → IfOk r (λ answered. IfSome answered IsDone) → OnOk r (IsOpen sizes y) → IfOk r (λ answered. IfSome answered (λ answer. is_untold_behind command answer ≡ false → KeepsLast old new x y)) → ((p : PoolState) → HoldsState (Unit {0}) old.now.seen x p → IfOk r (λ answered. IfSome answered (λ answer. ends_reset answer command ≡ true → HasReset y new.now p.objects))) → ((p : PoolState) → HoldsState (Unit {0}) old.now.seen x p → WritesTold command x old → OnOk r (IfSome y.last (λ u. TellsMoves new.now.seen y u.root u.len))) → (is_in_group command ≡ true → (p : PoolState) → HoldsState (Unit {0}) old.now.seen x p → OnOk r (StaysTold sizes p.objects x y old new))
+    pub open_behinds : (r : Result (Option Reply) Fault) → IfOk r (λ answered. IfSome answered IsDone) → OnOk r (IsOpen sizes y) → IfOk r (λ answered. IfSome answered (λ answer. is_untold_behind command answer ≡ false → KeepsLast old new x y)) → ((p : PoolState) → HoldsState (Unit {0}) old.now.seen x p → IfOk r (λ answered. IfSome answered (λ answer. ends_reset answer command ≡ true → HasReset y new.now p.objects))) → ((p : PoolState) → HoldsState (Unit {0}) old.now.seen x p → WritesTold command x old → OnOk r (IfSome y.last (λ u. TellsMoves new.now.seen y u.root u.len))) → (is_in_group command ≡ true → (p : PoolState) → HoldsState (Unit {0}) old.now.seen x p → OnOk r (StaysTold sizes p.objects command x y old new))
         → ((p : PoolState) → HoldsState (Unit {0}) old.now.seen x p → (n : Refusal) → r ≡ Err (No n) → StaysInOneGroup sizes p.objects x y old new) → IfOk r (λ answered. IfSome answered (λ answer. is_background command answer ≡ true → WritesIntoFree x old new × OpensNoUnit x y)) → (is_silent command ≡ true → IsStill old new) → (is_silent command ≡ true → (p : PoolState) → HoldsState (Unit {0}) old.now.seen x p → OnOk r (OpensNoUnit x y))
-        → (is_commit command ≡ true → (p : PoolState) → HoldsState (Unit {0}) old.now.seen x p → OnOk r (EndsCommitted sizes false x y p.objects old new))
+        → (is_commit command ≡ true → (p : PoolState) → HoldsState (Unit {0}) old.now.seen x p → OnOk r (EndsCommitted sizes false x y p.objects old new)) → ((n : Refusal) → r ≡ Err (No n) → IsOpen sizes y)
         → IfOk (answer_of r) (λ answered. IfSome answered (λ answer. Behinds new before command now_told (left_of (is_closing command r) y) answer))
-    open_behinds (Ok None) done ready keeps resets moves one one_no stepped still opens commits = tt
-    open_behinds (Ok (Some answer)) done ready keeps resets moves one one_no stepped still opens commits = by_closing (is_closing command (Ok (Some answer))) refl
+    open_behinds (Ok None) done ready keeps resets moves one one_no stepped still opens commits ready_no = tt
+    open_behinds (Ok (Some answer)) done ready keeps resets moves one one_no stepped still opens commits ready_no = by_closing (is_closing command (Ok (Some answer))) refl
       where
         -- what commits something
         commits_some : is_silent command ≡ false → is_background command answer ≡ false → commits_nothing command answer ≡ false
@@ -469,7 +475,7 @@ module _ (old new : World) (before : DeviceState) (command : Command) (x y : Ope
         reset_told : is_in_group command ≡ false → ends_reset answer command ≡ true → (p : PoolState) → before.told.shelf ≡ Is p → is_known before ≡ true → (are_there (Some y) || (before.trees && is_writing_trees command)) ≡ true → Behinds new before command now_told (Some y) answer
         reset_told off on p told known there =
             told_behind new before command now_told (Some y) answer p p.objects (λ none create is_done. is_open none) (λ none import is_done. is_open none) told (changed on (p, told, refl))
-            (to_disks sizes p.objects y new.now sized_new (reset_behind sizes p.objects y new.now (keeps (ends_told answer command on) (known_last known)) ready sized_new (resets p (held p told) on) (reads p told there))) (λ also. refl) (λ acknowledged. refl)
+            (to_disks sizes p.objects y new.now sized_new (reset_behind sizes p.objects y new.now (keeps (ends_told answer command on) (known_last known)) ready sized_new (resets p (held p told) on) (reads p told there))) (λ also. refl) (λ acknowledged. refl) (λ is_so. absurd (not_ending answer command on (found_in_group x before.trees before.current before.found command answer done (of_open answer is_so))))
 
         reset_known : is_in_group command ≡ false → ends_reset answer command ≡ true → (p : PoolState) → before.told.shelf ≡ Is p → (a b : Bool) → is_known before ≡ a → (are_there (Some y) || (before.trees && is_writing_trees command)) ≡ b → Behinds new before command now_told (Some y) answer
         reset_known off on p told true true known there = reset_told off on p told known there
@@ -488,22 +494,24 @@ module _ (old new : World) (before : DeviceState) (command : Command) (x y : Ope
         untold_part : (pool : Option OpenPool) → ((p : PoolState) → before.told.shelf ≡ Is p → ⊥) → Behinds new before command now_told pool answer
         untold_part pool none = untold new before command now_told pool answer (not_made pool) (not_opened now_told answer) (λ p told some readable leaves. none p told) (λ p told known on there. none p told) (λ p told known acknowledged. none p told)
 
-        by_commit : (b : Bool) → is_commit command ≡ b → is_in_group command ≡ true → commits_nothing command answer ≡ false → (p : PoolState) → before.told.shelf ≡ Is p → Behinds new before command now_told (Some y) answer
-        by_commit true ends group some p told = commit_told (Some y) answer p told some (group_leaves answer group) (λ on. not_ending answer command on group) (commits ends p (held p told)) (to_disks sizes p.objects y new.now sized_new)
-        by_commit false ends group some p told = line_told answer p told some (group_leaves answer group) (λ on. not_ending answer command on group) (λ acknowledged. no_way (sym ends ∙ acknowledged_commits answer command acknowledged)) (one group p (held p told))
+        by_commit : (b : Bool) → is_commit command ≡ b → is_in_group command ≡ true → is_silent command ≡ false → commits_nothing command answer ≡ false → (p : PoolState) → before.told.shelf ≡ Is p → Behinds new before command now_told (Some y) answer
+        by_commit true ends group loud some p told = commit_told (Some y) answer p told some (group_leaves answer group) (λ on. not_ending answer command on group) (commits ends p (held p told)) (to_disks sizes p.objects y new.now sized_new)
+            (λ known is_so whole unsaved. let f = found_commit x before.trees before.current before.found command answer done ends (of_open answer is_so) in to_found sizes p.objects y new.now sized_new (ends_found sizes p.objects x y old new lawful sized_old (known_last known) (was_current f.1) (was_standing f.0) (commits ends p (held p told)) whole unsaved))
+        by_commit false ends group loud some p told = line_told answer p told some (group_leaves answer group) (λ on. not_ending answer command on group) (λ acknowledged. no_way (sym ends ∙ acknowledged_commits answer command acknowledged)) ready
+            (λ is_so. found_line x before.trees before.current before.found command answer done loud ends (of_open answer is_so)) (in_one sizes p.objects command x y old new (loud_no_step command loud) (one group p (held p told)))
 
-        by_part : (s : ShelfPart) → before.told.shelf ≡ s → is_in_group command ≡ true → commits_nothing command answer ≡ false → Behinds new before command now_told (Some y) answer
-        by_part (Is p) told group some = by_commit (is_commit command) refl group some p told
-        by_part Empty told group some = untold_part (Some y) (λ p is. let both = sym told ∙ is in absurd cc)
-        by_part (Refused r) told group some = untold_part (Some y) (λ p is. let both = sym told ∙ is in absurd cc)
+        by_part : (s : ShelfPart) → before.told.shelf ≡ s → is_in_group command ≡ true → is_silent command ≡ false → commits_nothing command answer ≡ false → Behinds new before command now_told (Some y) answer
+        by_part (Is p) told group loud some = by_commit (is_commit command) refl group loud some p told
+        by_part Empty told group loud some = untold_part (Some y) (λ p is. let both = sym told ∙ is in absurd cc)
+        by_part (Refused r) told group loud some = untold_part (Some y) (λ p is. let both = sym told ∙ is in absurd cc)
 
         by_group : (b : Bool) → is_in_group command ≡ b → is_silent command ≡ false → is_background command answer ≡ false → Behinds new before command now_told (Some y) answer
-        by_group true group loud no_step = by_part before.told.shelf refl group (commits_some loud no_step)
+        by_group true group loud no_step = by_part before.told.shelf refl group loud (commits_some loud no_step)
         by_group false off loud no_step = by_reset (ends_reset answer command) refl off no_step
 
         -- a step in the background
         background_part : (s : ShelfPart) → before.told.shelf ≡ s → is_background command answer ≡ true → Behinds new before command now_told (Some y) answer
-        background_part (Is p) told step = let c = stepped step in quiet_told answer p told (background_leaves answer step) (background_no_reset command answer step) (background_no_commit command answer step) c.0 c.1
+        background_part (Is p) told step = let c = stepped step in quiet_told answer p told (background_leaves answer step) (background_no_reset command answer step) (background_no_commit command answer step) c.0 c.1 (λ is_so. absurd (background_alone command answer step (found_in_group x before.trees before.current before.found command answer done (of_open answer is_so))))
         background_part Empty told step = untold_part (Some y) (λ p is. let both = sym told ∙ is in absurd cc)
         background_part (Refused r) told step = untold_part (Some y) (λ p is. let both = sym told ∙ is in absurd cc)
 
@@ -516,6 +524,8 @@ module _ (old new : World) (before : DeviceState) (command : Command) (x y : Ope
         silent_part (Is p) told on =
             quiet_told answer p told (quiet_leaves answer (silent_leaves command answer done on)) (silent_no_reset command answer done on) (silent_no_commit command answer on)
             (writes_still (IsWriteInto Block x.table.slots x.space) old new (still on)) (opens on p (held p told))
+            (λ is_so. let f = found_silent x before.trees before.current before.found command answer done on (of_open answer is_so) in
+            (f.1, one_group_whole sizes p.objects x y old new lawful ready (in_one sizes p.objects command x y old new (table_no_step command f.0) (one (found_in_group x before.trees before.current before.found command answer done (of_open answer is_so)) p (held p told)))))
         silent_part Empty told on = untold_part (Some y) (λ p is. let both = sym told ∙ is in absurd cc)
         silent_part (Refused r) told on = untold_part (Some y) (λ p is. let both = sym told ∙ is in absurd cc)
 
@@ -528,23 +538,23 @@ module _ (old new : World) (before : DeviceState) (command : Command) (x y : Ope
             let ends = commits (subst (λ (c : Command). is_commit c ≡ true) (sym exports) refl) p (held p told) in
             let group = subst (λ (c : Command). is_in_group c ≡ true) (sym exports) refl in
             let some = commits_done command answer done ∙ subst (λ (c : Command). (is_silent c || is_background c answer) ≡ false) (sym exports) refl in
-            commit_told None answer p told some (group_leaves answer group) (λ on. not_ending answer command on group) ends (λ stands. closed_behind sizes false x y p.objects old new lawful ends (to_disks sizes p.objects y new.now sized_new stands))
+            commit_told None answer p told some (group_leaves answer group) (λ on. not_ending answer command on group) ends (λ stands. closed_behind sizes false x y p.objects old new lawful ends (to_disks sizes p.objects y new.now sized_new stands)) (λ known _. tt)
         by_export exports Empty told = untold_part None (λ p is. let both = sym told ∙ is in absurd cc)
         by_export exports (Refused r) told = untold_part None (λ p is. let both = sym told ∙ is in absurd cc)
 
         by_closing : (b : Bool) → is_closing command (Ok (Some answer)) ≡ b → Behinds new before command now_told (left_of b y) answer
         by_closing true is = by_export (closing_export command answer is) before.told.shelf refl
         by_closing false is = by_silent (is_silent command) refl
-    open_behinds (Err (No n)) done ready keeps resets moves one one_no stepped still opens commits = by_part before.told.shelf refl
+    open_behinds (Err (No n)) done ready keeps resets moves one one_no stepped still opens commits ready_no = by_part before.told.shelf refl
       where
         untold_no : ((p : PoolState) → before.told.shelf ≡ Is p → ⊥) → Behinds new before command now_told (Some y) (reply.No n)
         untold_no none = untold new before command now_told (Some y) (reply.No n) (not_made (Some y)) (not_opened now_told (reply.No n)) (λ p told some readable leaves. none p told) (λ p told known on there. no_way on) (λ p told known acknowledged. no_way acknowledged)
 
         by_part : (s : ShelfPart) → before.told.shelf ≡ s → Behinds new before command now_told (Some y) (reply.No n)
-        by_part (Is p) told = line_told (reply.No n) p told refl (refused_leaves n) (λ on. no_way on) (λ acknowledged. no_way acknowledged) (inl (one_no p (held p told) n refl))
+        by_part (Is p) told = line_told (reply.No n) p told refl (refused_leaves n) (λ on. no_way on) (λ acknowledged. no_way acknowledged) (ready_no n refl) (λ is_so. refused_found x before.trees before.current before.found command n (of_open (reply.No n) is_so)) (one_no p (held p told) n refl)
         by_part Empty told = untold_no (λ p is. let both = sym told ∙ is in absurd cc)
         by_part (Refused r) told = untold_no (λ p is. let both = sym told ∙ is in absurd cc)
-    open_behinds (Err (Stops s)) done ready keeps resets moves one one_no stepped still opens commits = tt
+    open_behinds (Err (Stops s)) done ready keeps resets moves one one_no stepped still opens commits ready_no = tt
 
   -- ---- the moments of a line
 
@@ -676,6 +686,10 @@ module _ (old new : World) (before : DeviceState) (command : Command) (account :
   none_left : leaves_told before.account reply.Done command ≡ true → ⊥
   none_left leaves = no_way (subst (λ (o : Option OpenPool). leaves_told o reply.Done command ≡ true) account leaves)
 
+  -- where none is open nothing is told to be found
+  closed_lost : {P : Type 0} → is_found before.account before.trees before.current before.found command reply.Done ≡ true → P
+  closed_lost is = no_way (subst (λ (o : Option OpenPool). is_found o before.trees before.current before.found command reply.Done ≡ true) account is)
+
   module _ (now_told : ShelfPart) where
     module _ (opens : is_opener command ≡ true) where
       -- nothing is told behind a line that makes no pool of which no device is gone, and opens none
@@ -695,6 +709,7 @@ module _ (old new : World) (before : DeviceState) (command : Command) (account :
           resets = λ p told known on there_all. absurd (opens_no_end command opens on);
           commits = λ p told known acknowledged. absurd (opens_no_commit command opens acknowledged);
         };
+        found = λ is. closed_lost is;
       }
 
       -- a pool that was opened is as it was found
@@ -711,6 +726,7 @@ module _ (old new : World) (before : DeviceState) (command : Command) (account :
           resets = λ q told_q known on there_all. absurd (opens_no_end command opens on);
           commits = λ q told_q known acknowledged. absurd (opens_no_commit command opens acknowledged);
         };
+        found = λ is. closed_lost is;
       }
 
       module _ (sizes : List ℕ) (sized : map length new.now.seen ≡ sizes) where
@@ -748,7 +764,7 @@ module _ (old new : World) (before : DeviceState) (command : Command) (account :
       refused_part : (objects : Objects) → before.behind ≡ Some objects → (s : ShelfPart) → before.told.shelf ≡ s → Behinds new before command now_told None (reply.No n)
       refused_part objects is (Is p) told =
           told_behind new before command now_told None (reply.No n) p objects (λ none create done. absurd (let e : reply.No n ≡ reply.Done = done in cc)) (λ none import done. absurd (let e : reply.No n ≡ reply.Done = done in cc)) told (kept p told (leaves_closed n) refl is)
-          (still_closed (disks_of old.now) new.now objects (flushes_keep old new objects (closed_at objects is) flushes).1 (closed_at objects is)) (λ on. no_way on) (λ acknowledged. no_way acknowledged)
+          (still_closed (disks_of old.now) new.now objects (flushes_keep old new objects (closed_at objects is) flushes).1 (closed_at objects is)) (λ on. no_way on) (λ acknowledged. no_way acknowledged) (λ _. tt)
       refused_part objects is Empty told = untold_no (λ p also some readable leaves. let both = sym told ∙ also in absurd cc)
       refused_part objects is (Refused r) told = untold_no (λ p also some readable leaves. let both = sym told ∙ also in absurd cc)
 

@@ -15,5 +15,6 @@ pub mod Closed
 pub mod Trees
 pub mod Resets
 pub mod Beginning
+pub mod Founding
 pub mod Behind
 pub mod Accounting

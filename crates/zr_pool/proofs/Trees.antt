@@ -1,5 +1,5 @@
 -- Whether the trees of the pool's streams stand on the disks behind a line.
-use Rattle.std.proofs.Common.{◌≡◌, ◌⊎◌, ◌∙◌, inl, inr, ℕ, List, Bool, true, false, Option, Some, None, Result, Ok, Err, refl, sym, subst}
+use Rattle.std.proofs.Common.{◌≡◌, ◌⊎◌, inl, inr, ℕ, List, Bool, true, false, Option, Some, None, Result, Ok, Err, refl, sym, subst}
 use Rattle.std.specs.Prelude.{IfOk, IfSome, OnErr, OnOk, ◌&&◌, ◌||◌}
 use Rattle.zr_base.specs.declared.refusal.Refusal.{Refusal}
 use Rattle.zr_lines.specs.Stops.{StaysInOneGroup}
@@ -38,9 +38,9 @@ pub one_group_trees : (sizes : List ℕ) (objects : Objects) (x y : OpenPool) (b
 one_group_trees sizes objects x y before now (inl stays) h = stays.trees h
 one_group_trees sizes objects x y before now (inr behind) h = behind.stays.trees (begins_again (Unit {0}) behind.start.now.seen behind.next behind.commits.ends.ended.opened (behind.commits.trees h))
 
-told_trees : (sizes : List ℕ) (objects : Objects) (x y : OpenPool) (before now : World) → StaysTold sizes objects x y before now → KeepsTrees x y before now
-told_trees sizes objects x y before now (inl stays) = one_group_trees sizes objects x y before now stays
-told_trees sizes objects x y before now (inr still) = still.1.1
+told_trees : (sizes : List ℕ) (objects : Objects) (command : Command) (x y : OpenPool) (before now : World) → StaysTold sizes objects command x y before now → KeepsTrees x y before now
+told_trees sizes objects command x y before now (inl stays) = one_group_trees sizes objects x y before now stays
+told_trees sizes objects command x y before now (inr step) = step.1.1.1
 
 -- only lines that end with a reset write the trees anew
 writing_resets : (command : Command) → is_writing_trees command ≡ true → is_resetting command ≡ true
@@ -86,7 +86,7 @@ module _ (sizes : List ℕ) (old new : World) (part : ShelfPart) (trees : Bool) 
   told_state Empty holds is = no_way is
   told_state (Refused r) holds is = no_way is
 
-  pub open_standing : (r : Result (Option Reply) Fault) → IfOk r (λ found. IfSome found IsDone) → (is_in_group command ≡ true → (p : PoolState) → HoldsState (Unit {0}) old.now.seen x p → OnOk r (StaysTold sizes p.objects x y old new))
+  pub open_standing : (r : Result (Option Reply) Fault) → IfOk r (λ found. IfSome found IsDone) → (is_in_group command ≡ true → (p : PoolState) → HoldsState (Unit {0}) old.now.seen x p → OnOk r (StaysTold sizes p.objects command x y old new))
       → ((p : PoolState) → HoldsState (Unit {0}) old.now.seen x p → (n : Refusal) → r ≡ Err (No n) → StaysInOneGroup sizes p.objects x y old new)
       → (is_resetting command ≡ true → (p : PoolState) → HoldsState (Unit {0}) old.now.seen x p → OnOk r (EndsReset command x y p.objects old new))
       → IfOk (answer_of r) (λ found. IfSome found (λ answer. is_standing true part trees command answer ≡ true → AreStanding (left_of (is_closing command r) y) new.now.seen))
@@ -97,7 +97,7 @@ module _ (sizes : List ℕ) (old new : World) (part : ShelfPart) (trees : Bool) 
       let h = stood all.0 in
       left_standing (is_closing command (Ok (Some answer))) y new.now.seen (elim (either_true (is_writing_trees command) (is_in_group command) all.1.1) [
         | inl writes ↦ (resets (writing_resets command writes) p.0 p.1).trees writes h
-        | inr works ↦ told_trees sizes p.0.objects x y old new (group works p.0 p.1) h
+        | inr works ↦ told_trees sizes p.0.objects command x y old new (group works p.0 p.1) h
       ])
   open_standing (Err (No n)) done group group_no resets = λ is.
       let both = both_true trees (is_told part) is in

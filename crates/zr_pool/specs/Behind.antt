@@ -167,9 +167,9 @@ may_commit account trees command = is_readable account trees && (keeps_trees com
 abbrev pub may_stop : Option OpenPool → Bool → Command → Bool
 may_stop account trees command = is_silent command || may_commit account trees command
 
--- The line stayed in one group: it did nothing to the disks, or wrote units of the group that is open, or of the next one behind a commit of that.
-abbrev pub StaysTold : List ℕ → Objects → OpenPool → OpenPool → World → World → Type 0
-StaysTold sizes objects old new before now = StaysInOneGroup sizes objects old new before now ⊎ (IsStill before now × (OpensNoUnit old new × KeepsTrees old new before now))
+-- The line stayed in one group: it wrote units of the group that is open, or of the next one behind a commit of that, or is a step of discarding, which did nothing to the disks.
+abbrev pub StaysTold : List ℕ → Objects → Command → OpenPool → OpenPool → World → World → Type 0
+StaysTold sizes objects command old new before now = StaysInOneGroup sizes objects old new before now ⊎ ((command ≡ cmd.StepDiscard) × (IsStill before now × (OpensNoUnit old new × KeepsTrees old new before now)))
 
 -- whatever an honest crash leaves of these disks shows these objects, if it shows a pool
 abbrev pub LeavesOnly : Objects → Disks → Type 0

@@ -3,11 +3,15 @@ use Rattle.std.specs.Prelude.{◌≡◌, ◌⊎◌, ℕ, Bool, true, false, ◌�
 use Rattle.std.specs.List.{list_any}
 use Rattle.zr_base.specs.declared.space.DevPart.{DevPart}
 use Rattle.zr_command.specs.Meanings.{Disks}
+use Rattle.zr_current.specs.Current.{GoesOnFrom, IsShownFor}
 use Rattle.zr_image.specs.StateOf.{is_discarding}
+use Rattle.zr_label.specs.declared.root.Uber.{Uber}
 use Rattle.zr_last.specs.Last.{ShowsLast}
 use Rattle.zr_model.specs.Objects.{Objects}
 use Rattle.zr_model.specs.State.{State, PoolState, ShelfPart, Empty, Refused, Is, Work, no_pool}
 use Rattle.zr_open.specs.Left.{LeavesObjects}
+use Rattle.zr_recorded.specs.Found.{StandsFound}
+use Rattle.zr_recorded.specs.Service.{IsWhole}
 use Rattle.zr_rules.specs.Places.{is_leaving}
 use Rattle.zr_rules.specs.Space.{Space}
 use Rattle.zr_rules.specs.Steps.{has_condensing}
@@ -92,6 +96,15 @@ abbrev pub IsBehind : Option OpenPool → Disks → Objects → Type 0
 IsBehind (Some pool) disks objects = StandsBehind (map length disks.seen) objects pool (stand_of disks)
 IsBehind None disks objects = IsClosedBehind disks objects
 
+-- the slots show the root from which the open pool goes on as the current one
+abbrev pub AreCurrent : Option OpenPool → List (List ℕ) → Type 0
+AreCurrent pool disks = IfSome pool (λ x. (u : Uber) × GoesOnFrom u x × IsShownFor disks u x)
+
+-- where each device of the open pool is in service and no root is saved, an import finds the commit of these objects
+abbrev pub IsFoundBehind : Option OpenPool → Disks → Objects → Type 0
+IsFoundBehind None disks objects = Unit {0}
+IsFoundBehind (Some x) disks objects = IsWhole x → x.saved ≡ None → StandsFound (map length disks.seen) objects x (stand_of disks)
+
 -- the disks as they stand behind a flush
 abbrev pub settled : Disks → Disks
 settled disks = record { durable = disks.seen; writes = []; seen = disks.seen }
@@ -105,7 +118,8 @@ abbrev pub IsAsBegun : Option OpenPool → Disks → Disks → Type 0
 IsAsBegun pool disks first = (pool ≡ None) × IsUnwritten first disks
 
 -- What is told of a pool on devices between two commands: its objects, as far as these are told, what it holds beside its disks while it is open, whether the disks show it, whether they have the trees
--- of its streams, and which objects were committed last, as far as that is told; and how the disks stood when the run began, while nothing was written since.
+-- of its streams, and which objects were committed last, as far as that is told; how the disks stood when the run began, while nothing was written since; and whether the slots show its root as the current one,
+-- and an import finds what was committed last.
 pub record DeviceState : Type 0 where
   pub told : State
   pub account : Option OpenPool
@@ -113,10 +127,12 @@ pub record DeviceState : Type 0 where
   pub trees : Bool
   pub behind : Option Objects
   pub begun : Option Disks
+  pub current : Bool
+  pub found : Bool
 
 -- no pool yet
 abbrev pub no_device_state : Disks → DeviceState
-no_device_state disks = record { told = no_pool; account = None; shown = false; trees = false; behind = None; begun = Some disks }
+no_device_state disks = record { told = no_pool; account = None; shown = false; trees = false; behind = None; begun = Some disks; current = false; found = false }
 
 -- what is told of the pool and its disks is so, and the account is the pool's own
 pub record Stands (pool : Option OpenPool) (disks : Disks) (state : DeviceState) : Type 0 where
@@ -126,3 +142,5 @@ pub record Stands (pool : Option OpenPool) (disks : Disks) (state : DeviceState)
   pub trees : state.trees ≡ true → AreStanding pool disks.seen
   pub behind : IfSome state.behind (IsBehind pool disks)
   pub begun : IfSome state.begun (IsAsBegun pool disks)
+  pub current : state.current ≡ true → AreCurrent pool disks.seen
+  pub found : state.found ≡ true → IfSome state.behind (IsFoundBehind pool disks)

@@ -1,23 +1,34 @@
 -- How the disks stand between two lines, by what the pool stands for: the law of the trait.
-use Rattle.std.proofs.Common.{Option, Some, refl, subst}
+use Rattle.std.proofs.Common.{◌≡◌, true, Option, Some, List, ℕ, refl, sym, subst}
 use Rattle.std.specs.Prelude.{IfSome, None}
 use Rattle.zr_command.specs.Meanings.{Disks, disks_of}
 use Rattle.zr_model.specs.Objects.{Objects}
 use Rattle.zr_model.specs.Runs.{point}
+use Rattle.zr_recorded.proofs.Found.{found_shows}
+use Rattle.zr_recorded.specs.Crashes.{ShowsPool}
+use Rattle.zr_recorded.specs.Service.{IsWhole}
 use Rattle.zr_shelf.specs.Disks.{Stand}
 use Rattle.zr_stops.proofs.Behind.{behind_shows}
 use Rattle.zr_sync.specs.declared.open.OpenPool.{OpenPool}
 use Rattle.zr_pool.specs.Behind.{LeavesOnly}
-use Rattle.zr_pool.specs.Pools.{DeviceState, IsAsBegun, IsBehind, Stands, stand_of}
+use Rattle.zr_pool.specs.Pools.{DeviceState, IsAsBegun, IsBehind, IsFoundBehind, Stands, stand_of}
 use Rattle.zr_pool.specs.Turns.{RestsOn}
 
 behind_leaves : (pool : Option OpenPool) (stand : Stand) (objects : Objects) → IsBehind pool (disks_of stand) objects → LeavesOnly objects (disks_of stand)
 behind_leaves None stand objects h = behind_shows _ objects h.pool (stand_of (disks_of stand)) h.behind
 behind_leaves (Some pool) stand objects h = behind_shows _ objects pool (stand_of (disks_of stand)) h
 
+-- what a crash leaves of a commit that is found
+finds_pool : (pool : Option OpenPool) (stand : Stand) (state : DeviceState) → Stands pool (disks_of stand) state → state.found ≡ true → IfSome pool (λ x. IsWhole x → x.saved ≡ None → (objects : Objects) → state.behind ≡ Some objects → (paths : List (List ℕ)) → ShowsPool paths objects (stand_of (disks_of stand)))
+finds_pool None stand state stands is = tt
+finds_pool (Some x) stand state stands is = λ whole unsaved objects last paths.
+    let found : IsFoundBehind (Some x) (disks_of stand) objects = subst (λ (o : Option Objects). IfSome o (IsFoundBehind (Some x) (disks_of stand))) last (stands.found is) in
+    found_shows _ objects x (stand_of (disks_of stand)) (found whole unsaved) paths
+
 pub stands_rest : (pool : Option OpenPool) (stand : Stand) (state : DeviceState) → Stands pool (disks_of stand) state → RestsOn (point stand state) (disks_of stand)
 stands_rest pool stand state stands = record {
   reads = refl;
   shows = λ objects is. behind_leaves pool stand objects (subst (λ (o : Option Objects). IfSome o (IsBehind pool (disks_of stand))) is stands.behind);
   unwritten = λ first is. (subst (λ (o : Option Disks). IfSome o (IsAsBegun pool (disks_of stand))) is stands.begun).1;
+  finds = λ is. subst (λ (o : Option OpenPool). IfSome o (λ x. IsWhole x → x.saved ≡ None → (objects : Objects) → state.behind ≡ Some objects → (paths : List (List ℕ)) → ShowsPool paths objects (stand_of (disks_of stand)))) (sym stands.account) (finds_pool pool stand state stands is);
 }

@@ -18,9 +18,11 @@ use Rattle.zr_model.specs.Runs.{Point, Shelf, Turn}
 use Rattle.zr_sync.specs.Pools.{IsOpen}
 use Rattle.zr_sync.specs.declared.open.OpenPool.{OpenPool}
 use Rattle.zr_pool.specs.Accounts.{Turns, Begins, BeginsNone}
-use Rattle.zr_pool.specs.Behind.{IsBehindTurn, LeavesBegun, LeavesEither, LeavesOnly, LeavesOpened, begun_behind, keeps_trees, may_stop}
-use Rattle.zr_pool.specs.Plain.{IsFoundAgain, IsObjectsTurn, IsRejoined, is_of_removal, is_untold_behind}
-use Rattle.zr_pool.specs.Pools.{DeviceState, IsUnwritten, no_device_state}
+use Rattle.zr_pool.specs.Behind.{IsBehindTurn, LeavesBegun, LeavesEither, LeavesOnly, LeavesOpened, begun_behind, is_commit, is_in_group, keeps_trees, may_stop}
+use Rattle.zr_pool.specs.Plain.{IsFoundAgain, IsObjectsTurn, IsRejoined, is_background, is_of_removal, is_untold_behind}
+use Rattle.zr_pool.specs.Pools.{DeviceState, IsUnwritten, no_device_state, stand_of}
+use Rattle.zr_recorded.specs.Crashes.{ShowsPool}
+use Rattle.zr_recorded.specs.Service.{IsWhole}
 use Rattle.zr_pool.specs.Replies.{TellsFault}
 
 -- the lines on objects
@@ -127,6 +129,22 @@ is_standing false part trees command (reply.No r) = trees
 is_standing false part trees command answer = true
 is_standing true part trees command (reply.No r) = trees && is_told part
 is_standing true part trees command answer = trees && (is_told part && keeps_trees command)
+
+-- Whether the slots are told to show the root of the open pool as the current one behind a line, by whether a pool was open before it, its objects were told, and the slots were told so then: they do behind an `import`
+-- that is done, and stay so over each line that works in the group that is open or commits it, over a step in the background, and over a refusal.
+abbrev pub is_current : Bool → ShelfPart → Bool → Command → Reply → Bool
+is_current false part current command (reply.No r) = false
+is_current false part current cmd.Import answer = true
+is_current false part current command answer = false
+is_current true part current command (reply.No r) = current && is_told part
+is_current true part current command answer = current && (is_told part && (is_in_group command || is_background command answer))
+
+-- Whether an import is told to find what was committed last behind a line, by the account, and by whether the trees, the slots and a commit were told so before it: a commit is found where the trees of the streams stand and
+-- the slots show the last root, and it stays so over tables, and where the trees stand over lines on objects and refusals, which may commit. Behind other lines it is not told until the next commit.
+abbrev pub is_found : Option OpenPool → Bool → Bool → Bool → Command → Reply → Bool
+is_found None trees current found command answer = false
+is_found (Some pool) trees current found command (reply.No r) = trees && found
+is_found (Some pool) trees current found command answer = (is_table command && found) || ((is_on_objects command && (trees && found)) || (is_commit command && (trees && current)))
 
 -- what a line to an open pool may be refused for
 abbrev pub IsOpenRefusal : Command → Refusal → Type 0
@@ -258,7 +276,7 @@ abbrev pub told_turn : Turn DeviceState → Turn State
 told_turn t = record { command = t.command; answer = t.answer; point = told_point t.point }
 
 -- One line to the pool on devices: what it makes of the objects and of the account, which is that of a lawful pool on these disks, whether the disks are told to show it and to have the trees of its streams, which objects
--- are told to be committed last, and whether nothing was written yet. An import finds the objects that were left there, where no device is removed, or the trees of the streams were told to stand.
+-- are told to be committed last, whether nothing was written yet, and whether the slots show its root and an import finds what was committed last. An import finds the objects that were left there, where no device is removed, or the trees of the streams were told to stand.
 pub record IsDeviceTurn (p : Point DeviceState) (t : Turn DeviceState) : Type 0 where
   pub objects : on_objects_told.takes (told_point p) (told_turn t)
   pub account : IsAccountTurn p.shelf p.state.account t.command t.answer t.point.shelf t.point.state.account
@@ -267,14 +285,18 @@ pub record IsDeviceTurn (p : Point DeviceState) (t : Turn DeviceState) : Type 0 
   pub trees : t.point.state.trees ≡ is_standing p.state.told.is_open p.state.told.shelf p.state.trees t.command t.answer
   pub behind : IsBehindTurn p.state t.command t.answer t.point.state.told.shelf t.point.state.account t.point.state.behind
   pub begun : t.point.state.begun ≡ begun_behind p.state.begun t.answer
+  pub current : t.point.state.current ≡ is_current p.state.told.is_open p.state.told.shelf p.state.current t.command t.answer
+  pub found : t.point.state.found ≡ is_found p.state.account p.state.trees p.state.current p.state.found t.command t.answer
   pub rejoined : p.state.shown ≡ true → t.command ≡ cmd.Import → t.answer ≡ reply.Done → IsRejoined p.state.told.shelf t.point.state.told.shelf
   pub found_again : p.state.shown ≡ true → p.state.trees ≡ true → t.command ≡ cmd.Import → t.answer ≡ reply.Done → IsFoundAgain p.state.told.shelf t.point.state.told.shelf
 
 -- How the disks may stand between two lines: they read as behind the last, whatever an honest crash shows are the objects that were committed last, and where nothing was written yet they stand as at the beginning.
+-- Where an import is told to find what was committed last, each device is in service and no root is saved, whatever a crash leaves shows a pool with these objects.
 pub record RestsOn (p : Point DeviceState) (disks : Disks) : Type 0 where
   pub reads : disks.seen ≡ p.shelf.disks
   pub shows : (objects : Objects) → p.state.behind ≡ Some objects → LeavesOnly objects disks
   pub unwritten : (first : Disks) → p.state.begun ≡ Some first → IsUnwritten first disks
+  pub finds : p.state.found ≡ true → IfSome p.state.account (λ x. IsWhole x → x.saved ≡ None → (objects : Objects) → p.state.behind ≡ Some objects → (paths : List (List ℕ)) → ShowsPool paths objects (stand_of disks))
 
 -- How the disks may stand at a moment of a line: while one tells how an open pool stands, they read as before it. Whatever an honest crash shows are the objects that were committed last, or those from before
 -- the line, which it commits. Where no pool is open they are the former, or those that the line opens to; and where nothing was written yet, it is what a crash would have left at the beginning, or what is shown has the objects that were shown before the line, or those that it opens to.

@@ -1,19 +1,25 @@
 -- What a crash shows between two lines and at a moment of one.
-use Rattle.std.proofs.Common.{◌≡◌, ◌⊎◌, inl, inr, ℕ, Bool, true, false, List, [], Option, Some, None, refl, sym, ◌∙◌, ap, subst, ⊎_elim}
+use Rattle.std.proofs.Common.{◌≡◌, ◌⊎◌, inl, inr, ℕ, true, List, [], Option, Some, None, refl, sym, subst}
 use Rattle.std.proofs.lemmas.List.{append-nil}
 use Rattle.std.specs.List.{AllByRecursion}
-use Rattle.std.specs.Prelude.{IsSomeAnd, is_some}
+use Rattle.std.specs.Prelude.{IfSome, IsSomeAnd, is_some}
 use Rattle.zr_command.specs.Meanings.{Disks, Run}
+use Rattle.zr_image.specs.Honest.{IsLeft}
 use Rattle.zr_model.specs.Objects.{Objects}
 use Rattle.zr_model.specs.Runs.{Point, Turn, end_of}
+use Rattle.zr_model.specs.State.{PoolState}
+use Rattle.zr_open.specs.Shown.{Shows}
 use Rattle.zr_pool.proofs.Beginning.{of_beginning as left_at_beginning}
 use Rattle.zr_pool.specs.Behind.{IsOfBeginning, OpensTo, Showed}
-use Rattle.zr_pool.specs.Pools.{DeviceState}
+use Rattle.zr_pool.specs.Pools.{DeviceState, stand_of}
 use Rattle.zr_pool.specs.Turns.{IsWithin, RestsOn, on_devices}
+use Rattle.zr_recorded.specs.Crashes.{ShowsPool}
+use Rattle.zr_recorded.specs.Service.{IsWhole}
 use Rattle.zr_script.specs.declared.command.Command.{Command}
+use Rattle.zr_sync.specs.declared.open.OpenPool.{OpenPool}
 use Rattle.zr_prefix.proofs.Prefixes.{begun_told, prefix_told}
 use Rattle.zr_prefix.proofs.Tells.{no_way}
-use Rattle.zr_prefix.specs.Prefix.{ComesOf, IsAsBegan, IsCovered, IsOfPrefix, IsTold, MayBeLost, ShowsPrefix}
+use Rattle.zr_prefix.specs.Prefix.{ComesOf, IsCovered, IsOfPrefix, IsTold, MayBeLost, ShowsPrefix}
 use Rattle.zr_prefix.specs.Prefix.ComesOf.{of_beginning, of_opening, of_prefix}
 use Rattle.zr_prefix.specs.Prefix.IsCovered.{while_closed, while_open}
 
@@ -41,6 +47,14 @@ module _ (p : Point DeviceState) (turns : List (Turn DeviceState)) (disks : Disk
 
   pub rest_shows : IsTold (end_of p turns) → RestsOn (end_of p turns) disks → (due : Option Command) → ShowsPrefix p turns due disks
   rest_shows told rests due = rest_by rests due told
+
+  -- where an import finds what was committed last
+  pub pool_there : (x : OpenPool) (objects : Objects) → RestsOn (end_of p turns) disks → (end_of p turns).state.found ≡ true → (end_of p turns).state.account ≡ Some x → (end_of p turns).state.behind ≡ Some objects → IsWhole x → x.saved ≡ None
+      → (image : List (List ℕ)) → IsLeft (stand_of disks) image → (paths : List (List ℕ)) → (q : PoolState) × Shows paths image q × (q.objects ≡ objects) × IsOfPrefix p turns objects
+  pool_there x objects rests found account last whole unsaved image left paths =
+      let finds = subst (λ (o : Option OpenPool). IfSome o (λ y. IsWhole y → y.saved ≡ None → (all : Objects) → (end_of p turns).state.behind ≡ Some all → (named : List (List ℕ)) → ShowsPool named all (stand_of disks))) account (rests.finds found) in
+      let there = finds whole unsaved objects last paths image left.leaves in
+      (there.0, there.1, there.2, prefix objects last)
 
   line_by : (command : Command) → IsTold (end_of p turns) → IsCovered (end_of p turns) command → IsWithin (end_of p turns) command disks → ShowsPrefix p turns (Some command) disks
   line_by command told (while_open some r is may) within image left paths q shown =

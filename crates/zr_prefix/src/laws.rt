@@ -1,10 +1,14 @@
 //! The laws, as calls that do nothing: a caller learns them by their contracts.
-ghost use Rattle.std.specs.Prelude.{◌≡◌, ℕ, List, Option, Some, None};
+ghost use Rattle.std.specs.Prelude.{◌≡◌, ℕ, true, List, Option, Some, None};
 ghost use Rattle.zr_command.specs.Meanings.{Disks, Run, disks_of};
+ghost use Rattle.zr_image.specs.Honest.{IsLeft};
 ghost use Rattle.zr_model.specs.Objects.{Objects};
 ghost use Rattle.zr_model.specs.Runs.{Asks, Point, Turn, end_of, point};
-ghost use Rattle.zr_pool.specs.Pools.{DeviceState, no_device_state};
+ghost use Rattle.zr_model.specs.State.{PoolState};
+ghost use Rattle.zr_open.specs.Shown.{Shows};
+ghost use Rattle.zr_pool.specs.Pools.{DeviceState, no_device_state, stand_of};
 ghost use Rattle.zr_pool.specs.Turns.{IsWithin, RestsOn, on_devices};
+ghost use Rattle.zr_recorded.specs.Service.{IsWhole};
 ghost use Rattle.zr_script.specs.declared.command.Command.{Command};
 ghost use Rattle.zr_script.specs.Lines.{lines_of};
 ghost use Rattle.zr_session.specs.Agenda.{IsDue, IsGiven, agenda};
@@ -12,6 +16,7 @@ ghost use Rattle.zr_session.specs.Generated.{Task, due_in};
 ghost use Rattle.zr_session.specs.Moments.{IsMoment, IsMomentOf};
 ghost use Rattle.zr_session.specs.declared.replies.Replies.TheVariants.{Kept, Sent};
 ghost use Rattle.zr_shelf.specs.Disks.{Stand};
+ghost use Rattle.zr_sync.specs.declared.open.OpenPool.{OpenPool};
 ghost use Rattle.zr_prefix.specs.Prefix.{IsCovered, IsOfPrefix, IsTold, ShowsPrefix};
 ghost use Rattle.zr_prefix.specs.Joined.{AreJoined, FollowOn, IsStoppedAt, StoppedRun, StopsTold};
 
@@ -31,6 +36,13 @@ pub fn a_rest_shows_a_prefix()
 /// where no pool is open: while a pool is made, or gone back to, it may show that pool too.
 pub fn a_line_shows_a_prefix()
     ensures { (p : Point DeviceState) (turns : List (Turn DeviceState)) (command : Command) (disks : Disks) → p.state.behind ≡ None → Run on_devices p turns → IsTold (end_of p turns) → IsCovered (end_of p turns) command → IsWithin (end_of p turns) command disks → ShowsPrefix p turns (Some command) disks }
+{}
+
+/// Where an import is told to find what was committed last, and each device of the open pool is in service and no root is saved, whatever an honest
+/// crash leaves between two lines does show a pool, and it has the objects of such a prefix.
+pub fn a_pool_is_there()
+    ensures { (p : Point DeviceState) (turns : List (Turn DeviceState)) (disks : Disks) (x : OpenPool) (objects : Objects) → p.state.behind ≡ None → Run on_devices p turns → RestsOn (end_of p turns) disks → (end_of p turns).state.found ≡ true → (end_of p turns).state.account ≡ Some x → (end_of p turns).state.behind ≡ Some objects → IsWhole x → x.saved ≡ None
+        → (image : List (List ℕ)) → IsLeft (stand_of disks) image → (paths : List (List ℕ)) → (q : PoolState) × Shows paths image q × (q.objects ≡ objects) × IsOfPrefix p turns objects }
 {}
 
 /// At a moment of a run at which it is told what was committed, or that nothing was written yet, over the lines of an input or

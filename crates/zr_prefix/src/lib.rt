@@ -9,6 +9,6 @@
 mod laws;
 
 pub use laws::{
-    a_line_shows_a_prefix, a_rest_shows_a_prefix, a_stopped_run_shows_a_prefix, stopped_runs_join,
-    what_is_committed_is_told,
+    a_line_shows_a_prefix, a_pool_is_there, a_rest_shows_a_prefix, a_stopped_run_shows_a_prefix,
+    stopped_runs_join, what_is_committed_is_told,
 };

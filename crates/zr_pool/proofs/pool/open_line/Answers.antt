@@ -228,7 +228,7 @@ returns-then-is_table-clause-one_group g c = λ group p h. inl (inl (c.table_lin
 pub returns-then-is_on_pool-clause-one_group : goal.returns-then-is_on_pool-clause-one_group
 returns-then-is_on_pool-clause-one_group g c = λ group p h. elim (pool_commits c.args.command.now (sym c.is_on_pool.ensures ∙ c.if-is_on_pool.true) group) [
   | inl ends ↦ inl (commit_alone (g.S.Shelf.sizes c.args.shelf.now) p.objects c.args.pool.now c.pool_line.new.pool (g.S.Shelf.world c.args.shelf.now) (g.S.Shelf.world c.pool_line.new.shelf) (c.in_ok-pool_line.ensures.commits ends p h))
-  | inr step ↦ inr (c.pool_line.ensures.still step, (c.in_ok-pool_line.ensures.steps step, c.in_ok-pool_line.ensures.step_trees step))
+  | inr step ↦ inr (step, (c.pool_line.ensures.still step, (c.in_ok-pool_line.ensures.steps step, c.in_ok-pool_line.ensures.step_trees step)))
 ]
 
 pub returns-then-is_on_pool-clause-writes : goal.returns-then-is_on_pool-clause-writes

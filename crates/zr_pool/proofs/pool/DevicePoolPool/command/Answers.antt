@@ -5,15 +5,17 @@ use Rattle.zr_base.specs.Counts.{HasRisen}
 use Rattle.zr_model.specs.State.{ShelfPart}
 use Rattle.zr_sync.specs.Ends.{EndsCommitted}
 use Rattle.zr_sync.specs.Pools.{IsOpen}
+use Rattle.zr_sync.specs.States.{HoldsState}
 use Rattle.zr_sync.specs.declared.open.OpenPool.{OpenPool}
 use Rattle.zr_pool.specs.Ends.{answer_of, is_closing}
 use Rattle.zr_pool.specs.Behind.{EndsReset}
-use Rattle.zr_pool.specs.Pools.{AreShown, AreStanding, IsAsBegun, IsBehind, StandsFor, no_device_state}
-use Rattle.zr_pool.specs.Turns.{is_standing}
+use Rattle.zr_pool.specs.Pools.{AreCurrent, AreShown, AreStanding, IsAsBegun, IsBehind, IsFoundBehind, StandsFor, no_device_state}
+use Rattle.zr_pool.specs.Turns.{is_current, is_standing}
 use Rattle.zr_command.specs.Meanings.{disks_of}
 use Rattle.zr_pool.specs.Replies.{TellsFault}
 use Rattle.zr_pool.proofs.Accounting.{Leads, closed_accounts, each_with_account, open_accounts}
 use Rattle.zr_pool.proofs.Beginning.{closed_begun, open_begun}
+use Rattle.zr_pool.proofs.Founding.{closed_current, open_current}
 use Rattle.zr_pool.proofs.Resets.{ends_or_returns}
 use Rattle.zr_pool.proofs.Blaming.{blamed_answer, blamed_closed}
 use Rattle.zr_pool.proofs.Shown.{closed_lasts, export_commits, open_lasts}
@@ -57,8 +59,10 @@ returns-in_default-clause-step g c = λ told paths before stood.
     c.closed_line.ensures.done c.closed_line.ensures.turn (c.closed_line.ensures.last told) (c.closed_line.ensures.untouched told) c.closed_line.ensures.closed in
     let standing_part = subst (λ (b : Bool). IfOk (answer_of r) (λ found. IfSome found (λ answer. is_standing b before.told.shelf before.trees c.args.command.now answer ≡ true → AreStanding pool new.seen))) (sym closed)
     (closed_standing (g.S.Shelf.world c.closed_line.new.shelf) before.told.shelf before.trees c.args.command.now pool r c.closed_line.ensures.done (made_standing (g.S.Shelf.tells c.closed_line.new.shelf) new.seen pool (c.closed_line.ensures.trees told)) c.closed_line.ensures.closed) in
+    let current_part = subst (λ (b : Bool). IfOk (answer_of r) (λ found. IfSome found (λ answer. is_current b before.told.shelf before.current c.args.command.now answer ≡ true → AreCurrent pool new.seen))) (sym closed)
+    (closed_current (g.S.Shelf.sizes shelf) (g.S.Shelf.world shelf) (g.S.Shelf.world c.closed_line.new.shelf) before.told.shelf before.current (λ (y : OpenPool). HoldsState (g.S.Shelf.tells c.closed_line.new.shelf) new.seen y) c.args.command.now pool r c.closed_line.ensures.done (c.closed_line.ensures.stops told) (c.closed_line.ensures.made told) (c.closed_line.ensures.last told)) in
     subst (λ q. IfOk q (λ found. IfSome found (λ answer. Leads old new before c.args.command.now pool answer))) (sym c.answer_of.ensures)
-    (each_with_account old (g.S.Shelf.world c.closed_line.new.shelf) before c.args.command.now pool (answer_of r) told_part account_part last_part standing_part
+    (each_with_account old (g.S.Shelf.world c.closed_line.new.shelf) before c.args.command.now pool (answer_of r) told_part account_part last_part standing_part current_part
     (λ part held. closed_behinds (g.S.Shelf.world shelf) (g.S.Shelf.world c.closed_line.new.shelf) before c.args.command.now (stood.account ∙ c.in_default.is) (subst (λ (o : Option OpenPool). IfSome before.behind (IsBehind o (disks_of old))) c.in_default.is stood.behind) (subst (λ (o : Option OpenPool). IfSome before.begun (IsAsBegun o (disks_of old))) c.in_default.is stood.begun) part (g.S.Shelf.sizes c.closed_line.new.shelf) pool c.closed_line.ensures.pool (c.closed_line.ensures.ends told) (c.closed_line.ensures.leaves told) (c.closed_line.ensures.last told) (g.S.Shelf.sound c.closed_line.new.shelf behind).sized held r (c.closed_line.ensures.unwritten told) c.closed_line.ensures.turn c.closed_line.ensures.done c.closed_line.ensures.closed)
     (closed_begun (g.S.Shelf.world shelf) (g.S.Shelf.world c.closed_line.new.shelf) before pool (subst (λ (o : Option OpenPool). IfSome before.begun (IsAsBegun o (disks_of old))) c.in_default.is stood.begun) r c.closed_line.ensures.done (c.closed_line.ensures.unwritten told) c.closed_line.ensures.closed))
 
@@ -86,21 +90,27 @@ returns-clause-step g c = λ told paths before stood.
     c.open_line-done.ensures.done c.open_line-done.ensures.answer (c.open_line-done.ensures.shown told) (c.open_line-done.ensures.shown_no told) (λ exports p held. c.open_line-done.ensures.left exports p (told_anew (Unit {0}) (g.S.Shelf.tells shelf) old.seen x p told held))
     (λ exports p held. on_ok_weaker r (λ (ends : EndsCommitted (g.S.Shelf.sizes shelf) false x y p.objects (g.S.Shelf.world shelf) (g.S.Shelf.world c.open_line-done.new.shelf)). ends.moves) (c.open_line-done.ensures.commits (export_commits command exports) p (told_anew (Unit {0}) (g.S.Shelf.tells shelf) old.seen x p told held))) c.open_line-done.ensures.pool in
     let behind_part = λ (now_told : ShelfPart). open_behinds (g.S.Shelf.world shelf) (g.S.Shelf.world c.open_line-done.new.shelf) before command x y (g.S.Shelf.sizes shelf) (subst (λ (o : Option OpenPool). IfSome o (IsOpen (g.S.Shelf.sizes shelf))) c.in-Some.is c.requires.fits.is_open) (g.S.Shelf.sound shelf told).sized ((g.S.Shelf.sound c.open_line-done.new.shelf behind).sized ∙ c.open_line-done.ensures.sizes)
-    there.part (stood.account ∙ c.in-Some.is) (λ shown. subst (λ (o : Option OpenPool). AreShown o old.seen before.told.shelf before.trees) c.in-Some.is (stood.shown shown)) (λ stands. subst (λ (o : Option OpenPool). AreStanding o old.seen) c.in-Some.is (stood.trees stands)) (subst (λ (o : Option OpenPool). IfSome before.behind (IsBehind o (disks_of old))) c.in-Some.is stood.behind) (subst (λ (o : Option OpenPool). IfSome before.begun (IsAsBegun o (disks_of old))) c.in-Some.is stood.begun) now_told r c.open_line-done.ensures.done (subst (λ (n : List ℕ). OnOk r (IsOpen n y)) c.open_line-done.ensures.sizes c.open_line-done.ensures.pool)
+    there.part (stood.account ∙ c.in-Some.is) (λ shown. subst (λ (o : Option OpenPool). AreShown o old.seen before.told.shelf before.trees) c.in-Some.is (stood.shown shown)) (λ stands. subst (λ (o : Option OpenPool). AreStanding o old.seen) c.in-Some.is (stood.trees stands)) (subst (λ (o : Option OpenPool). IfSome before.behind (IsBehind o (disks_of old))) c.in-Some.is stood.behind) (subst (λ (o : Option OpenPool). IfSome before.begun (IsAsBegun o (disks_of old))) c.in-Some.is stood.begun) (λ on. subst (λ (o : Option OpenPool). AreCurrent o old.seen) c.in-Some.is (stood.current on)) (λ on. subst (λ (o : Option OpenPool). IfSome before.behind (IsFoundBehind o (disks_of old))) c.in-Some.is (stood.found on)) now_told r c.open_line-done.ensures.done (subst (λ (n : List ℕ). OnOk r (IsOpen n y)) c.open_line-done.ensures.sizes c.open_line-done.ensures.pool)
     (c.open_line-done.ensures.shown told) (λ p held. ends_or_returns command y (g.S.Shelf.world c.open_line-done.new.shelf).now p.objects r (λ on. on_ok_weaker r (λ (ends : EndsReset command x y p.objects (g.S.Shelf.world shelf) (g.S.Shelf.world c.open_line-done.new.shelf)). ends.resets) (c.open_line-done.ensures.resets on p (told_anew (Unit {0}) (g.S.Shelf.tells shelf) old.seen x p told held))) (c.open_line-done.ensures.comes_back p (told_anew (Unit {0}) (g.S.Shelf.tells shelf) old.seen x p told held)))
     (λ p held writes. on_ok_weaker r (λ (ends : EndsReset command x y p.objects (g.S.Shelf.world shelf) (g.S.Shelf.world c.open_line-done.new.shelf)). ends.moves writes) (c.open_line-done.ensures.resets (writing_resets command writes.0) p (told_anew (Unit {0}) (g.S.Shelf.tells shelf) old.seen x p told held)))
     (λ group p held. c.open_line-done.ensures.one_group group p (told_anew (Unit {0}) (g.S.Shelf.tells shelf) old.seen x p told held))
     (λ p held. c.open_line-done.ensures.one_group_no p (told_anew (Unit {0}) (g.S.Shelf.tells shelf) old.seen x p told held))
     (c.open_line-done.ensures.background told) (λ silent. c.open_line-done.ensures.still told silent) (λ silent p held. c.open_line-done.ensures.opens silent p (told_anew (Unit {0}) (g.S.Shelf.tells shelf) old.seen x p told held))
-    (λ ends p held. c.open_line-done.ensures.commits ends p (told_anew (Unit {0}) (g.S.Shelf.tells shelf) old.seen x p told held)) in
+    (λ ends p held. c.open_line-done.ensures.commits ends p (told_anew (Unit {0}) (g.S.Shelf.tells shelf) old.seen x p told held)) (λ n is. subst (λ (sizes : List ℕ). IsOpen sizes y) c.open_line-done.ensures.sizes (c.open_line-done.ensures.pool_no n is)) in
     let standing_part = subst (λ (b : Bool). IfOk (answer_of r) (λ found. IfSome found (λ answer. is_standing b before.told.shelf before.trees command answer ≡ true → AreStanding (left_of (is_closing command r) y) new.seen))) (sym there.is_open)
     (open_standing (g.S.Shelf.sizes shelf) (g.S.Shelf.world shelf) (g.S.Shelf.world c.open_line-done.new.shelf) before.told.shelf before.trees command x y there.part (λ stands. subst (λ (o : Option OpenPool). AreStanding o old.seen) c.in-Some.is (stood.trees stands)) r c.open_line-done.ensures.done
     (λ group p held. c.open_line-done.ensures.one_group group p (told_anew (Unit {0}) (g.S.Shelf.tells shelf) old.seen x p told held))
     (λ p held. c.open_line-done.ensures.one_group_no p (told_anew (Unit {0}) (g.S.Shelf.tells shelf) old.seen x p told held))
     (λ on p held. c.open_line-done.ensures.resets on p (told_anew (Unit {0}) (g.S.Shelf.tells shelf) old.seen x p told held))) in
+    let current_part = subst (λ (b : Bool). IfOk (answer_of r) (λ found. IfSome found (λ answer. is_current b before.told.shelf before.current command answer ≡ true → AreCurrent (left_of (is_closing command r) y) new.seen))) (sym there.is_open)
+    (open_current (g.S.Shelf.sizes shelf) (g.S.Shelf.world shelf) (g.S.Shelf.world c.open_line-done.new.shelf) before.told.shelf before.current command x y (subst (λ (o : Option OpenPool). IfSome o (IsOpen (g.S.Shelf.sizes shelf))) c.in-Some.is c.requires.fits.is_open) (g.S.Shelf.sound shelf told).sized
+    ((g.S.Shelf.sound c.open_line-done.new.shelf behind).sized ∙ c.open_line-done.ensures.sizes) there.part (λ on. subst (λ (o : Option OpenPool). AreCurrent o old.seen) c.in-Some.is (stood.current on)) r c.open_line-done.ensures.done
+    (λ group p held. c.open_line-done.ensures.one_group group p (told_anew (Unit {0}) (g.S.Shelf.tells shelf) old.seen x p told held))
+    (λ p held. c.open_line-done.ensures.one_group_no p (told_anew (Unit {0}) (g.S.Shelf.tells shelf) old.seen x p told held))
+    (c.open_line-done.ensures.background told)) in
     subst (λ (o : Option OpenPool). IfOk c.answer_of-2.result (λ found. IfSome found (λ answer. Leads old new before command o answer))) (sym left)
     (subst (λ q. IfOk q (λ found. IfSome found (λ answer. Leads old new before command (left_of (is_closing command r) y) answer))) (sym c.answer_of-2.ensures)
-    (each_with_account old (g.S.Shelf.world c.open_line-done.new.shelf) before command (left_of (is_closing command r) y) (answer_of r) told_part account_part last_part standing_part (λ part held. behind_part part)
+    (each_with_account old (g.S.Shelf.world c.open_line-done.new.shelf) before command (left_of (is_closing command r) y) (answer_of r) told_part account_part last_part standing_part current_part (λ part held. behind_part part)
     (open_begun (g.S.Shelf.world shelf) (g.S.Shelf.world c.open_line-done.new.shelf) before x (left_of (is_closing command r) y) (subst (λ (o : Option OpenPool). IfSome before.begun (IsAsBegun o (disks_of old))) c.in-Some.is stood.begun) r)))
 
 -- ---- what tells of a fault
@@ -134,7 +144,7 @@ returns-clause-moments g c = λ told paths before stood.
     let x = c.in-Some.pool in
     let there : StandsFor (Some x) old.seen before.told = subst (λ (o : Option OpenPool). StandsFor o old.seen before.told) c.in-Some.is stood.told in
     open_within (g.S.Shelf.world shelf) (g.S.Shelf.world c.open_line-done.new.shelf) before c.args.command.now x c.open_line-done.new.pool (g.S.Shelf.sizes shelf) (subst (λ (o : Option OpenPool). IfSome o (IsOpen (g.S.Shelf.sizes shelf))) c.in-Some.is c.requires.fits.is_open) (g.S.Shelf.sound shelf told).sized ((g.S.Shelf.sound c.open_line-done.new.shelf behind).sized ∙ c.open_line-done.ensures.sizes)
-    there.part (stood.account ∙ c.in-Some.is) (λ shown. subst (λ (o : Option OpenPool). AreShown o old.seen before.told.shelf before.trees) c.in-Some.is (stood.shown shown)) (λ stands. subst (λ (o : Option OpenPool). AreStanding o old.seen) c.in-Some.is (stood.trees stands)) (subst (λ (o : Option OpenPool). IfSome before.behind (IsBehind o (disks_of old))) c.in-Some.is stood.behind) (subst (λ (o : Option OpenPool). IfSome before.begun (IsAsBegun o (disks_of old))) c.in-Some.is stood.begun)
+    there.part (stood.account ∙ c.in-Some.is) (λ shown. subst (λ (o : Option OpenPool). AreShown o old.seen before.told.shelf before.trees) c.in-Some.is (stood.shown shown)) (λ stands. subst (λ (o : Option OpenPool). AreStanding o old.seen) c.in-Some.is (stood.trees stands)) (subst (λ (o : Option OpenPool). IfSome before.behind (IsBehind o (disks_of old))) c.in-Some.is stood.behind) (subst (λ (o : Option OpenPool). IfSome before.begun (IsAsBegun o (disks_of old))) c.in-Some.is stood.begun) (λ on. subst (λ (o : Option OpenPool). AreCurrent o old.seen) c.in-Some.is (stood.current on)) (λ on. subst (λ (o : Option OpenPool). IfSome before.behind (IsFoundBehind o (disks_of old))) c.in-Some.is (stood.found on))
     (λ silent. c.open_line-done.ensures.still told silent) (c.open_line-done.ensures.disks told)
     (λ group p held. c.open_line-done.ensures.writes group p (told_anew (Unit {0}) (g.S.Shelf.tells shelf) old.seen x p told held))
     (λ once p held. c.open_line-done.ensures.stops_reset once p (told_anew (Unit {0}) (g.S.Shelf.tells shelf) old.seen x p told held))
