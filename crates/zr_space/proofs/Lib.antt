@@ -18,6 +18,10 @@ pub mod Adding
 pub mod Synced
 pub mod Commits
 pub mod Drops
+pub mod CopyOrder
+pub mod CancelRoot
+pub mod CopyRoot
+pub mod CondenseRoot
 pub mod Counting
 pub mod Lives
 pub mod Paths

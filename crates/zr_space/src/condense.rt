@@ -10,6 +10,7 @@ ghost use Rattle.zr_base.specs.declared.space.DevState.TheVariants.{Gone};
 ghost use Rattle.zr_indirect.specs.Mapped.{Mapped};
 ghost use Rattle.zr_condense.specs.Condensing.{HasWorked};
 ghost use Rattle.zr_rules.specs.Condense.{folded};
+ghost use Rattle.zr_rules.specs.Frees.{IsSameRoot};
 ghost use Rattle.zr_rules.specs.Mappings.{IsRising};
 ghost use Rattle.zr_rules.specs.Places.{part_of, state_of_dev};
 ghost use Rattle.zr_rules.specs.Steps.{Condenses, CondensesSome, Remaps, due_device, has_condensing, next_kept, with_cond, worked};
@@ -86,6 +87,7 @@ impl Space {
     pub fn condense_step(&mut self) -> Result<Condensed, NoMemory>
         ensures step { IfOk result (λ outcome. CondensesSome self.old outcome self.new) }
         ensures leads { OnOk result (LeadsAsBefore self.old self.new) }
+        ensures root { OnOk result (IsSameRoot self.old self.new) }
     {
         if let Some(cond) = self.take_cond() {
             return self.work(cond);
@@ -121,6 +123,7 @@ impl Space {
         requires gone { state_of_dev self.old.parts.devs dev ≡ Gone }
         ensures folds { OnOk result (Remaps self.old self.new dev (part_of self.old.parts.devs dev).entries (folded (part_of self.old.parts.devs dev).entries (part_of self.old.parts.devs dev).counts (part_of self.old.parts.devs dev).fresh) [] None) }
         ensures each { length (part_of self.old.parts.devs dev).counts ≡ length (part_of self.old.parts.devs dev).entries }
+        ensures root { OnOk result (IsSameRoot self.old self.new) }
     {
         let device = &mut self.devs[dev as usize];
         device.moves.lawful();
@@ -135,6 +138,7 @@ impl Space {
         requires under_way { IsUnderWay self.old cond }
         ensures step { IfOk result (λ outcome. Condenses self.old (part_of self.old.parts.devs cond.dev).counts (part_of self.old.parts.devs cond.dev).fresh cond outcome self.new) }
         ensures leads { OnOk result (LeadsAsBefore self.old self.new) }
+        ensures root { OnOk result (IsSameRoot self.old self.new) }
     {
         let mut cond = cond;
         let dev = cond.dev();
@@ -165,7 +169,8 @@ impl Space {
     // Keeps a condensing that goes on.
     fn put_back(&mut self, cond: Condense)
         requires under_way { IsUnderWay self.old cond }
-        ensures { self.new ≡ with_cond self.old (Some cond) }
+        ensures kept { self.new ≡ with_cond self.old (Some cond) }
+        ensures root { IsSameRoot self.old self.new }
     {
         self.whole.cond = Some(cond);
     }
@@ -175,7 +180,8 @@ impl Space {
         requires none { self.old.parts.cond ≡ None }
         requires gone { state_of_dev self.old.parts.devs dev ≡ Gone }
         requires condensed { IsCondensed (part_of self.old.parts.devs dev) map.entries counts.items }
-        ensures { Remaps self.old self.new dev map.entries counts.items (part_of self.old.parts.devs dev).fresh None }
+        ensures remaps { Remaps self.old self.new dev map.entries counts.items (part_of self.old.parts.devs dev).fresh None }
+        ensures root { IsSameRoot self.old self.new }
     {
         let device = &mut self.devs[dev as usize];
         device.moves.lawful();

@@ -4,6 +4,7 @@
 //! the place goes back, and nothing has happened. The room for the copy is made with the plan, so neither end of it takes
 //! memory.
 ghost use Rattle.std.specs.Prelude.{◌≡◌};
+ghost use Rattle.zr_rules.specs.Frees.{IsSameRoot};
 ghost use Rattle.zr_space.specs.Plans.{IsPlan, MakesCopy};
 
 use crate::copy::Plan;
@@ -54,7 +55,8 @@ impl Copying {
 
     /// The units are there: the entry for them is made. It takes no memory.
     pub fn done(self) -> Space
-        ensures { MakesCopy self.before result self.dev self.plan }
+        ensures made { MakesCopy self.before result self.dev self.plan }
+        ensures root { IsSameRoot self.before result }
     {
         let Copying {
             alloc,

@@ -2,12 +2,12 @@
 //!
 //! A device that is leaving gives out no more units, and stays as it is otherwise: it is read, and its units keep their
 //! roles. What it holds is left to copy, from the lowest unit up.
-ghost use Rattle.std.specs.Prelude.{◌≡◌, ℕ, ◌<◌, true, false, [], length, IfOk, IfSome, IfNone, OnOk, OnErr};
+ghost use Rattle.std.specs.Prelude.{◌≡◌, ◌≢◌, ℕ, ◌<◌, true, false, [], length, IfOk, IfSome, IfNone, OnOk, OnErr};
 ghost use Rattle.zr_base.specs.declared.space.CkptPart.TheVariants.{Clear};
 ghost use Rattle.zr_base.specs.declared.space.DevState.TheVariants.{On};
 ghost use Rattle.zr_rules.specs.Places.{is_gone, is_leaving, part_of, state_of_dev};
 ghost use Rattle.zr_rules.specs.Roles.{is_meta_role};
-ghost use Rattle.zr_rules.specs.Space.{role_at};
+ghost use Rattle.zr_rules.specs.Space.{role_at, was_fresh, was_held, was_kept};
 ghost use Rattle.zr_rules.specs.Steps.{Cancels, Finishes, Leaves};
 ghost use Rattle.zr_space.specs.Plans.{IsCopied};
 
@@ -87,6 +87,9 @@ impl Space {
         ensures index { IfOk result (λ d. is_leaving (state_of_dev self.old.parts.devs d) ≡ true) }
         ensures ok { IfOk result (λ d. Cancels self.old self.new d) }
         ensures err { OnErr result (self.new ≡ self.old) }
+        ensures held { OnOk result ((d u : ℕ) → was_held self.new d u ≡ was_held self.old d u) }
+        ensures kept { OnOk result ((d u : ℕ) → was_kept self.new d u ≡ was_kept self.old d u) }
+        ensures marks { IfOk result (λ dev. (d u : ℕ) → d ≢ dev → was_fresh self.new d u ≡ was_fresh self.old d u) }
     {
         let Some(dev) = self.leaving() else {
             unreachable!()

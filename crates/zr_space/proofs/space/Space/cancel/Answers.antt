@@ -6,6 +6,7 @@ use Rattle.zr_rules.specs.Steps.{Cancels}
 use Rattle.zr_space.specs.Leavings.{back_in_service}
 use Rattle.zr_space.specs.Views.{Kept, kept_of, space_of, IsSpace}
 use Rattle.zr_space.proofs.Cancelling.{IsCancelled, back_space, cancels}
+use Rattle.zr_space.proofs.CancelRoot.{IsRootBut, cancel_root}
 use Rattle.zr_space.proofs.Discards.{on_err}
 use Rattle.zr_space.proofs.Ready.{leaving_as, leaving_there}
 use Rattle.zr_space.proofs.Sames.{same_all, same_space_of}
@@ -50,3 +51,54 @@ returns-clause-ok c =
     let new : c.come_back.new.self ≡ back_in_service (kept_of mid d) = c.come_back.ensures ∙ ap back_in_service is in
     subst (λ (s : Space). Cancels s (space_of whole (set mid d c.come_back.new.self)) d) view
     (subst (λ (x : Kept). Cancels (space_of whole devs) (space_of whole (set mid d x)) d) (sym new) (cancels whole c.self.inside.slabs c.give_up.new.slabs c.on.new.self devs mid d cancelled))
+
+pub returns-clause-held : goal.returns-clause-held
+returns-clause-held c =
+    let whole = c.self.inside.whole in
+    let devs : List Kept = c.make_way.new.devs.items in
+    let mid : List Kept = c.give_up.new.devs.items in
+    let d = c.in-Some.dev in
+    let space : IsSpace whole c.self.inside.slabs devs = same_all whole c.self.inside.slabs c.self.inside.devs.items devs c.make_way.ensures.same c.self.invariant in
+    let view : space_of whole devs ≡ c.args.self.now = same_space_of whole c.self.inside.devs.items devs c.make_way.ensures.same ∙ c.self.view_is in
+    let leaving : is_leaving (kept_of devs d).row.state ≡ true = leaving_as whole devs d (subst (λ (s : Space). is_leaving (state_of_dev s.parts.devs d) ≡ true) (sym view) c.in-Some.ensures.some) in
+    let there = leaving_there devs d leaving in
+    let cancelled : IsCancelled whole c.self.inside.slabs c.give_up.new.slabs c.on.new.self devs mid d = record { space = space; there = there; leaving = leaving; gives = c.give_up.ensures; turns = c.on.ensures } in
+    let mid_there : d < length mid = let n = c.give_up.ensures.count in omega (arith, there, n) in
+    let is : c.index_mut-device.result.now ≡ kept_of mid d = kept_read mid d c.index_mut-device.result.now mid_there c.index_mut-device.ensures.value in
+    let new : c.come_back.new.self ≡ back_in_service (kept_of mid d) = c.come_back.ensures ∙ ap back_in_service is in
+    (subst (λ (s : Space). IsRootBut s (space_of whole (set mid d c.come_back.new.self)) d) view
+    (subst (λ (x : Kept). IsRootBut (space_of whole devs) (space_of whole (set mid d x)) d) (sym new) (cancel_root whole c.self.inside.slabs c.give_up.new.slabs c.on.new.self devs mid d cancelled))).held
+
+pub returns-clause-kept : goal.returns-clause-kept
+returns-clause-kept c =
+    let whole = c.self.inside.whole in
+    let devs : List Kept = c.make_way.new.devs.items in
+    let mid : List Kept = c.give_up.new.devs.items in
+    let d = c.in-Some.dev in
+    let space : IsSpace whole c.self.inside.slabs devs = same_all whole c.self.inside.slabs c.self.inside.devs.items devs c.make_way.ensures.same c.self.invariant in
+    let view : space_of whole devs ≡ c.args.self.now = same_space_of whole c.self.inside.devs.items devs c.make_way.ensures.same ∙ c.self.view_is in
+    let leaving : is_leaving (kept_of devs d).row.state ≡ true = leaving_as whole devs d (subst (λ (s : Space). is_leaving (state_of_dev s.parts.devs d) ≡ true) (sym view) c.in-Some.ensures.some) in
+    let there = leaving_there devs d leaving in
+    let cancelled : IsCancelled whole c.self.inside.slabs c.give_up.new.slabs c.on.new.self devs mid d = record { space = space; there = there; leaving = leaving; gives = c.give_up.ensures; turns = c.on.ensures } in
+    let mid_there : d < length mid = let n = c.give_up.ensures.count in omega (arith, there, n) in
+    let is : c.index_mut-device.result.now ≡ kept_of mid d = kept_read mid d c.index_mut-device.result.now mid_there c.index_mut-device.ensures.value in
+    let new : c.come_back.new.self ≡ back_in_service (kept_of mid d) = c.come_back.ensures ∙ ap back_in_service is in
+    (subst (λ (s : Space). IsRootBut s (space_of whole (set mid d c.come_back.new.self)) d) view
+    (subst (λ (x : Kept). IsRootBut (space_of whole devs) (space_of whole (set mid d x)) d) (sym new) (cancel_root whole c.self.inside.slabs c.give_up.new.slabs c.on.new.self devs mid d cancelled))).kept
+
+pub returns-clause-marks : goal.returns-clause-marks
+returns-clause-marks c =
+    let whole = c.self.inside.whole in
+    let devs : List Kept = c.make_way.new.devs.items in
+    let mid : List Kept = c.give_up.new.devs.items in
+    let d = c.in-Some.dev in
+    let space : IsSpace whole c.self.inside.slabs devs = same_all whole c.self.inside.slabs c.self.inside.devs.items devs c.make_way.ensures.same c.self.invariant in
+    let view : space_of whole devs ≡ c.args.self.now = same_space_of whole c.self.inside.devs.items devs c.make_way.ensures.same ∙ c.self.view_is in
+    let leaving : is_leaving (kept_of devs d).row.state ≡ true = leaving_as whole devs d (subst (λ (s : Space). is_leaving (state_of_dev s.parts.devs d) ≡ true) (sym view) c.in-Some.ensures.some) in
+    let there = leaving_there devs d leaving in
+    let cancelled : IsCancelled whole c.self.inside.slabs c.give_up.new.slabs c.on.new.self devs mid d = record { space = space; there = there; leaving = leaving; gives = c.give_up.ensures; turns = c.on.ensures } in
+    let mid_there : d < length mid = let n = c.give_up.ensures.count in omega (arith, there, n) in
+    let is : c.index_mut-device.result.now ≡ kept_of mid d = kept_read mid d c.index_mut-device.result.now mid_there c.index_mut-device.ensures.value in
+    let new : c.come_back.new.self ≡ back_in_service (kept_of mid d) = c.come_back.ensures ∙ ap back_in_service is in
+    (subst (λ (s : Space). IsRootBut s (space_of whole (set mid d c.come_back.new.self)) d) view
+    (subst (λ (x : Kept). IsRootBut (space_of whole devs) (space_of whole (set mid d x)) d) (sym new) (cancel_root whole c.self.inside.slabs c.give_up.new.slabs c.on.new.self devs mid d cancelled))).marks

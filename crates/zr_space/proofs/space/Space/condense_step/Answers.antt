@@ -6,6 +6,9 @@ use Rattle.zr_rules.specs.Places.{part_of}
 use Rattle.zr_rules.specs.Space.{Space}
 use Rattle.zr_rules.specs.Steps.{Condenses, CondensesFrom, Remaps, due_device}
 use Rattle.zr_space.proofs.Condensing.{goes_on, begins_on, if_ok, on_ok, with_none, leads_taken, leads_folded}
+use Rattle.zr_rules.specs.Frees.{IsSameRoot}
+use Rattle.zr_space.proofs.CondenseRoot.{taken_root}
+use Rattle.zr_space.proofs.CopyRoot.{root_then}
 use Rattle.zr_space.proofs.space.Space.condense_step.Goals as goal
 
 pub returns-in-Some-clause-step : goal.returns-in-Some-clause-step
@@ -47,3 +50,14 @@ returns-clause-leads c =
     subst (λ (s : Space). Remaps s c.fold.new.self dev (part_of s.parts.devs dev).entries (folded (part_of s.parts.devs dev).entries (part_of s.parts.devs dev).counts (part_of s.parts.devs dev).fresh) [] None) same c.in_ok-fold.ensures.folds in
     let each : length (part_of old.parts.devs dev).counts ≡ length (part_of old.parts.devs dev).entries = subst (λ (s : Space). length (part_of s.parts.devs dev).counts ≡ length (part_of s.parts.devs dev).entries) same c.fold.ensures.each in
     on_ok c.work-2.result _ _ (leads_folded old c.fold.new.self c.work-2.new.self dev folds each) c.work-2.ensures.leads
+
+pub returns-in-Some-clause-root : goal.returns-in-Some-clause-root
+returns-in-Some-clause-root c = on_ok c.work.result _ _ (taken_root c.args.self.now c.take_cond.new.self c.work.new.self None c.take_cond.ensures.taken) c.work.ensures.root
+
+pub returns-clause-root : goal.returns-clause-root
+returns-clause-root c =
+    let old : Space = c.args.self.now in
+    let none : old.parts.cond ≡ None = sym c.take_cond.ensures.cond ∙ c.in_default.is in
+    let same : c.take_cond.new.self ≡ old = c.take_cond.ensures.taken ∙ with_none old none in
+    let folded : IsSameRoot old c.fold.new.self = subst (λ (s : Space). IsSameRoot s c.fold.new.self) same c.in_ok-fold.ensures.root in
+    on_ok c.work-2.result _ _ (λ then. root_then old c.fold.new.self c.work-2.new.self folded then) c.work-2.ensures.root

@@ -8,6 +8,7 @@ use Rattle.zr_space.proofs.Views.{part_is, kept_read}
 use Rattle.zr_indirect.proofs.Condensing.{counts_condensed}
 use Rattle.zr_space.specs.Condensing.{IsCondensed}
 use Rattle.zr_space.proofs.Condensing.{known_gone, put_remapped, remapped_space, put_remaps}
+use Rattle.zr_space.proofs.CondenseRoot.{moves_root, put_root}
 use Rattle.zr_space.proofs.space.Space.put_in.Goals as goal
 
 pub replace-requires-clause-gone : goal.replace-requires-clause-gone
@@ -50,8 +51,8 @@ invariant_of-self c =
     remapped_space c.self.inside.whole c.self.inside.slabs devs d k c.replace.new.self
     (put_remapped c.self.inside.whole c.self.inside.slabs devs d k c.replace.new.self c.args.map.entries c.args.counts.items c.self.invariant there is gone none c.lawful-2.ensures.gone same condensed.each condensed.kept)
 
-pub returns : goal.returns
-returns c =
+pub returns-clause-remaps : goal.returns-clause-remaps
+returns-clause-remaps c =
     let devs = c.self.inside.devs.items in
     let d = c.args.dev in
     let k : Kept = record { row = c.device.inside.row; uses = c.device.inside.units; moves = c.device.inside.moves } in
@@ -65,3 +66,13 @@ returns c =
     rw (← c.self.view_is)
     (put_remaps c.self.inside.whole c.self.inside.slabs devs d k c.replace.new.self c.args.map.entries c.args.counts.items
     (put_remapped c.self.inside.whole c.self.inside.slabs devs d k c.replace.new.self c.args.map.entries c.args.counts.items c.self.invariant there is gone none c.lawful-2.ensures.gone same condensed.each condensed.kept) same)
+
+pub returns-clause-root : goal.returns-clause-root
+returns-clause-root c =
+    let devs = c.self.inside.devs.items in
+    let d = c.args.dev in
+    let k : Kept = record { row = c.device.inside.row; uses = c.device.inside.units; moves = c.device.inside.moves } in
+    let there : d < length devs = known_gone c.self.inside.whole devs d (subst (λ (s : Space). state_of_dev s.parts.devs d ≡ Gone) (sym c.self.view_is) c.requires.gone) in
+    let is : k ≡ kept_of devs d = c.device.view_is ∙ kept_read devs d c.index_mut-device.result.now there c.index_mut-device.ensures.value in
+    rw (← c.self.view_is)
+    (moves_root c.self.inside.whole devs d k c.replace.new.self there is (put_root k.moves c.replace.new.self c.args.map.entries c.args.counts.items c.replace.ensures))
