@@ -34,13 +34,16 @@ use Rattle.zr_rules.specs.Resolve.{is_resolved}
 use Rattle.zr_rules.specs.Columns.{free_units, free_of}
 use Rattle.zr_rules.specs.Equation.{devices_in}
 use Rattle.zr_space.specs.Drops.{KeepsParts}
+use Rattle.zr_view.specs.Views.{slot_of}
 use Rattle.zr_cache.specs.declared.table.Cache.{Cache}
 use Rattle.zr_vdev.specs.declared.kind.Kind.{Kind}
 use Rattle.zr_vdev.specs.declared.kind.Kind.TheVariants as kinds
+use Rattle.zr_vdev.specs.Alike.{CopiesStand}
 use Rattle.zr_vdev.specs.Puts.{Takes, GivesBack, MayTake, MayPut, IsWriteOf}
 use Rattle.zr_vdev.specs.Stores.{GivesBackLost, may_write, may_change, is_open_role, IsWriteInto, KeepsRows, KeepsMarks, KeepsHeld, KeepsOthers, Continues, GivesNothing, GoesOnReading}
 use Rattle.zr_vdev.proofs.Taking.{takes_frame, takes_place}
 use Rattle.zr_vdev.proofs.Rooms.{room_taken, room_kept, is_short, no_room}
+use Rattle.zr_vdev.proofs.Alike.{copies_stay, given_no_copy, copies_put}
 use Rattle.zr_vdev.proofs.Held.{read_same}
 use Rattle.zr_vdev.proofs.Uses.{IsGiven, taken_was_free, take_keeps, given_roles}
 
@@ -103,7 +106,7 @@ gives_marks : (kind : Kind) (old new : Space) (a : Dva) (birth : ℕ) → GivesB
 gives_marks kinds.Block old new a birth gives = λ d u is. gives.fresh d u ∙ or_true (is_fresh old.parts.devs d u) (marks old a d u) is
 gives_marks kinds.Meta old new a birth gives = λ d u. gives.0.fresh d u
 
-root_itself : (s : Space) → IsSameRoot s s
+pub root_itself : (s : Space) → IsSameRoot s s
 root_itself s = record { held = λ d u. refl; kept = λ d u. refl; fresh = λ d u. refl }
 
 root_more : (a b c : Space) → IsSameRoot a b → IsSameRoot b c → IsSameRoot a c
@@ -319,6 +322,7 @@ continues_itself kind slots sizes counts told world s c = record {
   space = others_itself kind s;
   written = λ t. writes_nothing (IsWriteInto kind slots s) world;
   read = λ t r. r;
+  copies = λ t stand. stand;
   room = refl;
 }
 
@@ -331,6 +335,7 @@ continues_more kind slots n1 n2 n3 c1 c2 c3 t1 t2 t3 w1 w2 w3 s1 s2 s3 k1 k2 k3 
   space = others_more kind s1 s2 s3 p.space q.space;
   written = λ t. writes_more (IsWriteInto kind slots s1) w1 w2 w3 (p.written t) (narrower kind slots s1 s2 p.space w2 w3 (q.written (p.told t)));
   read = λ t r. q.read (p.told t) (p.read t r);
+  copies = λ t stand. q.copies (p.told t) (p.copies t stand);
   room = q.room ∙ p.room;
 }
 
@@ -358,21 +363,22 @@ give_devices kind old new a birth gives = rows_devices old new (give_rows kind o
 
 module _ (kind : Kind) (slots : List (Option ℕ)) (sizes : List ℕ) (counts : Counts) (told : Type 0) (world : World) where
   -- a change of the space alone
-  pub space_step : (s t : Space) (c d : Cache) → KeepsOthers kind s t → ((disks : List (List ℕ)) → AreRead disks slots s c → AreRead disks slots t d) → capacity d ≡ capacity c → Continues kind slots sizes sizes counts counts told told world world s t c d
-  space_step s t c d others read room = record {
+  pub space_step : (s t : Space) (c d : Cache) → KeepsOthers kind s t → ((disks : List (List ℕ)) → AreRead disks slots s c → AreRead disks slots t d) → ((disks : List (List ℕ)) → CopiesStand disks slots s → CopiesStand disks slots t) → capacity d ≡ capacity c → Continues kind slots sizes sizes counts counts told told world world s t c d
+  space_step s t c d others read copies room = record {
     sizes = refl;
     none_fell = no_fall counts;
     told = λ t. t;
     space = others;
     written = λ t. writes_nothing (IsWriteInto kind slots s) world;
     read = λ t r. read world.now.seen r;
+    copies = λ t stand. copies world.now.seen stand;
     room = room;
   }
 
   pub lost_step : (s t : Space) (c : Cache) (lost : Option Dva) (txg : ℕ) → GivesBackLost kind s t lost txg → Continues kind slots sizes sizes counts counts told told world world s t c c
-  lost_step s t c None txg same = space_step s t c c (subst (KeepsOthers kind s) (sym same) (others_itself kind s)) (λ disks r. subst (λ (x : Space). AreRead disks slots x c) (sym same) r) refl
-  lost_step s t c (Some a) txg (inl (used, gives)) = space_step s t c c (gives_others kind s t a txg gives) (λ disks r. read_same disks slots s t c (give_devices kind s t a txg gives) r) refl
-  lost_step s t c (Some a) txg (inr (not_used, same)) = space_step s t c c (subst (KeepsOthers kind s) (sym same) (others_itself kind s)) (λ disks r. subst (λ (x : Space). AreRead disks slots x c) (sym same) r) refl
+  lost_step s t c None txg same = space_step s t c c (subst (KeepsOthers kind s) (sym same) (others_itself kind s)) (λ disks r. subst (λ (x : Space). AreRead disks slots x c) (sym same) r) (λ disks stand. subst (λ (x : Space). CopiesStand disks slots x) (sym same) stand) refl
+  lost_step s t c (Some a) txg (inl (used, gives)) = space_step s t c c (gives_others kind s t a txg gives) (λ disks r. read_same disks slots s t c (give_devices kind s t a txg gives) r) (λ disks stand. copies_stay disks slots s t (given_no_copy kind s t a txg (gives_others kind s t a txg gives) gives) stand) refl
+  lost_step s t c (Some a) txg (inr (not_used, same)) = space_step s t c c (subst (KeepsOthers kind s) (sym same) (others_itself kind s)) (λ disks r. subst (λ (x : Space). AreRead disks slots x c) (sym same) r) (λ disks stand. subst (λ (x : Space). CopiesStand disks slots x) (sym same) stand) refl
 
 pub lost_room : (kind : Kind) (s t : Space) (lost : Option Dva) (txg : ℕ) → GivesBackLost kind s t lost txg → free_units s ≤ free_units t
 lost_room kind s t None txg same = let e = ap (λ (x : Space). free_units x) same in omega (arith, e)
@@ -436,20 +442,22 @@ read_step kind slots n1 n2 c1 c2 t1 t2 w1 w2 s k1 k2 sizes none_fell told still 
   space = others_itself kind s;
   written = λ t. writes_still (IsWriteInto kind slots s) w1 w2 (still t);
   read = read;
+  copies = λ t stand. subst (λ (x : Stand). CopiesStand x.seen slots s) (sym (still t).now) stand;
   room = room;
 }
 
 -- a put
-pub put_step : (kind : Kind) (policy : Policy) (want : ℕ) (slots : List (Option ℕ)) (n1 n2 : List ℕ) (c1 c2 : Counts) (t1 t2 : Type 0) (w1 w2 : World) (s t : Space) (k1 k2 : Cache) (taken : Option Dva) → 0 < want
+pub put_step : (kind : Kind) (policy : Policy) (want : ℕ) (slots : List (Option ℕ)) (n1 n2 : List ℕ) (c1 c2 : Counts) (t1 t2 : Type 0) (w1 w2 : World) (s t : Space) (k1 k2 : Cache) (taken : Option Dva) → ((d e slot : ℕ) → slot_of slots d ≡ Some slot → slot_of slots e ≡ Some slot → d ≡ e) → 0 < want
     → n2 ≡ n1 → NoneFell c1 c2 → (t1 → t2) → MayTake kind policy want s t taken → (t1 → MayPut kind policy want slots s t w1 w2 taken) → (t1 → AreRead w1.now.seen slots s k1 → AreRead w2.now.seen slots t k2) → capacity k2 ≡ capacity k1
     → Continues kind slots n1 n2 c1 c2 t1 t2 w1 w2 s t k1 k2
-put_step kind policy want slots n1 n2 c1 c2 t1 t2 w1 w2 s t k1 k2 taken some sizes none_fell told takes put read room = record {
+put_step kind policy want slots n1 n2 c1 c2 t1 t2 w1 w2 s t k1 k2 taken apart some sizes none_fell told takes put read room = record {
   sizes = sizes;
   none_fell = none_fell;
   told = told;
   space = may_others kind policy want s t taken takes;
   written = λ is. may_writes kind policy want slots s t w1 w2 taken some (put is);
   read = read;
+  copies = λ is stand. copies_put kind policy want slots apart some s t w1 w2 taken (may_others kind policy want s t taken takes) (put is) stand;
   room = room;
 }
 

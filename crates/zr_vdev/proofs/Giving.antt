@@ -11,9 +11,11 @@ use Rattle.zr_rules.specs.Equation.{devices_in}
 use Rattle.zr_cache.specs.declared.table.Cache.{Cache}
 use Rattle.zr_cache.specs.Entries.{entries, is_key, capacity}
 use Rattle.zr_vdev.specs.declared.kind.Kind.{Kind}
+use Rattle.zr_vdev.specs.Alike.{CopiesStand}
 use Rattle.zr_vdev.specs.Caches.{AreRead}
 use Rattle.zr_vdev.specs.Puts.{GivesBack}
 use Rattle.zr_vdev.specs.Stores.{KeepsOthers, Continues}
+use Rattle.zr_vdev.proofs.Alike.{copies_stay, given_no_copy}
 use Rattle.zr_vdev.proofs.Held.{read_same}
 use Rattle.zr_vdev.proofs.Follows.{others_itself, gives_others, gives_room, give_devices, read_forgotten, space_step}
 
@@ -37,6 +39,11 @@ module _ (kind : Kind) (s t : Space) (c d : Cache) (b : Bptr) (given : Bool) (no
       (λ is. read_forgotten disks slots t c d b (left is) (read_same disks slots s t c given_devices read))
       (λ is. subst (λ (x : Cache). AreRead disks slots t x) (sym (none is).1) (subst (λ (x : Space). AreRead disks slots x c) (sym (none is).0) read))
 
+  pub given_copies : (disks : List (List ℕ)) (slots : List (Option ℕ)) → CopiesStand disks slots s → CopiesStand disks slots t
+  given_copies disks slots stand = on_bool given
+      (λ is. copies_stay disks slots s t (given_no_copy kind s t b.at b.birth (gives_others kind s t b.at b.birth (gives is)) (gives is)) stand)
+      (λ is. subst (λ (x : Space). CopiesStand disks slots x) (sym (none is).0) stand)
+
   pub given_step : (slots : List (Option ℕ)) (sizes : List ℕ) (counts : Counts) (told : Type 0) (world : World) → (given ≡ true → entries d ≡ remove_entry (is_key b) (entries c)) → capacity d ≡ capacity c
       → Continues kind slots sizes sizes counts counts told told world world s t c d
-  given_step slots sizes counts told world left room = space_step kind slots sizes counts told world s t c d given_others (λ disks read. given_read disks slots left read) room
+  given_step slots sizes counts told world left room = space_step kind slots sizes counts told world s t c d given_others (λ disks read. given_read disks slots left read) (λ disks stand. given_copies disks slots stand) room

@@ -16,3 +16,5 @@ pub mod Frames
 pub mod Mounting
 pub mod Carrying
 pub mod Giving
+pub mod Alike
+pub mod Placed

@@ -28,6 +28,7 @@ use Rattle.zr_vdev.specs.declared.kind.Kind.TheVariants.{Block, Meta}
 use Rattle.zr_vdev.specs.Runs.{view_of}
 use Rattle.zr_vdev.specs.Puts.{IsWriteOf, GivesBack}
 use Rattle.zr_vdev.specs.Caches.{AreRead}
+use Rattle.zr_vdev.specs.Alike.{CopiesStand}
 
 -- ---- what is held
 
@@ -165,7 +166,7 @@ abbrev pub GivesNothing : Option Dva → Option Dva → Space → Space → Type
 GivesNothing lost_old lost_new old new = lost_old ≡ None → (lost_new ≡ None) × WaitsStill old new
 
 -- What calls did since some start: no size changed and no count fell, the shelf is told still, and nothing was written but units that might be written at the
--- start. What is cached stays the bytes of its address.
+-- start. What is cached stays the bytes of its address, and copies the bytes of their units.
 pub record Continues (kind : Kind) (slots : List (Option ℕ)) (sizes_old sizes_new : List ℕ) (counts_old counts_new : Counts) (told_old told_new : Type 0) (before now : World) (old new : Space) (cache_old cache_new : Cache) : Type 0 where
   pub sizes : sizes_new ≡ sizes_old
   pub none_fell : NoneFell counts_old counts_new
@@ -173,4 +174,5 @@ pub record Continues (kind : Kind) (slots : List (Option ℕ)) (sizes_old sizes_
   pub space : KeepsOthers kind old new
   pub written : told_old → WritesOnly (IsWriteInto kind slots old) before now
   pub read : told_old → AreRead before.now.seen slots old cache_old → AreRead now.now.seen slots new cache_new
+  pub copies : told_old → CopiesStand before.now.seen slots old → CopiesStand now.now.seen slots new
   pub room : capacity cache_new ≡ capacity cache_old

@@ -10,10 +10,12 @@ ghost use Rattle.zr_shelf.specs.Doings.{WritesOnly};
 ghost use Rattle.zr_chain.specs.Visits.{as_part};
 ghost use Rattle.zr_rules.specs.Columns.{free_units, uncopied_units};
 ghost use Rattle.zr_rules.specs.Equation.{devices_in};
+ghost use Rattle.zr_rules.specs.Frees.{IsSameRoot};
 ghost use Rattle.zr_space.specs.Plans.{IsCopied, IsLowestOf};
 ghost use Rattle.zr_store.specs.declared.StoreErr.TheVariants as is_store;
 ghost use Rattle.zr_view.specs.Runs.{run_bytes, HasDisk, IsOnDisk};
 ghost use Rattle.zr_cache.specs.Entries.{capacity, entries, is_in};
+ghost use Rattle.zr_vdev.specs.Alike.{CopiesStand};
 ghost use Rattle.zr_vdev.specs.Caches.{AreRead};
 ghost use Rattle.zr_vdev.specs.Copies.{CopiesUnits, IsWriteIntoFree, run_of};
 ghost use Rattle.zr_vdev.specs.Mounts.{AreMounted};
@@ -104,10 +106,13 @@ fn copy_front<S: Shelf>(
     ensures fault { IfOk result.1 (λ c. c ≡ Fault → HasRisen (S.counts shelf.old).disk (S.counts shelf.new).disk) }
     ensures same { IfOk result.1 (λ c. c ≡ Fault → result.0 ≡ space) }
     ensures err { OnErr result.1 (result.0 ≡ space) }
+    ensures root { IsSameRoot space result.0 }
     ensures written { S.tells shelf.old → WritesOnly (IsWriteIntoFree slots.now space) (S.world shelf.old) (S.world shelf.new) }
+    ensures copies { S.tells shelf.old → CopiesStand (S.world shelf.old).now.seen slots.now space → CopiesStand (S.world shelf.new).now.seen slots.now result.0 }
     ensures cache { S.tells shelf.old → AreRead (S.world shelf.old).now.seen slots.now space cache.old → AreRead (S.world shelf.new).now.seen slots.now result.0 cache.new }
     ensures capacity { capacity cache.new ≡ capacity cache.old }
 {
+    space.lawful();
     let copying = match space.copy_plan(front, chooser) {
         Ok(copying) => copying,
         Err(before) => return (before, Err(NoMemory)),
@@ -145,7 +150,9 @@ pub fn copy_step<S: Shelf>(
     ensures fault { IfOk result (λ c. c ≡ Fault → HasRisen (S.counts shelf.old).disk (S.counts shelf.new).disk) }
     ensures same { IfOk result (λ c. (c ≡ Nothing) ⊎ (c ≡ Fault) → space.new ≡ space.old) }
     ensures err { OnErr result (space.new ≡ space.old) }
+    ensures root { IsSameRoot space.old space.new }
     ensures written { S.tells shelf.old → WritesOnly (IsWriteIntoFree slots.now space.old) (S.world shelf.old) (S.world shelf.new) }
+    ensures copies { S.tells shelf.old → CopiesStand (S.world shelf.old).now.seen slots.now space.old → CopiesStand (S.world shelf.new).now.seen slots.now space.new }
     ensures cache { S.tells shelf.old → AreRead (S.world shelf.old).now.seen slots.now space.old cache.old → AreRead (S.world shelf.new).now.seen slots.now space.new cache.new }
     ensures capacity { capacity cache.new ≡ capacity cache.old }
 {

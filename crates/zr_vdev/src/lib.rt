@@ -22,7 +22,9 @@ mod writes;
 pub use cached::{get_block, put_block};
 pub use copy::{Copied, copy_step};
 pub use kind::{Kind, Mount, Place};
-pub use laws::{held_apart, held_by_the_next, held_in_service, mounted_over_removals};
+pub use laws::{
+    copies_over_commits, held_apart, held_by_the_next, held_in_service, mounted_over_removals,
+};
 pub use reader::Reader;
 pub use reads::read_block;
 pub use runs::resolve;

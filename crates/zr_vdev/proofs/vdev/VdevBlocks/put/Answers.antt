@@ -28,7 +28,7 @@ returns-in-Ok-clause-follows g c = λ start h.
     let devices = c.give_back_lost.ensures.devices in
     let e = c.put_block.ensures in
     let lost = lost_step kind slots sizes counts tells world v.space.now mid v.cache.now v.lost v.mount.txg gives in
-    let step = put_step kind policy want slots sizes (g.S.Shelf.sizes c.put_block.new.shelf) counts counts_after tells tells_after world after mid new v.cache.now c.put_block.new.cache (Some c.in-Ok.b.at) (some_units (length c.args.bytes.now) c.requires.size)
+    let step = put_step kind policy want slots sizes (g.S.Shelf.sizes c.put_block.new.shelf) counts counts_after tells tells_after world after mid new v.cache.now c.put_block.new.cache (Some c.in-Ok.b.at) v.mounted.apart (some_units (length c.args.bytes.now) c.requires.size)
     e.sizes e.none_fell e.told c.in-Ok.ensures.taken (λ told. (c.in-Ok.ensures.taken, c.in-Ok.ensures.written told)) e.cache e.room in
     let kind_of = λ (m : Mount g.row.P.Denot). m.kind in
     let slots_of = λ (m : Mount g.row.P.Denot). m.slots.now in
@@ -105,7 +105,7 @@ returns-in-Err-clause-follows g c = λ start h.
     let devices = c.give_back_lost.ensures.devices in
     let e = c.put_block.ensures in
     let lost = lost_step kind slots sizes counts tells world v.space.now mid v.cache.now v.lost v.mount.txg gives in
-    let step = put_step kind policy want slots sizes (g.S.Shelf.sizes c.put_block.new.shelf) counts counts_after tells tells_after world after mid new v.cache.now c.put_block.new.cache c.in-Err.failure.taken (some_units (length c.args.bytes.now) c.requires.size)
+    let step = put_step kind policy want slots sizes (g.S.Shelf.sizes c.put_block.new.shelf) counts counts_after tells tells_after world after mid new v.cache.now c.put_block.new.cache c.in-Err.failure.taken v.mounted.apart (some_units (length c.args.bytes.now) c.requires.size)
     e.sizes e.none_fell e.told c.in-Err.ensures.kept c.in-Err.ensures.err e.cache e.room in
     let kind_of = λ (m : Mount g.row.P.Denot). m.kind in
     let slots_of = λ (m : Mount g.row.P.Denot). m.slots.now in
