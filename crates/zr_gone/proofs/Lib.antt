@@ -1,0 +1,4 @@
+pub mod Going
+pub mod Copies
+pub mod Leading
+pub mod Spending
