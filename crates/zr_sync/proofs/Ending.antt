@@ -7,6 +7,7 @@ use Rattle.zr_shelf.specs.Moments.{World}
 use Rattle.zr_sync.proofs.Leading.{untold}
 use Rattle.zr_sync.proofs.Retelling.{trees_told}
 use Rattle.zr_sync.specs.Commits.{EndsGroup, IsNextRoot, IsShownFrom}
+use Rattle.zr_sync.specs.Copies.{KeepsCopies}
 use Rattle.zr_sync.specs.Ends.{EndsCommitted}
 use Rattle.zr_sync.specs.Heads.{HasDirectory, HasHead, HasSafeHead, IsSeen, head_of}
 use Rattle.zr_sync.specs.Moves.{TellsMoves}
@@ -20,8 +21,8 @@ use Rattle.zr_sync.specs.declared.open.OpenPool.{OpenPool}
 pub ends_by : {n1 n2 : List ℕ} {t1 t2 : Type 0} {reset : Bool} {x y : OpenPool} {objects : Objects} {w1 w2 : World} → n2 ≡ n1 → IsOpen n2 y → IsSamePool x y → IfSome y.last (IsNextRoot x reset) → y.group.txg ≡ x.group.txg + 1
     → (t1 → IfSome y.last (λ u. (mid : World) × WritesIntoFree x w1 mid × IsShownFrom n1 x u mid w2)) → EndsGroup reset x.space y.space → y.group.objects ≡ []
     → (IsSeen t1 w1.now.seen x → IfSome y.last (λ u. HasHead w2.now.seen y u.root u.len)) → (IsSeen t1 w1.now.seen x → IfSome y.last (λ u. HasSafeHead w2.now.seen y u.root u.len))
-    → (HasTrees Had t1 w1.now.seen x → HasTrees Recorded t2 w2.now.seen y) → (HasTrees Had t1 w1.now.seen x → IfSome y.last (λ u. TellsMoves w2.now.seen y u.root u.len)) → HoldsObjects t1 w1.now.seen x objects → HoldsObjects t2 w2.now.seen y objects → EndsCommitted n1 reset x y objects w1 w2
-ends_by {t1 = t1} {t2 = t2} {x = x} {y = y} {objects = objects} {w1 = w1} {w2 = w2} sizes ready same last txg written ends empty stands safe trees moves before behind =
+    → (HasTrees Had t1 w1.now.seen x → HasTrees Recorded t2 w2.now.seen y) → (HasTrees Had t1 w1.now.seen x → IfSome y.last (λ u. TellsMoves w2.now.seen y u.root u.len)) → (t1 → KeepsCopies w1 w2 x y) → HoldsObjects t1 w1.now.seen x objects → HoldsObjects t2 w2.now.seen y objects → EndsCommitted n1 reset x y objects w1 w2
+ends_by {t1 = t1} {t2 = t2} {x = x} {y = y} {objects = objects} {w1 = w1} {w2 = w2} sizes ready same last txg written ends empty stands safe trees moves copies before behind =
     let seen : IsSeen t1 w1.now.seen x = record { told = before.held.told; read = before.held.read } in
     record {
       pool = subst (λ (n : List ℕ). IsOpen n y) sizes ready;
@@ -34,6 +35,7 @@ ends_by {t1 = t1} {t2 = t2} {x = x} {y = y} {objects = objects} {w1 = w1} {w2 = 
       stands = stands seen;
       safe = safe seen;
       stays = untold t2 w2.now.seen y objects behind;
+      copies = copies before.held.told;
       moves = λ h. moves (trees_told Had (Unit {0}) t1 w1.now.seen x before.held.told h);
       trees = λ h. trees_told Recorded t2 (Unit {0}) w2.now.seen y tt (trees (trees_told Had (Unit {0}) t1 w1.now.seen x before.held.told h));
     }

@@ -6,6 +6,7 @@ pub mod Pools
 pub mod Disks
 pub mod Objects
 pub mod Holding
+pub mod Copies
 pub mod Rings
 pub mod Sizes
 pub mod Stays

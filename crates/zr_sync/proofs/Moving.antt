@@ -6,6 +6,7 @@ use Rattle.zr_shelf.specs.Moments.{World}
 use Rattle.zr_space.specs.Metadata.{GivesMeta, HasNoMeta, meta_left}
 use Rattle.zr_vdev.specs.Stores.{KeepsOthers}
 use Rattle.zr_vdev.specs.declared.kind.Kind.TheVariants.{Meta}
+use Rattle.zr_vdev.proofs.Alike.{copies_stay, metadata_no_copy}
 use Rattle.zr_vdev.proofs.Follows.{gives_others, others_more, rows_devices, space_step}
 use Rattle.zr_vdev.proofs.Held.{read_same}
 use Rattle.zr_sync.specs.Pools.{IsOpen}
@@ -36,7 +37,7 @@ pub space_wrote : (n : List ℕ) (c : Counts) (t : Type 0) (w : World) (x y : Op
 space_wrote n c t w x y others rest =
     subst (WritesMetadata n n c c t t w w x) (sym rest)
     (record {
-      goes = space_step Meta x.table.slots n c t w x.space y.space x.cache x.cache others (λ disks read. read_same disks x.table.slots x.space y.space x.cache (rows_devices x.space y.space others.rows) read) refl;
+      goes = space_step Meta x.table.slots n c t w x.space y.space x.cache x.cache others (λ disks read. read_same disks x.table.slots x.space y.space x.cache (rows_devices x.space y.space others.rows) read) (λ disks stand. copies_stay disks x.table.slots x.space y.space (metadata_no_copy x.space y.space others) stand) refl;
       rest = refl;
       count = refl;
     })

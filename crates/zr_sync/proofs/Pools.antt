@@ -25,6 +25,7 @@ use Rattle.zr_sync.specs.declared.open.OpenPool.{OpenPool}
 use Rattle.zr_lookup.specs.Groups.{IsLawfulGroup}
 use Rattle.zr_sync.specs.Pools.{AreCondStreams, AreStreams, IsOpen, IsInLimits, AreRows, IsAfter, IsDirectory, saved_block}
 use Rattle.zr_sync.specs.Writes.{WritesMetadata, WritesTrees, WritesBlocks, WritesAll}
+use Rattle.zr_sync.proofs.Copies.{step_copies}
 use Rattle.zr_sync.proofs.Rows.{row_few}
 use Rattle.zr_sync.proofs.Disks.{works_more, works_trees, works_metadata}
 
@@ -209,6 +210,7 @@ all_written {n1} {n2} {n3} {c1} {c2} {c3} {t1} {t2} {t3} {w1} {w2} {w3} {x} {y} 
   told = λ t. q.goes.told (p.goes.told t);
   disks = λ t. works_more w1 w2 w3 (works_trees n1 n2 c1 c2 t1 t2 w1 w2 x y t p) (works_metadata n2 n3 c2 c3 t2 t3 w2 w3 y z (p.goes.told t) q);
   written = λ t. writes_more (IsWriteInto Block x.table.slots x.space) w1 w2 w3 (p.goes.written t) (metadata_into_free x y p.goes.space (ap (λ (o : OpenPool). o.table.slots) p.rest) w2 w3 (q.goes.written (p.goes.told t)));
+  copies = λ t had. step_copies w2 w3 y z (ap (λ (o : OpenPool). o.table.slots) q.rest) (q.goes.copies (p.goes.told t)) (step_copies w1 w2 x y (ap (λ (o : OpenPool). o.table.slots) p.rest) (p.goes.copies t) had);
   mid = y.space;
   blocks = p.goes.space;
   metadata = q.goes.space;
@@ -226,6 +228,7 @@ trees_written {n1} {n2} {c1} {c2} {t1} {t2} {w1} {w2} {x} {y} p = record {
   told = p.goes.told;
   disks = λ t. works_trees n1 n2 c1 c2 t1 t2 w1 w2 x y t p;
   written = p.goes.written;
+  copies = λ t. step_copies w1 w2 x y (ap (λ (o : OpenPool). o.table.slots) p.rest) (p.goes.copies t);
   mid = y.space;
   blocks = p.goes.space;
   metadata = others_itself Meta y.space;

@@ -167,20 +167,25 @@ module _ (sizes : List ℕ) (slots : List (Option ℕ)) (ds : Devices) (below : 
   publish_keeps both all (Err e) a b (inr (inl p)) = half_keep both a p.first b p.before p.wrote
   publish_keeps both all (Err e) a b (inr (inr p)) = most_keep both all a p.first p.half p.second b p.before p.wrote p.between p.rest
 
+  unit_keeps : (before now : List (List ℕ)) → KeepsUnits before now → (d unit : ℕ) → d < ds.count → unit < (ds.row d).units → views.unit_bytes now (views.slot_of slots d) unit ≡ views.unit_bytes before (views.slot_of slots d) unit
+  unit_keeps before now kept d unit known inside = (elim (views.slot_of slots d) as (λ o. views.slot_of slots d ≡ o → views.unit_bytes now o unit ≡ views.unit_bytes before o unit) [
+    | None ↦ λ is. refl
+    | Some sl ↦ λ is. kept d unit sl known inside is
+  ]) refl
+
+  -- a root that is published leaves the bytes of each unit
+  pub published_units : (both all : List ℕ) (r : Result (Unit {0}) ScanErr) (old new : World) → Publishes sizes both all u r old new
+      → (d unit : ℕ) → d < ds.count → unit < (ds.row d).units → views.unit_bytes new.now.seen (views.slot_of slots d) unit ≡ views.unit_bytes old.now.seen (views.slot_of slots d) unit
+  published_units both all r old new p d unit known inside = unit_keeps old.now.seen new.now.seen (publish_keeps both all r old new p) d unit known inside
+
   -- ---- addresses
 
   pub address_keeps : (before now : List (List ℕ)) → KeepsUnits before now → (a : Dva) → views.address_bytes (record { disks = now; slots = slots; devices = ds }) a ≡ views.address_bytes (record { disks = before; slots = slots; devices = ds }) a
   address_keeps before now kept a = each (places_of a)
     where
-      unit_same : (d unit : ℕ) → (d < ds.count) × (unit < (ds.row d).units) → views.unit_bytes now (views.slot_of slots d) unit ≡ views.unit_bytes before (views.slot_of slots d) unit
-      unit_same d unit within = (elim (views.slot_of slots d) as (λ o. views.slot_of slots d ≡ o → views.unit_bytes now o unit ≡ views.unit_bytes before o unit) [
-        | None ↦ λ is. refl
-        | Some sl ↦ λ is. kept d unit sl within.0 within.1 is
-      ]) refl
-
       place_same : (o : Option Place) → ((p : Place) → o ≡ Some p → (p.0 < ds.count) × (p.1 < (ds.row p.0).units)) → views.place_bytes (record { disks = now; slots = slots; devices = ds }) o ≡ views.place_bytes (record { disks = before; slots = slots; devices = ds }) o
       place_same None within = refl
-      place_same (Some p) within = unit_same p.0 p.1 (within p refl)
+      place_same (Some p) within = let inside = within p refl in unit_keeps before now kept p.0 p.1 inside.0 inside.1
 
       each : (ps : List Place)
           → flat_map (views.place_bytes (record { disks = now; slots = slots; devices = ds })) (map (λ (p : Place). resolved ds p.0 p.1) ps)

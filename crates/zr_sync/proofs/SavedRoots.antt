@@ -29,6 +29,7 @@ use Rattle.zr_space.specs.Saved.{GivesSaved, saved_left}
 use Rattle.zr_vdev.specs.Mounts.{AreMounted}
 use Rattle.zr_vdev.specs.Stores.{KeepsOthers}
 use Rattle.zr_vdev.specs.declared.kind.Kind.TheVariants.{Block, Meta}
+use Rattle.zr_vdev.proofs.Alike.{copies_stay, metadata_no_copy}
 use Rattle.zr_vdev.proofs.Follows.{gives_others, others_itself, others_more, rows_devices, space_step}
 use Rattle.zr_vdev.proofs.Frames.{held_beside}
 use Rattle.zr_vdev.proofs.Held.{read_same}
@@ -152,7 +153,7 @@ given_objects : (n : List ℕ) (c : Counts) (t : Type 0) (w : World) (x : OpenPo
 given_objects n c t w x given objects mounted others h =
     objects_stay x (record x { space = given }) objects refl refl h
     (held_beside Block x.table.slots n n c c t t w w x.space given None x.cache x.cache h.stored mounted.apart
-    (space_step Meta x.table.slots n c t w x.space given x.cache x.cache others (λ disks read. read_same disks x.table.slots x.space given x.cache (rows_devices x.space given others.rows) read) refl)
+    (space_step Meta x.table.slots n c t w x.space given x.cache x.cache others (λ disks read. read_same disks x.table.slots x.space given x.cache (rows_devices x.space given others.rows) read) (λ disks stand. copies_stay disks x.table.slots x.space given (metadata_no_copy x.space given others) stand) refl)
     h.held)
 
 -- and where the devices and what is live do

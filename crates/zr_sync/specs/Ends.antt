@@ -5,6 +5,7 @@ use Rattle.zr_rules.specs.Space.{nothing_opened, opened_of}
 use Rattle.zr_shelf.specs.Disks.{IsAtRest, Stand}
 use Rattle.zr_shelf.specs.Moments.{World}
 use Rattle.zr_sync.specs.Commits.{EndsGroup, IsNextRoot, IsShownFrom}
+use Rattle.zr_sync.specs.Copies.{KeepsCopies}
 use Rattle.zr_sync.specs.Heads.{HasDirectory, HasHead, HasSafeHead}
 use Rattle.zr_sync.specs.Moves.{TellsMoves}
 use Rattle.zr_sync.specs.Objects.{HoldsObjects}
@@ -15,7 +16,7 @@ use Rattle.zr_sync.specs.Writes.{WritesIntoFree}
 use Rattle.zr_sync.specs.declared.open.OpenPool.{OpenPool}
 
 -- The clauses of a commit that succeeded, from one pool to the next: the pool is open and the same, with an empty group. Its last root is the next one, which was
--- published behind writes into free units, and leads to its head, in units of metadata. The pool holds these objects, and where the trees of its streams stood, they do so with what the root has recorded, and tell where the units of removed devices have moved.
+-- published behind writes into free units, and leads to its head, in units of metadata. The pool holds these objects, copies keep the bytes of their units, and where the trees of its streams stood, they do so with what the root has recorded, and tell where the units of removed devices have moved.
 pub record EndsCommitted (sizes : List ℕ) (reset : Bool) (old new : OpenPool) (objects : Objects) (before now : World) : Type 0 where
   pub pool : IsOpen sizes new
   pub same : IsSamePool old new
@@ -27,6 +28,7 @@ pub record EndsCommitted (sizes : List ℕ) (reset : Bool) (old new : OpenPool) 
   pub stands : IfSome new.last (λ u. HasHead now.now.seen new u.root u.len)
   pub safe : IfSome new.last (λ u. HasSafeHead now.now.seen new u.root u.len)
   pub stays : HoldsObjects (Unit {0}) now.now.seen new objects
+  pub copies : KeepsCopies before now old new
   pub trees : HasTrees Had (Unit {0}) before.now.seen old → HasTrees Recorded (Unit {0}) now.now.seen new
   pub moves : HasLastTrees before.now.seen old → IfSome new.last (λ u. TellsMoves now.now.seen new u.root u.len)
 

@@ -1,5 +1,6 @@
 pub mod Stops
 pub mod Pools
+pub mod Copies
 pub mod Writes
 pub mod Words
 pub mod Commits

@@ -6,6 +6,7 @@ use Rattle.zr_shelf.specs.Moments.{World}
 use Rattle.zr_rules.specs.Space.{Space}
 use Rattle.zr_vdev.specs.Stores.{Continues, IsWriteInto, KeepsOthers}
 use Rattle.zr_vdev.specs.declared.kind.Kind.TheVariants.{Block, Meta}
+use Rattle.zr_sync.specs.Copies.{KeepsCopies}
 use Rattle.zr_sync.specs.declared.open.OpenPool.{OpenPool}
 
 -- Metadata was written and given back: the space, the cache and the streams changed, and all else of the pool is the same.
@@ -41,6 +42,7 @@ pub record WritesAll (sizes_old sizes_new : List ℕ) (counts_old counts_new : C
   pub told : told_old → told_new
   pub disks : told_old → WorksOnDisks before now
   pub written : told_old → WritesIntoFree old before now
+  pub copies : told_old → KeepsCopies before now old new
   pub mid : Space
   pub blocks : KeepsOthers Block old.space mid
   pub metadata : KeepsOthers Meta mid new.space

@@ -15,6 +15,7 @@ ghost use Rattle.zr_store.specs.Store.{Stored};
 ghost use Rattle.zr_vdev.specs.Stores.{KeepsOthers};
 ghost use Rattle.zr_vdev.specs.declared.kind.Kind.TheVariants.{Meta};
 ghost use Rattle.zr_sync.specs.Anew.{AreRenewed, RenewsLogs};
+ghost use Rattle.zr_sync.specs.Copies.{KeepsCopies};
 ghost use Rattle.zr_sync.specs.Commits.{EndsGroup, IsNextRoot, IsShownFrom, WritesRoot};
 ghost use Rattle.zr_model.specs.Objects.{Objects};
 ghost use Rattle.zr_sync.specs.Objects.{HoldsObjects};
@@ -210,6 +211,7 @@ fn commit_with<S: Shelf, P: Place>(
     ensures space { OnOk result ((before : Space) × Commits reset before pool.new.space) }
     ensures ends { OnOk result (EndsGroup reset pool.old.space pool.new.space) }
     ensures anew { reset ≡ true → logs ≡ Anew → OnOk result (RenewsLogs pool.old pool.new) }
+    ensures copies { S.tells shelf.old → OnOk result (KeepsCopies (S.world shelf.old) (S.world shelf.new) pool.old pool.new) }
     ensures empty { OnOk result (pool.new.group.objects ≡ []) }
     ensures trees { moving ≡ false → HasTrees (first_stage logs) (S.tells shelf.old) (S.world shelf.old).now.seen pool.old → OnOk result (HasTrees Recorded (S.tells shelf.new) (S.world shelf.new).now.seen pool.new) }
     ensures moves { moving ≡ false → HasTrees (first_stage logs) (S.tells shelf.old) (S.world shelf.old).now.seen pool.old → OnOk result (IfSome pool.new.last (λ u. TellsMoves (S.world shelf.new).now.seen pool.new u.root u.len)) }
@@ -261,6 +263,7 @@ pub fn commit<S: Shelf, P: Place>(
     ensures leads { (objects : Objects) → HoldsObjects (S.tells shelf.old) (S.world shelf.old).now.seen pool.old objects → CommitsObjects (HasLastTrees (S.world shelf.old).now.seen pool.old) (S.sizes shelf.old) pool.old reset objects (S.world shelf.old) (S.world shelf.new) }
     ensures space { OnOk result ((before : Space) × Commits reset before pool.new.space) }
     ensures ends { OnOk result (EndsGroup reset pool.old.space pool.new.space) }
+    ensures copies { S.tells shelf.old → OnOk result (KeepsCopies (S.world shelf.old) (S.world shelf.new) pool.old pool.new) }
     ensures empty { OnOk result (pool.new.group.objects ≡ []) }
     ensures trees { HasTrees Had (S.tells shelf.old) (S.world shelf.old).now.seen pool.old → OnOk result (HasTrees Recorded (S.tells shelf.new) (S.world shelf.new).now.seen pool.new) }
     ensures moves { HasTrees Had (S.tells shelf.old) (S.world shelf.old).now.seen pool.old → OnOk result (IfSome pool.new.last (λ u. TellsMoves (S.world shelf.new).now.seen pool.new u.root u.len)) }
@@ -301,6 +304,7 @@ pub fn commit_anew<S: Shelf, P: Place>(
     ensures space { OnOk result ((before : Space) × Commits true before pool.new.space) }
     ensures ends { OnOk result (EndsGroup true pool.old.space pool.new.space) }
     ensures anew { OnOk result (RenewsLogs pool.old pool.new) }
+    ensures copies { S.tells shelf.old → OnOk result (KeepsCopies (S.world shelf.old) (S.world shelf.new) pool.old pool.new) }
     ensures empty { OnOk result (pool.new.group.objects ≡ []) }
     ensures trees { HasTrees Untold (S.tells shelf.old) (S.world shelf.old).now.seen pool.old → OnOk result (HasTrees Recorded (S.tells shelf.new) (S.world shelf.new).now.seen pool.new) }
     ensures moves { HasTrees Untold (S.tells shelf.old) (S.world shelf.old).now.seen pool.old → OnOk result (IfSome pool.new.last (λ u. TellsMoves (S.world shelf.new).now.seen pool.new u.root u.len)) }
@@ -342,6 +346,7 @@ pub fn commit_moving<S: Shelf, P: Place>(
     ensures space { OnOk result ((before : Space) × Commits true before pool.new.space) }
     ensures ends { OnOk result (EndsGroup true pool.old.space pool.new.space) }
     ensures anew { OnOk result (RenewsLogs pool.old pool.new) }
+    ensures copies { S.tells shelf.old → OnOk result (KeepsCopies (S.world shelf.old) (S.world shelf.new) pool.old pool.new) }
     ensures empty { OnOk result (pool.new.group.objects ≡ []) }
     ensures turned { OnOk result (pool.new.turned ≡ none_turned) }
     ensures txg { OnOk result (pool.new.group.txg ≡ pool.old.group.txg + 1) }

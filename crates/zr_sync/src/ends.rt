@@ -7,6 +7,7 @@ ghost use Rattle.zr_root.specs.Streams.{IsTreeFor};
 ghost use Rattle.zr_space.specs.Drops.{IsMeta};
 ghost use Rattle.zr_space.specs.Live.{IsLive};
 ghost use Rattle.zr_space.specs.Turning.{TurnsParts};
+ghost use Rattle.zr_sync.specs.Copies.{HasCopies};
 ghost use Rattle.zr_sync.specs.Commits.{IsNextRoot};
 ghost use Rattle.zr_sync.specs.Pools.{IsOpen, IsSamePool, none_turned};
 
@@ -38,6 +39,7 @@ pub fn end_group(alloc: Global, pool: &mut OpenPool, root: Uber, reset: bool)
     ensures tall { IsTreeFor root.len root.root pool.new.head }
     ensures space { Commits reset pool.old.space pool.new.space }
     ensures parts { TurnsParts reset pool.old.space pool.new.space }
+    ensures copies { (disks : List (List ℕ)) → HasCopies disks pool.old → HasCopies disks pool.new }
     ensures empty { pool.new.group.objects ≡ [] }
     ensures txg { pool.new.group.txg ≡ pool.old.group.txg + 1 }
 {

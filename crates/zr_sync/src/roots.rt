@@ -7,6 +7,7 @@ ghost use Rattle.zr_shelf.specs.Counts.{NoneFell};
 ghost use Rattle.zr_store.specs.Store.{Stored};
 ghost use Rattle.zr_vdev.specs.Runs.{view_of};
 ghost use Rattle.zr_view.specs.Views.{address_bytes};
+ghost use Rattle.zr_sync.specs.Copies.{KeepsCopies};
 ghost use Rattle.zr_sync.specs.Commits.{IsNextRoot, IsShownFrom, PublishesRoot, last_reset};
 ghost use Rattle.zr_sync.specs.Holds.{HasBlocks};
 ghost use Rattle.zr_sync.specs.Pools.{IsOpen};
@@ -93,6 +94,7 @@ pub fn publish_root<S: Shelf>(
     ensures order { S.tells shelf.old → PublishesRoot (S.sizes shelf.old) pool.now root.now (S.world shelf.old) (S.world shelf.new) }
     ensures shown { S.tells shelf.old → OnOk result (IsShownFrom (S.sizes shelf.old) pool.now root.now (S.world shelf.old) (S.world shelf.new)) }
     ensures blocks { (s : Stored) → HasBlocks (S.tells shelf.old) (S.world shelf.old).now.seen pool.now s → HasBlocks (S.tells shelf.new) (S.world shelf.new).now.seen pool.now s }
+    ensures copies { S.tells shelf.old → KeepsCopies (S.world shelf.old) (S.world shelf.new) pool.now pool.now }
     ensures bytes { S.tells shelf.old → (a : Dva) → address_bytes (view_of (S.world shelf.new).now.seen pool.now.table.slots pool.now.space) a ≡ address_bytes (view_of (S.world shelf.old).now.seen pool.now.table.slots pool.now.space) a }
 {
     let last = pool.last.unwrap_or(*root);

@@ -169,7 +169,7 @@ returns-in_err-commit_anew-clause-leads g c = λ objects h.
     inr (record {
       ended = c.commit.new.pool;
       mid = g.S.Shelf.world mid;
-      first = ends_by c.commit.ensures.sizes done.pool done.same done.last done.txg done.written done.ends done.empty done.stands done.safe done.trees done.moves h behind;
+      first = ends_by c.commit.ensures.sizes done.pool done.same done.last done.txg done.written done.ends done.empty done.stands done.safe done.trees done.moves done.copies h behind;
       held = held;
       ready = c.in_ok-save_root.ensures.pool (g.S.Shelf.sizes old) (subst (λ (n : List ℕ). IsOpen n c.commit.new.pool) c.commit.ensures.sizes done.pool);
       saves = saves;
@@ -195,7 +195,7 @@ returns-clause-leads g c = λ objects h.
     inr (record {
       ended = c.commit.new.pool;
       mid = g.S.Shelf.world mid;
-      first = ends_by c.commit.ensures.sizes done.pool done.same done.last done.txg done.written done.ends done.empty done.stands done.safe done.trees done.moves h behind;
+      first = ends_by c.commit.ensures.sizes done.pool done.same done.last done.txg done.written done.ends done.empty done.stands done.safe done.trees done.moves done.copies h behind;
       held = held;
       ready = c.in_ok-save_root.ensures.pool (g.S.Shelf.sizes old) (subst (λ (n : List ℕ). IsOpen n c.commit.new.pool) c.commit.ensures.sizes done.pool);
       saves = saves;

@@ -192,6 +192,11 @@ returns-clause-written g c = λ t.
 pub returns-clause-anew : goal.returns-clause-anew
 returns-clause-anew g c = λ reset is. renewed_last c.args.pool.now c.write_all.new.pool c.end_group.new.pool c.end_group.ensures.streams (c.in_ok-root.ensures.anew reset is)
 
+pub returns-clause-copies : goal.returns-clause-copies
+returns-clause-copies g c = λ t had.
+    let wrote = c.write_all.ensures.wrote in
+    c.end_group.ensures.copies (g.S.Shelf.world c.publish_root.new.shelf).now.seen (c.publish_root.ensures.copies (wrote.told t) (wrote.copies t had))
+
 pub returns-clause-trees : goal.returns-clause-trees
 returns-clause-trees g c = λ still trees.
     let x = c.args.pool.now in

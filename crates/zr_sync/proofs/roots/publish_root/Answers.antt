@@ -1,6 +1,7 @@
 use Rattle.std.proofs.Common.{inl, inr, refl, sym, subst}
 use Rattle.zr_shelf.proofs.Runs.{still}
 use Rattle.zr_slots.specs.Phases.{AreDisks}
+use Rattle.zr_sync.proofs.Copies.{published_copies}
 use Rattle.zr_sync.proofs.Disks.{works_published}
 use Rattle.zr_sync.proofs.Holding.{published_holds, published_bytes}
 use Rattle.zr_sync.proofs.Publishing.{slots_disks, shown, shown_in_part}
@@ -54,6 +55,18 @@ returns-clause-bytes g c = λ told.
     let old = c.args.shelf.now in
     let new = c.publish.new.shelf in
     published_bytes (g.S.Shelf.sizes old) c.as_slice.result.now c.as_slice-2.result.now c.args.root.now c.publish.result (g.S.Shelf.world old) (g.S.Shelf.world new) c.args.pool.now c.requires.pool c.requires.lawful (c.publish.ensures.order told)
+
+pub returns-in_err-publish-clause-copies : goal.returns-in_err-publish-clause-copies
+returns-in_err-publish-clause-copies g c = λ told.
+    let old = c.args.shelf.now in
+    let new = c.publish.new.shelf in
+    published_copies (g.S.Shelf.sizes old) c.as_slice.result.now c.as_slice-2.result.now c.args.root.now c.publish.result (g.S.Shelf.world old) (g.S.Shelf.world new) c.args.pool.now c.requires.pool c.requires.lawful (c.publish.ensures.order told)
+
+pub returns-clause-copies : goal.returns-clause-copies
+returns-clause-copies g c = λ told.
+    let old = c.args.shelf.now in
+    let new = c.publish.new.shelf in
+    published_copies (g.S.Shelf.sizes old) c.as_slice.result.now c.as_slice-2.result.now c.args.root.now c.publish.result (g.S.Shelf.world old) (g.S.Shelf.world new) c.args.pool.now c.requires.pool c.requires.lawful (c.publish.ensures.order told)
 
 pub returns-in_err-both-clause-order : goal.returns-in_err-both-clause-order
 returns-in_err-both-clause-order g c = λ t. inl (still (g.S.Shelf.world c.args.shelf.now) (g.S.Shelf.world c.args.shelf.now) refl)
