@@ -18,9 +18,11 @@ use Rattle.zr_sync.specs.Writes.{WritesBlocks, WritesIntoFree}
 use Rattle.zr_sync.specs.declared.open.OpenPool.{OpenPool}
 use Rattle.zr_sync.specs.declared.open.Table.{Table}
 use Rattle.zr_vdev.proofs.Follows.{narrower, others_itself, others_more}
+use Rattle.zr_vdev.specs.Alike.{CopiesStand}
 use Rattle.zr_vdev.specs.Stores.{IsWriteInto, KeepsOthers}
 use Rattle.zr_vdev.specs.declared.kind.Kind.TheVariants.{Block}
 use Rattle.zr_lines.proofs.Pools.{same_by, same_more}
+use Rattle.zr_sync.specs.Copies.{HasCopies}
 use Rattle.zr_sync.specs.Ends.{EndsCommitted}
 use Rattle.zr_lines.specs.Stops.{StaysInGroup, StaysInOneGroup, WritesInOneGroup}
 
@@ -34,7 +36,7 @@ into_more x y w1 w2 w3 table keeps first second =
 
 -- nothing is done
 pub in_group_itself : (x : OpenPool) (w : World) → StaysInGroup x x w w
-in_group_itself x w = record { written = writes_nothing (IsWriteInto Block x.table.slots x.space) w; space = others_itself Block x.space; root = record { last = refl; guid = refl; table = refl }; trees = λ h. h }
+in_group_itself x w = record { written = writes_nothing (IsWriteInto Block x.table.slots x.space) w; space = others_itself Block x.space; root = record { last = refl; guid = refl; table = refl }; trees = λ h. h; copies = λ h. h }
 
 -- the group alone changes
 pub in_group_alone : {x y : OpenPool} (w : World) → y ≡ record x { group = y.group } → StaysInGroup x y w w
@@ -43,6 +45,7 @@ in_group_alone {x} {y} w rest = record {
   space = subst (λ (o : OpenPool). KeepsOthers Block x.space o.space) (sym rest) (others_itself Block x.space);
   root = record { last = ap (λ (o : OpenPool). o.last) rest; guid = ap (λ (o : OpenPool). o.guid) rest; table = ap (λ (o : OpenPool). o.table) rest };
   trees = group_leaves (Unit {0}) w.now.seen x y rest;
+  copies = λ h. subst (λ (o : OpenPool). HasCopies w.now.seen o) (sym rest) h;
 }
 
 -- blocks of objects are read, put or freed
@@ -52,6 +55,7 @@ in_group_by {n1} {n2} {c1} {c2} {t1} {t2} {w1} {w2} {x} {y} ready p told = recor
   space = p.goes.space;
   root = record { last = ap (λ (o : OpenPool). o.last) p.rest; guid = ap (λ (o : OpenPool). o.guid) p.rest; table = ap (λ (o : OpenPool). o.table) p.rest };
   trees = λ h. trees_told Had t2 (Unit {0}) w2.now.seen y tt (blocks_leave n1 n2 c1 c2 t1 t2 w1 w2 x y ready p (trees_told Had (Unit {0}) t1 w1.now.seen x told h));
+  copies = λ h. subst (λ (t : Table). CopiesStand w2.now.seen t.slots y.space) (sym (ap (λ (o : OpenPool). o.table) p.rest)) (p.goes.copies told h);
 }
 
 pub in_group_more : {x y z : OpenPool} {w1 w2 w3 : World} → StaysInGroup x y w1 w2 → StaysInGroup y z w2 w3 → StaysInGroup x z w1 w3
@@ -60,6 +64,7 @@ in_group_more {x} {y} {z} {w1} {w2} {w3} p q = record {
   space = others_more Block x.space y.space z.space p.space q.space;
   root = record { last = q.root.last ∙ p.root.last; guid = q.root.guid ∙ p.root.guid; table = q.root.table ∙ p.root.table };
   trees = λ h. q.trees (p.trees h);
+  copies = λ h. q.copies (p.copies h);
 }
 
 -- ---- in one group
@@ -160,6 +165,7 @@ module _ {n1 n2 : List ℕ} {c1 c2 : Counts} {t1 t2 : Type 0} {w1 w2 : World} {x
     stays = h.stays;
     trees = λ stood. h.trees ((in_group_by ready p told).trees stood);
     moves = λ stood. h.moves ((in_group_by ready p told).trees stood);
+    copies = λ stood. h.copies ((in_group_by ready p told).copies stood);
   }
 
   pub one_group_before : t1 → {z : OpenPool} {objects : Objects} {w : World} → StaysInOneGroup n2 objects y z w2 w → StaysInOneGroup n1 objects x z w1 w

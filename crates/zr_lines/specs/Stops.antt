@@ -1,6 +1,7 @@
 -- What a line leaves for a crash: it works in one group, or ends one by a reset.
 use Rattle.std.specs.Prelude.{◌≡◌, ◌⊎◌, ℕ, true, false, List}
 use Rattle.zr_last.specs.Last.{KeepsDevices, KeepsRoot}
+use Rattle.zr_sync.specs.Copies.{KeepsCopies}
 use Rattle.zr_sync.specs.Ends.{EndsCommitted}
 use Rattle.zr_model.specs.Objects.{Objects}
 use Rattle.zr_rules.specs.Space.{role_at}
@@ -14,12 +15,13 @@ use Rattle.zr_sync.specs.declared.open.OpenPool.{OpenPool}
 use Rattle.zr_vdev.specs.Stores.{KeepsOthers, is_open_role}
 use Rattle.zr_vdev.specs.declared.kind.Kind.TheVariants.{Block}
 
--- The line stayed in the open group: nothing was written but units that were free, or the group's own. No other unit may be written behind it, and the pool goes on from the same root, with the trees of its streams.
+-- The line stayed in the open group: nothing was written but units that were free, or the group's own. No other unit may be written behind it, and the pool goes on from the same root, with the trees of its streams and with the copies of units.
 pub record StaysInGroup (old new : OpenPool) (before now : World) : Type 0 where
   pub written : WritesIntoFree old before now
   pub space : KeepsOthers Block old.space new.space
   pub root : KeepsRoot old new
   pub trees : HasTrees Had (Unit {0}) before.now.seen old → HasTrees Had (Unit {0}) now.now.seen new
+  pub copies : KeepsCopies before now old new
 
 -- the open group was committed with these objects, and the line stayed in the next one
 pub record StaysInNextGroup (sizes : List ℕ) (objects : Objects) (old new : OpenPool) (before now : World) : Type 0 where

@@ -205,7 +205,7 @@ returns-in_err-take_on-clause-stops g c = λ objects h.
     } in
     let ends : EndsCommitted (g.S.Shelf.sizes old) false a b objects (g.S.Shelf.world first) (g.S.Shelf.world second) =
     subst (λ (n : List ℕ). EndsCommitted n false a b objects (g.S.Shelf.world first) (g.S.Shelf.world second)) c.check_next.ensures.sizes
-    (ends_by c.commit.ensures.sizes here.pool here.same here.last here.txg here.written here.ends here.empty here.stands here.safe here.trees here.moves before (here.stays objects before)) in
+    (ends_by c.commit.ensures.sizes here.pool here.same here.last here.txg here.written here.ends here.empty here.stands here.safe here.trees here.moves here.copies before (here.stays objects before)) in
     let prepares = subst (λ (n : List ℕ). PreparesNext n slot c.in-Some.units b (g.S.Shelf.world second) (g.S.Shelf.world c.take_on.new.shelf)) sizes2 (c.take_on.ensures.prepares told2) in
     (g.S.Shelf.world first, still, inr (inr (record { ended = b; mid = g.S.Shelf.world second; first = ends; units = c.in-Some.units; next = next; rest = inl prepares })))
 
@@ -240,7 +240,7 @@ returns-in_err-commit-2-clause-stops g c = λ objects h.
     } in
     let ends : EndsCommitted (g.S.Shelf.sizes old) false a b objects (g.S.Shelf.world first) (g.S.Shelf.world second) =
     subst (λ (n : List ℕ). EndsCommitted n false a b objects (g.S.Shelf.world first) (g.S.Shelf.world second)) c.check_next.ensures.sizes
-    (ends_by c.commit.ensures.sizes here.pool here.same here.last here.txg here.written here.ends here.empty here.stands here.safe here.trees here.moves before (here.stays objects before)) in
+    (ends_by c.commit.ensures.sizes here.pool here.same here.last here.txg here.written here.ends here.empty here.stands here.safe here.trees here.moves here.copies before (here.stays objects before)) in
     let prepares = subst (λ (n : List ℕ). PreparesNext n slot c.in-Some.units b (g.S.Shelf.world second) (g.S.Shelf.world c.take_on.new.shelf)) sizes2 (c.take_on.ensures.prepares told2) in
     let third = c.take_on.new.shelf in
     let fourth = c.commit-2.new.shelf in
@@ -305,7 +305,7 @@ returns-clause-stops g c = λ objects h.
     } in
     let ends : EndsCommitted (g.S.Shelf.sizes old) false a b objects (g.S.Shelf.world first) (g.S.Shelf.world second) =
     subst (λ (n : List ℕ). EndsCommitted n false a b objects (g.S.Shelf.world first) (g.S.Shelf.world second)) c.check_next.ensures.sizes
-    (ends_by c.commit.ensures.sizes here.pool here.same here.last here.txg here.written here.ends here.empty here.stands here.safe here.trees here.moves before (here.stays objects before)) in
+    (ends_by c.commit.ensures.sizes here.pool here.same here.last here.txg here.written here.ends here.empty here.stands here.safe here.trees here.moves here.copies before (here.stays objects before)) in
     let prepares = subst (λ (n : List ℕ). PreparesNext n slot c.in-Some.units b (g.S.Shelf.world second) (g.S.Shelf.world c.take_on.new.shelf)) sizes2 (c.take_on.ensures.prepares told2) in
     let third = c.take_on.new.shelf in
     let fourth = c.commit-2.new.shelf in

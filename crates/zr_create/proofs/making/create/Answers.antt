@@ -106,7 +106,7 @@ returns-clause-ends g c = λ t.
     (new_serve (g.S.Shelf.sizes c.take_all.new.shelf) (g.S.Shelf.sizes c.check_new.new.shelf) _ c.args.named.now before c.in_ok-take_all.ensures.pool c.in_ok-take_all.ensures.devices) (same.dir ∙ blank.dir) (ap (λ (x : Group). x.objects) same.group ∙ blank.objects)
     (ap entries same.cache ∙ blank.cache) in
     let done = c.in_ok-commit.ensures in
-    let commits = ends_by c.commit.ensures.sizes done.pool done.same done.last done.txg done.written done.ends done.empty done.stands done.safe done.trees done.moves held (done.stays map.empty held) in
+    let commits = ends_by c.commit.ensures.sizes done.pool done.same done.last done.txg done.written done.ends done.empty done.stands done.safe done.trees done.moves done.copies held (done.stays map.empty held) in
     record {
       blank = before;
       before = g.S.Shelf.world c.take_all.new.shelf;

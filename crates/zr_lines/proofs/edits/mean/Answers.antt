@@ -225,7 +225,7 @@ returns-in_err-intent-2-clause-one_group_no g c = λ objects h r is.
     let held = c.look_over.ensures.stays objects h in
     let told = c.commit.ensures.told (c.look_over.ensures.wrote.goes.told h.held.told) in
     let done = c.in_ok-commit.ensures in
-    let ends = ends_by c.commit.ensures.sizes done.pool done.same done.last done.txg done.written done.ends done.empty done.stands done.safe done.trees done.moves held (done.stays objects held) in
+    let ends = ends_by c.commit.ensures.sizes done.pool done.same done.last done.txg done.written done.ends done.empty done.stands done.safe done.trees done.moves done.copies held (done.stays objects held) in
     one_group_before c.requires.pool c.look_over.ensures.wrote h.held.told (next_group ends (in_group_by done.pool c.look_over-2.ensures.wrote told))
 
 pub returns-in_err-intent-2-clause-writes : goal.returns-in_err-intent-2-clause-writes
@@ -233,7 +233,7 @@ returns-in_err-intent-2-clause-writes g c = λ objects h.
     let held = c.look_over.ensures.stays objects h in
     let told = c.commit.ensures.told (c.look_over.ensures.wrote.goes.told h.held.told) in
     let done = c.in_ok-commit.ensures in
-    let ends = ends_by c.commit.ensures.sizes done.pool done.same done.last done.txg done.written done.ends done.empty done.stands done.safe done.trees done.moves held (done.stays objects held) in
+    let ends = ends_by c.commit.ensures.sizes done.pool done.same done.last done.txg done.written done.ends done.empty done.stands done.safe done.trees done.moves done.copies held (done.stays objects held) in
     answered_writes (one_group_before c.requires.pool c.look_over.ensures.wrote h.held.told (next_group ends (in_group_by done.pool c.look_over-2.ensures.wrote told)))
 
 pub returns-clause-one_group : goal.returns-clause-one_group
@@ -241,7 +241,7 @@ returns-clause-one_group g c = λ objects h.
     let held = c.look_over.ensures.stays objects h in
     let told = c.commit.ensures.told (c.look_over.ensures.wrote.goes.told h.held.told) in
     let done = c.in_ok-commit.ensures in
-    let ends = ends_by c.commit.ensures.sizes done.pool done.same done.last done.txg done.written done.ends done.empty done.stands done.safe done.trees done.moves held (done.stays objects held) in
+    let ends = ends_by c.commit.ensures.sizes done.pool done.same done.last done.txg done.written done.ends done.empty done.stands done.safe done.trees done.moves done.copies held (done.stays objects held) in
     one_group_before c.requires.pool c.look_over.ensures.wrote h.held.told (next_group ends (in_group_by done.pool c.look_over-2.ensures.wrote told))
 
 pub returns-clause-writes : goal.returns-clause-writes
@@ -249,5 +249,5 @@ returns-clause-writes g c = λ objects h.
     let held = c.look_over.ensures.stays objects h in
     let told = c.commit.ensures.told (c.look_over.ensures.wrote.goes.told h.held.told) in
     let done = c.in_ok-commit.ensures in
-    let ends = ends_by c.commit.ensures.sizes done.pool done.same done.last done.txg done.written done.ends done.empty done.stands done.safe done.trees done.moves held (done.stays objects held) in
+    let ends = ends_by c.commit.ensures.sizes done.pool done.same done.last done.txg done.written done.ends done.empty done.stands done.safe done.trees done.moves done.copies held (done.stays objects held) in
     answered_writes (one_group_before c.requires.pool c.look_over.ensures.wrote h.held.told (next_group ends (in_group_by done.pool c.look_over-2.ensures.wrote told)))

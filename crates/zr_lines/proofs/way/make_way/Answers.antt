@@ -25,9 +25,9 @@ returns-in_err-commit-clause-writes g c = λ held h. inr (inl (c.commit.ensures.
 pub returns-clause-one_group : goal.returns-clause-one_group
 returns-clause-one_group g c = λ held h.
     let done = c.in_ok-commit.ensures in
-    next_group (ends_by c.commit.ensures.sizes done.pool done.same done.last done.txg done.written done.ends done.empty done.stands done.safe done.trees done.moves h (done.stays held h)) (in_group_itself c.commit.new.pool (g.S.Shelf.world c.commit.new.shelf))
+    next_group (ends_by c.commit.ensures.sizes done.pool done.same done.last done.txg done.written done.ends done.empty done.stands done.safe done.trees done.moves done.copies h (done.stays held h)) (in_group_itself c.commit.new.pool (g.S.Shelf.world c.commit.new.shelf))
 
 pub returns-clause-writes : goal.returns-clause-writes
 returns-clause-writes g c = λ held h.
     let done = c.in_ok-commit.ensures in
-    answered_writes (next_group (ends_by c.commit.ensures.sizes done.pool done.same done.last done.txg done.written done.ends done.empty done.stands done.safe done.trees done.moves h (done.stays held h)) (in_group_itself c.commit.new.pool (g.S.Shelf.world c.commit.new.shelf)))
+    answered_writes (next_group (ends_by c.commit.ensures.sizes done.pool done.same done.last done.txg done.written done.ends done.empty done.stands done.safe done.trees done.moves done.copies h (done.stays held h)) (in_group_itself c.commit.new.pool (g.S.Shelf.world c.commit.new.shelf)))
