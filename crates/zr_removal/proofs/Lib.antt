@@ -6,9 +6,12 @@ pub mod Copied
 pub mod Ending
 pub mod Alike
 pub mod Outgoing
+pub mod CopyTrees
 pub mod Returning
 pub mod Uncopied
 pub mod AlikePassed
 pub mod Recasts
 pub mod Fitting
 pub mod CondensedObjects
+pub mod Standing
+pub mod Gone

@@ -78,16 +78,16 @@ module _ (s t : Space) (d : ℕ) (h : TurnsOne s t d) where
 
   -- ---- the devices
 
-  count : es.count ≡ ds.count
+  pub count : es.count ≡ ds.count
   count = h.elsewhere.devices
 
-  gone_same : (e : ℕ) → is_gone (state_at es e) ≡ is_gone (state_at ds e)
+  pub gone_same : (e : ℕ) → is_gone (state_at es e) ≡ is_gone (state_at ds e)
   gone_same e = elim (cases_eq e d) [
     | inl here ↦ subst (λ (k : ℕ). is_gone (state_at es k) ≡ is_gone (state_at ds k)) (sym here) (h.is ∙ sym h.was)
     | inr other ↦ ap (λ (r : DevRow). is_gone r.state) (h.elsewhere.others e other).row
   ]
 
-  size_same : (e : ℕ) → (es.row e).units ≡ (ds.row e).units
+  pub size_same : (e : ℕ) → (es.row e).units ≡ (ds.row e).units
   size_same e = elim (cases_eq e d) [
     | inl here ↦ subst (λ (k : ℕ). (es.row k).units ≡ (ds.row k).units) (sym here) h.units
     | inr other ↦ ap (λ (r : DevRow). r.units) (h.elsewhere.others e other).row
@@ -97,7 +97,7 @@ module _ (s t : Space) (d : ℕ) (h : TurnsOne s t d) where
   other_gone : (e : ℕ) → is_gone (state_at ds e) ≡ true → e ≢ d
   other_gone e gone here = let no_way : false ≡ true = sym h.was ∙ subst (λ (k : ℕ). is_gone (state_at ds k) ≡ true) here gone in absurd cc
 
-  maps_same : (e : ℕ) → is_gone (state_at ds e) ≡ true → es.entries e ≡ ds.entries e
+  pub maps_same : (e : ℕ) → is_gone (state_at ds e) ≡ true → es.entries e ≡ ds.entries e
   maps_same e gone = (h.elsewhere.others e (other_gone e gone)).entries
 
   -- ---- what may be given back
@@ -204,13 +204,13 @@ live_else : (b : Bool) (r : Role) → is_live_role r ≡ true → (b ≡ true �
 live_else true r is free = absurd (let no_way : false ≡ true = sym (ap (λ (q : Role). is_live_role q) (free refl)) ∙ is in cc)
 live_else false r is free = is
 
-plan_free : (old : Space) (d : ℕ) (p : Plan) → IsPlan old d p → (e u : ℕ) → in_address p.to e u ≡ true → role_at old e u ≡ Free
+pub plan_free : (old : Space) (d : ℕ) (p : Plan) → IsPlan old d p → (e u : ℕ) → in_address p.to e u ≡ true → role_at old e u ≡ Free
 plan_free old d p plan e u inside =
     let dev : e ≡ p.to.dev = grind (arith, nat_tests, inside) in
     let here : in_address p.to p.to.dev u ≡ true = subst (λ (k : ℕ). in_address p.to k u ≡ true) dev inside in
     subst (λ (k : ℕ). role_at old k u ≡ Free) (sym dev) (plan.free u here)
 
-copies_one : (old new : Space) (d : ℕ) (p : Plan) → IsPlan old d p → MakesCopy old new d p → TurnsOne old new d
+pub copies_one : (old new : Space) (d : ℕ) (p : Plan) → IsPlan old d p → MakesCopy old new d p → TurnsOne old new d
 copies_one old new d p plan m = record {
   was = there_leaving (state_of_dev old.parts.devs d) plan.leaving;
   is = ap (λ (r : DevRow). is_gone r.state) m.row_is ∙ there_leaving (state_of_dev old.parts.devs d) plan.leaving;

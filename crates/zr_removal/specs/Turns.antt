@@ -74,13 +74,13 @@ pub record CommitsBack (sizes : List ℕ) (objects : Objects) (old : OpenPool) (
 abbrev pub CancelsInPart : List ℕ → Objects → OpenPool → World → World → Type 0
 CancelsInPart sizes objects old before now = WritesIntoFree old before now ⊎ CommitsBack sizes objects old before now
 
--- The device is gone in the space and in the table, in the open group, behind metadata that was left on it, and nothing else is changed.
+-- The device is gone in the space and in the table, in the open group, behind metadata that was left on it, and nothing else is changed but what is cached.
 pub record FinishesSpace (old new : OpenPool) (d : ℕ) : Type 0 where
   pub given : Space
   pub gives : GivesMetadata old.space given
   pub finishes : Finishes given new.space d old.group.txg
   pub table : new.table ≡ with_row old.table d (record (slice_index_or old.table.rows d no_row) { state = Gone; gone = old.group.txg })
-  pub rest : new ≡ record old { space = new.space; table = new.table }
+  pub rest : new ≡ record old { space = new.space; table = new.table; cache = new.cache }
 
 -- the device has no disk any more
 pub record ForgetsSlot (old new : OpenPool) (d : ℕ) : Type 0 where

@@ -15,6 +15,7 @@ ghost use Rattle.zr_model.specs.Objects.{Objects};
 ghost use Rattle.zr_rules.specs.Places.{part_of};
 ghost use Rattle.zr_rules.specs.Space.{role_at};
 ghost use Rattle.zr_rules.specs.Steps.{due_device, has_condensing};
+ghost use Rattle.zr_sync.specs.Copies.{HasCopies};
 ghost use Rattle.zr_sync.specs.Objects.{HoldsObjects};
 ghost use Rattle.zr_sync.specs.Pools.{IsOpen};
 ghost use Rattle.zr_sync.specs.declared.fault.Fault.TheVariants.{No, Stops};
@@ -135,6 +136,7 @@ fn condense_mapping(pool: &mut OpenPool, dev: u32) -> Result<Condensed, NoMemory
     ensures pool { (sizes : List ℕ) → IsOpen sizes pool.old → OnOk result (IsOpen sizes pool.new) }
     ensures roles { OnOk result ((d u : ℕ) → role_at pool.new.space d u ≡ role_at pool.old.space d u) }
     ensures objects { (disks : List (List ℕ)) (objects : Objects) → HoldsObjects (Unit {0}) disks pool.old objects → OnOk result (HoldsObjects (Unit {0}) disks pool.new objects) }
+    ensures copies { (disks : List (List ℕ)) → HasCopies disks pool.old → OnOk result (HasCopies disks pool.new) }
 {
     let first = is_first(&pool.space);
     let before = entry_count(&pool.space, dev);
@@ -158,6 +160,7 @@ pub fn step_condense(pool: &mut OpenPool) -> Result<Condensed, Fault>
     ensures condenses { IfOk result (CondensesPool pool.old pool.new) }
     ensures roles { OnOk result ((d u : ℕ) → role_at pool.new.space d u ≡ role_at pool.old.space d u) }
     ensures objects { (disks : List (List ℕ)) (objects : Objects) → HoldsObjects (Unit {0}) disks pool.old objects → OnOk result (HoldsObjects (Unit {0}) disks pool.new objects) }
+    ensures copies { (disks : List (List ℕ)) → HasCopies disks pool.old → OnOk result (HasCopies disks pool.new) }
     ensures fault { IsErrOf result (Stops DiskFault) → ⊥ }
     ensures refused { (r : Refusal) → IsErrOf result (No r) → IsCondenseRefusal pool.old.space r }
     ensures unchanged { (r : Refusal) → IsErrOf result (No r) → pool.new ≡ pool.old }

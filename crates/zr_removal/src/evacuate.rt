@@ -6,6 +6,7 @@ ghost use Rattle.std.specs.Prelude.{◌≡◌, ◌<◌, ◌⊎◌, ℕ, List, tr
 ghost use Rattle.zr_base.specs.Counts.{HasRisen};
 ghost use Rattle.zr_base.specs.declared.refusal.Refusal.{Refusal};
 ghost use Rattle.zr_rules.specs.Columns.{uncopied_units};
+ghost use Rattle.zr_rules.specs.Frees.{IsSameRoot};
 ghost use Rattle.zr_rules.specs.Places.{is_gone, is_leaving, state_of_dev};
 ghost use Rattle.zr_rules.specs.Space.{role_at};
 ghost use Rattle.zr_shelf.specs.Counts.{NoneFell};
@@ -13,8 +14,11 @@ ghost use Rattle.zr_space.specs.Plans.{IsCopied};
 ghost use Rattle.zr_last.specs.Last.{KeepsLast};
 ghost use Rattle.zr_model.specs.Objects.{Objects};
 ghost use Rattle.zr_shelf.specs.Doings.{WritesOnly};
+ghost use Rattle.zr_sync.specs.Copies.{HasCopies, KeepsCopies};
 ghost use Rattle.zr_sync.specs.Ends.{LeavesCommitted};
 ghost use Rattle.zr_sync.specs.Objects.{HoldsObjects};
+ghost use Rattle.zr_sync.specs.Trees.{HasTrees};
+ghost use Rattle.zr_sync.specs.Trees.Stage.{Had};
 ghost use Rattle.zr_vdev.specs.Caches.{AreRead};
 ghost use Rattle.zr_vdev.specs.Copies.{CopiesUnits, IsWriteIntoFree};
 ghost use Rattle.zr_vdev.specs.Stores.{is_open_role};
@@ -64,7 +68,8 @@ fn demand_to_step(pool: &OpenPool) -> Result<(), Refusal>
     }
 }
 
-// The device that was leaving is gone, in the open group.
+// The device that was leaving is gone, in the open group. The cache is emptied: what is cached knows the places to which its
+// address led, and those on the device are no more.
 //
 // Want of memory is also the answer where the table tells of a device that came or went in the open group, as none does
 // between two commands.
@@ -76,6 +81,7 @@ fn retire(pool: &mut OpenPool) -> Result<u32, NoMemory>
     ensures known { IfOk result (λ d. d < pool.old.table.count) }
     ensures finishes { IfOk result (FinishesSpace pool.old pool.new) }
     ensures pool { (sizes : List ℕ) → IsOpen sizes pool.old → OnOk result (IsOpen sizes pool.new) }
+    ensures objects { (disks : List (List ℕ)) (objects : Objects) → HasCopies disks pool.old → HoldsObjects (Unit {0}) disks pool.old objects → OnOk result (HoldsObjects (Unit {0}) disks pool.new objects) }
 {
     let txg = pool.group.txg();
     if !are_past(&pool.table.rows, txg) {
@@ -86,6 +92,7 @@ fn retire(pool: &mut OpenPool) -> Result<u32, NoMemory>
     };
     give_metadata(&mut pool.space, leaving)?;
     pool.space.one_leaves();
+    pool.space.copies_in_order();
     let dev = pool.space.finish(txg)?;
     let row = DevRow {
         state: DevState::Gone,
@@ -93,6 +100,7 @@ fn retire(pool: &mut OpenPool) -> Result<u32, NoMemory>
         ..pool.table.rows[dev as usize]
     };
     set_row(&mut pool.table, dev, row);
+    pool.cache.clear();
     Ok(dev)
 }
 
@@ -115,19 +123,22 @@ fn vanish<S: Shelf>(
     ensures leaving { IfOk result (λ d. is_leaving (state_of_dev pool.old.space.parts.devs d) ≡ true) }
     ensures known { IfOk result (λ d. d < pool.new.table.count) }
     ensures vanishes { IfOk result (Vanishes pool.old pool.new) }
+    ensures objects { HasCopies (S.world shelf.old).now.seen pool.old → (objects : Objects) → HoldsObjects (S.tells shelf.old) (S.world shelf.old).now.seen pool.old objects → OnOk result (HoldsObjects (S.tells shelf.new) (S.world shelf.new).now.seen pool.new objects) }
 {
     let dev = retire(pool)?;
     give_sets(alloc, pool, shelf, pick, dev)?;
     Ok(dev)
 }
 
-// The disk of a device that is gone is the pool's no more.
+// The disk of a device that is gone is the pool's no more. No address leads to it, so it is not read.
 fn let_go(pool: &mut OpenPool, dev: u32)
     requires pool { (sizes : List ℕ) × IsOpen sizes pool.old }
     requires known { dev < pool.old.table.count }
     requires gone { is_gone (state_of_dev pool.old.space.parts.devs dev) ≡ true }
     ensures forgets { ForgetsSlot pool.old pool.new dev }
     ensures pool { (sizes : List ℕ) → IsOpen sizes pool.old → IsOpen sizes pool.new }
+    ensures objects { (disks : List (List ℕ)) (objects : Objects) → HoldsObjects (Unit {0}) disks pool.old objects → HoldsObjects (Unit {0}) disks pool.new objects }
+    ensures copies { (disks : List (List ℕ)) → HasCopies disks pool.old → HasCopies disks pool.new }
 {
     forget_slot(&mut pool.table, dev);
 }
@@ -150,8 +161,10 @@ fn copy_next<S: Shelf>(
     ensures fault { IfOk result (λ c. c ≡ copied.Fault → HasRisen (S.counts shelf.old).disk (S.counts shelf.new).disk) }
     ensures same { IfOk result (λ c. (c ≡ copied.Nothing) ⊎ (c ≡ copied.Fault) → pool.new.space ≡ pool.old.space) }
     ensures rest { pool.new ≡ record pool.old { space = pool.new.space; cache = pool.new.cache } }
+    ensures root { OnOk result (IsSameRoot pool.old.space pool.new.space) }
     ensures written { S.tells shelf.old → WritesOnly (IsWriteIntoFree pool.old.table.slots pool.old.space) (S.world shelf.old) (S.world shelf.new) }
     ensures read { S.tells shelf.old → AreRead (S.world shelf.old).now.seen pool.old.table.slots pool.old.space pool.old.cache → AreRead (S.world shelf.new).now.seen pool.old.table.slots pool.new.space pool.new.cache }
+    ensures copies { S.tells shelf.old → KeepsCopies (S.world shelf.old) (S.world shelf.new) pool.old pool.new }
 {
     if pool.space.sizes().uncopied > pool.space.free_units() {
         return Err(NoMemory);
@@ -185,6 +198,8 @@ fn commit_gone<S: Shelf>(
     ensures last { OnOk result (IfSome pool.new.last (IsNextRoot pool.old true)) }
     ensures shown { S.tells shelf.old → OnOk result (IfSome pool.new.last (λ u. (before : World) × IsShownFrom (S.sizes shelf.old) pool.old u before (S.world shelf.new))) }
     ensures ends { OnOk result (EndsGroup true pool.old.space pool.new.space) }
+    ensures objects { (objects : Objects) → HoldsObjects (S.tells shelf.old) (S.world shelf.old).now.seen pool.old objects → OnOk result (HoldsObjects (S.tells shelf.new) (S.world shelf.new).now.seen pool.new objects) }
+    ensures copies { S.tells shelf.old → OnOk result (KeepsCopies (S.world shelf.old) (S.world shelf.new) pool.old pool.new) }
 {
     if anew {
         return commit_anew(alloc, pool, shelf, pick);
@@ -218,6 +233,8 @@ fn finish_removal<S: Shelf>(
     ensures pool { OnOk result (IsOpen (S.sizes shelf.new) pool.new) }
     ensures leaving { IfOk result (λ d. is_leaving (state_of_dev pool.old.space.parts.devs d) ≡ true) }
     ensures ends { IfOk result (EndsRemoval (S.sizes shelf.old) (S.tells shelf.old) (S.world shelf.new) pool.old pool.new) }
+    ensures objects { HasCopies (S.world shelf.old).now.seen pool.old → (objects : Objects) → HoldsObjects (S.tells shelf.old) (S.world shelf.old).now.seen pool.old objects → OnOk result (HoldsObjects (S.tells shelf.new) (S.world shelf.new).now.seen pool.new objects) }
+    ensures copies { S.tells shelf.old → OnOk result (KeepsCopies (S.world shelf.old) (S.world shelf.new) pool.old pool.new) }
 {
     let anew = has_metadata(&pool.space);
     let dev = vanish(alloc, pool, shelf, pick)?;
@@ -228,8 +245,10 @@ fn finish_removal<S: Shelf>(
 
 /// Makes a step of the removal that goes on: copies the next units, at most 256, or ends the removal where none is left.
 /// A copy costs one read and one write, and an end costs a commit, and a walk over the mapping and its marks. Behind a copy, and
-/// behind a removal that was given up, the pool holds the objects that it held. While units are left to copy, and where no
-/// device is leaving, it has written, wherever it stops, what the giving up of a removal may have written.
+/// behind a removal that was given up, the pool holds the objects that it held, and behind a copy the trees of its streams stand
+/// as the last root has them. It holds them behind the end of a removal too, where each copy has the bytes of its unit: that
+/// stays so through every step. While units are left to copy, and where no device is leaving, it has written, wherever it
+/// stops, what the giving up of a removal may have written.
 ///
 /// For now want of memory is also the answer where fewer units are free than are left to copy: the room that is asked for
 /// when a removal begins rules that out, and no law says so yet.
@@ -253,10 +272,13 @@ pub fn step_evac<S: Shelf>(
     ensures opens { IfOk result (λ done. (n : ℕ) → done ≡ evacuated.Copied n → (d u : ℕ) → is_open_role (role_at pool.new.space d u) ≡ true → is_open_role (role_at pool.old.space d u) ≡ true) }
     ensures shown { S.tells shelf.old → IfOk result (λ done. (n : ℕ) → done ≡ evacuated.Copied n → KeepsLast (S.world shelf.old) (S.world shelf.new) pool.old pool.new) }
     ensures objects { (objects : Objects) → HoldsObjects (S.tells shelf.old) (S.world shelf.old).now.seen pool.old objects → IfOk result (λ done. (n : ℕ) → done ≡ evacuated.Copied n → HoldsObjects (S.tells shelf.new) (S.world shelf.new).now.seen pool.new objects) }
+    ensures trees { HasTrees Had (Unit {0}) (S.world shelf.old).now.seen pool.old → S.tells shelf.old → IfOk result (λ done. (n : ℕ) → done ≡ evacuated.Copied n → HasTrees Had (Unit {0}) (S.world shelf.new).now.seen pool.new) }
     ensures back_shown { S.tells shelf.old → IfOk result (λ done. (d : ℕ) → done ≡ evacuated.Cancelled d → KeepsLast (S.world shelf.old) (S.world shelf.new) pool.old pool.new) }
     ensures back_ends { (objects : Objects) → HoldsObjects (S.tells shelf.old) (S.world shelf.old).now.seen pool.old objects → IfOk result (λ done. (d : ℕ) → done ≡ evacuated.Cancelled d → LeavesCommitted pool.new (S.world shelf.new).now) }
     ensures back_objects { (objects : Objects) → HoldsObjects (S.tells shelf.old) (S.world shelf.old).now.seen pool.old objects → IfOk result (λ done. (d : ℕ) → done ≡ evacuated.Cancelled d → HoldsObjects (S.tells shelf.new) (S.world shelf.new).now.seen pool.new objects) }
     ensures back_stops { (objects : Objects) → HoldsObjects (S.tells shelf.old) (S.world shelf.old).now.seen pool.old objects → IfOk result (λ done. (d : ℕ) → done ≡ evacuated.Cancelled d → CancelsInPart (S.sizes shelf.old) objects pool.old (S.world shelf.old) (S.world shelf.new)) }
+    ensures gone_objects { HasCopies (S.world shelf.old).now.seen pool.old → (objects : Objects) → HoldsObjects (S.tells shelf.old) (S.world shelf.old).now.seen pool.old objects → IfOk result (λ done. (d : ℕ) → done ≡ evacuated.Gone d → HoldsObjects (S.tells shelf.new) (S.world shelf.new).now.seen pool.new objects) }
+    ensures copies { S.tells shelf.old → OnOk result (KeepsCopies (S.world shelf.old) (S.world shelf.new) pool.old pool.new) }
     ensures stops { (HasRemoval pool.old.space → 0 < uncopied_units pool.old.space) → (objects : Objects) → HoldsObjects (S.tells shelf.old) (S.world shelf.old).now.seen pool.old objects → CancelsInPart (S.sizes shelf.old) objects pool.old (S.world shelf.old) (S.world shelf.new) }
     ensures refused { (r : Refusal) → IsErrOf result (No r) → IsStepRefusal pool.old.space r }
     ensures unchanged { (r : Refusal) → IsErrOf result (No r) → pool.new ≡ pool.old }

@@ -8,6 +8,7 @@ use Rattle.zr_sync.proofs.Leading.{committed_told}
 use Rattle.zr_sync.specs.Heads.{IsSeen}
 use Rattle.zr_sync.specs.Trees.{HasLastTrees}
 use Rattle.zr_removal.proofs.Returning.{back_last, stops_back}
+use Rattle.zr_removal.proofs.Standing.{copies_back}
 use Rattle.zr_removal.proofs.cancelling.cancel_removal.Goals as goal
 
 pub returns-in_err-commit-clause-disks : goal.returns-in_err-commit-clause-disks
@@ -53,6 +54,10 @@ returns-clause-shown g c = λ told.
     let still = c.come_back.ensures.told told in
     back_last (g.S.Shelf.sizes old) (g.S.Shelf.sizes mid) (g.S.Shelf.sizes new) c.args.pool.now c.come_back.new.pool c.commit.new.pool c.in_ok-dev.dev (g.S.Shelf.world old) (g.S.Shelf.world mid) (g.S.Shelf.world new) c.requires.pool first.leaving first.comes
     (g.S.Shelf.sound old told).sized (c.come_back.ensures.written told) first.pool done.pool (g.S.Shelf.sound mid still).sized done.txg done.last (done.written still) done.same
+
+pub returns-clause-copies : goal.returns-clause-copies
+returns-clause-copies g c = λ told stand.
+    c.in_ok-commit.ensures.copies (c.come_back.ensures.told told) (copies_back (g.S.Shelf.world c.come_back.new.shelf).now.seen c.args.pool.now c.come_back.new.pool c.in_ok-dev.dev c.in_ok-dev.ensures.comes)
 
 -- ---- wherever it stops
 

@@ -9,6 +9,8 @@ use Rattle.zr_sync.specs.declared.open.OpenPool.{OpenPool}
 use Rattle.zr_sync.specs.declared.open.Table.{Table}
 use Rattle.zr_sync.proofs.Disks.{works_more}
 use Rattle.zr_removal.proofs.Ending.{gone_now}
+use Rattle.zr_removal.proofs.Gone.{objects_told}
+use Rattle.zr_removal.proofs.Standing.{copies_vanished}
 use Rattle.zr_removal.proofs.evacuate.finish_removal.Goals as goal
 
 pub let_go-requires-clause-known : goal.let_go-requires-clause-known
@@ -56,3 +58,18 @@ returns-clause-ends g c =
 
 pub returns-clause-pool : goal.returns-clause-pool
 returns-clause-pool g c = c.let_go.ensures.pool (g.S.Shelf.sizes c.commit_gone.new.shelf) c.in_ok-commit_gone.ensures.pool
+
+-- ---- what the disks hold
+
+pub returns-clause-objects : goal.returns-clause-objects
+returns-clause-objects g c = λ copies objects h.
+    let new = c.commit_gone.new.shelf in
+    let seen = (g.S.Shelf.world new).now.seen in
+    let held = c.in_ok-commit_gone.ensures.objects objects (c.in_ok-dev.ensures.objects copies objects h) in
+    objects_told (Unit {0}) (g.S.Shelf.tells new) seen c.let_go.new.pool objects held.held.told
+    (c.let_go.ensures.objects seen objects (objects_told (g.S.Shelf.tells new) (Unit {0}) seen c.commit_gone.new.pool objects tt held))
+
+pub returns-clause-copies : goal.returns-clause-copies
+returns-clause-copies g c = λ told stand.
+    c.let_go.ensures.copies (g.S.Shelf.world c.commit_gone.new.shelf).now.seen
+    (c.in_ok-commit_gone.ensures.copies (c.vanish.ensures.told told) (copies_vanished (g.S.Shelf.world c.vanish.new.shelf).now.seen c.args.pool.now c.vanish.new.pool c.in_ok-dev.dev c.in_ok-dev.ensures.vanishes))

@@ -6,6 +6,7 @@ use Rattle.zr_sync.proofs.Disks.{works_more}
 use Rattle.zr_vdev.specs.Caches.{AreRead}
 use Rattle.zr_vdev.specs.Stores.{IsWriteInto}
 use Rattle.zr_vdev.specs.declared.kind.Kind.TheVariants.{Block}
+use Rattle.zr_removal.proofs.CopyTrees.{trees_copied}
 use Rattle.zr_removal.proofs.Ending.{cancels_before, ends_before}
 use Rattle.zr_removal.proofs.Outgoing.{copies_open, into_free, last_copied, objects_copied, objects_tried}
 use Rattle.zr_removal.proofs.Returning.{stops_tried}
@@ -71,6 +72,12 @@ returns-in-Units-clause-objects g c = λ objects h n is.
     let told = h.held.told in
     objects_copied c.args.pick.now.policy x y (g.S.Shelf.tells old) (g.S.Shelf.tells old) (g.S.Shelf.tells new) (g.S.Shelf.world old) (g.S.Shelf.world new) c.in-Units.units objects c.requires.pool.mounted.apart (c.in_ok-units.ensures.units c.in-Units.units c.in-Units.is)
     (c.copy_next.ensures.written told) (c.copy_next.ensures.read told) c.copy_next.ensures.rest (c.copy_next.ensures.told told) h
+
+pub returns-in-Units-clause-trees : goal.returns-in-Units-clause-trees
+returns-in-Units-clause-trees g c = λ trees told n is.
+    let old = c.args.shelf.now in
+    trees_copied c.args.pick.now.policy (g.S.Shelf.sizes old) c.args.pool.now c.copy_next.new.pool (g.S.Shelf.tells old) (g.S.Shelf.world old) (g.S.Shelf.world c.copy_next.new.shelf) c.in-Units.units c.requires.pool (c.in_ok-units.ensures.units c.in-Units.units c.in-Units.is)
+    (c.copy_next.ensures.written told) c.in_ok-units.ensures.root (c.copy_next.ensures.read told) c.copy_next.ensures.rest trees
 
 pub returns-in-Units-clause-shown : goal.returns-in-Units-clause-shown
 returns-in-Units-clause-shown g c = λ told n is.
@@ -165,3 +172,25 @@ returns-in_ok-cancel_removal-in-Fault-clause-stops g c = λ left objects h.
     let mid = c.copy_next.new.shelf in
     stops_tried (g.S.Shelf.sizes old) (g.S.Shelf.sizes mid) (g.S.Shelf.tells old) (g.S.Shelf.tells mid) objects c.args.pool.now c.copy_next.new.pool (g.S.Shelf.world old) (g.S.Shelf.world mid) (g.S.Shelf.world c.cancel_removal.new.shelf) c.requires.pool c.copy_next.ensures.sizes
     (c.in_ok-units.ensures.same (inr c.in-Fault.is)) c.copy_next.ensures.rest c.copy_next.ensures.written c.copy_next.ensures.read c.copy_next.ensures.told h (c.cancel_removal.ensures.stops objects)
+
+-- ---- what the end of a removal leaves, and copies
+
+pub returns-in_ok-finish_removal-in-Nothing-clause-gone_objects : goal.returns-in_ok-finish_removal-in-Nothing-clause-gone_objects
+returns-in_ok-finish_removal-in-Nothing-clause-gone_objects g c = λ copies objects h d is.
+    let x = c.args.pool.now in
+    let tried = c.copy_next.new.pool in
+    let old = c.args.shelf.now in
+    let mid = c.copy_next.new.shelf in
+    let space : tried.space ≡ x.space = c.in_ok-units.ensures.same (inl c.in-Nothing.is) in
+    let same : tried ≡ record x { cache = tried.cache } = c.copy_next.ensures.rest ∙ ap (λ (s : Space). record x { space = s; cache = tried.cache }) space in
+    let told = h.held.told in
+    let held =
+    objects_tried x tried (g.S.Shelf.tells old) (g.S.Shelf.tells mid) (g.S.Shelf.world old) (g.S.Shelf.world mid) objects c.requires.pool.mounted.apart (c.copy_next.ensures.written told)
+    (λ read. subst (λ (s : Space). AreRead (g.S.Shelf.world mid).now.seen x.table.slots s tried.cache) space (c.copy_next.ensures.read told read)) same (c.copy_next.ensures.told told) h in
+    c.in_ok-finish_removal-in-Nothing.ensures.objects (c.copy_next.ensures.copies told copies) objects held
+
+pub returns-in_ok-finish_removal-in-Nothing-clause-copies : goal.returns-in_ok-finish_removal-in-Nothing-clause-copies
+returns-in_ok-finish_removal-in-Nothing-clause-copies g c = λ told stand. c.in_ok-finish_removal-in-Nothing.ensures.copies (c.copy_next.ensures.told told) (c.copy_next.ensures.copies told stand)
+
+pub returns-in_ok-cancel_removal-in-Fault-clause-copies : goal.returns-in_ok-cancel_removal-in-Fault-clause-copies
+returns-in_ok-cancel_removal-in-Fault-clause-copies g c = λ told stand. c.in_ok-cancel_removal-in-Fault.ensures.copies (c.copy_next.ensures.told told) (c.copy_next.ensures.copies told stand)

@@ -3,6 +3,7 @@ use Rattle.zr_last.proofs.Ending.{leaves_by}
 use Rattle.zr_shelf.proofs.Runs.{still}
 use Rattle.zr_sync.specs.Heads.{IsSeen}
 use Rattle.zr_removal.proofs.Outgoing.{objects_out, out_last}
+use Rattle.zr_removal.proofs.Standing.{copies_out}
 use Rattle.zr_removal.proofs.leaving.remove.Goals as goal
 
 pub commit_moving-requires : goal.commit_moving-requires
@@ -46,6 +47,10 @@ returns-clause-shown g c = λ told h.
     let done = c.in_ok-commit_moving.ensures in
     out_last sizes (g.S.Shelf.sizes new) c.args.pool.now left c.commit_moving.new.pool c.args.dev (g.S.Shelf.world old) (g.S.Shelf.world new) c.in_ok-leave.ensures.leaves c.requires.on c.requires.known c.requires.pool (c.in_ok-leave.ensures.pool sizes c.requires.pool) done.pool (g.S.Shelf.sound old told).sized
     done.txg done.last (done.written told) done.same h
+
+pub returns-clause-copies : goal.returns-clause-copies
+returns-clause-copies g c = λ told stand.
+    c.in_ok-commit_moving.ensures.copies told (copies_out (g.S.Shelf.world c.args.shelf.now).now.seen c.args.pool.now c.leave.new.pool c.args.dev c.in_ok-leave.ensures.leaves c.requires.alone)
 
 -- ---- wherever it stops
 
