@@ -27,11 +27,11 @@ use Rattle.zr_sync.specs.declared.open.OpenPool.{OpenPool}
 use Rattle.zr_last.specs.Last.{KeepsRoot}
 use Rattle.zr_removal.specs.Condensing.{CondensesPool}
 use Rattle.zr_removal.specs.Steps.{StepsOn}
-use Rattle.zr_removal.specs.Turns.{CancelsRemoval}
+use Rattle.zr_removal.specs.Turns.{CancelsRemoval, EndsRemoval}
 use Rattle.zr_removal.specs.declared.evacuate.Evacuated.{Evacuated}
 use Rattle.zr_removal.specs.declared.evacuate.Evacuated.TheVariants.{Copied, Gone, Cancelled}
 use Rattle.zr_pool.specs.Behind.{is_return}
-use Rattle.zr_pool.specs.Plain.{IsBeyond, IsMissing, IsObjectCause, IsPlainOf, IsPlainOn, IsThere, is_background, is_untold_behind}
+use Rattle.zr_pool.specs.Plain.{IsBeyond, IsMissing, IsObjectCause, IsPlainOf, IsPlainOn, IsThere, ends_removal, is_background, is_copy}
 use Rattle.zr_pool.specs.Replies.{condense_reply, evac_reply}
 
 pub plain_refusal : (objects : Objects) (command : Command) (r : Refusal) → (r ≡ refusal.NoSuchObject → IsMissing objects command) → (r ≡ refusal.OutOfRange → IsBeyond objects command) → (r ≡ refusal.ObjectExists → IsThere objects command)
@@ -86,54 +86,55 @@ module _ (Holds : PoolState → Type 0) (p : PoolState) where
     holds = subst (λ (n : ℕ). Holds (with_objects p (map.insert p.objects id (with_bytes h.0 n bytes)))) at h.2.2;
   }
 
-  pub synced_as : (command : Command) (txg : ℕ) → command ≡ cmd.Sync → Holds p → IsPlainOf Holds p command (reply.Synced txg)
-  synced_as command txg is h = subst (λ (k : Command). IsPlainOf Holds p k (reply.Synced txg)) (sym is) (record { after = p; holds = h; step = (refl, refl) })
+module _ (copies : Bool) (Holds : PoolState → Type 0) (p : PoolState) where
+  pub synced_as : (command : Command) (txg : ℕ) → command ≡ cmd.Sync → Holds p → IsPlainOf copies Holds p command (reply.Synced txg)
+  synced_as command txg is h = subst (λ (k : Command). IsPlainOf copies Holds p k (reply.Synced txg)) (sym is) (record { after = p; holds = h; step = (refl, refl) })
 
-  pub added_as : (command : Command) (dev : List ℕ) → command ≡ cmd.Add dev → Holds (with_devs p (p.devs ++ InService dev ∷ [])) → IsPlainOf Holds p command reply.Done
+  pub added_as : (command : Command) (dev : List ℕ) → command ≡ cmd.Add dev → Holds (with_devs p (p.devs ++ InService dev ∷ [])) → IsPlainOf copies Holds p command reply.Done
   added_as command dev is h =
       let q = with_devs p (p.devs ++ InService dev ∷ []) in
-      subst (λ (k : Command). IsPlainOf Holds p k reply.Done) (sym is) (record { after = q; holds = h; step = (refl, refl) })
+      subst (λ (k : Command). IsPlainOf copies Holds p k reply.Done) (sym is) (record { after = q; holds = h; step = (refl, refl) })
 
-  pub removed_as : (command : Command) (dev : List ℕ) → command ≡ cmd.Remove dev → Holds (with_devs p (list_map (leave_at dev) p.devs)) → IsPlainOf Holds p command reply.Done
+  pub removed_as : (command : Command) (dev : List ℕ) → command ≡ cmd.Remove dev → Holds (with_devs p (list_map (leave_at dev) p.devs)) → IsPlainOf copies Holds p command reply.Done
   removed_as command dev is h =
       let q = with_devs p (list_map (leave_at dev) p.devs) in
-      subst (λ (k : Command). IsPlainOf Holds p k reply.Done) (sym is) (record { after = q; holds = h; step = (refl, refl) })
+      subst (λ (k : Command). IsPlainOf copies Holds p k reply.Done) (sym is) (record { after = q; holds = h; step = (refl, refl) })
 
-  pub listed_as : (command : Command) (lines : List ListLine) → command ≡ cmd.List → Holds p → IsPlainOf Holds p command (reply.List lines)
-  listed_as command lines is h = subst (λ (k : Command). IsPlainOf Holds p k (reply.List lines)) (sym is) (record { after = p; holds = h; step = (refl, refl) })
+  pub listed_as : (command : Command) (lines : List ListLine) → command ≡ cmd.List → Holds p → IsPlainOf copies Holds p command (reply.List lines)
+  listed_as command lines is h = subst (λ (k : Command). IsPlainOf copies Holds p k (reply.List lines)) (sym is) (record { after = p; holds = h; step = (refl, refl) })
 
-  pub status_as : (command : Command) (lines : StatusLines) → command ≡ cmd.Status → Holds p → IsPlainOf Holds p command (reply.Status lines)
-  status_as command lines is h = subst (λ (k : Command). IsPlainOf Holds p k (reply.Status lines)) (sym is) (record { after = p; holds = h; step = (refl, refl) })
+  pub status_as : (command : Command) (lines : StatusLines) → command ≡ cmd.Status → Holds p → IsPlainOf copies Holds p command (reply.Status lines)
+  status_as command lines is h = subst (λ (k : Command). IsPlainOf copies Holds p k (reply.Status lines)) (sym is) (record { after = p; holds = h; step = (refl, refl) })
 
-  pub audited_as : (command : Command) (lines : List AuditLine) → command ≡ cmd.Audit → Holds p → IsPlainOf Holds p command (reply.Audit lines)
-  audited_as command lines is h = subst (λ (k : Command). IsPlainOf Holds p k (reply.Audit lines)) (sym is) (record { after = p; holds = h; step = (refl, refl) })
+  pub audited_as : (command : Command) (lines : List AuditLine) → command ≡ cmd.Audit → Holds p → IsPlainOf copies Holds p command (reply.Audit lines)
+  audited_as command lines is h = subst (λ (k : Command). IsPlainOf copies Holds p k (reply.Audit lines)) (sym is) (record { after = p; holds = h; step = (refl, refl) })
 
-  pub estimated_as : (command : Command) (dev : List ℕ) (bytes : ℕ) → command ≡ cmd.Estimate dev → Holds p → IsPlainOf Holds p command (reply.Estimate bytes)
-  estimated_as command dev bytes is h = subst (λ (k : Command). IsPlainOf Holds p k (reply.Estimate bytes)) (sym is) (record { after = p; holds = h; step = (refl, refl) })
+  pub estimated_as : (command : Command) (dev : List ℕ) (bytes : ℕ) → command ≡ cmd.Estimate dev → Holds p → IsPlainOf copies Holds p command (reply.Estimate bytes)
+  estimated_as command dev bytes is h = subst (λ (k : Command). IsPlainOf copies Holds p k (reply.Estimate bytes)) (sym is) (record { after = p; holds = h; step = (refl, refl) })
 
-  pub mapped_as : (command : Command) (index : ℕ) (lines : List MapLine) → command ≡ cmd.Map index → Holds p → IsPlainOf Holds p command (reply.Map lines)
-  mapped_as command index lines is h = subst (λ (k : Command). IsPlainOf Holds p k (reply.Map lines)) (sym is) (record { after = p; holds = h; step = (refl, refl) })
+  pub mapped_as : (command : Command) (index : ℕ) (lines : List MapLine) → command ≡ cmd.Map index → Holds p → IsPlainOf copies Holds p command (reply.Map lines)
+  mapped_as command index lines is h = subst (λ (k : Command). IsPlainOf copies Holds p k (reply.Map lines)) (sym is) (record { after = p; holds = h; step = (refl, refl) })
 
-  pub saved_as : (command : Command) → command ≡ cmd.Checkpoint → Holds (with_saved p (Some (record { objects = p.objects; devs = p.devs })) false) → IsPlainOf Holds p command reply.Done
+  pub saved_as : (command : Command) → command ≡ cmd.Checkpoint → Holds (with_saved p (Some (record { objects = p.objects; devs = p.devs })) false) → IsPlainOf copies Holds p command reply.Done
   saved_as command is h =
       let q = with_saved p (Some (record { objects = p.objects; devs = p.devs })) false in
-      subst (λ (k : Command). IsPlainOf Holds p k reply.Done) (sym is) (record { after = q; holds = h; step = (refl, refl) })
+      subst (λ (k : Command). IsPlainOf copies Holds p k reply.Done) (sym is) (record { after = q; holds = h; step = (refl, refl) })
 
-  pub given_up_as : (command : Command) → command ≡ cmd.Discard → Holds (with_saved p None true) → IsPlainOf Holds p command reply.Done
+  pub given_up_as : (command : Command) → command ≡ cmd.Discard → Holds (with_saved p None true) → IsPlainOf copies Holds p command reply.Done
   given_up_as command is h =
       let q = with_saved p None true in
-      subst (λ (k : Command). IsPlainOf Holds p k reply.Done) (sym is) (record { after = q; holds = h; step = (refl, refl) })
+      subst (λ (k : Command). IsPlainOf copies Holds p k reply.Done) (sym is) (record { after = q; holds = h; step = (refl, refl) })
 
-  pub upgraded_as : (command : Command) → command ≡ cmd.Upgrade → Holds p → IsPlainOf Holds p command reply.Done
-  upgraded_as command is h = subst (λ (k : Command). IsPlainOf Holds p k reply.Done) (sym is) (record { after = p; holds = h; step = (refl, refl) })
+  pub upgraded_as : (command : Command) → command ≡ cmd.Upgrade → Holds p → IsPlainOf copies Holds p command reply.Done
+  upgraded_as command is h = subst (λ (k : Command). IsPlainOf copies Holds p k reply.Done) (sym is) (record { after = p; holds = h; step = (refl, refl) })
 
-  pub stepped_as : (command : Command) (units : ℕ) (b : Bool) → command ≡ cmd.StepDiscard → (b ≡ false → 0 < units) → Holds (if b then with_saved p p.saved false else p) → IsPlainOf Holds p command (if b then reply.Ended else reply.Freed units)
+  pub stepped_as : (command : Command) (units : ℕ) (b : Bool) → command ≡ cmd.StepDiscard → (b ≡ false → 0 < units) → Holds (if b then with_saved p p.saved false else p) → IsPlainOf copies Holds p command (if b then reply.Ended else reply.Freed units)
   stepped_as command units true is some h =
       let q = with_saved p p.saved false in
-      subst (λ (k : Command). IsPlainOf Holds p k reply.Ended) (sym is) (record { after = q; holds = h; step = (refl, refl) })
+      subst (λ (k : Command). IsPlainOf copies Holds p k reply.Ended) (sym is) (record { after = q; holds = h; step = (refl, refl) })
   stepped_as command units false is some h =
       let lt = some refl in
-      subst (λ (k : Command). IsPlainOf Holds p k (reply.Freed units)) (sym is) (record { after = p; holds = h; step = ((omega (arith, lt), refl), refl) })
+      subst (λ (k : Command). IsPlainOf copies Holds p k (reply.Freed units)) (sym is) (record { after = p; holds = h; step = ((omega (arith, lt), refl), refl) })
 
 -- ---- replies to steps of a removal
 
@@ -141,17 +142,24 @@ module _ (Holds : PoolState → Type 0) (p : PoolState) where
 pub back_ckpt : (sizes : List ℕ) (told : Type 0) (now : World) (x y : OpenPool) (d : ℕ) → CancelsRemoval sizes told now x y d → y.space.parts.ckpt ≡ x.space.parts.ckpt
 back_ckpt sizes told now x y d h = h.same.ckpt ∙ (h.comes.streams.rows.ckpt ∙ h.comes.cancels.elsewhere.ckpt)
 
--- a step that copies, or gives the removal up, leaves the objects; of one that ends it nothing is told
-pub evac_acts : (policy : Policy) (sizes : List ℕ) (told : Type 0) (c1 c2 : Counts) (w1 w2 : World) (x y : OpenPool) (Holds : PoolState → Type 0) (p : PoolState) (done : Evacuated) → StepsOn policy sizes told c1 c2 w1 w2 x y done
-    → (y.space.parts.ckpt ≡ x.space.parts.ckpt → (n : ℕ) → done ≡ Copied n → Holds p) → (y.space.parts.ckpt ≡ x.space.parts.ckpt → (d : ℕ) → done ≡ Cancelled d → Holds p) → IsPlainOf Holds p cmd.StepEvac (evac_reply done)
-evac_acts policy sizes told c1 c2 w1 w2 x y Holds p (Copied n) steps holds returns =
+-- so does one that ended
+pub gone_ckpt : (sizes : List ℕ) (told : Type 0) (now : World) (x y : OpenPool) (d : ℕ) → EndsRemoval sizes told now x y d → y.space.parts.ckpt ≡ x.space.parts.ckpt
+gone_ckpt sizes told now x y d h = ap (λ (pool : OpenPool). pool.space.parts.ckpt) h.forgets.rest ∙ (h.same.ckpt ∙ (h.vanishes.streams.rows.ckpt ∙ (h.vanishes.finishes.elsewhere.ckpt ∙ h.vanishes.gives.others.rows.ckpt)))
+
+-- a step leaves the objects; of one that ends the removal they are told where copies are told to have the bytes of their units
+pub evac_acts : (copies : Bool) (policy : Policy) (sizes : List ℕ) (told : Type 0) (c1 c2 : Counts) (w1 w2 : World) (x y : OpenPool) (Holds : PoolState → Type 0) (p : PoolState) (done : Evacuated) → StepsOn policy sizes told c1 c2 w1 w2 x y done
+    → (y.space.parts.ckpt ≡ x.space.parts.ckpt → (n : ℕ) → done ≡ Copied n → Holds p) → (y.space.parts.ckpt ≡ x.space.parts.ckpt → (d : ℕ) → done ≡ Cancelled d → Holds p)
+    → (copies ≡ true → y.space.parts.ckpt ≡ x.space.parts.ckpt → (d : ℕ) → done ≡ Gone d → Holds p) → IsPlainOf copies Holds p cmd.StepEvac (evac_reply done)
+evac_acts copies policy sizes told c1 c2 w1 w2 x y Holds p (Copied n) steps holds returns ends =
     let plan = steps.plans.plan in
     let some = plan.some in
     let few = plan.few in
     let units = steps.units in
     record { after = p; holds = holds steps.makes.elsewhere.ckpt n refl; step = ((omega (arith, some, units), omega (arith, few, units), refl), refl) }
-evac_acts policy sizes told c1 c2 w1 w2 x y Holds p (Gone index) steps holds returns = tt
-evac_acts policy sizes told c1 c2 w1 w2 x y Holds p (Cancelled index) steps holds returns =
+evac_acts false policy sizes told c1 c2 w1 w2 x y Holds p (Gone index) steps holds returns ends = tt
+evac_acts true policy sizes told c1 c2 w1 w2 x y Holds p (Gone index) steps holds returns ends =
+    record { after = p; holds = ends refl (gone_ckpt sizes told w2 steps.tried y index steps.ends ∙ ap (λ (pool : OpenPool). pool.space.parts.ckpt) steps.same) index refl; step = (record { objects = refl; saved = refl; discarding = refl }, refl) }
+evac_acts copies policy sizes told c1 c2 w1 w2 x y Holds p (Cancelled index) steps holds returns ends =
     record { after = p; holds = returns (back_ckpt sizes told w2 steps.tried y index steps.cancels ∙ ap (λ (pool : OpenPool). pool.space.parts.ckpt) steps.same) index refl; step = (record { objects = refl; saved = refl; discarding = refl }, refl) }
 
 pub evac_copies : (P : Type 0) (done : Evacuated) → ((n : ℕ) → done ≡ Copied n → P) → is_background cmd.StepEvac (evac_reply done) ≡ true → P
@@ -159,7 +167,12 @@ evac_copies P (Copied n) copies on = copies n refl
 evac_copies P (Gone index) copies on = absurd (let no_way : false ≡ true = on in cc)
 evac_copies P (Cancelled index) copies on = absurd (let no_way : false ≡ true = on in cc)
 
-pub evac_shows : (P : Type 0) (done : Evacuated) → ((n : ℕ) → done ≡ Copied n → P) → ((d : ℕ) → done ≡ Cancelled d → P) → is_untold_behind cmd.StepEvac (evac_reply done) ≡ false → P
+pub evac_copy : (P : Type 0) (done : Evacuated) → ((n : ℕ) → done ≡ Copied n → P) → is_copy cmd.StepEvac (evac_reply done) ≡ true → P
+evac_copy P (Copied n) copies on = copies n refl
+evac_copy P (Gone index) copies on = absurd (let no_way : false ≡ true = on in cc)
+evac_copy P (Cancelled index) copies on = absurd (let no_way : false ≡ true = on in cc)
+
+pub evac_shows : (P : Type 0) (done : Evacuated) → ((n : ℕ) → done ≡ Copied n → P) → ((d : ℕ) → done ≡ Cancelled d → P) → ends_removal cmd.StepEvac (evac_reply done) ≡ false → P
 evac_shows P (Copied n) shows returns off = shows n refl
 evac_shows P (Gone index) shows returns off = absurd (let no_way : true ≡ false = off in cc)
 evac_shows P (Cancelled index) shows returns off = returns index refl
@@ -175,10 +188,10 @@ condense_no_return condensed.Done command on = let no_way : false ≡ true = on 
 condense_no_return condensed.Nothing command on = let no_way : false ≡ true = on in cc
 
 -- a step of condensing leaves the objects
-pub condense_acts : (Holds : PoolState → Type 0) (p : PoolState) (done : Condensed) → Holds p → IsPlainOf Holds p cmd.StepCondense (condense_reply done)
-condense_acts Holds p (condensed.Kept entries) h = record { after = p; holds = h; step = (refl, refl) }
-condense_acts Holds p condensed.Done h = record { after = p; holds = h; step = (refl, refl) }
-condense_acts Holds p condensed.Nothing h = record { after = p; holds = h; step = (refl, refl) }
+pub condense_acts : (copies : Bool) (Holds : PoolState → Type 0) (p : PoolState) (done : Condensed) → Holds p → IsPlainOf copies Holds p cmd.StepCondense (condense_reply done)
+condense_acts copies Holds p (condensed.Kept entries) h = record { after = p; holds = h; step = (refl, refl) }
+condense_acts copies Holds p condensed.Done h = record { after = p; holds = h; step = (refl, refl) }
+condense_acts copies Holds p condensed.Nothing h = record { after = p; holds = h; step = (refl, refl) }
 
 -- it goes on from the root from which the pool went on
 pub condensed_root : (x y : OpenPool) (done : Condensed) → CondensesPool x y done → KeepsRoot x y

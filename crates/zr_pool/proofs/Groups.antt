@@ -6,6 +6,7 @@ use Rattle.zr_base.specs.declared.space.CkptPart.TheVariants.{Clear}
 use Rattle.zr_base.specs.declared.space.Extent.{Extent}
 use Rattle.zr_last.specs.Last.{KeepsRoot}
 use Rattle.zr_lines.proofs.Stopping.{in_group_itself}
+use Rattle.zr_sync.specs.Copies.{HasCopies}
 use Rattle.zr_sync.specs.Ends.{EndsCommitted}
 use Rattle.zr_lines.specs.Stops.{OpensNoUnit, StaysInGroup, StaysInOneGroup}
 use Rattle.zr_model.specs.Objects.{Objects}
@@ -35,7 +36,7 @@ use Rattle.zr_vdev.specs.Stores.{IsWriteInto, KeepsOthers, is_open_role}
 use Rattle.zr_vdev.specs.declared.kind.Kind.TheVariants.{Block}
 use Rattle.zr_pool.specs.Behind.{StopsInOpening, ends_no_removal, ends_reset, is_acknowledged, is_commit, is_in_group, is_readable, is_resetting, is_return, is_silent, is_writing_trees, may_stop, none_gone}
 use Rattle.zr_pool.proofs.Working.{removal_works}
-use Rattle.zr_pool.specs.Plain.{IsDone, is_background, is_of_removal, is_untold_behind}
+use Rattle.zr_pool.specs.Plain.{IsDone, ends_removal, is_background, is_copy, is_of_removal}
 use Rattle.zr_pool.specs.Pools.{is_evacuating}
 use Rattle.zr_pool.specs.Turns.{is_on_objects, is_on_pool, is_opener, is_table}
 
@@ -111,7 +112,7 @@ writing_resets cmd.Checkpoint on = refl
 writing_resets cmd.Upgrade on = refl
 writing_resets command on = no_way on
 
-pub resets_told : (command : Command) (answer : Reply) → is_resetting command ≡ true → is_untold_behind command answer ≡ false
+pub resets_told : (command : Command) (answer : Reply) → is_resetting command ≡ true → ends_removal command answer ≡ false
 resets_told (cmd.Add dev) answer on = refl
 resets_told cmd.Checkpoint answer on = refl
 resets_told cmd.Discard answer on = refl
@@ -140,7 +141,7 @@ not_ending answer command on group = elim (resets_or_returns answer command on) 
   | inr returns ↦ not_returning answer command returns group
 ]
 
-pub returns_told : (answer : Reply) (command : Command) → is_return answer command ≡ true → is_untold_behind command answer ≡ false
+pub returns_told : (answer : Reply) (command : Command) → is_return answer command ≡ true → ends_removal command answer ≡ false
 returns_told (reply.Cancelled i) cmd.Cancel on = refl
 returns_told (reply.Cancelled i) cmd.StepEvac on = refl
 returns_told answer command on = no_way on
@@ -155,7 +156,7 @@ return_elsewhere (reply.Cancelled i) cmd.StepEvac on (inr (inr is)) = no_way is
 return_elsewhere answer command on which = no_way on
 
 -- the objects are told behind it
-pub ends_told : (answer : Reply) (command : Command) → ends_reset answer command ≡ true → is_untold_behind command answer ≡ false
+pub ends_told : (answer : Reply) (command : Command) → ends_reset answer command ≡ true → ends_removal command answer ≡ false
 ends_told answer command on = elim (resets_or_returns answer command on) [
   | inl resets ↦ resets_told command answer resets
   | inr returns ↦ returns_told answer command returns
@@ -258,6 +259,10 @@ step_opens_none old new units root steps = record { root = root; units = discard
 still_trees : (before now : World) → IsStill before now → (x : OpenPool) → HasTrees Had (Unit {0}) before.now.seen x → HasTrees Had (Unit {0}) now.now.seen x
 still_trees before now still x h = subst (λ (s : Stand). HasTrees Had (Unit {0}) s.seen x) (sym still.now) h
 
+-- and so do copies
+still_copies : (before now : World) → IsStill before now → (x : OpenPool) → HasCopies before.now.seen x → HasCopies now.now.seen x
+still_copies before now still x h = subst (λ (s : Stand). HasCopies s.seen x) (sym still.now) h
+
 -- a line that is refused
 pub refused_stays : (x y : OpenPool) (before now : World) → y ≡ x → IsStill before now → StaysInGroup x y before now
 refused_stays x y before now same nothing = record {
@@ -265,6 +270,7 @@ refused_stays x y before now same nothing = record {
   space = subst (λ s. KeepsOthers Block x.space s) (sym (ap (λ (p : OpenPool). p.space) same)) (others_itself Block x.space);
   root = record { last = ap (λ (p : OpenPool). p.last) same; guid = ap (λ (p : OpenPool). p.guid) same; table = ap (λ (p : OpenPool). p.table) same };
   trees = λ h. still_trees before now nothing y (subst (λ (p : OpenPool). HasTrees Had (Unit {0}) before.now.seen p) (sym same) h);
+  copies = λ h. still_copies before now nothing y (subst (λ (p : OpenPool). HasCopies before.now.seen p) (sym same) h);
 }
 
 pub same_world : (before now : World) → now ≡ before → IsStill before now
@@ -279,6 +285,7 @@ table_stays tells x y before now same seen still = record {
   trees = λ h.
       let there = still_trees before now still x h in
       cache_leaves (Unit {0}) (Unit {0}) now.now.seen x y same (record { told = tt; read = seen.read }) there;
+  copies = λ h. subst (λ (p : OpenPool). HasCopies now.now.seen p) (sym same) (still_copies before now still x h);
 }
 
 -- ---- a step in the background
@@ -305,6 +312,10 @@ pub record IsOfRemoval (command : Command) : Type 0 where
   pub objects : is_on_objects command ≡ false
   pub table : is_table command ≡ false
   pub pool : is_on_pool command ≡ false
+
+pub copy_removal : (command : Command) (answer : Reply) → is_copy command answer ≡ true → IsOfRemoval command
+copy_removal cmd.StepEvac answer is = record { removal = refl; objects = refl; table = refl; pool = refl }
+copy_removal command answer is = no_way is
 
 pub background_removal : (command : Command) (answer : Reply) → is_background command answer ≡ true → IsOfRemoval command
 background_removal cmd.StepEvac answer is = record { removal = refl; objects = refl; table = refl; pool = refl }

@@ -18,3 +18,4 @@ pub mod Beginning
 pub mod Founding
 pub mod Behind
 pub mod Accounting
+pub mod Copied

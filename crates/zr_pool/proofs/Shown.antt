@@ -23,8 +23,8 @@ use Rattle.zr_sync.specs.declared.fault.Fault.{Fault}
 use Rattle.zr_sync.specs.declared.fault.Fault.TheVariants.{No, Stops}
 use Rattle.zr_sync.specs.declared.open.OpenPool.{OpenPool}
 use Rattle.zr_pool.specs.Ends.{answer_of, is_closing}
-use Rattle.zr_pool.specs.Behind.{is_commit, keeps_trees}
-use Rattle.zr_pool.specs.Plain.{IsDone, IsFoundAgain, IsObjectsTurn, IsRejoined, is_untold_behind, shelf_of}
+use Rattle.zr_pool.specs.Behind.{is_commit, leaves_trees}
+use Rattle.zr_pool.specs.Plain.{IsDone, IsFoundAgain, IsObjectsTurn, IsRejoined, ends_removal, shelf_of}
 use Rattle.zr_pool.specs.Pools.{AreLeft, AreShown, DeviceState, IsAtRest, IsPartOf, IsStateOf}
 use Rattle.zr_pool.specs.Turns.{IsOpenAnswer, IsTurn, is_shown, is_standing, is_told}
 use Rattle.zr_pool.proofs.Finding.{moved_found}
@@ -47,7 +47,7 @@ false_true e = absurd cc
 module _ (old new : Stand) (before : DeviceState) (command : Command) (pool : Option OpenPool) where
   -- what the line makes of the objects
   abbrev pub Takes : Reply → State → Type 0
-  Takes answer after = IsTurn before.told.is_open command answer after.is_open × IsObjectsTurn before.told.is_open before.told.shelf (shelf_of old) before.told command answer after
+  Takes answer after = IsTurn before.told.is_open command answer after.is_open × IsObjectsTurn before.copies before.told.is_open before.told.shelf (shelf_of old) before.told command answer after
 
   -- the disks show the pool where they are told to, and an import finds what was left
   pub record Lasts (answer : Reply) : Type 0 where
@@ -69,14 +69,14 @@ not_true : (b : Bool) → not b ≡ true → b ≡ false
 not_true true is = false_true is
 not_true false is = refl
 
-shown_before : (shown : Bool) (command : Command) (answer : Reply) → IsDone answer → is_shown true shown command answer ≡ true → (shown ≡ true) × (is_untold_behind command answer ≡ false)
+shown_before : (shown : Bool) (command : Command) (answer : Reply) → IsDone answer → is_shown true shown command answer ≡ true → (shown ≡ true) × (ends_removal command answer ≡ false)
 shown_before shown command (reply.No r) done is = absurd done
-shown_before shown command answer done is = let both = both_true shown (not (is_untold_behind command answer)) is in (both.0, not_true (is_untold_behind command answer) both.1)
+shown_before shown command answer done is = let both = both_true shown (not (ends_removal command answer)) is in (both.0, not_true (ends_removal command answer) both.1)
 
 -- trees that are told to stand behind a line were told to before it
 standing_before : (part : ShelfPart) (trees : Bool) (command : Command) (answer : Reply) → is_standing true part trees command answer ≡ true → trees ≡ true
 standing_before part trees command (reply.No r) is = (both_true trees (is_told part) is).0
-standing_before part trees command answer is = (both_true trees (is_told part && keeps_trees command) is).0
+standing_before part trees command answer is = (both_true trees (is_told part && leaves_trees command answer) is).0
 
 -- the pool is open still, but behind an export
 closed_or_not : (command : Command) (answer : Reply) (y : OpenPool) (disks : List (List ℕ)) (part : ShelfPart) (trees : Bool) → IsOpenAnswer command answer → ShowsLast disks y → (command ≡ cmd.Export → answer ≡ reply.Done → AreShown None disks part trees)
@@ -103,7 +103,7 @@ module _ (old new : Stand) (before : DeviceState) (command : Command) (x y : Ope
     moves = λ is. subst (λ (o : Option Uber). IfSome o (λ u. TellsMoves new.seen y u.root u.len)) last.from.last (moves (standing is));
   }
 
-  left_behind : (part : ShelfPart) (trees : Bool) (after : State) → IsPartOf old.seen x part → IsObjectsTurn true part (shelf_of old) before.told cmd.Export reply.Done after → ((p : PoolState) → HoldsState (Unit {0}) old.seen x p → AreLeft new.seen p.objects trees)
+  left_behind : (part : ShelfPart) (trees : Bool) (after : State) → IsPartOf old.seen x part → IsObjectsTurn before.copies true part (shelf_of old) before.told cmd.Export reply.Done after → ((p : PoolState) → HoldsState (Unit {0}) old.seen x p → AreLeft new.seen p.objects trees)
       → AreShown None new.seen after.shelf trees
   left_behind (Is p) trees after held turn left = subst (λ (s : State). AreShown None new.seen s.shelf trees) (sym turn) (left p held)
   left_behind Empty trees after held turn left = subst (λ (s : State). AreShown None new.seen s.shelf trees) (sym turn) tt
@@ -115,13 +115,13 @@ module _ (old new : Stand) (before : DeviceState) (command : Command) (x y : Ope
   stood_before : (answer : Reply) → trees_behind answer ≡ true → HasLastTrees old.seen x
   stood_before answer is = was_standing (standing_before before.told.shelf before.trees command answer (sym (ap (λ (b : Bool). is_standing b before.told.shelf before.trees command answer) stood.is_open) ∙ is))
 
-  in_open : (answer : Reply) (after : State) → Takes old new before command None answer after → IsTurn true command answer after.is_open × IsObjectsTurn true before.told.shelf (shelf_of old) before.told command answer after
-  in_open answer after t = subst (λ (b : Bool). IsTurn b command answer after.is_open × IsObjectsTurn b before.told.shelf (shelf_of old) before.told command answer after) stood.is_open t
+  in_open : (answer : Reply) (after : State) → Takes old new before command None answer after → IsTurn true command answer after.is_open × IsObjectsTurn before.copies true before.told.shelf (shelf_of old) before.told command answer after
+  in_open answer after t = subst (λ (b : Bool). IsTurn b command answer after.is_open × IsObjectsTurn before.copies b before.told.shelf (shelf_of old) before.told command answer after) stood.is_open t
 
   not_imported : {P : Type 0} (answer : Reply) → command ≡ cmd.Import → answer ≡ reply.Done → IsOpenAnswer command answer → P
   not_imported answer imports answered a = absurd (subst (λ (q : Reply). IsOpenAnswer cmd.Import q) answered (subst (λ (k : Command). IsOpenAnswer k answer) imports a))
 
-  pub open_lasts : (r : Result (Option Reply) Fault) → IfOk r (λ found. IfSome found IsDone) → IfOk r (λ found. IfSome found (IsOpenAnswer command)) → IfOk r (λ found. IfSome found (λ answer. is_untold_behind command answer ≡ false → ShowsLast old.seen x → ShowsLast new.seen y))
+  pub open_lasts : (r : Result (Option Reply) Fault) → IfOk r (λ found. IfSome found IsDone) → IfOk r (λ found. IfSome found (IsOpenAnswer command)) → IfOk r (λ found. IfSome found (λ answer. ends_removal command answer ≡ false → ShowsLast old.seen x → ShowsLast new.seen y))
       → ((n : Refusal) → r ≡ Err (No n) → ShowsLast old.seen x → ShowsLast new.seen y) → (command ≡ cmd.Export → (p : PoolState) → HoldsState (Unit {0}) old.seen x p → OnOk r (IsAtRest new.seen y p))
       → (command ≡ cmd.Export → (p : PoolState) → HoldsState (Unit {0}) old.seen x p → OnOk r (TellsAtLast old new x y)) → OnOk r (IsOpen s2 y)
       → IfOk (answer_of r) (λ found. IfSome found (λ answer. Lasts old new before command (left_of (is_closing command r) y) answer))
@@ -133,8 +133,8 @@ module _ (old new : Stand) (before : DeviceState) (command : Command) (x y : Ope
         let turn = (in_open answer after t).1 in
         closed_or_not command answer y new.seen after.shelf (trees_behind answer) a shows (λ exports answered.
         left_behind before.told.shelf (trees_behind answer) after stood.part
-        (subst (λ (q : Reply). IsObjectsTurn true before.told.shelf (shelf_of old) before.told cmd.Export q after) answered
-        (subst (λ (k : Command). IsObjectsTurn true before.told.shelf (shelf_of old) before.told k answer after) exports turn))
+        (subst (λ (q : Reply). IsObjectsTurn before.copies true before.told.shelf (shelf_of old) before.told cmd.Export q after) answered
+        (subst (λ (k : Command). IsObjectsTurn before.copies true before.told.shelf (shelf_of old) before.told k answer after) exports turn))
         (λ p held. left_there p (trees_behind answer) lawful shows (rest exports p held) (stood_before answer) (moves exports p held)));
     rejoined = λ after t shown imports answered. not_imported answer imports answered a;
     found_again = λ after t shown standing imports answered. not_imported answer imports answered a;
@@ -149,8 +149,8 @@ module _ (old new : Stand) (before : DeviceState) (command : Command) (x y : Ope
 -- ---- where none is open
 
 module _ (old new : Stand) (before : DeviceState) (command : Command) (pool : Option OpenPool) (closed : before.told.is_open ≡ false) (was : before.shown ≡ true → AreShown None old.seen before.told.shelf before.trees) where
-  in_closed : (answer : Reply) (after : State) → Takes old new before command pool answer after → IsTurn false command answer after.is_open × IsObjectsTurn false before.told.shelf (shelf_of old) before.told command answer after
-  in_closed answer after t = subst (λ (b : Bool). IsTurn b command answer after.is_open × IsObjectsTurn b before.told.shelf (shelf_of old) before.told command answer after) closed t
+  in_closed : (answer : Reply) (after : State) → Takes old new before command pool answer after → IsTurn false command answer after.is_open × IsObjectsTurn before.copies false before.told.shelf (shelf_of old) before.told command answer after
+  in_closed answer after t = subst (λ (b : Bool). IsTurn b command answer after.is_open × IsObjectsTurn before.copies b before.told.shelf (shelf_of old) before.told command answer after) closed t
 
   abbrev trees_after : Bool → Reply → Bool
   trees_after is_open answer = is_standing is_open before.told.shelf before.trees command answer
@@ -183,7 +183,7 @@ module _ (old new : Stand) (before : DeviceState) (command : Command) (pool : Op
   opens_shown : (answer : Reply) (after : State) → Takes old new before command pool answer after → command ≡ cmd.Import → answer ≡ reply.Done → (p : PoolState) × Shows old.paths old.seen p × (after.shelf ≡ Is p)
   opens_shown answer after t imports answered =
       let turn = (in_closed answer after t).1 in
-      let found = subst (λ (q : Reply). IsObjectsTurn false before.told.shelf (shelf_of old) before.told cmd.Import q after) answered (subst (λ (k : Command). IsObjectsTurn false before.told.shelf (shelf_of old) before.told k answer after) imports turn) in
+      let found = subst (λ (q : Reply). IsObjectsTurn before.copies false before.told.shelf (shelf_of old) before.told cmd.Import q after) answered (subst (λ (k : Command). IsObjectsTurn before.copies false before.told.shelf (shelf_of old) before.told k answer after) imports turn) in
       (found.0, found.1, found.2.shelf)
 
   pub closed_lasts : (r : Result (Option Reply) Fault) → IfOk r (λ found. IfSome found (λ answer. answer ≡ reply.Done)) → IfOk r (λ found. IfSome found (λ answer. IsTurn false command answer (is_some pool))) → IfSome pool (ShowsLast new.seen)

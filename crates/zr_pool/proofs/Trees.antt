@@ -19,9 +19,9 @@ use Rattle.zr_sync.specs.Trees.Stage.{Had, Recorded}
 use Rattle.zr_sync.specs.declared.fault.Fault.{Fault}
 use Rattle.zr_sync.specs.declared.fault.Fault.TheVariants.{No, Stops}
 use Rattle.zr_sync.specs.declared.open.OpenPool.{OpenPool}
-use Rattle.zr_pool.specs.Behind.{EndsReset, KeepsTrees, StaysTold, is_in_group, is_resetting, is_writing_trees, keeps_trees}
+use Rattle.zr_pool.specs.Behind.{EndsReset, KeepsTrees, StaysTold, is_in_group, is_resetting, is_writing_trees, keeps_trees, leaves_trees}
 use Rattle.zr_pool.specs.Ends.{answer_of, is_closing}
-use Rattle.zr_pool.specs.Plain.{IsDone, is_of_removal}
+use Rattle.zr_pool.specs.Plain.{IsDone, is_copy, is_of_removal}
 use Rattle.zr_pool.specs.Pools.{AreStanding, IsPartOf}
 use Rattle.zr_pool.specs.Turns.{is_standing, is_told}
 use Rattle.zr_pool.proofs.Groups.{no_way}
@@ -40,7 +40,7 @@ one_group_trees sizes objects x y before now (inr behind) h = behind.stays.trees
 
 told_trees : (sizes : List ℕ) (objects : Objects) (command : Command) (x y : OpenPool) (before now : World) → StaysTold sizes objects command x y before now → KeepsTrees x y before now
 told_trees sizes objects command x y before now (inl stays) = one_group_trees sizes objects x y before now stays
-told_trees sizes objects command x y before now (inr step) = step.1.1.1
+told_trees sizes objects command x y before now (inr step) = step.1.1.1.0
 
 -- only lines that end with a reset write the trees anew
 writing_resets : (command : Command) → is_writing_trees command ≡ true → is_resetting command ≡ true
@@ -70,11 +70,11 @@ either_true : (a b : Bool) → (a || b) ≡ true → (a ≡ true) ⊎ (b ≡ tru
 either_true true b is = inl refl
 either_true false b is = inr is
 
-standing_done : (part : ShelfPart) (trees : Bool) (command : Command) (answer : Reply) → IsDone answer → is_standing true part trees command answer ≡ true → (trees ≡ true) × ((is_told part ≡ true) × (keeps_trees command ≡ true))
+standing_done : (part : ShelfPart) (trees : Bool) (command : Command) (answer : Reply) → IsDone answer → is_standing true part trees command answer ≡ true → (trees ≡ true) × ((is_told part ≡ true) × (leaves_trees command answer ≡ true))
 standing_done part trees command (reply.No r) done is = absurd done
 standing_done part trees command answer done is =
-    let both = both_true trees (is_told part && keeps_trees command) is in
-    (both.0, both_true (is_told part) (keeps_trees command) both.1)
+    let both = both_true trees (is_told part && leaves_trees command answer) is in
+    (both.0, both_true (is_told part) (leaves_trees command answer) both.1)
 
 left_standing : (closing : Bool) (y : OpenPool) (disks : List (List ℕ)) → HasTrees Had (Unit {0}) disks y → AreStanding (left_of closing y) disks
 left_standing true y disks h = tt
@@ -89,21 +89,25 @@ module _ (sizes : List ℕ) (old new : World) (part : ShelfPart) (trees : Bool) 
   pub open_standing : (r : Result (Option Reply) Fault) → IfOk r (λ found. IfSome found IsDone) → (is_in_group command ≡ true → (p : PoolState) → HoldsState (Unit {0}) old.now.seen x p → OnOk r (StaysTold sizes p.objects command x y old new))
       → ((p : PoolState) → HoldsState (Unit {0}) old.now.seen x p → (n : Refusal) → r ≡ Err (No n) → StaysInOneGroup sizes p.objects x y old new)
       → (is_resetting command ≡ true → (p : PoolState) → HoldsState (Unit {0}) old.now.seen x p → OnOk r (EndsReset command x y p.objects old new))
+      → IfOk r (λ found. IfSome found (λ answer. is_copy command answer ≡ true → KeepsTrees x y old new))
       → IfOk (answer_of r) (λ found. IfSome found (λ answer. is_standing true part trees command answer ≡ true → AreStanding (left_of (is_closing command r) y) new.now.seen))
-  open_standing (Ok None) done group group_no resets = tt
-  open_standing (Ok (Some answer)) done group group_no resets = λ is.
+  open_standing (Ok None) done group group_no resets copies = tt
+  open_standing (Ok (Some answer)) done group group_no resets copies = λ is.
       let all = standing_done part trees command answer done is in
       let p = told_state part held all.1.0 in
       let h = stood all.0 in
-      left_standing (is_closing command (Ok (Some answer))) y new.now.seen (elim (either_true (is_writing_trees command) (is_in_group command) all.1.1) [
-        | inl writes ↦ (resets (writing_resets command writes) p.0 p.1).trees writes h
-        | inr works ↦ told_trees sizes p.0.objects command x y old new (group works p.0 p.1) h
+      left_standing (is_closing command (Ok (Some answer))) y new.now.seen (elim (either_true (keeps_trees command) (is_copy command answer) all.1.1) [
+        | inl keeps ↦ elim (either_true (is_writing_trees command) (is_in_group command) keeps) [
+          | inl writes ↦ (resets (writing_resets command writes) p.0 p.1).trees writes h
+          | inr works ↦ told_trees sizes p.0.objects command x y old new (group works p.0 p.1) h
+        ]
+        | inr copy ↦ copies copy h
       ])
-  open_standing (Err (No n)) done group group_no resets = λ is.
+  open_standing (Err (No n)) done group group_no resets copies = λ is.
       let both = both_true trees (is_told part) is in
       let p = told_state part held both.1 in
       one_group_trees sizes p.0.objects x y old new (group_no p.0 p.1 n refl) (stood both.0)
-  open_standing (Err (Stops s)) done group group_no resets = tt
+  open_standing (Err (Stops s)) done group group_no resets copies = tt
 
 -- ---- where none is open
 

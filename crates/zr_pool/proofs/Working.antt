@@ -34,7 +34,7 @@ or_right : (a b : Bool) → b ≡ true → (a || b) ≡ true
 or_right true b is = refl
 or_right false b is = is
 
-any_leaving : (ps : List DevPart) (d : ℕ) → is_leaving (state_of_dev ps d) ≡ true → list_any is_leaving_part ps ≡ true
+pub any_leaving : (ps : List DevPart) (d : ℕ) → is_leaving (state_of_dev ps d) ≡ true → list_any is_leaving_part ps ≡ true
 any_leaving [] d is = absurd (false_true is)
 any_leaving (p ∷ ps) zero is = ap (λ (b : Bool). b || list_any is_leaving_part ps) is
 any_leaving (p ∷ ps) (suc d) is = or_right (is_leaving_part p) (list_any is_leaving_part ps) (any_leaving ps d is)

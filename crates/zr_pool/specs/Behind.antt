@@ -24,12 +24,13 @@ use Rattle.zr_shelf.specs.Disks.{IsAtRest, Stand}
 use Rattle.zr_shelf.specs.Moments.{IsStill, World}
 use Rattle.zr_stops.specs.Behind.{ShowsOnly}
 use Rattle.zr_stops.specs.Either.{ShowsEither}
+use Rattle.zr_sync.specs.Copies.{KeepsCopies}
 use Rattle.zr_sync.specs.Moves.{TellsMoves}
 use Rattle.zr_sync.specs.Objects.{HoldsObjects}
 use Rattle.zr_sync.specs.Trees.{HasLastTrees, HasTrees}
 use Rattle.zr_sync.specs.Trees.Stage.{Had}
 use Rattle.zr_sync.specs.declared.open.OpenPool.{OpenPool}
-use Rattle.zr_pool.specs.Plain.{is_background}
+use Rattle.zr_pool.specs.Plain.{is_background, is_copy}
 use Rattle.zr_pool.specs.Pools.{DeviceState, is_evacuating, settled, stand_of}
 
 -- The lines that work in the group that is open, or end it by a commit: those on objects, tables, `step discard`, `sync` and `export`.
@@ -123,6 +124,10 @@ ends_no_removal account _ = false
 abbrev pub keeps_trees : Command → Bool
 keeps_trees command = is_writing_trees command || is_in_group command
 
+-- The line was done and left the trees standing: it is one of those, or units of a device that is leaving were copied.
+abbrev pub leaves_trees : Command → Reply → Bool
+leaves_trees command answer = keeps_trees command || is_copy command answer
+
 -- no device is gone
 abbrev pub all_there : List DevPart → Bool
 all_there [] = true
@@ -167,9 +172,9 @@ may_commit account trees command = is_readable account trees && (keeps_trees com
 abbrev pub may_stop : Option OpenPool → Bool → Command → Bool
 may_stop account trees command = is_silent command || may_commit account trees command
 
--- The line stayed in one group: it wrote units of the group that is open, or of the next one behind a commit of that, or is a step of discarding, which did nothing to the disks.
+-- The line stayed in one group: it wrote units of the group that is open, or of the next one behind a commit of that, or is a step of discarding, which did nothing to the disks. The trees of the streams and the copies stand.
 abbrev pub StaysTold : List ℕ → Objects → Command → OpenPool → OpenPool → World → World → Type 0
-StaysTold sizes objects command old new before now = StaysInOneGroup sizes objects old new before now ⊎ ((command ≡ cmd.StepDiscard) × (IsStill before now × (OpensNoUnit old new × KeepsTrees old new before now)))
+StaysTold sizes objects command old new before now = StaysInOneGroup sizes objects old new before now ⊎ ((command ≡ cmd.StepDiscard) × (IsStill before now × (OpensNoUnit old new × (KeepsTrees old new before now × KeepsCopies before now old new))))
 
 -- whatever an honest crash leaves of these disks shows these objects, if it shows a pool
 abbrev pub LeavesOnly : Objects → Disks → Type 0

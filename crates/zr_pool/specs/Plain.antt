@@ -94,10 +94,11 @@ pub record KeepsObjects (p q : PoolState) : Type 0 where
   pub saved : q.saved ≡ p.saved
   pub discarding : q.discarding ≡ p.discarding
 
--- The step of plain objects. Where a removal was given up the objects are told, and not yet which devices are in service then.
+-- The step of plain objects. Where a removal was given up, or ended, the objects are told, and not yet which devices are in service then.
 abbrev pub TakesStep : PoolState → Command → Reply → PoolState → Type 0
 TakesStep p cmd.Cancel (reply.Cancelled i) q = KeepsObjects p q
 TakesStep p cmd.StepEvac (reply.Cancelled i) q = KeepsObjects p q
+TakesStep p cmd.StepEvac (reply.Gone i) q = KeepsObjects p q
 TakesStep p command answer q = Acts p command answer q
 
 -- a line that is done takes its step, and needs no lost block
@@ -124,16 +125,27 @@ is_background cmd.StepCondense (reply.No r) = false
 is_background cmd.StepCondense answer = true
 is_background command answer = false
 
--- What the objects are behind the line is not told yet: a device is gone.
-abbrev pub is_untold_behind : Command → Reply → Bool
-is_untold_behind cmd.StepEvac (reply.Gone i) = true
-is_untold_behind command answer = false
+-- units of a device that is leaving were copied
+abbrev pub is_copy : Command → Reply → Bool
+is_copy cmd.StepEvac (reply.Copied units) = true
+is_copy command answer = false
 
--- What a line makes of the objects of an open pool: an export closes it, behind some steps of a removal nothing is told of them, and all else that is done is a step of plain objects.
-abbrev pub IsPlainTurn : PoolState → Command → Reply → State → Type 0
-IsPlainTurn p command (reply.No r) new = IsOpened p new × IsPlainRefusal p command r
-IsPlainTurn p cmd.Export reply.Done new = new ≡ exported p
-IsPlainTurn p command answer new = MatchBool (is_untold_behind command answer) (IsUntold new) ((q : PoolState) × IsStep p command answer q × IsOpened q new)
+-- the step ended a removal: a device is gone
+abbrev pub ends_removal : Command → Reply → Bool
+ends_removal cmd.StepEvac (reply.Gone i) = true
+ends_removal command answer = false
+
+-- What the objects are behind the line is not told, by whether copies are told to have the bytes of their units: a device is gone, and they are not.
+abbrev pub is_untold_behind : Bool → Command → Reply → Bool
+is_untold_behind copies cmd.StepEvac (reply.Gone i) = not copies
+is_untold_behind copies command answer = false
+
+-- What a line makes of the objects of an open pool, by whether copies are told to have the bytes of their units: an export closes it, behind a step that ends a removal nothing is told of them where copies are not told to,
+-- and all else that is done is a step of plain objects.
+abbrev pub IsPlainTurn : Bool → PoolState → Command → Reply → State → Type 0
+IsPlainTurn copies p command (reply.No r) new = IsOpened p new × IsPlainRefusal p command r
+IsPlainTurn copies p cmd.Export reply.Done new = new ≡ exported p
+IsPlainTurn copies p command answer new = MatchBool (is_untold_behind copies command answer) (IsUntold new) ((q : PoolState) × IsStep p command answer q × IsOpened q new)
 
 -- where nothing is told of the objects, nothing is until the pool is opened anew
 abbrev pub IsUntoldTurn : Command → Reply → State → Type 0
@@ -161,12 +173,12 @@ abbrev pub IsFoundAgain : ShelfPart → ShelfPart → Type 0
 IsFoundAgain (Is left) (Is p) = p.objects ≡ left.objects
 IsFoundAgain left found = Unit {0}
 
--- what a line makes of the objects; a state that is open has a pool, or nothing is told of it
-abbrev pub IsObjectsTurn : Bool → ShelfPart → Shelf → State → Command → Reply → State → Type 0
-IsObjectsTurn true (Is p) shelf old command answer new = IsPlainTurn p command answer new
-IsObjectsTurn true Empty shelf old command answer new = IsUntoldTurn command answer new
-IsObjectsTurn true (Refused r) shelf old command answer new = ⊥
-IsObjectsTurn false part shelf old command answer new = IsOpeningTurn shelf old command answer new
+-- What a line makes of the objects, by whether copies are told to have the bytes of their units, and whether a pool is open. A state that is open has a pool, or nothing is told of it.
+abbrev pub IsObjectsTurn : Bool → Bool → ShelfPart → Shelf → State → Command → Reply → State → Type 0
+IsObjectsTurn copies true (Is p) shelf old command answer new = IsPlainTurn copies p command answer new
+IsObjectsTurn copies true Empty shelf old command answer new = IsUntoldTurn command answer new
+IsObjectsTurn copies true (Refused r) shelf old command answer new = ⊥
+IsObjectsTurn copies false part shelf old command answer new = IsOpeningTurn shelf old command answer new
 
 -- The line was answered, and what is behind it is held.
 pub record IsPlainOn (Holds : PoolState → Type 0) (p : PoolState) (command : Command) (answer : Reply) : Type 0 where
@@ -179,10 +191,10 @@ abbrev pub IsDone : Reply → Type 0
 IsDone (reply.No r) = ⊥
 IsDone answer = Unit {0}
 
--- so was each line but an export, behind which no pool is open to hold them, and a step of a removal behind which they are not told, which was done
-abbrev pub IsPlainOf : (PoolState → Type 0) → PoolState → Command → Reply → Type 0
-IsPlainOf Holds p cmd.Export reply.Done = Unit {0}
-IsPlainOf Holds p command answer = MatchBool (is_untold_behind command answer) (IsDone answer) (IsPlainOn Holds p command answer)
+-- so was each line but an export, behind which no pool is open to hold them, and a step of a removal behind which they are not told, by whether copies are told to have the bytes of their units, which was done
+abbrev pub IsPlainOf : Bool → (PoolState → Type 0) → PoolState → Command → Reply → Type 0
+IsPlainOf copies Holds p cmd.Export reply.Done = Unit {0}
+IsPlainOf copies Holds p command answer = MatchBool (is_untold_behind copies command answer) (IsDone answer) (IsPlainOn Holds p command answer)
 
 -- a pool that was made is a new one, one that was imported is what the disks showed, and one that went back to its checkpoint is what this had saved
 abbrev pub IsMade : Shelf → (PoolState → Type 0) → Command → Type 0

@@ -17,6 +17,7 @@ use Rattle.zr_rules.specs.Space.{Space}
 use Rattle.zr_rules.specs.Steps.{has_condensing}
 use Rattle.zr_shelf.specs.Disks.{Stand}
 use Rattle.zr_stops.specs.Behind.{StandsBehind}
+use Rattle.zr_sync.specs.Copies.{HasCopies}
 use Rattle.zr_sync.specs.Heads.{HasHead}
 use Rattle.zr_sync.specs.Moves.{TellsMoves}
 use Rattle.zr_sync.specs.Objects.{HoldsObjects}
@@ -100,6 +101,10 @@ IsBehind None disks objects = IsClosedBehind disks objects
 abbrev pub AreCurrent : Option OpenPool → List (List ℕ) → Type 0
 AreCurrent pool disks = IfSome pool (λ x. (u : Uber) × GoesOnFrom u x × IsShownFor disks u x)
 
+-- each copy of a unit of a device that is leaving, of the pool that is open, has the bytes of its unit
+abbrev pub AreCopied : Option OpenPool → List (List ℕ) → Type 0
+AreCopied pool disks = IfSome pool (HasCopies disks)
+
 -- where each device of the open pool is in service and no root is saved, an import finds the commit of these objects
 abbrev pub IsFoundBehind : Option OpenPool → Disks → Objects → Type 0
 IsFoundBehind None disks objects = Unit {0}
@@ -119,7 +124,7 @@ IsAsBegun pool disks first = (pool ≡ None) × IsUnwritten first disks
 
 -- What is told of a pool on devices between two commands: its objects, as far as these are told, what it holds beside its disks while it is open, whether the disks show it, whether they have the trees
 -- of its streams, and which objects were committed last, as far as that is told; how the disks stood when the run began, while nothing was written since; and whether the slots show its root as the current one,
--- and an import finds what was committed last.
+-- and an import finds what was committed last; and whether copies of units of a device that is leaving have the bytes of their units.
 pub record DeviceState : Type 0 where
   pub told : State
   pub account : Option OpenPool
@@ -129,10 +134,11 @@ pub record DeviceState : Type 0 where
   pub begun : Option Disks
   pub current : Bool
   pub found : Bool
+  pub copies : Bool
 
 -- no pool yet
 abbrev pub no_device_state : Disks → DeviceState
-no_device_state disks = record { told = no_pool; account = None; shown = false; trees = false; behind = None; begun = Some disks; current = false; found = false }
+no_device_state disks = record { told = no_pool; account = None; shown = false; trees = false; behind = None; begun = Some disks; current = false; found = false; copies = true }
 
 -- what is told of the pool and its disks is so, and the account is the pool's own
 pub record Stands (pool : Option OpenPool) (disks : Disks) (state : DeviceState) : Type 0 where
@@ -144,3 +150,4 @@ pub record Stands (pool : Option OpenPool) (disks : Disks) (state : DeviceState)
   pub begun : IfSome state.begun (IsAsBegun pool disks)
   pub current : state.current ≡ true → AreCurrent pool disks.seen
   pub found : state.found ≡ true → IfSome state.behind (IsFoundBehind pool disks)
+  pub copies : state.copies ≡ true → AreCopied pool disks.seen

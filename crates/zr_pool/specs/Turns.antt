@@ -18,9 +18,9 @@ use Rattle.zr_model.specs.Runs.{Point, Shelf, Turn}
 use Rattle.zr_sync.specs.Pools.{IsOpen}
 use Rattle.zr_sync.specs.declared.open.OpenPool.{OpenPool}
 use Rattle.zr_pool.specs.Accounts.{Turns, Begins, BeginsNone}
-use Rattle.zr_pool.specs.Behind.{IsBehindTurn, LeavesBegun, LeavesEither, LeavesOnly, LeavesOpened, begun_behind, is_commit, is_in_group, keeps_trees, may_stop}
-use Rattle.zr_pool.specs.Plain.{IsFoundAgain, IsObjectsTurn, IsRejoined, is_background, is_of_removal, is_untold_behind}
-use Rattle.zr_pool.specs.Pools.{DeviceState, IsUnwritten, no_device_state, stand_of}
+use Rattle.zr_pool.specs.Behind.{IsBehindTurn, LeavesBegun, LeavesEither, LeavesOnly, LeavesOpened, begun_behind, is_commit, is_in_group, leaves_trees, may_stop}
+use Rattle.zr_pool.specs.Plain.{IsFoundAgain, IsObjectsTurn, IsRejoined, ends_removal, is_background, is_of_removal}
+use Rattle.zr_pool.specs.Pools.{DeviceState, IsUnwritten, is_evacuating, no_device_state, stand_of}
 use Rattle.zr_recorded.specs.Crashes.{ShowsPool}
 use Rattle.zr_recorded.specs.Service.{IsWhole}
 use Rattle.zr_pool.specs.Replies.{TellsFault}
@@ -111,11 +111,11 @@ IsRemoveRefusal refusal.OnlyDevice = Unit {0}
 IsRemoveRefusal (refusal.NoRoom needed free) = free < needed
 IsRemoveRefusal r = ⊥
 
--- Whether the disks are told to show the pool behind a line, by whether one was open before it, and they were told so then: they show one that is made or opened, and so they do behind each line but those steps of a
--- removal behind which the objects are not told. A refusal leaves that.
+-- Whether the disks are told to show the pool behind a line, by whether one was open before it, and they were told so then: they show one that is made or opened, and so they do behind each line but a step that ends a
+-- removal. A refusal leaves that.
 abbrev pub is_shown : Bool → Bool → Command → Reply → Bool
 is_shown is_open shown command (reply.No r) = shown
-is_shown true shown command answer = shown && not (is_untold_behind command answer)
+is_shown true shown command answer = shown && not (ends_removal command answer)
 is_shown false shown command answer = true
 
 -- the objects are told
@@ -128,7 +128,7 @@ abbrev pub is_standing : Bool → ShelfPart → Bool → Command → Reply → B
 is_standing false part trees command (reply.No r) = trees
 is_standing false part trees command answer = true
 is_standing true part trees command (reply.No r) = trees && is_told part
-is_standing true part trees command answer = trees && (is_told part && keeps_trees command)
+is_standing true part trees command answer = trees && (is_told part && leaves_trees command answer)
 
 -- Whether the slots are told to show the root of the open pool as the current one behind a line, by whether a pool was open before it, its objects were told, and the slots were told so then: they do behind an `import`
 -- that is done, and stay so over each line that works in the group that is open or commits it, over a step in the background, and over a refusal.
@@ -138,6 +138,22 @@ is_current false part current cmd.Import answer = true
 is_current false part current command answer = false
 is_current true part current command (reply.No r) = current && is_told part
 is_current true part current command answer = current && (is_told part && (is_in_group command || is_background command answer))
+
+-- no device of the pool that is open is leaving
+abbrev pub none_leaving : Option OpenPool → Bool
+none_leaving None = true
+none_leaving (Some pool) = not (is_evacuating pool.space)
+
+-- The line leaves copies the bytes of their units: it works in the group that is open or commits it, takes a device out of service, is a step in the background, or is refused.
+abbrev pub leaves_copies : Command → Reply → Bool
+leaves_copies command (reply.No r) = true
+leaves_copies (cmd.Remove dev) answer = true
+leaves_copies command answer = is_in_group command || is_background command answer
+
+-- Whether copies are told to have the bytes of their units behind a line, by whether a pool was open before it, its objects were told, and copies were told so then, and by the account behind it: they are where no device
+-- is leaving, and stay so over those lines.
+abbrev pub is_copied : Bool → ShelfPart → Bool → Command → Reply → Option OpenPool → Bool
+is_copied is_open part copies command answer account = none_leaving account || (is_open && (copies && (is_told part && leaves_copies command answer)))
 
 -- Whether an import is told to find what was committed last behind a line, by the account, and by whether the trees, the slots and a commit were told so before it: a commit is found where the trees of the streams stand and
 -- the slots show the last root, and it stays so over tables, and where the trees stand over lines on objects and refusals, which may commit. Behind other lines it is not told until the next commit.
@@ -242,13 +258,13 @@ works_on true work Discard = work.discard
 works_on true work Condense = work.condense
 works_on false work actor = false
 
--- What commands mean to the objects that are told: each answer is one to its line, the pool is open where it should be, and the objects are those of a pool of
+-- What commands mean to the objects that are told, by whether copies are told to have the bytes of their units: each answer is one to its line, the pool is open where it should be, and the objects are those of a pool of
 -- plain objects. Of damage that ends a run nothing is said yet.
-abbrev pub on_objects_told : Meaning
-on_objects_told = record {
+abbrev pub on_objects_told : Bool → Meaning
+on_objects_told copies = record {
   State = State;
   none = λ disks. no_pool;
-  takes = λ p t. IsTurn p.state.is_open t.command t.answer t.point.state.is_open × IsObjectsTurn p.state.is_open p.state.shelf p.shelf p.state t.command t.answer t.point.state;
+  takes = λ p t. IsTurn p.state.is_open t.command t.answer t.point.state.is_open × IsObjectsTurn copies p.state.is_open p.state.shelf p.shelf p.state t.command t.answer t.point.state;
   serves = λ paths state command. IsServed command;
   damages = λ p command found. Unit {0};
   blames = TellsFault;
@@ -276,9 +292,9 @@ abbrev pub told_turn : Turn DeviceState → Turn State
 told_turn t = record { command = t.command; answer = t.answer; point = told_point t.point }
 
 -- One line to the pool on devices: what it makes of the objects and of the account, which is that of a lawful pool on these disks, whether the disks are told to show it and to have the trees of its streams, which objects
--- are told to be committed last, whether nothing was written yet, and whether the slots show its root and an import finds what was committed last. An import finds the objects that were left there, where no device is removed, or the trees of the streams were told to stand.
+-- are told to be committed last, whether nothing was written yet, whether the slots show its root and an import finds what was committed last, and whether copies have the bytes of their units. An import finds the objects that were left there, where no device is removed, or the trees of the streams were told to stand.
 pub record IsDeviceTurn (p : Point DeviceState) (t : Turn DeviceState) : Type 0 where
-  pub objects : on_objects_told.takes (told_point p) (told_turn t)
+  pub objects : (on_objects_told p.state.copies).takes (told_point p) (told_turn t)
   pub account : IsAccountTurn p.shelf p.state.account t.command t.answer t.point.shelf t.point.state.account
   pub lawful : IfSome t.point.state.account (IsOpen (sizes_of t.point.shelf.disks))
   pub shown : t.point.state.shown ≡ is_shown p.state.told.is_open p.state.shown t.command t.answer
@@ -287,6 +303,7 @@ pub record IsDeviceTurn (p : Point DeviceState) (t : Turn DeviceState) : Type 0 
   pub begun : t.point.state.begun ≡ begun_behind p.state.begun t.answer
   pub current : t.point.state.current ≡ is_current p.state.told.is_open p.state.told.shelf p.state.current t.command t.answer
   pub found : t.point.state.found ≡ is_found p.state.account p.state.trees p.state.current p.state.found t.command t.answer
+  pub copies : t.point.state.copies ≡ is_copied p.state.told.is_open p.state.told.shelf p.state.copies t.command t.answer t.point.state.account
   pub rejoined : p.state.shown ≡ true → t.command ≡ cmd.Import → t.answer ≡ reply.Done → IsRejoined p.state.told.shelf t.point.state.told.shelf
   pub found_again : p.state.shown ≡ true → p.state.trees ≡ true → t.command ≡ cmd.Import → t.answer ≡ reply.Done → IsFoundAgain p.state.told.shelf t.point.state.told.shelf
 

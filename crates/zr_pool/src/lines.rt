@@ -1,10 +1,11 @@
 //! The lines of an open pool, each with its call.
-ghost use Rattle.std.specs.Prelude.{◌≡◌, ◌≤◌, ℕ, List, true, false, IfOk, IsErrOf, OnOk, length, slice_index};
+ghost use Rattle.std.specs.Prelude.{◌≡◌, ◌≤◌, ℕ, Bool, List, true, false, IfOk, IsErrOf, OnOk, length, slice_index};
 ghost use Rattle.zr_base.specs.Counts.{HasRisen};
 ghost use Rattle.zr_base.specs.declared.refusal.Refusal.{Refusal};
 ghost use Rattle.zr_change.specs.Edits.{HasLength, byte_put};
 ghost use Rattle.zr_script.specs.Grammar.{IsLine};
 ghost use Rattle.zr_shelf.specs.Counts.{NoneFell};
+ghost use Rattle.zr_sync.specs.Copies.{KeepsCopies};
 ghost use Rattle.zr_sync.specs.Pools.{IsOpen};
 ghost use Rattle.zr_sync.specs.Writes.{WorksOnDisks};
 ghost use Rattle.zr_sync.specs.declared.fault.Fault.TheVariants.{No, Stops};
@@ -85,7 +86,7 @@ pub fn object_line<S: Shelf>(
     ensures fault { IsErrOf result (Stops DiskFault) → HasRisen (S.counts shelf.old).disk (S.counts shelf.new).disk }
     ensures pool { OnOk result (IsOpen (S.sizes shelf.new) pool.new) }
     ensures pool_no { (r : Refusal) → IsErrOf result (No r) → IsOpen (S.sizes shelf.new) pool.new }
-    ensures acts { (p : PoolState) → HoldsState (S.tells shelf.old) (S.world shelf.old).now.seen pool.old p → IfOk result (IsPlainOf (HoldsState (S.tells shelf.new) (S.world shelf.new).now.seen pool.new) p command.now) }
+    ensures acts { (copies : Bool) (p : PoolState) → HoldsState (S.tells shelf.old) (S.world shelf.old).now.seen pool.old p → IfOk result (IsPlainOf copies (HoldsState (S.tells shelf.new) (S.world shelf.new).now.seen pool.new) p command.now) }
     ensures stays { (p : PoolState) → HoldsState (S.tells shelf.old) (S.world shelf.old).now.seen pool.old p → (r : Refusal) → IsErrOf result (No r) → HoldsState (S.tells shelf.new) (S.world shelf.new).now.seen pool.new p }
     ensures cause { (p : PoolState) → HoldsState (S.tells shelf.old) (S.world shelf.old).now.seen pool.old p → (r : Refusal) → IsErrOf result (No r) → IsPlainRefusal p command.now r }
     ensures shown { S.tells shelf.old → OnOk result (KeepsLast (S.world shelf.old) (S.world shelf.new) pool.old pool.new) }
@@ -190,7 +191,7 @@ pub fn pool_line<S: Shelf>(
     ensures fault { IsErrOf result (Stops DiskFault) → HasRisen (S.counts shelf.old).disk (S.counts shelf.new).disk }
     ensures pool { OnOk result (IsOpen (S.sizes shelf.new) pool.new) }
     ensures pool_no { (r : Refusal) → IsErrOf result (No r) → IsOpen (S.sizes shelf.new) pool.new }
-    ensures acts { (p : PoolState) → HoldsState (S.tells shelf.old) (S.world shelf.old).now.seen pool.old p → IfOk result (IsPlainOf (HoldsState (S.tells shelf.new) (S.world shelf.new).now.seen pool.new) p command.now) }
+    ensures acts { (copies : Bool) (p : PoolState) → HoldsState (S.tells shelf.old) (S.world shelf.old).now.seen pool.old p → IfOk result (IsPlainOf copies (HoldsState (S.tells shelf.new) (S.world shelf.new).now.seen pool.new) p command.now) }
     ensures stays { (p : PoolState) → HoldsState (S.tells shelf.old) (S.world shelf.old).now.seen pool.old p → (r : Refusal) → IsErrOf result (No r) → HoldsState (S.tells shelf.new) (S.world shelf.new).now.seen pool.new p }
     ensures cause { (p : PoolState) → HoldsState (S.tells shelf.old) (S.world shelf.old).now.seen pool.old p → (r : Refusal) → IsErrOf result (No r) → IsPlainRefusal p command.now r }
     ensures shown { S.tells shelf.old → OnOk result (KeepsLast (S.world shelf.old) (S.world shelf.new) pool.old pool.new) }
@@ -198,6 +199,7 @@ pub fn pool_line<S: Shelf>(
     ensures stays_no { S.tells shelf.old → (r : Refusal) → IsErrOf result (No r) → StaysInGroup pool.old pool.new (S.world shelf.old) (S.world shelf.new) }
     ensures still { command.now ≡ StepDiscard → IsStill (S.world shelf.old) (S.world shelf.new) }
     ensures steps { command.now ≡ StepDiscard → OnOk result (OpensNoUnit pool.old pool.new) }
+    ensures step_copies { command.now ≡ StepDiscard → OnOk result (KeepsCopies (S.world shelf.old) (S.world shelf.new) pool.old pool.new) }
     ensures step_trees { command.now ≡ StepDiscard → OnOk result (KeepsTrees pool.old pool.new (S.world shelf.old) (S.world shelf.new)) }
     ensures left { command.now ≡ Export → (p : PoolState) → HoldsState (S.tells shelf.old) (S.world shelf.old).now.seen pool.old p → OnOk result (IsAtRest (S.world shelf.new).now.seen pool.new p) }
     ensures commits { is_commit command.now ≡ true → (p : PoolState) → HoldsState (S.tells shelf.old) (S.world shelf.old).now.seen pool.old p → OnOk result (EndsCommitted (S.sizes shelf.old) false pool.old pool.new p.objects (S.world shelf.old) (S.world shelf.new)) }

@@ -1,9 +1,9 @@
 //! The lines of a removal, and of condensing a mapping.
 //!
 //! Each goes to its call. A removal that begins or is given up, a step that copies, and one of condensing leave the objects as
-//! they are. What the devices hold of them behind a step that ends a removal is not told yet; a line that is refused changes
-//! nothing.
-ghost use Rattle.std.specs.Prelude.{◌≡◌, ◌≤◌, ◌<◌, ◌*◌, ℕ, List, Some, true, false, length, IfOk, IfErr, OnOk, IsErrOf};
+//! they are. So does a step that ends a removal, where each copy has the bytes of its unit, and each of these lines leaves the
+//! copies so; a line that is refused changes nothing.
+ghost use Rattle.std.specs.Prelude.{◌≡◌, ◌≤◌, ◌<◌, ◌*◌, ℕ, Bool, List, Some, true, false, length, IfOk, IfErr, OnOk, IsErrOf};
 ghost use Rattle.zr_base.specs.Counts.{HasRisen};
 ghost use Rattle.zr_base.specs.declared.refusal.Refusal.{Refusal};
 ghost use Rattle.zr_base.specs.declared.refusal.Refusal.TheVariants.{OnlyDevice};
@@ -20,13 +20,14 @@ ghost use Rattle.zr_rules.specs.Places.{part_of, state_of_dev};
 ghost use Rattle.zr_script.specs.declared.command.Command.TheVariants.{StepCondense};
 ghost use Rattle.zr_shelf.specs.Counts.{NoneFell};
 ghost use Rattle.zr_shelf.specs.Moments.{IsStill};
+ghost use Rattle.zr_sync.specs.Copies.{HasCopies, KeepsCopies};
 ghost use Rattle.zr_sync.specs.Pools.{IsOpen};
 ghost use Rattle.zr_sync.specs.States.{HasCheckpoint, HoldsState};
 ghost use Rattle.zr_sync.specs.Writes.{WorksOnDisks, WritesIntoFree};
 ghost use Rattle.zr_sync.specs.declared.fault.Fault.TheVariants.{No, Stops};
 ghost use Rattle.zr_sync.specs.declared.stop.Stop.TheVariants.{DiskFault};
-ghost use Rattle.zr_pool.specs.Behind.{HasReset, StopsInReset, ends_no_removal, is_resetting, is_return};
-ghost use Rattle.zr_pool.specs.Plain.{IsCheckpointCause, IsDone, IsPlainOf, IsPlainRefusal, is_background, is_of_removal, is_untold_behind};
+ghost use Rattle.zr_pool.specs.Behind.{HasReset, KeepsTrees, StopsInReset, ends_no_removal, is_resetting, is_return};
+ghost use Rattle.zr_pool.specs.Plain.{IsCheckpointCause, IsDone, IsPlainOf, IsPlainRefusal, ends_removal, is_background, is_copy, is_of_removal};
 ghost use Rattle.zr_pool.specs.Accounts.{IsRemovable, IsRemovalCause, Refuses, Turns};
 ghost use Rattle.zr_pool.specs.Replies.{TellsFault, condense_reply, evac_reply};
 ghost use Rattle.zr_pool.specs.Turns.{IsOpenAnswer, IsOpenRefusal, IsRemoveRefusal};
@@ -133,10 +134,12 @@ pub fn removal_line<S: Shelf>(
     ensures pool { OnOk result (IsOpen (S.sizes shelf.new) pool.new) }
     ensures unchanged { (r : Refusal) → IsErrOf result (No r) → pool.new ≡ pool.old }
     ensures untouched { (r : Refusal) → IsErrOf result (No r) → S.world shelf.new ≡ S.world shelf.old }
-    ensures acts { (p : PoolState) → HoldsState (S.tells shelf.old) (S.world shelf.old).now.seen pool.old p → IfOk result (IsPlainOf (HoldsState (S.tells shelf.new) (S.world shelf.new).now.seen pool.new) p command.now) }
+    ensures acts { (copies : Bool) → (copies ≡ true → HasCopies (S.world shelf.old).now.seen pool.old) → (p : PoolState) → HoldsState (S.tells shelf.old) (S.world shelf.old).now.seen pool.old p → IfOk result (IsPlainOf copies (HoldsState (S.tells shelf.new) (S.world shelf.new).now.seen pool.new) p command.now) }
     ensures cause { (p : PoolState) → HoldsState (S.tells shelf.old) (S.world shelf.old).now.seen pool.old p → (r : Refusal) → IsErrOf result (No r) → IsPlainRefusal p command.now r }
-    ensures shown { S.tells shelf.old → IfOk result (λ reply. is_untold_behind command.now reply ≡ false → KeepsLast (S.world shelf.old) (S.world shelf.new) pool.old pool.new) }
+    ensures shown { S.tells shelf.old → IfOk result (λ reply. ends_removal command.now reply ≡ false → KeepsLast (S.world shelf.old) (S.world shelf.new) pool.old pool.new) }
     ensures background { S.tells shelf.old → IfOk result (λ reply. is_background command.now reply ≡ true → WritesIntoFree pool.old (S.world shelf.old) (S.world shelf.new) × OpensNoUnit pool.old pool.new) }
+    ensures copied { S.tells shelf.old → IfOk result (λ reply. is_copy command.now reply ≡ true → KeepsTrees pool.old pool.new (S.world shelf.old) (S.world shelf.new)) }
+    ensures copies { S.tells shelf.old → OnOk result (KeepsCopies (S.world shelf.old) (S.world shelf.new) pool.old pool.new) }
     ensures still { command.now ≡ StepCondense → IsStill (S.world shelf.old) (S.world shelf.new) }
     ensures comes_back { (p : PoolState) → HoldsState (S.tells shelf.old) (S.world shelf.old).now.seen pool.old p → IfOk result (λ reply. is_return reply command.now ≡ true → HasReset pool.new (S.world shelf.new).now p.objects) }
     ensures resets { is_resetting command.now ≡ true → (p : PoolState) → HoldsState (S.tells shelf.old) (S.world shelf.old).now.seen pool.old p → OnOk result (HasReset pool.new (S.world shelf.new).now p.objects) }

@@ -64,13 +64,13 @@ module _ (p : Point DeviceState) (done : List (Turn DeviceState)) (t : Turn Devi
 
   -- behind a commit that is acknowledged
   held : (q : PoolState) → old.told.shelf ≡ Is q → q.objects ≡ objects → is_acknowledged t.answer t.command ≡ true → IsOfPrefix p (done ++ t ∷ []) objects
-  held q told same acknowledged = whole (q, acknowledged_told t.answer t.command old.told.is_open old.told.shelf (end_of p done).shelf old.told t.point.state.told q told acknowledged turn.objects.0 turn.objects.1, same)
+  held q told same acknowledged = whole (q, acknowledged_told old.copies t.answer t.command old.told.is_open old.told.shelf (end_of p done).shelf old.told t.point.state.told q told acknowledged turn.objects.0 turn.objects.1, same)
 
   -- of a pool that was made
   was_made : is_create t.command ≡ true → t.answer ≡ reply.Done → TellsOf t.point.state.told.shelf map.empty
   was_made create answered =
-      made_told t.command old.told.is_open old.told.shelf (end_of p done).shelf old.told t.point.state.told create (subst (λ (a : Reply). IsTurn old.told.is_open t.command a t.point.state.told.is_open) answered turn.objects.0)
-      (subst (λ (a : Reply). IsObjectsTurn old.told.is_open old.told.shelf (end_of p done).shelf old.told t.command a t.point.state.told) answered turn.objects.1)
+      made_told old.copies t.command old.told.is_open old.told.shelf (end_of p done).shelf old.told t.point.state.told create (subst (λ (a : Reply). IsTurn old.told.is_open t.command a t.point.state.told.is_open) answered turn.objects.0)
+      (subst (λ (a : Reply). IsObjectsTurn old.copies old.told.is_open old.told.shelf (end_of p done).shelf old.told t.command a t.point.state.told) answered turn.objects.1)
 
   by_acknowledged : (b : Bool) → is_acknowledged t.answer t.command ≡ b → ComesFrom old t.command t.answer t.point.state.told.shelf objects → IsOfPrefix p (done ++ t ∷ []) objects
   by_acknowledged true is_so (kept q told leaves off was) = no_way (sym off ∙ is_so)
@@ -78,7 +78,7 @@ module _ (p : Point DeviceState) (done : List (Turn DeviceState)) (t : Turn Devi
   by_acknowledged false off (kept q told leaves also was) = shorter (record { small = leaves_small old.account t.answer t.command leaves; unacknowledged = off }) (keeps objects was)
   by_acknowledged false off (committed leaves told) = shorter (record { small = leaves_small old.account t.answer t.command leaves; unacknowledged = off }) (told_now told)
   by_acknowledged b which (changed on (q, told, same)) =
-      whole (subst (TellsOf t.point.state.told.shelf) same (reset_told t.command t.answer old.told.is_open old.told.shelf (end_of p done).shelf old.told t.point.state.told q told on turn.objects.0 turn.objects.1))
+      whole (subst (TellsOf t.point.state.told.shelf) same (reset_told old.copies t.command t.answer old.told.is_open old.told.shelf (end_of p done).shelf old.told t.point.state.told q told on turn.objects.0 turn.objects.1))
   by_acknowledged b which (made create answered none) = whole (subst (TellsOf t.point.state.told.shelf) (sym none) (was_made create answered))
   by_acknowledged b which (found imports answered told) = whole told
 

@@ -84,25 +84,25 @@ returns-in_err-bytes-in-Read-clause-cause g c = λ p h r is.
     (plain_refusal p.objects (cmd.Read c.in-Read.id c.in-Read.off c.in-Read.len) r (λ x. c.read.ensures.missing p.objects h.objects (was ∙ ap (λ y. Err (No y)) x)) (λ x. c.read.ensures.beyond p.objects h.objects (was ∙ ap (λ y. Err (No y)) x)) (λ x. tt))
 
 pub returns-in_ok-make-in-Make-clause-acts : goal.returns-in_ok-make-in-Make-clause-acts
-returns-in_ok-make-in-Make-clause-acts g c = λ p h.
+returns-in_ok-make-in-Make-clause-acts g c = λ copies p h.
     let Holds = HoldsState (g.S.Shelf.tells c.make.new.shelf) (g.S.Shelf.world c.make.new.shelf).now.seen c.make.new.pool in
-    subst (λ (command : Command). IsPlainOf Holds p command reply.Done) (sym c.in-Make.is) (made_on Holds p c.in-Make.id c.in-Make.units (same_state _ _ c.args.pool.now c.make.new.pool p (with_objects p (map.insert p.objects c.in-Make.id (blank c.in-Make.units))) h.checkpoint (c.make.ensures.same (answered_ok c.make.result c.in_ok-make-in-Make.was)).ckpt refl refl (c.in_ok-make-in-Make.ensures.comes p.objects h.objects).1))
+    subst (λ (command : Command). IsPlainOf copies Holds p command reply.Done) (sym c.in-Make.is) (made_on Holds p c.in-Make.id c.in-Make.units (same_state _ _ c.args.pool.now c.make.new.pool p (with_objects p (map.insert p.objects c.in-Make.id (blank c.in-Make.units))) h.checkpoint (c.make.ensures.same (answered_ok c.make.result c.in_ok-make-in-Make.was)).ckpt refl refl (c.in_ok-make-in-Make.ensures.comes p.objects h.objects).1))
 
 pub returns-in_ok-drop-in-Drop-clause-acts : goal.returns-in_ok-drop-in-Drop-clause-acts
-returns-in_ok-drop-in-Drop-clause-acts g c = λ p h.
+returns-in_ok-drop-in-Drop-clause-acts g c = λ copies p h.
     let Holds = HoldsState (g.S.Shelf.tells c.drop.new.shelf) (g.S.Shelf.world c.drop.new.shelf).now.seen c.drop.new.pool in
-    subst (λ (command : Command). IsPlainOf Holds p command reply.Done) (sym c.in-Drop.is) (dropped_on Holds p c.in-Drop.id (let gone = c.in_ok-drop-in-Drop.ensures.gone p.objects h.objects in (gone.0, gone.1, same_state _ _ c.args.pool.now c.drop.new.pool p (with_objects p (map.remove p.objects c.in-Drop.id)) h.checkpoint (c.drop.ensures.same (answered_ok c.drop.result c.in_ok-drop-in-Drop.was)).ckpt refl refl gone.2)))
+    subst (λ (command : Command). IsPlainOf copies Holds p command reply.Done) (sym c.in-Drop.is) (dropped_on Holds p c.in-Drop.id (let gone = c.in_ok-drop-in-Drop.ensures.gone p.objects h.objects in (gone.0, gone.1, same_state _ _ c.args.pool.now c.drop.new.pool p (with_objects p (map.remove p.objects c.in-Drop.id)) h.checkpoint (c.drop.ensures.same (answered_ok c.drop.result c.in_ok-drop-in-Drop.was)).ckpt refl refl gone.2)))
 
 pub returns-in_ok-bytes-in-Read-clause-acts : goal.returns-in_ok-bytes-in-Read-clause-acts
-returns-in_ok-bytes-in-Read-clause-acts g c = λ p h.
+returns-in_ok-bytes-in-Read-clause-acts g c = λ copies p h.
     let Holds = HoldsState (g.S.Shelf.tells c.read.new.shelf) (g.S.Shelf.world c.read.new.shelf).now.seen c.read.new.pool in
     let there = read_on Holds p c.in-Read.id c.in-Read.off c.in-Read.len c.in_ok-bytes-in-Read.bytes.items (c.in_ok-bytes-in-Read.ensures.object p.objects h.objects) (same_state _ _ c.args.pool.now c.read.new.pool p p h.checkpoint c.read.ensures.same.ckpt refl refl (c.read.ensures.stays p.objects h.objects)) in
-    subst (λ (command : Command). IsPlainOf Holds p command (reply.Data c.from_vec.result)) (sym c.in-Read.is) (subst (λ bytes. IsPlainOn Holds p (cmd.Read c.in-Read.id c.in-Read.off c.in-Read.len) (reply.Data bytes)) (sym c.from_vec.ensures) there)
+    subst (λ (command : Command). IsPlainOf copies Holds p command (reply.Data c.from_vec.result)) (sym c.in-Read.is) (subst (λ bytes. IsPlainOn Holds p (cmd.Read c.in-Read.id c.in-Read.off c.in-Read.len) (reply.Data bytes)) (sym c.from_vec.ensures) there)
 
 pub returns-in_ok-sum-in-Sum-clause-acts : goal.returns-in_ok-sum-in-Sum-clause-acts
-returns-in_ok-sum-in-Sum-clause-acts g c = λ p h.
+returns-in_ok-sum-in-Sum-clause-acts g c = λ copies p h.
     let Holds = HoldsState (g.S.Shelf.tells c.sum.new.shelf) (g.S.Shelf.world c.sum.new.shelf).now.seen c.sum.new.pool in
-    subst (λ (command : Command). IsPlainOf Holds p command (reply.Sum c.in_ok-sum-in-Sum.field-0)) (sym c.in-Sum.is) (sum_on Holds p c.in-Sum.id c.in_ok-sum-in-Sum.field-0 (c.in_ok-sum-in-Sum.ensures.object p.objects h.objects) (same_state _ _ c.args.pool.now c.sum.new.pool p p h.checkpoint c.sum.ensures.same.ckpt refl refl (c.sum.ensures.stays p.objects h.objects)))
+    subst (λ (command : Command). IsPlainOf copies Holds p command (reply.Sum c.in_ok-sum-in-Sum.field-0)) (sym c.in-Sum.is) (sum_on Holds p c.in-Sum.id c.in_ok-sum-in-Sum.field-0 (c.in_ok-sum-in-Sum.ensures.object p.objects h.objects) (same_state _ _ c.args.pool.now c.sum.new.pool p p h.checkpoint c.sum.ensures.same.ckpt refl refl (c.sum.ensures.stays p.objects h.objects)))
 
 pub returns-in_err-change-in-Write-clause-stays : goal.returns-in_err-change-in-Write-clause-stays
 returns-in_err-change-in-Write-clause-stays g c = λ p h r is.
@@ -120,12 +120,12 @@ returns-in_err-change-in-Write-clause-cause g c = λ p h r is.
     (plain_refusal p.objects (cmd.Write c.in-Write.id c.in-Write.off c.in-Write.bytes) r (λ x. c.change.ensures.absent_object p.objects h.objects (was ∙ ap (λ y. Err (No y)) x)) (λ x. (c.given-edit.result, c.given-edit.ensures.off, c.given-edit.ensures.len ∙ ap length c.as_slice.ensures, c.change.ensures.too_far_object p.objects h.objects (was ∙ ap (λ y. Err (No y)) x))) (λ x. tt))
 
 pub returns-in_ok-change-in-Write-clause-acts : goal.returns-in_ok-change-in-Write-clause-acts
-returns-in_ok-change-in-Write-clause-acts g c = λ p h.
+returns-in_ok-change-in-Write-clause-acts g c = λ copies p h.
     let Holds = HoldsState (g.S.Shelf.tells c.change.new.shelf) (g.S.Shelf.world c.change.new.shelf).now.seen c.change.new.pool in
     let bytes = c.as_slice.result.now in
     let done = edited_state _ _ c.args.pool.now c.change.new.pool p c.in-Write.id bytes c.given-edit.result h.checkpoint c.in_ok-change-in-Write.ensures.same.ckpt (λ o. is_in_reach Write o.units c.given-edit.result ≡ true) (c.in_ok-change-in-Write.ensures.edited p.objects bytes h.objects (sym c.given-edit.ensures.len) (λ k lt. sym (c.given-edit.ensures.puts k))) in
     let turn = written_on Holds p c.in-Write.id c.in-Write.off bytes (changed_by Holds p c.in-Write.id c.in-Write.off bytes c.given-edit.result (λ o. is_in_reach Write o.units c.given-edit.result ≡ true) c.given-edit.ensures.off done) in
-    subst (λ (command : Command). IsPlainOf Holds p command reply.Done) (sym c.in-Write.is) (subst (λ (bs : List ℕ). IsPlainOn Holds p (cmd.Write c.in-Write.id c.in-Write.off bs) reply.Done) c.as_slice.ensures turn)
+    subst (λ (command : Command). IsPlainOf copies Holds p command reply.Done) (sym c.in-Write.is) (subst (λ (bs : List ℕ). IsPlainOn Holds p (cmd.Write c.in-Write.id c.in-Write.off bs) reply.Done) c.as_slice.ensures turn)
 
 pub returns-in_err-change-in-Fill-clause-stays : goal.returns-in_err-change-in-Fill-clause-stays
 returns-in_err-change-in-Fill-clause-stays g c = λ p h r is.
@@ -143,14 +143,14 @@ returns-in_err-change-in-Fill-clause-cause g c = λ p h r is.
     (plain_refusal p.objects (cmd.Fill c.in-Fill.id c.in-Fill.off c.in-Fill.len c.in-Fill.byte) r (λ x. c.change-in-Fill.ensures.absent_object p.objects h.objects (was ∙ ap (λ y. Err (No y)) x)) (λ x. (c.filled-edit.result, c.filled-edit.ensures.off, c.filled-edit.ensures.len, c.change-in-Fill.ensures.too_far_object p.objects h.objects (was ∙ ap (λ y. Err (No y)) x))) (λ x. tt))
 
 pub returns-in_ok-change-in-Fill-clause-acts : goal.returns-in_ok-change-in-Fill-clause-acts
-returns-in_ok-change-in-Fill-clause-acts g c = λ p h.
+returns-in_ok-change-in-Fill-clause-acts g c = λ copies p h.
     let Holds = HoldsState (g.S.Shelf.tells c.change-in-Fill.new.shelf) (g.S.Shelf.world c.change-in-Fill.new.shelf).now.seen c.change-in-Fill.new.pool in
     let n = c.in-Fill.len in
     let bytes : List ℕ = replicate n c.in-Fill.byte in
     let each : (k : ℕ) → k < c.filled-edit.result.len → slice_index bytes k ≡ byte_put c.filled-edit.result.bytes k = λ k lt. get_or-replicate n k c.in-Fill.byte 0 (subst (λ (m : ℕ). k < m) c.filled-edit.ensures.len lt) ∙ sym (c.filled-edit.ensures.puts k) in
     let done = edited_state _ _ c.args.pool.now c.change-in-Fill.new.pool p c.in-Fill.id bytes c.filled-edit.result h.checkpoint c.in_ok-change-in-Fill.ensures.same.ckpt (λ o. is_in_reach Fill o.units c.filled-edit.result ≡ true) (c.in_ok-change-in-Fill.ensures.edited p.objects bytes h.objects (length-replicate n c.in-Fill.byte ∙ sym c.filled-edit.ensures.len) each) in
     let turn = filled_on Holds p c.in-Fill.id c.in-Fill.off c.in-Fill.len c.in-Fill.byte (changed_by Holds p c.in-Fill.id c.in-Fill.off bytes c.filled-edit.result (λ o. is_in_reach Fill o.units c.filled-edit.result ≡ true) c.filled-edit.ensures.off done) in
-    subst (λ (command : Command). IsPlainOf Holds p command reply.Done) (sym c.in-Fill.is) turn
+    subst (λ (command : Command). IsPlainOf copies Holds p command reply.Done) (sym c.in-Fill.is) turn
 
 pub returns-in_err-change-in-Punch-clause-stays : goal.returns-in_err-change-in-Punch-clause-stays
 returns-in_err-change-in-Punch-clause-stays g c = λ p h r is.
@@ -168,14 +168,14 @@ returns-in_err-change-in-Punch-clause-cause g c = λ p h r is.
     (plain_refusal p.objects (cmd.Punch c.in-Punch.id c.in-Punch.off c.in-Punch.len) r (λ x. c.change-in-Punch.ensures.absent_object p.objects h.objects (was ∙ ap (λ y. Err (No y)) x)) (λ x. (c.filled-edit-in-Punch.result, c.filled-edit-in-Punch.ensures.off, c.filled-edit-in-Punch.ensures.len, c.change-in-Punch.ensures.too_far_object p.objects h.objects (was ∙ ap (λ y. Err (No y)) x))) (λ x. tt))
 
 pub returns-in_ok-change-in-Punch-clause-acts : goal.returns-in_ok-change-in-Punch-clause-acts
-returns-in_ok-change-in-Punch-clause-acts g c = λ p h.
+returns-in_ok-change-in-Punch-clause-acts g c = λ copies p h.
     let Holds = HoldsState (g.S.Shelf.tells c.change-in-Punch.new.shelf) (g.S.Shelf.world c.change-in-Punch.new.shelf).now.seen c.change-in-Punch.new.pool in
     let n = c.in-Punch.len in
     let bytes : List ℕ = replicate n 0 in
     let each : (k : ℕ) → k < c.filled-edit-in-Punch.result.len → slice_index bytes k ≡ byte_put c.filled-edit-in-Punch.result.bytes k = λ k lt. get_or-replicate n k 0 0 (subst (λ (m : ℕ). k < m) c.filled-edit-in-Punch.ensures.len lt) ∙ sym (c.filled-edit-in-Punch.ensures.puts k) in
     let done = edited_state _ _ c.args.pool.now c.change-in-Punch.new.pool p c.in-Punch.id bytes c.filled-edit-in-Punch.result h.checkpoint c.in_ok-change-in-Punch.ensures.same.ckpt (λ o. is_in_reach Punch o.units c.filled-edit-in-Punch.result ≡ true) (c.in_ok-change-in-Punch.ensures.edited p.objects bytes h.objects (length-replicate n 0 ∙ sym c.filled-edit-in-Punch.ensures.len) each) in
     let turn = punched_on Holds p c.in-Punch.id c.in-Punch.off c.in-Punch.len (changed_by Holds p c.in-Punch.id c.in-Punch.off bytes c.filled-edit-in-Punch.result (λ o. is_in_reach Punch o.units c.filled-edit-in-Punch.result ≡ true) c.filled-edit-in-Punch.ensures.off done) in
-    subst (λ (command : Command). IsPlainOf Holds p command reply.Done) (sym c.in-Punch.is) turn
+    subst (λ (command : Command). IsPlainOf copies Holds p command reply.Done) (sym c.in-Punch.is) turn
 
 pub returns-in_err-bytes-in-Read-clause-stays : goal.returns-in_err-bytes-in-Read-clause-stays
 returns-in_err-bytes-in-Read-clause-stays g c = λ p h r is. same_state _ _ c.args.pool.now c.read.new.pool p p h.checkpoint c.read.ensures.same.ckpt refl refl (c.read.ensures.stays p.objects h.objects)

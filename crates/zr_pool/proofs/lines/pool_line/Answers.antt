@@ -20,6 +20,7 @@ use Rattle.zr_pool.proofs.Refused.{fault_same, add_refusal, take_cause, take_ref
 use Rattle.zr_last.proofs.Lasting.{commit_last, same_last}
 use Rattle.zr_shelf.specs.Disks.{Stand}
 use Rattle.zr_pool.proofs.Shown.{same_root, still_last}
+use Rattle.zr_pool.proofs.Copied.{step_copies}
 use Rattle.zr_pool.proofs.Staying.{stays_still, same_state, held_state, discarding_state, stepped_state, objects_told, objects_anew_unit, step_answer, some_units}
 use Rattle.zr_pool.proofs.Trees.{recorded_trees, writes_no_trees}
 use Rattle.zr_pool.proofs.Resets.{reset_told}
@@ -52,22 +53,22 @@ returns-in_err-add-in-Add-clause-refused g c = λ r is.
     subst (λ (command : Command). IsOpenRefusal command r) (sym c.in-Add.is) (add_refusal _ _ _ _ _ r (c.add.ensures.refused r (c.in_err-add-in-Add.was ∙ ap Err e)))
 
 pub returns-in_ok-commit-in-Sync-clause-acts : goal.returns-in_ok-commit-in-Sync-clause-acts
-returns-in_ok-commit-in-Sync-clause-acts g c = λ p h.
+returns-in_ok-commit-in-Sync-clause-acts g c = λ copies p h.
     let Holds = HoldsState (g.S.Shelf.tells c.commit.new.shelf) (g.S.Shelf.world c.commit.new.shelf).now.seen c.commit.new.pool in
-    synced_as Holds p c.args.command.now _ c.in-Sync.is (same_state _ _ c.args.pool.now c.commit.new.pool p p h.checkpoint c.in_ok-commit-in-Sync.ensures.same.ckpt refl refl (c.in_ok-commit-in-Sync.ensures.stays p.objects h.objects))
+    synced_as copies Holds p c.args.command.now _ c.in-Sync.is (same_state _ _ c.args.pool.now c.commit.new.pool p p h.checkpoint c.in_ok-commit-in-Sync.ensures.same.ckpt refl refl (c.in_ok-commit-in-Sync.ensures.stays p.objects h.objects))
 
 pub returns-in_ok-add-in-Add-clause-acts : goal.returns-in_ok-add-in-Add-clause-acts
-returns-in_ok-add-in-Add-clause-acts g c = λ p h.
+returns-in_ok-add-in-Add-clause-acts g c = λ copies p h.
     let Holds = HoldsState (g.S.Shelf.tells c.add.new.shelf) (g.S.Shelf.world c.add.new.shelf).now.seen c.add.new.pool in
-    added_as Holds p c.args.command.now c.in-Add.dev c.in-Add.is (same_state _ _ c.args.pool.now c.add.new.pool p (with_devs p (p.devs ++ InService c.in-Add.dev ∷ [])) h.checkpoint c.in_ok-add-in-Add.ensures.grown.ckpt refl refl (c.in_ok-add-in-Add.ensures.objects p.objects h.objects))
+    added_as copies Holds p c.args.command.now c.in-Add.dev c.in-Add.is (same_state _ _ c.args.pool.now c.add.new.pool p (with_devs p (p.devs ++ InService c.in-Add.dev ∷ [])) h.checkpoint c.in_ok-add-in-Add.ensures.grown.ckpt refl refl (c.in_ok-add-in-Add.ensures.objects p.objects h.objects))
 
 -- ---- a checkpoint
 
 pub returns-in_ok-take-in-Checkpoint-clause-acts : goal.returns-in_ok-take-in-Checkpoint-clause-acts
-returns-in_ok-take-in-Checkpoint-clause-acts g c = λ p h.
+returns-in_ok-take-in-Checkpoint-clause-acts g c = λ copies p h.
     let tells = g.S.Shelf.tells c.take.new.shelf in
     let disks = (g.S.Shelf.world c.take.new.shelf).now.seen in
-    saved_as (HoldsState tells disks c.take.new.pool) p c.args.command.now c.in-Checkpoint.is
+    saved_as copies (HoldsState tells disks c.take.new.pool) p c.args.command.now c.in-Checkpoint.is
     (held_state tells disks c.take.new.pool p (record { objects = p.objects; devs = p.devs }) _ c.in_ok-take-in-Checkpoint.ensures.held (c.in_ok-take-in-Checkpoint.ensures.objects p.objects h.objects))
 
 pub returns-in_err-take-in-Checkpoint-clause-stays : goal.returns-in_err-take-in-Checkpoint-clause-stays
@@ -95,10 +96,10 @@ returns-in_err-take-in-Checkpoint-clause-refused g c = λ r is.
     subst (λ (command : Command). IsOpenRefusal command r) (sym c.in-Checkpoint.is) (take_refusal c.args.pool.now.space.parts.ckpt c.args.pool.now r (c.take.ensures.refused r (c.in_err-take-in-Checkpoint.was ∙ ap Err e)))
 
 pub returns-in_ok-give_up-in-Discard-clause-acts : goal.returns-in_ok-give_up-in-Discard-clause-acts
-returns-in_ok-give_up-in-Discard-clause-acts g c = λ p h.
+returns-in_ok-give_up-in-Discard-clause-acts g c = λ copies p h.
     let tells = g.S.Shelf.tells c.give_up.new.shelf in
     let disks = (g.S.Shelf.world c.give_up.new.shelf).now.seen in
-    given_up_as (HoldsState tells disks c.give_up.new.pool) p c.args.command.now c.in-Discard.is
+    given_up_as copies (HoldsState tells disks c.give_up.new.pool) p c.args.command.now c.in-Discard.is
     (discarding_state tells disks c.give_up.new.pool p c.in_ok-give_up-in-Discard.ensures.discarding (c.in_ok-give_up-in-Discard.ensures.objects p.objects h.objects))
 
 pub returns-in_err-give_up-in-Discard-clause-stays : goal.returns-in_err-give_up-in-Discard-clause-stays
@@ -126,9 +127,9 @@ returns-in_err-give_up-in-Discard-clause-refused g c = λ r is.
     subst (λ (command : Command). IsOpenRefusal command r) (sym c.in-Discard.is) (give_refusal c.args.pool.now.space.parts.ckpt c.args.pool.now r (c.give_up.ensures.refused r (c.in_err-give_up-in-Discard.was ∙ ap Err e)))
 
 pub returns-in_ok-upgrade-in-Upgrade-clause-acts : goal.returns-in_ok-upgrade-in-Upgrade-clause-acts
-returns-in_ok-upgrade-in-Upgrade-clause-acts g c = λ p h.
+returns-in_ok-upgrade-in-Upgrade-clause-acts g c = λ copies p h.
     let Holds = HoldsState (g.S.Shelf.tells c.upgrade.new.shelf) (g.S.Shelf.world c.upgrade.new.shelf).now.seen c.upgrade.new.pool in
-    upgraded_as Holds p c.args.command.now c.in-Upgrade.is (same_state _ _ c.args.pool.now c.upgrade.new.pool p p h.checkpoint c.in_ok-upgrade-in-Upgrade.ensures.ckpt refl refl (c.in_ok-upgrade-in-Upgrade.ensures.objects p.objects h.objects))
+    upgraded_as copies Holds p c.args.command.now c.in-Upgrade.is (same_state _ _ c.args.pool.now c.upgrade.new.pool p p h.checkpoint c.in_ok-upgrade-in-Upgrade.ensures.ckpt refl refl (c.in_ok-upgrade-in-Upgrade.ensures.objects p.objects h.objects))
 
 pub returns-in_err-upgrade-in-Upgrade-clause-stays : goal.returns-in_err-upgrade-in-Upgrade-clause-stays
 returns-in_err-upgrade-in-Upgrade-clause-stays g c = λ p h r is.
@@ -152,15 +153,15 @@ returns-in_err-upgrade-in-Upgrade-clause-refused g c = λ r is.
     subst (λ (command : Command). IsOpenRefusal command r) (sym c.in-Upgrade.is) (c.upgrade.ensures.refused r (c.in_err-upgrade-in-Upgrade.was ∙ ap Err e)).1
 
 pub returns-in_ok-units-in-StepDiscard-clause-acts : goal.returns-in_ok-units-in-StepDiscard-clause-acts
-returns-in_ok-units-in-StepDiscard-clause-acts g c = λ p h.
+returns-in_ok-units-in-StepDiscard-clause-acts g c = λ copies p h.
     let tells = g.S.Shelf.tells c.args.shelf.now in
     let disks = (g.S.Shelf.world c.args.shelf.now).now.seen in
     let units = c.in_ok-units-in-StepDiscard.units in
     let done = c.in_ok-units-in-StepDiscard.ensures in
     let objects = objects_told tells disks c.step.new.pool p.objects h.objects.held.told (done.objects disks p.objects (objects_anew_unit tells disks c.args.pool.now p.objects h.objects)) in
     let holds = stepped_state tells disks c.args.pool.now c.step.new.pool p (units == 0) h.checkpoint done.was done.ended objects in
-    subst (λ (answer : Reply). IsPlainOf (HoldsState tells disks c.step.new.pool) p c.args.command.now answer) (sym c.step_reply.ensures)
-    (stepped_as (HoldsState tells disks c.step.new.pool) p c.args.command.now units (units == 0) c.in-StepDiscard.is (some_units units) holds)
+    subst (λ (answer : Reply). IsPlainOf copies (HoldsState tells disks c.step.new.pool) p c.args.command.now answer) (sym c.step_reply.ensures)
+    (stepped_as copies (HoldsState tells disks c.step.new.pool) p c.args.command.now units (units == 0) c.in-StepDiscard.is (some_units units) holds)
 
 pub returns-in_ok-units-in-StepDiscard-clause-answer : goal.returns-in_ok-units-in-StepDiscard-clause-answer
 returns-in_ok-units-in-StepDiscard-clause-answer g c =
@@ -379,7 +380,7 @@ returns-in_err-units-in-StepDiscard-clause-shown_no g c = λ told r is.
 pub returns-in_ok-commit-in-Sync-clause-commits : goal.returns-in_ok-commit-in-Sync-clause-commits
 returns-in_ok-commit-in-Sync-clause-commits g c = λ ends p h.
     let done = c.in_ok-commit-in-Sync.ensures in
-    ends_by c.commit.ensures.sizes done.pool done.same done.last done.txg done.written done.ends done.empty done.stands done.safe done.trees done.moves h.objects (done.stays p.objects h.objects)
+    ends_by c.commit.ensures.sizes done.pool done.same done.last done.txg done.written done.ends done.empty done.stands done.safe done.trees done.moves done.copies h.objects (done.stays p.objects h.objects)
 
 pub returns-in_ok-commit-in-Sync-clause-stops : goal.returns-in_ok-commit-in-Sync-clause-stops
 returns-in_ok-commit-in-Sync-clause-stops g c = λ ends p h. c.commit.ensures.leads p.objects h.objects
@@ -390,7 +391,7 @@ returns-in_err-commit-in-Sync-clause-stops g c = λ ends p h. c.commit.ensures.l
 pub returns-in_ok-commit-in-Export-clause-commits : goal.returns-in_ok-commit-in-Export-clause-commits
 returns-in_ok-commit-in-Export-clause-commits g c = λ ends p h.
     let done = c.in_ok-commit-in-Export.ensures in
-    ends_by c.commit-in-Export.ensures.sizes done.pool done.same done.last done.txg done.written done.ends done.empty done.stands done.safe done.trees done.moves h.objects (done.stays p.objects h.objects)
+    ends_by c.commit-in-Export.ensures.sizes done.pool done.same done.last done.txg done.written done.ends done.empty done.stands done.safe done.trees done.moves done.copies h.objects (done.stays p.objects h.objects)
 
 pub returns-in_ok-commit-in-Export-clause-stops : goal.returns-in_ok-commit-in-Export-clause-stops
 returns-in_ok-commit-in-Export-clause-stops g c = λ ends p h. c.commit-in-Export.ensures.leads p.objects h.objects
@@ -445,6 +446,9 @@ returns-in_err-units-in-StepDiscard-clause-stays_no g c = λ told r is.
 
 pub returns-in_ok-units-in-StepDiscard-clause-steps : goal.returns-in_ok-units-in-StepDiscard-clause-steps
 returns-in_ok-units-in-StepDiscard-clause-steps g c = λ step. step_opens_none c.args.pool.now c.step.new.pool c.in_ok-units-in-StepDiscard.units c.in_ok-units-in-StepDiscard.ensures.root c.in_ok-units-in-StepDiscard.ensures.steps
+
+pub returns-in_ok-units-in-StepDiscard-clause-step_copies : goal.returns-in_ok-units-in-StepDiscard-clause-step_copies
+returns-in_ok-units-in-StepDiscard-clause-step_copies g c = λ step. step_copies (g.S.Shelf.world c.args.shelf.now).now.seen c.args.pool.now c.step.new.pool c.in_ok-units-in-StepDiscard.units c.in_ok-units-in-StepDiscard.ensures.root c.in_ok-units-in-StepDiscard.ensures.steps
 
 pub returns-in_ok-units-in-StepDiscard-clause-step_trees : goal.returns-in_ok-units-in-StepDiscard-clause-step_trees
 returns-in_ok-units-in-StepDiscard-clause-step_trees g c = λ step. c.in_ok-units-in-StepDiscard.ensures.trees (g.S.Shelf.world c.args.shelf.now).now.seen

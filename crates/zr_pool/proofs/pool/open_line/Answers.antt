@@ -7,8 +7,9 @@ use Rattle.zr_script.specs.declared.command.Command.{Command}
 use Rattle.zr_vdev.specs.Stores.{IsWriteInto}
 use Rattle.zr_vdev.specs.declared.kind.Kind.TheVariants.{Block}
 use Rattle.zr_lines.proofs.Stopping.{in_group_itself}
+use Rattle.zr_pool.proofs.Copied.{removal_alone}
 use Rattle.zr_pool.proofs.Trees.{removal_writes_none}
-use Rattle.zr_pool.proofs.Groups.{background_removal, commit_alone, commits_in_group, condense_background, ends_none, none_of_them, not_of_removal, not_opener, no_way, opens_no_reset, pool_commits, refused_stays, resets_elsewhere, resets_somewhere, return_elsewhere, same_world, silent_objects, silent_pool, silent_removal}
+use Rattle.zr_pool.proofs.Groups.{background_removal, copy_removal, commit_alone, commits_in_group, condense_background, ends_none, none_of_them, not_of_removal, not_opener, no_way, opens_no_reset, pool_commits, refused_stays, resets_elsewhere, resets_somewhere, return_elsewhere, same_world, silent_objects, silent_pool, silent_removal}
 use Rattle.zr_pool.proofs.Leavings.{opener_refused}
 use Rattle.zr_pool.proofs.Refused.{fault_same}
 use Rattle.zr_pool.proofs.Shown.{same_root, still_last}
@@ -228,7 +229,7 @@ returns-then-is_table-clause-one_group g c = λ group p h. inl (inl (c.table_lin
 pub returns-then-is_on_pool-clause-one_group : goal.returns-then-is_on_pool-clause-one_group
 returns-then-is_on_pool-clause-one_group g c = λ group p h. elim (pool_commits c.args.command.now (sym c.is_on_pool.ensures ∙ c.if-is_on_pool.true) group) [
   | inl ends ↦ inl (commit_alone (g.S.Shelf.sizes c.args.shelf.now) p.objects c.args.pool.now c.pool_line.new.pool (g.S.Shelf.world c.args.shelf.now) (g.S.Shelf.world c.pool_line.new.shelf) (c.in_ok-pool_line.ensures.commits ends p h))
-  | inr step ↦ inr (step, (c.pool_line.ensures.still step, (c.in_ok-pool_line.ensures.steps step, c.in_ok-pool_line.ensures.step_trees step)))
+  | inr step ↦ inr (step, (c.pool_line.ensures.still step, (c.in_ok-pool_line.ensures.steps step, (c.in_ok-pool_line.ensures.step_trees step, c.in_ok-pool_line.ensures.step_copies step))))
 ]
 
 pub returns-then-is_on_pool-clause-writes : goal.returns-then-is_on_pool-clause-writes
@@ -332,3 +333,26 @@ returns-then-is_opener-clause-stops_back g c = λ on p h. no_way (sym (sym c.is_
 
 pub returns-clause-stops_back : goal.returns-clause-stops_back
 returns-clause-stops_back g c = λ on p h. no_way (sym (sym c.is_of_removal.ensures ∙ c.if-is_of_removal.false) ∙ (ends_none (Some c.args.pool.now) c.args.command.now on).removal)
+
+pub returns-then-is_on_objects-clause-copied : goal.returns-then-is_on_objects-clause-copied
+returns-then-is_on_objects-clause-copied g c = λ told step. no_way (sym (copy_removal _ _ step).objects ∙ (sym c.is_on_objects.ensures ∙ c.if-is_on_objects.true))
+
+pub returns-then-is_table-clause-copied : goal.returns-then-is_table-clause-copied
+returns-then-is_table-clause-copied g c = λ told step. no_way (sym (copy_removal _ _ step).table ∙ (sym c.is_table.ensures ∙ c.if-is_table.true))
+
+pub returns-then-is_on_pool-clause-copied : goal.returns-then-is_on_pool-clause-copied
+returns-then-is_on_pool-clause-copied g c = λ told step. no_way (sym (copy_removal _ _ step).pool ∙ (sym c.is_on_pool.ensures ∙ c.if-is_on_pool.true))
+
+-- ---- copies
+
+pub returns-then-is_on_objects-clause-copies : goal.returns-then-is_on_objects-clause-copies
+returns-then-is_on_objects-clause-copies g c = λ told on. absurd (removal_alone c.args.command.now on (inl (sym c.is_on_objects.ensures ∙ c.if-is_on_objects.true)))
+
+pub returns-then-is_table-clause-copies : goal.returns-then-is_table-clause-copies
+returns-then-is_table-clause-copies g c = λ told on. absurd (removal_alone c.args.command.now on (inr (inl (sym c.is_table.ensures ∙ c.if-is_table.true))))
+
+pub returns-then-is_on_pool-clause-copies : goal.returns-then-is_on_pool-clause-copies
+returns-then-is_on_pool-clause-copies g c = λ told on. absurd (removal_alone c.args.command.now on (inr (inr (sym c.is_on_pool.ensures ∙ c.if-is_on_pool.true))))
+
+pub returns-clause-copies : goal.returns-clause-copies
+returns-clause-copies g c = λ told on. no_way (sym (sym c.is_of_removal.ensures ∙ c.if-is_of_removal.false) ∙ on)

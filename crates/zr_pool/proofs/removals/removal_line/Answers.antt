@@ -17,9 +17,9 @@ use Rattle.zr_lines.specs.Stops.{OpensNoUnit}
 use Rattle.zr_sync.specs.Writes.{WritesIntoFree}
 use Rattle.zr_sync.specs.declared.open.OpenPool.{OpenPool}
 use Rattle.zr_pool.specs.Behind.{HasReset, WritesTold, ends_no_removal, is_resetting, is_return, is_writing_trees}
-use Rattle.zr_pool.specs.Plain.{IsPlainOf, is_background, is_untold_behind}
+use Rattle.zr_pool.specs.Plain.{IsPlainOf, ends_removal, is_background, is_copy}
 use Rattle.zr_pool.specs.Replies.{TellsFault}
-use Rattle.zr_pool.proofs.Acting.{back_ckpt, condense_acts, condense_no_return, condensed_root, evac_acts, evac_copies, evac_returns, evac_shows, removed_as}
+use Rattle.zr_pool.proofs.Acting.{back_ckpt, condense_acts, condense_no_return, condensed_root, evac_acts, evac_copies, evac_copy, evac_returns, evac_shows, removed_as}
 use Rattle.zr_pool.proofs.Blaming.{step_blames}
 use Rattle.zr_pool.proofs.Groups.{left_to_copy, no_way, same_world}
 use Rattle.zr_pool.proofs.Staying.{same_state, told_anew}
@@ -28,6 +28,8 @@ use Rattle.zr_pool.proofs.Refused.{fault_same}
 use Rattle.zr_pool.proofs.Resets.{begun}
 use Rattle.zr_shelf.proofs.Doings.{writes_nothing}
 use Rattle.zr_shelf.proofs.Runs.{still}
+use Rattle.zr_sync.specs.Trees.{HasTrees}
+use Rattle.zr_sync.specs.Trees.Stage.{Had}
 use Rattle.zr_vdev.specs.Stores.{IsWriteInto, is_open_role}
 use Rattle.zr_vdev.specs.declared.kind.Kind.TheVariants.{Block}
 use Rattle.zr_pool.proofs.removals.removal_line.Goals as goal
@@ -179,18 +181,18 @@ returns-in_ok-step_condense-in-StepCondense-clause-blamed g c = λ tells. absurd
 -- ---- the objects
 
 pub returns-in_ok-remove-in-Remove-clause-acts : goal.returns-in_ok-remove-in-Remove-clause-acts
-returns-in_ok-remove-in-Remove-clause-acts g c = λ p h.
+returns-in_ok-remove-in-Remove-clause-acts g c = λ copies stand p h.
     let new = c.remove.new.shelf in
     let done = c.in_ok-remove-in-Remove.ensures in
     let dev = c.in-Remove.dev in
     let q = with_devs p (map (leave_at dev) p.devs) in
-    removed_as (HoldsState (g.S.Shelf.tells new) (g.S.Shelf.world new).now.seen c.remove.new.pool) p c.args.command.now dev c.in-Remove.is
+    removed_as copies (HoldsState (g.S.Shelf.tells new) (g.S.Shelf.world new).now.seen c.remove.new.pool) p c.args.command.now dev c.in-Remove.is
     (same_state (g.S.Shelf.tells new) (g.S.Shelf.world new).now.seen c.args.pool.now c.remove.new.pool p q h.checkpoint done.ckpt refl refl (done.objects p.objects h.objects))
 
 pub returns-in_ok-cancel-in-Cancel-clause-acts : goal.returns-in_ok-cancel-in-Cancel-clause-acts
-returns-in_ok-cancel-in-Cancel-clause-acts g c = λ p h.
+returns-in_ok-cancel-in-Cancel-clause-acts g c = λ copies stand p h.
     let new = c.cancel.new.shelf in
-    subst (λ (command : Command). IsPlainOf (HoldsState (g.S.Shelf.tells new) (g.S.Shelf.world new).now.seen c.cancel.new.pool) p command (reply.Cancelled c.in_ok-cancel-in-Cancel.field-0)) (sym c.in-Cancel.is)
+    subst (λ (command : Command). IsPlainOf copies (HoldsState (g.S.Shelf.tells new) (g.S.Shelf.world new).now.seen c.cancel.new.pool) p command (reply.Cancelled c.in_ok-cancel-in-Cancel.field-0)) (sym c.in-Cancel.is)
     (record {
       after = p;
       holds = same_state (g.S.Shelf.tells new) (g.S.Shelf.world new).now.seen c.args.pool.now c.cancel.new.pool p p h.checkpoint (back_ckpt (g.S.Shelf.sizes c.args.shelf.now) (g.S.Shelf.tells c.args.shelf.now) (g.S.Shelf.world new) c.args.pool.now c.cancel.new.pool c.in_ok-cancel-in-Cancel.field-0 c.in_ok-cancel-in-Cancel.ensures.cancels) refl refl (c.in_ok-cancel-in-Cancel.ensures.objects p.objects h.objects);
@@ -198,7 +200,7 @@ returns-in_ok-cancel-in-Cancel-clause-acts g c = λ p h.
     })
 
 pub returns-in_ok-step_evac-in-StepEvac-clause-acts : goal.returns-in_ok-step_evac-in-StepEvac-clause-acts
-returns-in_ok-step_evac-in-StepEvac-clause-acts g c = λ p h.
+returns-in_ok-step_evac-in-StepEvac-clause-acts g c = λ copies stand p h.
     let shelf = c.args.shelf.now in
     let new = c.step_evac.new.shelf in
     let x = c.args.pool.now in
@@ -206,14 +208,15 @@ returns-in_ok-step_evac-in-StepEvac-clause-acts g c = λ p h.
     let Holds = HoldsState (g.S.Shelf.tells new) (g.S.Shelf.world new).now.seen y in
     let done = c.in_ok-step_evac-in-StepEvac.field-0 in
     let step = c.in_ok-step_evac-in-StepEvac.ensures in
-    subst (λ (command : Command). IsPlainOf Holds p command c.evac_reply.result) (sym c.in-StepEvac.is)
-    (subst (λ (answer : Reply). IsPlainOf Holds p cmd.StepEvac answer) (sym c.evac_reply.ensures)
-    (evac_acts c.args.pick.now.policy (g.S.Shelf.sizes shelf) (g.S.Shelf.tells shelf) (g.S.Shelf.counts shelf) (g.S.Shelf.counts new) (g.S.Shelf.world shelf) (g.S.Shelf.world new) x y Holds p done step.steps
+    subst (λ (command : Command). IsPlainOf copies Holds p command c.evac_reply.result) (sym c.in-StepEvac.is)
+    (subst (λ (answer : Reply). IsPlainOf copies Holds p cmd.StepEvac answer) (sym c.evac_reply.ensures)
+    (evac_acts copies c.args.pick.now.policy (g.S.Shelf.sizes shelf) (g.S.Shelf.tells shelf) (g.S.Shelf.counts shelf) (g.S.Shelf.counts new) (g.S.Shelf.world shelf) (g.S.Shelf.world new) x y Holds p done step.steps
     (λ ckpt n is. same_state (g.S.Shelf.tells new) (g.S.Shelf.world new).now.seen x y p p h.checkpoint ckpt refl refl (step.objects p.objects h.objects n is))
-    (λ ckpt d is. same_state (g.S.Shelf.tells new) (g.S.Shelf.world new).now.seen x y p p h.checkpoint ckpt refl refl (step.back_objects p.objects h.objects d is))))
+    (λ ckpt d is. same_state (g.S.Shelf.tells new) (g.S.Shelf.world new).now.seen x y p p h.checkpoint ckpt refl refl (step.back_objects p.objects h.objects d is))
+    (λ told ckpt d is. same_state (g.S.Shelf.tells new) (g.S.Shelf.world new).now.seen x y p p h.checkpoint ckpt refl refl (step.gone_objects (stand told) p.objects h.objects d is))))
 
 pub returns-in_ok-step_condense-in-StepCondense-clause-acts : goal.returns-in_ok-step_condense-in-StepCondense-clause-acts
-returns-in_ok-step_condense-in-StepCondense-clause-acts g c = λ p h.
+returns-in_ok-step_condense-in-StepCondense-clause-acts g c = λ copies stand p h.
     let shelf = c.args.shelf.now in
     let tells = g.S.Shelf.tells shelf in
     let disks = (g.S.Shelf.world shelf).now.seen in
@@ -224,8 +227,8 @@ returns-in_ok-step_condense-in-StepCondense-clause-acts g c = λ p h.
     let step = c.in_ok-step_condense-in-StepCondense.ensures in
     let ckpt = (step_keeps x.space y.space done step.condenses.mapping.step).ckpt in
     let holds = told_anew (Unit {0}) tells disks y p h.objects.held.told (same_state (Unit {0}) disks x y p p h.checkpoint ckpt refl refl (step.objects disks p.objects (untold tells disks x p.objects h.objects))) in
-    subst (λ (command : Command). IsPlainOf Holds p command c.condense_reply.result) (sym c.in-StepCondense.is)
-    (subst (λ (answer : Reply). IsPlainOf Holds p cmd.StepCondense answer) (sym c.condense_reply.ensures) (condense_acts Holds p done holds))
+    subst (λ (command : Command). IsPlainOf copies Holds p command c.condense_reply.result) (sym c.in-StepCondense.is)
+    (subst (λ (answer : Reply). IsPlainOf copies Holds p cmd.StepCondense answer) (sym c.condense_reply.ensures) (condense_acts copies Holds p done holds))
 
 -- ---- what the disks show
 
@@ -238,7 +241,7 @@ returns-in_ok-cancel-in-Cancel-clause-shown g c = λ told off. c.in_ok-cancel-in
 pub returns-in_ok-step_evac-in-StepEvac-clause-shown : goal.returns-in_ok-step_evac-in-StepEvac-clause-shown
 returns-in_ok-step_evac-in-StepEvac-clause-shown g c = λ told off.
     evac_shows _ c.in_ok-step_evac-in-StepEvac.field-0 (c.in_ok-step_evac-in-StepEvac.ensures.shown told) (c.in_ok-step_evac-in-StepEvac.ensures.back_shown told)
-    (subst (λ (answer : Reply). is_untold_behind cmd.StepEvac answer ≡ false) c.evac_reply.ensures (subst (λ (command : Command). is_untold_behind command c.evac_reply.result ≡ false) c.in-StepEvac.is off))
+    (subst (λ (answer : Reply). ends_removal cmd.StepEvac answer ≡ false) c.evac_reply.ensures (subst (λ (command : Command). ends_removal command c.evac_reply.result ≡ false) c.in-StepEvac.is off))
 
 pub returns-in_ok-step_condense-in-StepCondense-clause-shown : goal.returns-in_ok-step_condense-in-StepCondense-clause-shown
 returns-in_ok-step_condense-in-StepCondense-clause-shown g c = λ told off h.
@@ -307,6 +310,30 @@ returns-in_ok-step_condense-in-StepCondense-clause-background g c = λ told on.
     let y = c.step_condense.new.pool in
     let step = c.in_ok-step_condense-in-StepCondense.ensures in
     (writes_nothing (IsWriteInto Block x.table.slots x.space) (g.S.Shelf.world c.args.shelf.now), record { root = condensed_root x y c.in_ok-step_condense-in-StepCondense.field-0 step.condenses; units = λ d u is. ap is_open_role (sym (step.roles d u)) ∙ is })
+
+-- ---- units that were copied
+
+pub returns-in_ok-remove-in-Remove-clause-copied : goal.returns-in_ok-remove-in-Remove-clause-copied
+returns-in_ok-remove-in-Remove-clause-copied g c = λ told on. no_way (subst (λ (command : Command). is_copy command reply.Done ≡ true) c.in-Remove.is on)
+
+pub returns-in_ok-cancel-in-Cancel-clause-copied : goal.returns-in_ok-cancel-in-Cancel-clause-copied
+returns-in_ok-cancel-in-Cancel-clause-copied g c = λ told on. no_way (subst (λ (command : Command). is_copy command (reply.Cancelled c.in_ok-cancel-in-Cancel.field-0) ≡ true) c.in-Cancel.is on)
+
+pub returns-in_ok-step_evac-in-StepEvac-clause-copied : goal.returns-in_ok-step_evac-in-StepEvac-clause-copied
+returns-in_ok-step_evac-in-StepEvac-clause-copied g c = λ told on stood.
+    let step = c.in_ok-step_evac-in-StepEvac.ensures in
+    evac_copy (HasTrees Had (Unit {0}) (g.S.Shelf.world c.step_evac.new.shelf).now.seen c.step_evac.new.pool) c.in_ok-step_evac-in-StepEvac.field-0 (λ n is. step.trees stood told n is)
+    (subst (λ (answer : Reply). is_copy cmd.StepEvac answer ≡ true) c.evac_reply.ensures (subst (λ (command : Command). is_copy command c.evac_reply.result ≡ true) c.in-StepEvac.is on))
+
+pub returns-in_ok-step_condense-in-StepCondense-clause-copied : goal.returns-in_ok-step_condense-in-StepCondense-clause-copied
+returns-in_ok-step_condense-in-StepCondense-clause-copied g c = λ told on. no_way (subst (λ (command : Command). is_copy command c.condense_reply.result ≡ true) c.in-StepCondense.is on)
+
+-- ---- copies keep the bytes of their units
+
+pub returns-in_ok-step_condense-in-StepCondense-clause-copies : goal.returns-in_ok-step_condense-in-StepCondense-clause-copies
+returns-in_ok-step_condense-in-StepCondense-clause-copies g c = λ told h. c.in_ok-step_condense-in-StepCondense.ensures.copies (g.S.Shelf.world c.args.shelf.now).now.seen h
+
+-- ---- a step of condensing writes nothing
 
 pub returns-in_ok-step_condense-in-StepCondense-clause-still : goal.returns-in_ok-step_condense-in-StepCondense-clause-still
 returns-in_ok-step_condense-in-StepCondense-clause-still g c = λ step. same_world (g.S.Shelf.world c.args.shelf.now) (g.S.Shelf.world c.args.shelf.now) refl

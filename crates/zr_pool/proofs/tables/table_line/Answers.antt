@@ -18,32 +18,32 @@ use Rattle.zr_pool.proofs.Tellings.{refused_same}
 use Rattle.zr_pool.proofs.tables.table_line.Goals as goal
 
 pub returns-in_ok-list-in-List-clause-acts : goal.returns-in_ok-list-in-List-clause-acts
-returns-in_ok-list-in-List-clause-acts g c = λ p h.
+returns-in_ok-list-in-List-clause-acts g c = λ copies p h.
     let Holds = HoldsState (g.S.Shelf.tells c.args.shelf.now) (g.S.Shelf.world c.args.shelf.now).now.seen c.args.pool.now in
-    listed_as Holds p c.args.command.now _ c.in-List.is h
+    listed_as copies Holds p c.args.command.now _ c.in-List.is h
 
 pub returns-in_ok-status-in-Status-clause-acts : goal.returns-in_ok-status-in-Status-clause-acts
-returns-in_ok-status-in-Status-clause-acts g c = λ p h.
+returns-in_ok-status-in-Status-clause-acts g c = λ copies p h.
     let Holds = HoldsState (g.S.Shelf.tells c.args.shelf.now) (g.S.Shelf.world c.args.shelf.now).now.seen c.args.pool.now in
-    status_as Holds p c.args.command.now _ c.in-Status.is h
+    status_as copies Holds p c.args.command.now _ c.in-Status.is h
 
 pub returns-in_ok-audit-in-Audit-clause-acts : goal.returns-in_ok-audit-in-Audit-clause-acts
-returns-in_ok-audit-in-Audit-clause-acts g c = λ p h.
+returns-in_ok-audit-in-Audit-clause-acts g c = λ copies p h.
     let Holds = HoldsState (g.S.Shelf.tells c.audit.new.shelf) (g.S.Shelf.world c.audit.new.shelf).now.seen c.audit.new.pool in
-    audited_as Holds p c.args.command.now _ c.in-Audit.is (same_state _ _ c.args.pool.now c.audit.new.pool p p h.checkpoint (ap (λ (x : OpenPool). x.space.parts.ckpt) c.audit.ensures.same) refl refl (c.audit.ensures.stays p.objects h.objects))
+    audited_as copies Holds p c.args.command.now _ c.in-Audit.is (same_state _ _ c.args.pool.now c.audit.new.pool p p h.checkpoint (ap (λ (x : OpenPool). x.space.parts.ckpt) c.audit.ensures.same) refl refl (c.audit.ensures.stays p.objects h.objects))
 
 pub returns-in_err-audit-in-Audit-clause-stays : goal.returns-in_err-audit-in-Audit-clause-stays
 returns-in_err-audit-in-Audit-clause-stays g c = λ p h r is. same_state _ _ c.args.pool.now c.audit.new.pool p p h.checkpoint (ap (λ (x : OpenPool). x.space.parts.ckpt) c.audit.ensures.same) refl refl (c.audit.ensures.stays p.objects h.objects)
 
 pub returns-in_ok-estimate_of-in-Estimate-clause-acts : goal.returns-in_ok-estimate_of-in-Estimate-clause-acts
-returns-in_ok-estimate_of-in-Estimate-clause-acts g c = λ p h.
+returns-in_ok-estimate_of-in-Estimate-clause-acts g c = λ copies p h.
     let Holds = HoldsState (g.S.Shelf.tells c.args.shelf.now) (g.S.Shelf.world c.args.shelf.now).now.seen c.args.pool.now in
-    estimated_as Holds p c.args.command.now c.in-Estimate.dev _ c.in-Estimate.is h
+    estimated_as copies Holds p c.args.command.now c.in-Estimate.dev _ c.in-Estimate.is h
 
 pub returns-in_ok-map_lines-in-Map-clause-acts : goal.returns-in_ok-map_lines-in-Map-clause-acts
-returns-in_ok-map_lines-in-Map-clause-acts g c = λ p h.
+returns-in_ok-map_lines-in-Map-clause-acts g c = λ copies p h.
     let Holds = HoldsState (g.S.Shelf.tells c.args.shelf.now) (g.S.Shelf.world c.args.shelf.now).now.seen c.args.pool.now in
-    mapped_as Holds p c.args.command.now c.in-Map.index _ c.in-Map.is h
+    mapped_as copies Holds p c.args.command.now c.in-Map.index _ c.in-Map.is h
 
 -- ---- the account
 

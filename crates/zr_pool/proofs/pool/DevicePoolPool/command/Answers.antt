@@ -9,12 +9,13 @@ use Rattle.zr_sync.specs.States.{HoldsState}
 use Rattle.zr_sync.specs.declared.open.OpenPool.{OpenPool}
 use Rattle.zr_pool.specs.Ends.{answer_of, is_closing}
 use Rattle.zr_pool.specs.Behind.{EndsReset}
-use Rattle.zr_pool.specs.Pools.{AreCurrent, AreShown, AreStanding, IsAsBegun, IsBehind, IsFoundBehind, StandsFor, no_device_state}
-use Rattle.zr_pool.specs.Turns.{is_current, is_standing}
+use Rattle.zr_pool.specs.Pools.{AreCopied, AreCurrent, AreShown, AreStanding, IsAsBegun, IsBehind, IsFoundBehind, StandsFor, no_device_state}
+use Rattle.zr_pool.specs.Turns.{is_copied, is_current, is_standing}
 use Rattle.zr_command.specs.Meanings.{disks_of}
 use Rattle.zr_pool.specs.Replies.{TellsFault}
 use Rattle.zr_pool.proofs.Accounting.{Leads, closed_accounts, each_with_account, open_accounts}
 use Rattle.zr_pool.proofs.Beginning.{closed_begun, open_begun}
+use Rattle.zr_pool.proofs.Copied.{closed_copied, open_copied}
 use Rattle.zr_pool.proofs.Founding.{closed_current, open_current}
 use Rattle.zr_pool.proofs.Resets.{ends_or_returns}
 use Rattle.zr_pool.proofs.Blaming.{blamed_answer, blamed_closed}
@@ -51,7 +52,7 @@ returns-in_default-clause-step g c = λ told paths before stood.
     let pool = c.closed_line.new.self.pool in
     let r = c.closed_line.result in
     let closed : before.told.is_open ≡ false = subst (λ (o : Option OpenPool). StandsFor o old.seen before.told) c.in_default.is stood.told in
-    let told_part = closed_turns old new before.told closed (g.S.Shelf.tells c.closed_line.new.shelf) behind c.args.command.now pool r
+    let told_part = closed_turns before.copies old new before.told closed (g.S.Shelf.tells c.closed_line.new.shelf) behind c.args.command.now pool r
     c.closed_line.ensures.done c.closed_line.ensures.turn c.closed_line.ensures.refused (c.closed_line.ensures.cause told) c.closed_line.ensures.closed (c.closed_line.ensures.made told) in
     let account_part = closed_accounts old new before c.args.command.now pool (stood.account ∙ c.in_default.is) _ paths (g.S.Shelf.sizes shelf) (g.S.Shelf.sizes c.closed_line.new.shelf) (g.S.Shelf.sound shelf told).sized (g.S.Shelf.sound c.closed_line.new.shelf behind).sized r
     c.closed_line.ensures.done c.closed_line.ensures.turn (c.closed_line.ensures.begins told) (c.closed_line.ensures.begins_no told) c.closed_line.ensures.closed c.closed_line.ensures.pool in
@@ -61,8 +62,10 @@ returns-in_default-clause-step g c = λ told paths before stood.
     (closed_standing (g.S.Shelf.world c.closed_line.new.shelf) before.told.shelf before.trees c.args.command.now pool r c.closed_line.ensures.done (made_standing (g.S.Shelf.tells c.closed_line.new.shelf) new.seen pool (c.closed_line.ensures.trees told)) c.closed_line.ensures.closed) in
     let current_part = subst (λ (b : Bool). IfOk (answer_of r) (λ found. IfSome found (λ answer. is_current b before.told.shelf before.current c.args.command.now answer ≡ true → AreCurrent pool new.seen))) (sym closed)
     (closed_current (g.S.Shelf.sizes shelf) (g.S.Shelf.world shelf) (g.S.Shelf.world c.closed_line.new.shelf) before.told.shelf before.current (λ (y : OpenPool). HoldsState (g.S.Shelf.tells c.closed_line.new.shelf) new.seen y) c.args.command.now pool r c.closed_line.ensures.done (c.closed_line.ensures.stops told) (c.closed_line.ensures.made told) (c.closed_line.ensures.last told)) in
+    let copied_part = subst (λ (b : Bool). IfOk (answer_of r) (λ found. IfSome found (λ answer. is_copied b before.told.shelf before.copies c.args.command.now answer pool ≡ true → AreCopied pool new.seen))) (sym closed)
+    (closed_copied (g.S.Shelf.world c.closed_line.new.shelf) before.told.shelf before.copies c.args.command.now pool r) in
     subst (λ q. IfOk q (λ found. IfSome found (λ answer. Leads old new before c.args.command.now pool answer))) (sym c.answer_of.ensures)
-    (each_with_account old (g.S.Shelf.world c.closed_line.new.shelf) before c.args.command.now pool (answer_of r) told_part account_part last_part standing_part current_part
+    (each_with_account old (g.S.Shelf.world c.closed_line.new.shelf) before c.args.command.now pool (answer_of r) told_part account_part last_part standing_part current_part copied_part
     (λ part held. closed_behinds (g.S.Shelf.world shelf) (g.S.Shelf.world c.closed_line.new.shelf) before c.args.command.now (stood.account ∙ c.in_default.is) (subst (λ (o : Option OpenPool). IfSome before.behind (IsBehind o (disks_of old))) c.in_default.is stood.behind) (subst (λ (o : Option OpenPool). IfSome before.begun (IsAsBegun o (disks_of old))) c.in_default.is stood.begun) part (g.S.Shelf.sizes c.closed_line.new.shelf) pool c.closed_line.ensures.pool (c.closed_line.ensures.ends told) (c.closed_line.ensures.leaves told) (c.closed_line.ensures.last told) (g.S.Shelf.sound c.closed_line.new.shelf behind).sized held r (c.closed_line.ensures.unwritten told) c.closed_line.ensures.turn c.closed_line.ensures.done c.closed_line.ensures.closed)
     (closed_begun (g.S.Shelf.world shelf) (g.S.Shelf.world c.closed_line.new.shelf) before pool (subst (λ (o : Option OpenPool). IfSome before.begun (IsAsBegun o (disks_of old))) c.in_default.is stood.begun) r c.closed_line.ensures.done (c.closed_line.ensures.unwritten told) c.closed_line.ensures.closed))
 
@@ -82,8 +85,9 @@ returns-clause-step g c = λ told paths before stood.
       | then-is_closing+in-None-1 w ↦ ap (λ p. p.pool) w.self-is ∙ sym (ap (λ (b : Bool). left_of b y) (sym c.is_closing.ensures ∙ w.if-is_closing.true))
       | else-is_closing w ↦ ap (λ p. p.pool) w.self-is ∙ sym (ap (λ (b : Bool). left_of b y) (sym c.is_closing.ensures ∙ w.if-is_closing.false))
     ] in
-    let told_part = open_turns old new before.told (g.S.Shelf.tells shelf) (g.S.Shelf.tells c.open_line-done.new.shelf) told behind command x y r there
-    c.open_line-done.ensures.acts c.open_line-done.ensures.stays c.open_line-done.ensures.cause c.open_line-done.ensures.answer c.open_line-done.ensures.refused in
+    let copies_stand : before.copies ≡ true → AreCopied (Some x) old.seen = λ on. subst (λ (o : Option OpenPool). AreCopied o old.seen) c.in-Some.is (stood.copies on) in
+    let told_part = open_turns before.copies old new before.told (g.S.Shelf.tells shelf) (g.S.Shelf.tells c.open_line-done.new.shelf) told behind command x y r there
+    (c.open_line-done.ensures.acts before.copies copies_stand) c.open_line-done.ensures.stays c.open_line-done.ensures.cause c.open_line-done.ensures.answer c.open_line-done.ensures.refused in
     let account_part = open_accounts old new before command x y (stood.account ∙ c.in-Some.is) c.as_slice.result.now (paths ∙ sym c.as_slice.ensures) (g.S.Shelf.sizes shelf) (g.S.Shelf.sizes c.open_line-done.new.shelf) (g.S.Shelf.sound shelf told).sized (g.S.Shelf.sound c.open_line-done.new.shelf behind).sized r
     c.open_line-done.ensures.answer (c.open_line-done.ensures.account told) (c.open_line-done.ensures.account_no told) c.open_line-done.ensures.pool c.open_line-done.ensures.pool_no in
     let last_part = open_lasts old new before command x y there (λ shown. subst (λ (o : Option OpenPool). AreShown o old.seen before.told.shelf before.trees) c.in-Some.is (stood.shown shown)) (λ stands. subst (λ (o : Option OpenPool). AreStanding o old.seen) c.in-Some.is (stood.trees stands)) (g.S.Shelf.sizes c.open_line-done.new.shelf) (g.S.Shelf.sound c.open_line-done.new.shelf behind).sized r
@@ -101,16 +105,22 @@ returns-clause-step g c = λ told paths before stood.
     (open_standing (g.S.Shelf.sizes shelf) (g.S.Shelf.world shelf) (g.S.Shelf.world c.open_line-done.new.shelf) before.told.shelf before.trees command x y there.part (λ stands. subst (λ (o : Option OpenPool). AreStanding o old.seen) c.in-Some.is (stood.trees stands)) r c.open_line-done.ensures.done
     (λ group p held. c.open_line-done.ensures.one_group group p (told_anew (Unit {0}) (g.S.Shelf.tells shelf) old.seen x p told held))
     (λ p held. c.open_line-done.ensures.one_group_no p (told_anew (Unit {0}) (g.S.Shelf.tells shelf) old.seen x p told held))
-    (λ on p held. c.open_line-done.ensures.resets on p (told_anew (Unit {0}) (g.S.Shelf.tells shelf) old.seen x p told held))) in
+    (λ on p held. c.open_line-done.ensures.resets on p (told_anew (Unit {0}) (g.S.Shelf.tells shelf) old.seen x p told held))
+    (c.open_line-done.ensures.copied told)) in
     let current_part = subst (λ (b : Bool). IfOk (answer_of r) (λ found. IfSome found (λ answer. is_current b before.told.shelf before.current command answer ≡ true → AreCurrent (left_of (is_closing command r) y) new.seen))) (sym there.is_open)
     (open_current (g.S.Shelf.sizes shelf) (g.S.Shelf.world shelf) (g.S.Shelf.world c.open_line-done.new.shelf) before.told.shelf before.current command x y (subst (λ (o : Option OpenPool). IfSome o (IsOpen (g.S.Shelf.sizes shelf))) c.in-Some.is c.requires.fits.is_open) (g.S.Shelf.sound shelf told).sized
     ((g.S.Shelf.sound c.open_line-done.new.shelf behind).sized ∙ c.open_line-done.ensures.sizes) there.part (λ on. subst (λ (o : Option OpenPool). AreCurrent o old.seen) c.in-Some.is (stood.current on)) r c.open_line-done.ensures.done
     (λ group p held. c.open_line-done.ensures.one_group group p (told_anew (Unit {0}) (g.S.Shelf.tells shelf) old.seen x p told held))
     (λ p held. c.open_line-done.ensures.one_group_no p (told_anew (Unit {0}) (g.S.Shelf.tells shelf) old.seen x p told held))
     (c.open_line-done.ensures.background told)) in
+    let copied_part = subst (λ (b : Bool). IfOk (answer_of r) (λ found. IfSome found (λ answer. is_copied b before.told.shelf before.copies command answer (left_of (is_closing command r) y) ≡ true → AreCopied (left_of (is_closing command r) y) new.seen))) (sym there.is_open)
+    (open_copied (g.S.Shelf.sizes shelf) (g.S.Shelf.world shelf) (g.S.Shelf.world c.open_line-done.new.shelf) before.told.shelf before.copies command x y there.part copies_stand r c.open_line-done.ensures.done
+    (λ group p held. c.open_line-done.ensures.one_group group p (told_anew (Unit {0}) (g.S.Shelf.tells shelf) old.seen x p told held))
+    (λ p held. c.open_line-done.ensures.one_group_no p (told_anew (Unit {0}) (g.S.Shelf.tells shelf) old.seen x p told held))
+    (c.open_line-done.ensures.copies told)) in
     subst (λ (o : Option OpenPool). IfOk c.answer_of-2.result (λ found. IfSome found (λ answer. Leads old new before command o answer))) (sym left)
     (subst (λ q. IfOk q (λ found. IfSome found (λ answer. Leads old new before command (left_of (is_closing command r) y) answer))) (sym c.answer_of-2.ensures)
-    (each_with_account old (g.S.Shelf.world c.open_line-done.new.shelf) before command (left_of (is_closing command r) y) (answer_of r) told_part account_part last_part standing_part current_part (λ part held. behind_part part)
+    (each_with_account old (g.S.Shelf.world c.open_line-done.new.shelf) before command (left_of (is_closing command r) y) (answer_of r) told_part account_part last_part standing_part current_part copied_part (λ part held. behind_part part)
     (open_begun (g.S.Shelf.world shelf) (g.S.Shelf.world c.open_line-done.new.shelf) before x (left_of (is_closing command r) y) (subst (λ (o : Option OpenPool). IfSome before.begun (IsAsBegun o (disks_of old))) c.in-Some.is stood.begun) r)))
 
 -- ---- what tells of a fault
