@@ -99,7 +99,7 @@ pub trait Blocks {
     ghost adds: { Self → Self → Type 0 };
 
     /// Stores a block, and answers its pointer. A level above 0 takes the bytes of one tree block of pointers of the
-    /// level below. After an error what is held is as before, but the units may stay taken where no run was missing.
+    /// level below. After an error what is held is as before, unless memory ran out: then units may stay taken.
     fn put(&mut self, alloc: Global, bytes: &[u8], level: u8) -> Result<Bptr, StoreErr>
         requires level { level ≤ 5 }
         requires size { is_size (length bytes.now) ≡ true }
@@ -113,7 +113,7 @@ pub trait Blocks {
         ensures errors { IfErr result (λ e. (e ≡ Failed) ⊎ ((e ≡ NoMemory) ⊎ ((needed longest : ℕ) × (e ≡ NoRun needed longest)))) }
         ensures pointer { IfOk result (IsPointerTo level bytes.now) }
         ensures ok { (s : Stored) → holds self.old s → IfOk result (λ b. Now (holds self.new) (Puts s b bytes.now)) }
-        ensures err { (s : Stored) → holds self.old s → OnErr result (holds self.new s) };
+        ensures err { (s : Stored) → holds self.old s → IfErr result (λ e. (e ≡ NoMemory) ⊎ holds self.new s) };
 
     /// The bytes of a block. Nothing that is held changes, also where the answer is an error.
     fn get(&mut self, alloc: Global, b: &Bptr) -> Result<Vec<u8>, StoreErr>
