@@ -1,5 +1,5 @@
 -- What the current root has where a removal is given up.
-use Rattle.std.proofs.Common.{◌≡◌, ◌≢◌, ℕ, ◌<◌, Bool, List, length, refl, ◌∙◌, sym, ap, arith}
+use Rattle.std.proofs.Common.{◌≡◌, ◌≢◌, ℕ, ◌<◌, Bool, false, List, length, refl, ◌∙◌, sym, ap, arith}
 use Rattle.std.proofs.Math.ListN.{set}
 use Rattle.std.proofs.lemmas.Bool.Decides.{nat_tests}
 use Rattle.zr_rules.specs.Space.{Space, was_held, was_kept, was_fresh}
@@ -14,12 +14,14 @@ use Rattle.zr_space.specs.declared.whole.Whole.{Whole}
 use Rattle.zr_space.proofs.Cancelling.{IsCancelled}
 use Rattle.zr_space.proofs.Keeps.{on_each}
 use Rattle.zr_space.proofs.Rooted.{SameUses, was_held_in, was_kept_in, was_held_is, was_kept_is, was_fresh_is}
+use Rattle.zr_space.proofs.Views.{kept_same}
 
--- what it has as held and kept, and its marks on the other devices
+-- what it has as held and kept, its marks on the other devices, and none on this one
 pub record IsRootBut (old new : Space) (d : ℕ) : Type 0 where
   pub held : (j u : ℕ) → was_held new j u ≡ was_held old j u
   pub kept : (j u : ℕ) → was_kept new j u ≡ was_kept old j u
   pub marks : (j u : ℕ) → j ≢ d → was_fresh new j u ≡ was_fresh old j u
+  pub unmarked : (u : ℕ) → was_fresh new d u ≡ false
 
 gives_root : (f : ℕ → Bool) (n : ℕ) (x y : Uses) → IsAccount f n x → GivesUpCopies x y → SameUses x y
 gives_root f n x y a h = record {
@@ -51,4 +53,5 @@ module _ (whole : Whole) (s t v : Devices) (devs mid : List Kept) (d : ℕ) (h :
         was_fresh_is whole (set mid d back) j u
         ∙ (on_each mid d back (λ i y. i ≢ d → was_fresh_in y.moves u ≡ was_fresh_in (kept_of devs i).moves u) there (λ no. absurd (no refl)) (λ i ne no. ap (λ (m : Mapped). was_fresh_in m u) (h.gives.each i).moves) j other
         ∙ sym (was_fresh_is whole devs j u));
+    unmarked = λ u. was_fresh_is whole (set mid d back) d u ∙ ap (λ (k : Kept). was_fresh_in k.moves u) (kept_same mid d back there);
   }

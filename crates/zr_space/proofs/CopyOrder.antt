@@ -5,7 +5,7 @@ use Rattle.zr_base.specs.declared.space.CkptPart.TheVariants.{Clear}
 use Rattle.zr_base.specs.declared.space.DevPart.{DevPart}
 use Rattle.zr_base.specs.Extents.{has_unit}
 use Rattle.zr_rules.specs.Mappings.{end_of_last, has_source}
-use Rattle.zr_rules.specs.Places.{is_fresh, is_held, is_leaving, part_of, state_of_dev}
+use Rattle.zr_rules.specs.Places.{is_fresh, is_held, is_kept, is_leaving, part_of, state_of_dev}
 use Rattle.zr_rules.specs.Roles.{is_copy_role}
 use Rattle.zr_rules.specs.Space.{Space, frontier, role_at}
 use Rattle.zr_metaslab.specs.Devices.{Devices}
@@ -18,12 +18,13 @@ use Rattle.zr_space.proofs.Roles.{roles_are}
 use Rattle.zr_space.proofs.Synced.{leaving_state}
 use Rattle.zr_space.proofs.Views.{part_is}
 
--- what is held below the frontier has an entry, and is not marked
+-- what is held below the frontier has an entry, and is not marked, and the unit is not kept
 pub record IsInOrder (s : Space) (d u : ℕ) : Type 0 where
   pub copied : is_held s.parts.devs d u ≡ true → u < frontier s d → has_source (part_of s.parts.devs d).entries u ≡ true
   pub unmarked : is_held s.parts.devs d u ≡ true → u < frontier s d → is_fresh s.parts.devs d u ≡ false
   pub clear : s.parts.ckpt ≡ Clear
   pub no_copies : is_copy_role (role_at s d u) ≡ false
+  pub unkept : is_kept s.parts.devs d u ≡ false
 
 no_copy : (x : Uses) (u : ℕ) → has_unit x.copies u ≡ false → is_copy_role (role_in x u) ≡ false
 no_copy x u none = grind (arith, nat_tests, none)
@@ -40,4 +41,5 @@ in_order whole slabs devs d u space said =
       unmarked = λ has below. ap (λ (q : DevPart). has_unit q.fresh u) (part_is devs d) ∙ (tied.copied u (sym held ∙ has) (omega (arith, below, front))).1;
       clear = tied.quiet;
       no_copies = ap is_copy_role (roles_are whole devs d u space) ∙ no_copy (kept_of devs d).uses u (tied.uncopied u);
+      unkept = ap (λ (q : DevPart). has_unit q.kept u) (part_is devs d) ∙ tied.unkept u;
     }

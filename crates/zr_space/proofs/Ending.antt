@@ -88,7 +88,7 @@ module _ (whole : Whole) (s t : Devices) (devs turned : List Kept) (d txg spare 
   row_is : x.row ≡ (kept_of devs d).row
   row_is = ap (λ (z : Kept). z.row) h.now ∙ ap (λ (z : Kept). z.row) turned_is
 
-  moves_are : x.moves ≡ record (kept_of devs d).moves { state = Gone; synced = 0; opened = 0; spare = x.moves.spare }
+  pub moves_are : x.moves ≡ record (kept_of devs d).moves { state = Gone; synced = 0; opened = 0; spare = x.moves.spare }
   moves_are =
       ap (λ (z : Kept). z.moves) h.now
       ∙ (ap (λ (z : Kept). z.moves) turned_is

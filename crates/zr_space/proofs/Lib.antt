@@ -19,7 +19,9 @@ pub mod Synced
 pub mod Commits
 pub mod Drops
 pub mod CopyOrder
+pub mod CopySources
 pub mod CancelRoot
+pub mod FinishRoot
 pub mod CopyRoot
 pub mod CondenseRoot
 pub mod Counting

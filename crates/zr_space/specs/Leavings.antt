@@ -1,8 +1,11 @@
--- What is kept of devices where a removal ends or is given up.
-use Rattle.std.specs.Prelude.{◌≡◌, ℕ, ◌+◌, ◌||◌, ◌&&◌, List, length}
+-- What is kept of devices where a removal ends or is given up, and where the copies are from.
+use Rattle.std.specs.Prelude.{◌≡◌, ℕ, ◌+◌, ◌<◌, true, false, ◌||◌, ◌&&◌, List, length, Some}
 use Rattle.zr_base.specs.declared.space.DevRow.{DevRow}
 use Rattle.zr_base.specs.declared.space.DevState.TheVariants.{On, Gone}
 use Rattle.zr_base.specs.Extents.{has_unit, unit_count}
+use Rattle.zr_rules.specs.Mappings.{target}
+use Rattle.zr_rules.specs.Places.{is_fresh, is_leaving, part_of, state_of_dev, units_of_dev}
+use Rattle.zr_rules.specs.Space.{Space}
 use Rattle.zr_metaslab.specs.Devices.{Devices, free_at, count_at, KeepsDevices}
 use Rattle.zr_indirect.specs.Mapped.{Mapped, in_service}
 use Rattle.zr_units.specs.Changes.{GivesUpCopies, taken_uses}
@@ -34,3 +37,12 @@ pub record GivesUpAll (s t : Devices) (old new : List Kept) : Type 0 where
   pub free : (d u : ℕ) → free_at t d u ≡ (free_at s d u || (has_unit (kept_of old d).uses.copies u && has_unit (kept_of old d).uses.born u))
   pub freed : (d : ℕ) → count_at t d + unit_count (kept_of new d).uses.freed.blocks ≡ count_at s d + unit_count (kept_of old d).uses.freed.blocks + unit_count (kept_of old d).uses.copies
   pub devices : KeepsDevices s t
+
+-- the unit has the copy of one of a device that is leaving, which is not marked
+pub record HasSource (s : Space) (e v : ℕ) : Type 0 where
+  pub dev : ℕ
+  pub unit : ℕ
+  pub leaving : is_leaving (state_of_dev s.parts.devs dev) ≡ true
+  pub within : unit < units_of_dev s.parts.devs dev
+  pub unmarked : is_fresh s.parts.devs dev unit ≡ false
+  pub leads : target (part_of s.parts.devs dev).entries unit ≡ Some (e, v)

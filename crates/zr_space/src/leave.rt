@@ -66,6 +66,12 @@ impl Space {
         ensures index { IfOk result (λ d. is_leaving (state_of_dev self.old.parts.devs d) ≡ true) }
         ensures ok { IfOk result (λ d. Finishes self.old self.new d txg) }
         ensures err { OnErr result (self.new ≡ self.old) }
+        ensures held { IfOk result (λ dev. (d u : ℕ) → d ≢ dev → was_held self.new d u ≡ was_held self.old d u) }
+        ensures kept { IfOk result (λ dev. (d u : ℕ) → d ≢ dev → was_kept self.new d u ≡ was_kept self.old d u) }
+        ensures marks { OnOk result ((d u : ℕ) → was_fresh self.new d u ≡ was_fresh self.old d u) }
+        ensures none_held { IfOk result (λ dev. (u : ℕ) → was_held self.new dev u ≡ false) }
+        ensures none_kept { IfOk result (λ dev. (u : ℕ) → was_kept self.new dev u ≡ false) }
+        ensures counts { IfOk result (λ dev. (part_of self.new.parts.devs dev).counts ≡ (part_of self.old.parts.devs dev).counts) }
     {
         let Some(dev) = self.leaving() else {
             unreachable!()
@@ -90,6 +96,7 @@ impl Space {
         ensures held { OnOk result ((d u : ℕ) → was_held self.new d u ≡ was_held self.old d u) }
         ensures kept { OnOk result ((d u : ℕ) → was_kept self.new d u ≡ was_kept self.old d u) }
         ensures marks { IfOk result (λ dev. (d u : ℕ) → d ≢ dev → was_fresh self.new d u ≡ was_fresh self.old d u) }
+        ensures unmarked { IfOk result (λ dev. (u : ℕ) → was_fresh self.new dev u ≡ false) }
     {
         let Some(dev) = self.leaving() else {
             unreachable!()

@@ -7,10 +7,11 @@ ghost use Rattle.zr_base.specs.Extents.{has_unit};
 ghost use Rattle.zr_base.specs.declared.space.CkptPart.TheVariants.{Clear};
 ghost use Rattle.zr_rules.specs.Equation.{devices_in};
 ghost use Rattle.zr_rules.specs.Mappings.{has_source};
-ghost use Rattle.zr_rules.specs.Places.{is_fresh, is_held, is_leaving, part_of, state_of_dev};
+ghost use Rattle.zr_rules.specs.Places.{is_fresh, is_held, is_kept, is_leaving, part_of, state_of_dev};
 ghost use Rattle.zr_rules.specs.Resolve.{IsRanked};
 ghost use Rattle.zr_rules.specs.Roles.{is_copy_role, is_meta_role};
 ghost use Rattle.zr_rules.specs.Space.{frontier, is_uncopied, role_at};
+ghost use Rattle.zr_space.specs.Leavings.{HasSource};
 ghost use Rattle.zr_space.specs.Metadata.{GivesMeta, HasNoMeta, IsMetaOn, turning_on};
 
 use crate::saved::front_of;
@@ -41,13 +42,16 @@ impl Space {
     }
 
     /// What a device that is leaving holds below its frontier has an entry each and is not marked, and mappings lead to devices that are
-    /// there or went later. It does nothing: a caller learns this by it.
+    /// there or went later. Nothing of a device that is leaving is kept, and each copy is of a unit of it that is not marked. It does nothing:
+    /// a caller learns this by it.
     pub fn copies_in_order(&self)
         ensures copied { (d u : ℕ) → is_leaving (state_of_dev self.now.parts.devs d) ≡ true → is_held self.now.parts.devs d u ≡ true → u < frontier self.now d → has_source (part_of self.now.parts.devs d).entries u ≡ true }
         ensures unmarked { (d u : ℕ) → is_leaving (state_of_dev self.now.parts.devs d) ≡ true → is_held self.now.parts.devs d u ≡ true → u < frontier self.now d → is_fresh self.now.parts.devs d u ≡ false }
         ensures clear { (d : ℕ) → is_leaving (state_of_dev self.now.parts.devs d) ≡ true → self.now.parts.ckpt ≡ Clear }
         ensures no_copies { (d u : ℕ) → is_leaving (state_of_dev self.now.parts.devs d) ≡ true → is_copy_role (role_at self.now d u) ≡ false }
         ensures ranked { IsRanked (devices_in self.now) }
+        ensures unkept { (d u : ℕ) → is_leaving (state_of_dev self.now.parts.devs d) ≡ true → is_kept self.now.parts.devs d u ≡ false }
+        ensures sources { (e v : ℕ) → is_copy_role (role_at self.now e v) ≡ true → HasSource self.now e v }
     {
         let _devs = &self.devs;
     }

@@ -102,3 +102,20 @@ returns-clause-marks c =
     let new : c.come_back.new.self ≡ back_in_service (kept_of mid d) = c.come_back.ensures ∙ ap back_in_service is in
     (subst (λ (s : Space). IsRootBut s (space_of whole (set mid d c.come_back.new.self)) d) view
     (subst (λ (x : Kept). IsRootBut (space_of whole devs) (space_of whole (set mid d x)) d) (sym new) (cancel_root whole c.self.inside.slabs c.give_up.new.slabs c.on.new.self devs mid d cancelled))).marks
+
+pub returns-clause-unmarked : goal.returns-clause-unmarked
+returns-clause-unmarked c =
+    let whole = c.self.inside.whole in
+    let devs : List Kept = c.make_way.new.devs.items in
+    let mid : List Kept = c.give_up.new.devs.items in
+    let d = c.in-Some.dev in
+    let space : IsSpace whole c.self.inside.slabs devs = same_all whole c.self.inside.slabs c.self.inside.devs.items devs c.make_way.ensures.same c.self.invariant in
+    let view : space_of whole devs ≡ c.args.self.now = same_space_of whole c.self.inside.devs.items devs c.make_way.ensures.same ∙ c.self.view_is in
+    let leaving : is_leaving (kept_of devs d).row.state ≡ true = leaving_as whole devs d (subst (λ (s : Space). is_leaving (state_of_dev s.parts.devs d) ≡ true) (sym view) c.in-Some.ensures.some) in
+    let there = leaving_there devs d leaving in
+    let cancelled : IsCancelled whole c.self.inside.slabs c.give_up.new.slabs c.on.new.self devs mid d = record { space = space; there = there; leaving = leaving; gives = c.give_up.ensures; turns = c.on.ensures } in
+    let mid_there : d < length mid = let n = c.give_up.ensures.count in omega (arith, there, n) in
+    let is : c.index_mut-device.result.now ≡ kept_of mid d = kept_read mid d c.index_mut-device.result.now mid_there c.index_mut-device.ensures.value in
+    let new : c.come_back.new.self ≡ back_in_service (kept_of mid d) = c.come_back.ensures ∙ ap back_in_service is in
+    (subst (λ (s : Space). IsRootBut s (space_of whole (set mid d c.come_back.new.self)) d) view
+    (subst (λ (x : Kept). IsRootBut (space_of whole devs) (space_of whole (set mid d x)) d) (sym new) (cancel_root whole c.self.inside.slabs c.give_up.new.slabs c.on.new.self devs mid d cancelled))).unmarked
