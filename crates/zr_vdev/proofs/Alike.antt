@@ -107,7 +107,7 @@ taken_no_copy : (kind : Kind) (policy : Policy) (want : ℕ) (old new : Space) (
 taken_no_copy kinds.Block policy want old new at takes d u is = ap is_copy_role (takes.roles d u ∙ if_yes (in_address at d u) FreshLive (role_at old d u) is)
 taken_no_copy kinds.Meta policy want old new at takes d u is = ap is_copy_role (takes.roles d u ∙ if_yes (in_address at d u) MetaRole (role_at old d u) is)
 
-taken_copy : (kind : Kind) (policy : Policy) (want : ℕ) (old new : Space) (at : Dva) → Takes kind policy want old new at → (d u : ℕ) → is_copy_role (role_at new d u) ≡ true → is_copy_role (role_at old d u) ≡ true
+pub taken_copy : (kind : Kind) (policy : Policy) (want : ℕ) (old new : Space) (at : Dva) → Takes kind policy want old new at → (d u : ℕ) → is_copy_role (role_at new d u) ≡ true → is_copy_role (role_at old d u) ≡ true
 taken_copy kind policy want old new at takes d u copy = elim (cases_bool (in_address at d u)) [
   | inl is ↦ absurd (false_true (sym (taken_no_copy kind policy want old new at takes d u is) ∙ copy))
   | inr out ↦ sym (ap is_copy_role (take_keeps kind policy want old new at takes d u out)) ∙ copy
@@ -117,7 +117,7 @@ taken_copy kind policy want old new at takes d u copy = elim (cases_bool (in_add
 held_copy : (r : Role) → is_copy_role r ≡ true → is_held_role r ≡ true
 held_copy r is = grind (arith, nat_tests, is)
 
-held_stays : (r : Role) → is_held_role r ≡ true → may_change kinds.Meta r ≡ false
+pub held_stays : (r : Role) → is_held_role r ≡ true → may_change kinds.Meta r ≡ false
 held_stays r is = grind (arith, nat_tests, is)
 
 pub metadata_no_copy : (old new : Space) → KeepsOthers kinds.Meta old new → AreNoNewCopies old new

@@ -1,5 +1,5 @@
 -- What a store leaves of what a store of the other kind holds, and of the devices.
-use Rattle.std.proofs.Common.{◌≡◌, ℕ, ◌*◌, ◌<◌, ◌≤◌, Bool, true, false, List, [], ◌∷◌, Option, Some, None, refl, sym, ◌∙◌, ap, subst, arith}
+use Rattle.std.proofs.Common.{◌≡◌, ℕ, ◌*◌, ◌<◌, ◌≤◌, Bool, true, false, List, [], ◌∷◌, Option, Some, None, inl, inr, refl, sym, ◌∙◌, ap, subst, arith}
 use Rattle.std.proofs.lemmas.Bool.Decides.{nat_tests}
 use Rattle.zr_base.specs.declared.space.Dva.{Dva}
 use Rattle.zr_shelf.specs.Counts.{Counts}
@@ -10,10 +10,11 @@ use Rattle.zr_shelf.specs.Doings.Adds.{added_none, added}
 use Rattle.zr_shelf.proofs.Doings.{added_throughout}
 use Rattle.zr_label.specs.Geometry.{unit_at}
 use Rattle.zr_chain.specs.Visits.{as_part}
+use Rattle.zr_chain.proofs.Ways.{cases_bool}
 use Rattle.zr_rules.specs.Places.{in_address}
 use Rattle.zr_rules.specs.Devices.{Devices}
 use Rattle.zr_rules.specs.Resolve.{leads_to}
-use Rattle.zr_rules.specs.Roles.{Role}
+use Rattle.zr_rules.specs.Roles.{Role, is_held_role, is_live_role}
 use Rattle.zr_rules.specs.Space.{Space, role_at}
 use Rattle.zr_rules.specs.Equation.{devices_in, live_hits}
 use Rattle.zr_space.specs.Paths.{AreInService}
@@ -24,7 +25,7 @@ use Rattle.zr_cache.specs.declared.table.Cache.{Cache}
 use Rattle.zr_vdev.specs.declared.kind.Kind.{Kind}
 use Rattle.zr_vdev.specs.declared.kind.Kind.TheVariants as kinds
 use Rattle.zr_vdev.specs.Mounts.{AreMounted}
-use Rattle.zr_vdev.specs.Stores.{IsInUse, HoldsBlocks, MayGoBack, Continues, IsWriteInto, KeepsOthers, addresses_of, may_write, may_change}
+use Rattle.zr_vdev.specs.Stores.{IsAll, IsInUse, HoldsBlocks, MayGoBack, Continues, IsWriteInto, KeepsOthers, addresses_of, may_write, may_change}
 use Rattle.zr_vdev.proofs.Overwriting.{untouched}
 use Rattle.zr_vdev.proofs.Apart.{parts_apart}
 use Rattle.zr_vdev.proofs.Uses.{is_of, use_roles, use_along}
@@ -32,6 +33,8 @@ use Rattle.zr_vdev.proofs.Back.{spends_same}
 use Rattle.zr_vdev.proofs.Held.{one_unit, address_same, true_is_false}
 use Rattle.zr_vdev.proofs.Moves.{held_again}
 use Rattle.zr_vdev.proofs.Follows.{rows_devices}
+use Rattle.zr_vdev.proofs.Alike.{held_stays, metadata_no_copy}
+use Rattle.zr_vdev.proofs.Whole.{all_same}
 
 -- ---- devices
 
@@ -95,6 +98,21 @@ beside_back : (kind : Kind) (s t : Space) → devices_in t ≡ devices_in s → 
 beside_back kinds.Block s t devices others list back = spends_same s t list devices (λ d. (others.rows.each d).counts) others.marks back
 beside_back kinds.Meta s t devices others list back = tt
 
+not_held_live : (r : Role) → is_held_role r ≡ false → is_live_role r ≡ false
+not_held_live r is = grind (arith, nat_tests, is)
+
+-- units in use by blocks stay, and metadata makes none
+beside_live : (s t : Space) → KeepsOthers kinds.Meta s t → (d u : ℕ) → is_live_role (role_at t d u) ≡ is_live_role (role_at s d u)
+beside_live s t others d u = elim (cases_bool (is_held_role (role_at s d u))) [
+  | inl held ↦ ap is_live_role (others.stays d u (held_stays (role_at s d u) held))
+  | inr free ↦ not_held_live (role_at t d u) (others.held d u ∙ free) ∙ sym (not_held_live (role_at s d u) free)
+]
+
+-- so they are still all
+beside_all : (kind : Kind) (s t : Space) → devices_in t ≡ devices_in s → KeepsOthers (other kind) s t → (list : List Dva) → IsAll kind s list → IsAll kind t list
+beside_all kinds.Block s t devices others list all = all_same kinds.Block s t list devices (beside_live s t others) (metadata_no_copy s t others) all
+beside_all kinds.Meta s t devices others list all = tt
+
 -- what is held of one kind is held still once a store of the other kind has done its calls
 pub held_beside : (kind : Kind) (slots : List (Option ℕ)) (n1 n2 : List ℕ) (c1 c2 : Counts) (t1 t2 : Type 0) (w1 w2 : World) (s t : Space) (lost : Option Dva) (k1 k2 : Cache) (st : Stored)
     → ((d e slot : ℕ) → slot_of slots d ≡ Some slot → slot_of slots e ≡ Some slot → d ≡ e) → Continues (other kind) slots n1 n2 c1 c2 t1 t2 w1 w2 s t k1 k2
@@ -108,6 +126,7 @@ held_beside kind slots n1 n2 c1 c2 t1 t2 w1 w2 s t lost k1 k2 st apart went held
     ap (λ (ds : Devices). address_bytes (record { disks = w2.now.seen; slots = slots; devices = ds }) x) devices
     ∙ address_same slots (devices_in s) w1.now.seen w2.now.seen x (λ d u led. run_stays (other kind) slots s (one_unit d u) (omega arith) (unit_barred kind s x h.used d u led) apart w1 w2 (went.written held.told)))
     (λ d u. subst (λ (ds : Devices). live_hits ds (addresses_of st.pointers) d u ≤ 1) (sym devices) (held.once d u))
+    (beside_all kind s t devices went.space (addresses_of st.pointers) held.all)
     (back (addresses_of st.pointers) held.back)
     held
   where

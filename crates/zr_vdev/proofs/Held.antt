@@ -24,7 +24,8 @@ use Rattle.zr_vdev.specs.declared.kind.Kind.TheVariants as kinds
 use Rattle.zr_vdev.specs.Runs.{AreRunsOf, view_of}
 use Rattle.zr_vdev.specs.Caches.{AreRead}
 use Rattle.zr_vdev.specs.Puts.{Takes, GivesBack, MayPut, IsWriteOf}
-use Rattle.zr_vdev.specs.Stores.{IsInUse, IsTaken, IsApart, IsStoredAt, HoldsBlocks, GivesBackLost, MayGoBack, addresses_of}
+use Rattle.zr_vdev.specs.Stores.{IsInUse, IsTaken, IsApart, IsStoredAt, GivesBackLost, MayGoBack, addresses_of}
+use Rattle.zr_vdev.proofs.Partly.{HoldsBut, none_some}
 use Rattle.zr_vdev.proofs.Taking.{takes_place, takes_frame}
 use Rattle.zr_vdev.proofs.Overwriting.{same_devices, run_kept}
 use Rattle.zr_vdev.proofs.Apart.{unit_apart}
@@ -109,11 +110,11 @@ apart_same lost x ds es same apart = subst (λ (fs : Devices). IsApart fs lost x
 
 module _ (kind : Kind) (slots : List (Option ℕ)) where
   pub transport : (told_old told_new : Type 0) (disks_old disks_new : List (List ℕ)) (s t : Space) (lost_old lost_new : Option Dva) (c d : Cache) (st : Stored)
-      → HoldsBlocks kind slots told_old disks_old s lost_old c st → devices_in t ≡ devices_in s → told_new → AreRead disks_new slots t d
+      → HoldsBut kind slots told_old disks_old s lost_old c st → devices_in t ≡ devices_in s → told_new → AreRead disks_new slots t d
       → ((at : Dva) → lost_new ≡ Some at → IsTaken kind t at) → (MayGoBack kind s (addresses_of st.pointers) → MayGoBack kind t (addresses_of st.pointers))
       → ((x : Dva) → IsStoredAt kind s lost_old x → IsStoredAt kind t lost_new x) → ((x : Dva) → IsStoredAt kind t lost_new x → IsStoredAt kind s lost_old x)
       → ((x : Dva) → IsStoredAt kind s lost_old x → address_bytes (view_of disks_new slots t) x ≡ address_bytes (view_of disks_old slots s) x)
-      → HoldsBlocks kind slots told_new disks_new t lost_new d st
+      → HoldsBut kind slots told_new disks_new t lost_new d st
   transport told_old told_new disks_old disks_new s t lost_old lost_new c d st held same told read taken back there was bytes = record {
     told = told;
     read = read;
@@ -150,9 +151,6 @@ clear_of_taken kind policy want old new at takes x h d u is = elim (cases_bool (
   | inr out ↦ out
 ]
 
-none_some : (at : Dva) → None ≡ Some at → ⊥
-none_some at e = cc
-
 some_same : (a b : Dva) → Some a ≡ Some b → a ≡ b
 some_same a b e = cc
 
@@ -185,7 +183,7 @@ pub failed_held : (kind : Kind) (policy : Policy) (want : ℕ) (slots : List (Op
     → (told_old told_new : Type 0) (old new : Space) (before now : World) (c d : Cache) (taken : Option Dva) (st : Stored)
     → 0 < want → ((at : Dva) → taken ≡ Some at → at.start + at.len ≤ units_of_dev new.parts.devs at.dev)
     → MayPut kind policy want slots old new before now taken → told_new → AreRead now.now.seen slots new d
-    → HoldsBlocks kind slots told_old before.now.seen old None c st → HoldsBlocks kind slots told_new now.now.seen new taken d st
+    → HoldsBut kind slots told_old before.now.seen old None c st → HoldsBut kind slots told_new now.now.seen new taken d st
 failed_held kind policy want slots apart told_old told_new old new before now c d None st some within (same, still) told read held =
     let devices : devices_in new ≡ devices_in old = ap devices_in same in
     transport kind slots told_old told_new before.now.seen now.now.seen old new None None c d st held devices told read
@@ -237,8 +235,8 @@ module _ (kind : Kind) (old new : Space) (a : Dva) (txg : ℕ) (taken : IsTaken 
   }
 
 pub lost_held : (kind : Kind) (slots : List (Option ℕ)) (told : Type 0) (disks : List (List ℕ)) (old new : Space) (lost : Option Dva) (txg : ℕ) (c : Cache) (st : Stored)
-    → devices_in new ≡ devices_in old → GivesBackLost kind old new lost txg → HoldsBlocks kind slots told disks old lost c st → HoldsBlocks kind slots told disks new None c st
-lost_held kind slots told disks old new None txg c st devices same held = subst (λ (s : Space). HoldsBlocks kind slots told disks s None c st) (sym same) held
+    → devices_in new ≡ devices_in old → GivesBackLost kind old new lost txg → HoldsBut kind slots told disks old lost c st → HoldsBut kind slots told disks new None c st
+lost_held kind slots told disks old new None txg c st devices same held = subst (λ (s : Space). HoldsBut kind slots told disks s None c st) (sym same) held
 lost_held kind slots told disks old new (Some a) txg c st devices (inr (not_used, same)) held = absurd (not_used (held.taken a refl).used)
 lost_held kind slots told disks old new (Some a) txg c st devices (inl (in_use, gives)) held =
     let taken = held.taken a refl in

@@ -10,7 +10,9 @@ pub mod Uses
 pub mod GoingBack
 pub mod Deciding
 pub mod Follows
+pub mod Partly
 pub mod Held
+pub mod Whole
 pub mod Moves
 pub mod Frames
 pub mod Mounting

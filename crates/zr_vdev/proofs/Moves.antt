@@ -11,7 +11,7 @@ use Rattle.zr_bptr.specs.declared.Bptr.{Bptr}
 use Rattle.zr_shelf.specs.Moments.{World}
 use Rattle.zr_shelf.specs.Doings.{WritesOnly}
 use Rattle.zr_chain.proofs.Ways.{cases_bool}
-use Rattle.zr_rules.specs.Places.{one_if, is_on, state_of_dev, in_address, address_hits, units_of_dev}
+use Rattle.zr_rules.specs.Places.{one_if, is_on, in_address, address_hits, units_of_dev}
 use Rattle.zr_rules.specs.Devices.{Devices, state_at}
 use Rattle.zr_rules.specs.Resolve.{is_resolved, leads_to, resolve_hits}
 use Rattle.zr_rules.specs.Space.{Space, role_at}
@@ -25,14 +25,16 @@ use Rattle.zr_cache.specs.declared.table.Cache.{Cache}
 use Rattle.zr_vdev.specs.declared.kind.Kind.{Kind}
 use Rattle.zr_vdev.specs.Runs.{view_of}
 use Rattle.zr_vdev.specs.Caches.{AreRead}
-use Rattle.zr_vdev.specs.Puts.{Takes, GivesBack, IsWriteOf}
-use Rattle.zr_vdev.specs.Stores.{IsInUse, IsTaken, IsApart, IsStoredAt, HoldsBlocks, HoldsRead, MayGoBack, addresses_of}
-use Rattle.zr_vdev.proofs.Leading.{Resolves, false_true, zero_or, apart_units, leads_some, some_leads, own_leads, own_hits}
+use Rattle.zr_vdev.specs.Puts.{Takes, GivesBack, MayPut, IsWriteOf}
+use Rattle.zr_vdev.specs.Stores.{IsAll, IsInUse, IsStoredAt, GivesBackLost, HoldsBlocks, HoldsRead, MayGoBack, addresses_of}
+use Rattle.zr_vdev.proofs.Leading.{Resolves, zero_or, apart_units, leads_some, some_leads, own_leads, own_hits}
 use Rattle.zr_vdev.proofs.Back.{Parts}
-use Rattle.zr_vdev.proofs.Uses.{is_of, use_some, use_roles, use_along, use_resolves, taken_was_free, taken_own, serves_stays, give_keeps}
-use Rattle.zr_vdev.proofs.GoingBack.{service_back, with_back, alone_back, head_back, tail_back, take_back, rest_back}
+use Rattle.zr_vdev.proofs.Uses.{is_of, use_some, use_roles, use_along, use_resolves, taken_was_free, serves_stays, give_keeps}
+use Rattle.zr_vdev.proofs.GoingBack.{service_back, with_back, head_back, tail_back, take_back, rest_back}
 use Rattle.zr_vdev.proofs.Deciding.{stored_or}
-use Rattle.zr_vdev.proofs.Held.{pick, pick_yes, pick_no, apart_same, bytes_apart, clear_of_taken, takes_devices, takes_some, used_still, is_taken, true_is_false, own_not_free}
+use Rattle.zr_vdev.proofs.Held.{pick, pick_yes, pick_no, apart_same, bytes_apart, clear_of_taken, takes_devices, takes_some, used_still, is_taken, true_is_false, own_not_free, failed_held, lost_held}
+use Rattle.zr_vdev.proofs.Partly.{but_of, whole_of}
+use Rattle.zr_vdev.proofs.Whole.{all_taken, all_back, all_freed}
 
 abbrev hits_in : List Bptr → ℕ → ℕ → ℕ
 hits_in ps d u = sum_by (λ (b : Bptr). one_if (in_address b.at d u)) ps
@@ -100,14 +102,15 @@ bytes_none kind slots disks s lost b h = pick_no (stored_or kind s lost b.at) (a
 
 -- what is stored at these addresses, told by its pointers
 pub holds_all : (kind : Kind) (slots : List (Option ℕ)) (told : Type 0) (disks : List (List ℕ)) (s : Space) (lost : Option Dva) (c : Cache) (ps : List Bptr)
-    → told → AreRead disks slots s c → ((at : Dva) → lost ≡ Some at → IsTaken kind s at) → All (λ (b : Bptr). IsStoredAt kind s lost b.at) ps → ((d u : ℕ) → live_hits (devices_in s) (addresses_of ps) d u ≤ 1) → MayGoBack kind s (addresses_of ps)
+    → told → AreRead disks slots s c → lost ≡ None → All (λ (b : Bptr). IsStoredAt kind s lost b.at) ps → ((d u : ℕ) → live_hits (devices_in s) (addresses_of ps) d u ≤ 1) → IsAll kind s (addresses_of ps) → MayGoBack kind s (addresses_of ps)
     → HoldsBlocks kind slots told disks s lost c (record { pointers = ps; bytes = bytes_now kind slots disks s lost })
-holds_all kind slots told disks s lost c ps is_told read taken all once back = record {
+holds_all kind slots told disks s lost c ps is_told read settled all once each back = record {
   told = is_told;
+  settled = settled;
   read = read;
-  taken = taken;
   stored = all;
   once = once;
+  all = each;
   back = back;
   alone = alone_of kind s lost (record { pointers = ps; bytes = bytes_now kind slots disks s lost }) all once;
   resolves = resolves_of kind s lost ps all;
@@ -125,15 +128,12 @@ led_once ds (a ∷ more) on d u =
 
 -- the same where all devices are in service
 pub holds_these : (kind : Kind) (slots : List (Option ℕ)) (told : Type 0) (disks : List (List ℕ)) (s : Space) (lost : Option Dva) (c : Cache) (on : AreInService (devices_in s)) (ps : List Bptr)
-    → told → AreRead disks slots s c → ((at : Dva) → lost ≡ Some at → IsTaken kind s at) → All (λ (b : Bptr). IsStoredAt kind s lost b.at) ps → ((d u : ℕ) → address_hits (addresses_of ps) d u ≤ 1)
+    → told → AreRead disks slots s c → lost ≡ None → All (λ (b : Bptr). IsStoredAt kind s lost b.at) ps → ((d u : ℕ) → address_hits (addresses_of ps) d u ≤ 1) → IsAll kind s (addresses_of ps)
     → HoldsBlocks kind slots told disks s lost c (record { pointers = ps; bytes = bytes_now kind slots disks s lost })
-holds_these kind slots told disks s lost c on ps is_told read taken all once =
-    holds_all kind slots told disks s lost c ps is_told read taken all (λ d u. let few = led_once (devices_in s) (addresses_of ps) on d u in let one = once d u in omega (arith, few, one)) (service_back kind s (addresses_of ps) on)
+holds_these kind slots told disks s lost c on ps is_told read settled all once each =
+    holds_all kind slots told disks s lost c ps is_told read settled all (λ d u. let few = led_once (devices_in s) (addresses_of ps) on d u in let one = once d u in omega (arith, few, one)) each (service_back kind s (addresses_of ps) on)
 
 -- ---- a block is put
-
-none_some : (at : Dva) → None ≡ Some at → ⊥
-none_some at e = cc
 
 pub put_held : (kind : Kind) (policy : Policy) (want : ℕ) (slots : List (Option ℕ)) → ((d e slot : ℕ) → slot_of slots d ≡ Some slot → slot_of slots e ≡ Some slot → d ≡ e)
     → (told_old told_new : Type 0) (old new : Space) (before now : World) (c d : Cache) (b : Bptr) (bytes : List ℕ) (st : Stored)
@@ -163,7 +163,7 @@ put_held kind policy want slots apart told_old told_new old new before now c d b
     ] in
     record {
       stored = record { pointers = b ∷ st.pointers; bytes = bytes_now kind slots now.now.seen new None };
-      held = holds_all kind slots told_new now.now.seen new None d (b ∷ st.pointers) told read (λ at is. absurd (none_some at is)) all once (with_back kind new b.at list taken.serves (take_back kind policy want old new b.at takes devices list held.back));
+      held = holds_all kind slots told_new now.now.seen new None d (b ∷ st.pointers) told read refl all once (all_taken kind policy want old new b.at list takes devices taken held.all) (with_back kind new b.at list taken.serves (take_back kind policy want old new b.at takes devices list held.back));
       is = record {
         fresh = elim (zero_or (hits st.pointers b.at)) [
           | inl z ↦ z
@@ -185,6 +185,27 @@ put_held kind policy want slots apart told_old told_new old new before now c d b
         };
       };
     }
+
+-- ---- a put failed, and gave back what it took
+
+back_all : (kind : Kind) (policy : Policy) (want : ℕ) (slots : List (Option ℕ)) (old mid new : Space) (before now : World) (taken : Option Dva) (txg : ℕ) (list : List Dva)
+    → 0 < want → ((at : Dva) → taken ≡ Some at → at.start + at.len ≤ units_of_dev mid.parts.devs at.dev)
+    → MayPut kind policy want slots old mid before now taken → devices_in new ≡ devices_in mid → GivesBackLost kind mid new taken txg → MayGoBack kind old list → IsAll kind old list → IsAll kind new list
+back_all kind policy want slots old mid new before now None txg list some within (same, still) devices gives back all = subst (λ (s : Space). IsAll kind s list) (sym (gives ∙ same)) all
+back_all kind policy want slots old mid new before now (Some at) txg list some within (takes, writes) devices (inl (in_use, gives)) back all =
+    all_back kind policy want old mid new at txg list takes (takes_devices kind policy want old mid at takes some) (is_taken kind policy want old mid at takes some list back (within at refl)) gives devices all
+back_all kind policy want slots old mid new before now (Some at) txg list some within (takes, writes) devices (inr (not_used, same)) back all =
+    absurd (not_used (is_taken kind policy want old mid at takes some list back (within at refl)).used)
+
+pub given_up_held : (kind : Kind) (policy : Policy) (want : ℕ) (slots : List (Option ℕ)) → ((d e slot : ℕ) → slot_of slots d ≡ Some slot → slot_of slots e ≡ Some slot → d ≡ e)
+    → (told_old told_new : Type 0) (old mid new : Space) (before now : World) (c d : Cache) (taken : Option Dva) (txg : ℕ) (st : Stored)
+    → 0 < want → ((at : Dva) → taken ≡ Some at → at.start + at.len ≤ units_of_dev mid.parts.devs at.dev)
+    → MayPut kind policy want slots old mid before now taken → devices_in new ≡ devices_in mid → GivesBackLost kind mid new taken txg → told_new → AreRead now.now.seen slots mid d
+    → HoldsBlocks kind slots told_old before.now.seen old None c st → HoldsBlocks kind slots told_new now.now.seen new None d st
+given_up_held kind policy want slots apart told_old told_new old mid new before now c d taken txg st some within puts devices gives told read held =
+    let but = failed_held kind policy want slots apart told_old told_new old mid before now c d taken st some within puts told read (but_of kind slots told_old before.now.seen old None c st held) in
+    whole_of kind slots told_new now.now.seen new None d st (lost_held kind slots told_new now.now.seen mid new taken txg d st devices gives but) refl
+    (back_all kind policy want slots old mid new before now taken txg (addresses_of st.pointers) some within puts devices gives held.back held.all)
 
 -- ---- a block is given back
 
@@ -293,18 +314,6 @@ module _ (kind : Kind) (old new : Space) (a : Dva) (birth : ℕ) (devices : devi
       (rest_there lost qs (All-tail (λ (p : Bptr). IsStoredAt kind old lost p.at) q qs all) (tail_back kind new q.at (addresses_of qs) back)
       (λ d u both. let z = clear d u both in omega (arith, z, sum_by-cons (λ (x : Dva). resolve_hits (devices_in old) x d u) q.at (addresses_of qs))))
 
-  -- what a put took and could not write is so still
-  lost_still : (lost : Dva) (list : List Dva) → IsTaken kind old lost → IsApart (devices_in old) (Some lost) a → MayGoBack kind new list → IsTaken kind new lost
-  lost_still lost list taken apart back =
-      let serves : is_on (state_of_dev new.parts.devs lost.dev) ≡ true = ap (λ (ds : Devices). is_on (state_at ds lost.dev)) devices ∙ taken.serves in
-      record {
-        used = other_used lost taken.used (alone_back kind new lost list serves back) (λ d u led. elim (cases_bool (leads_to (devices_in old) a d u)) [
-          | inr out ↦ out
-          | inl both ↦ absurd (false_true (sym (apart d u both) ∙ taken_own kind old lost taken d u led))
-        ]);
-        serves = serves;
-      }
-
 All_without : (P : Bptr → Type 0) (at : Dva) (ps : List Bptr) → All P ps → All P (without at ps)
 All_without P at [] all = all
 All_without P at (p ∷ ps) all = (elim (nat_eq (one_at at p) 0) as (λ (v : Bool). All P (if v then p ∷ without at ps else without at ps)) [
@@ -332,14 +341,14 @@ free_held kind slots told disks old new lost c d b birth st devices gives read h
     let all = rest_there kind old new b.at birth devices own.used gives lost left left_all back clear in
     record {
       stored = record { pointers = left; bytes = bytes_now kind slots disks new lost };
-      held = holds_all kind slots told disks new lost d left held.told read
-          (λ at is. lost_still kind old new b.at birth devices own.used gives at (addresses_of left) (held.taken at is) (subst (λ (o : Option Dva). IsApart (devices_in old) o b.at) is own.whole) back)
+      held = holds_all kind slots told disks new lost d left held.told read held.settled
           all
           (λ e u.
           let sum = parts (λ (a : Dva). resolve_hits (devices_in old) a e u) in
           let few = held.once e u in
           let same = ap (λ (ds : Devices). live_hits ds (addresses_of left) e u) devices in
           omega (arith, sum, few, same))
+          (all_freed kind old new b.at birth (addresses_of st.pointers) (addresses_of left) devices own.used gives parts held.all)
           back;
       is = record {
         stored = λ weight. let f = fewer weight in omega (arith, f, sum_by-cons weight b []);
@@ -355,18 +364,18 @@ free_held kind slots told disks old new lost c d b birth st devices gives read h
 
 -- ---- the same blocks for a store that begins
 
--- where each block that is stored stays, and keeps its bytes, and all may still go back, a store that begins there holds the same blocks
+-- where each block that is stored stays, and keeps its bytes, they are still all, and all may still go back, a store that begins there holds the same blocks
 pub held_again : (kind : Kind) (slots : List (Option ℕ)) (told_old told_new : Type 0) (disks_old disks_new : List (List ℕ)) (s t : Space) (lost : Option Dva) (c d : Cache) (st : Stored)
     → told_new → AreRead disks_new slots t d
     → ((x : Dva) → IsStoredAt kind s lost x → IsStoredAt kind t None x)
     → ((x : Dva) → IsStoredAt kind s lost x → address_bytes (view_of disks_new slots t) x ≡ address_bytes (view_of disks_old slots s) x)
-    → ((d u : ℕ) → live_hits (devices_in t) (addresses_of st.pointers) d u ≤ 1) → MayGoBack kind t (addresses_of st.pointers)
+    → ((d u : ℕ) → live_hits (devices_in t) (addresses_of st.pointers) d u ≤ 1) → IsAll kind t (addresses_of st.pointers) → MayGoBack kind t (addresses_of st.pointers)
     → HoldsBlocks kind slots told_old disks_old s lost c st → Now (HoldsBlocks kind slots told_new disks_new t None d) (λ n. Swaps st n [] [])
-held_again kind slots told_old told_new disks_old disks_new s t lost c d st told read there bytes once back held =
+held_again kind slots told_old told_new disks_old disks_new s t lost c d st told read there bytes once each back held =
     let all : All (λ (p : Bptr). IsStoredAt kind t None p.at) st.pointers = λ i e lt. there _ (held.stored i e lt) in
     record {
       stored = record { pointers = st.pointers; bytes = bytes_now kind slots disks_new t None };
-      held = holds_all kind slots told_new disks_new t None d st.pointers told read (λ at is. absurd (none_some at is)) all once back;
+      held = holds_all kind slots told_new disks_new t None d st.pointers told read refl all once each back;
       is = record {
         stored = λ weight. refl;
         kept = λ q free met.
@@ -380,33 +389,42 @@ pub held_anew : (kind : Kind) (slots : List (Option ℕ)) (told_old told_new : T
     → AreInService (devices_in t) → told_new → AreRead disks_new slots t d
     → ((x : Dva) → IsStoredAt kind s lost x → IsStoredAt kind t None x)
     → ((x : Dva) → IsStoredAt kind s lost x → address_bytes (view_of disks_new slots t) x ≡ address_bytes (view_of disks_old slots s) x)
+    → IsAll kind t (addresses_of st.pointers)
     → HoldsBlocks kind slots told_old disks_old s lost c st → Now (HoldsBlocks kind slots told_new disks_new t None d) (λ n. Swaps st n [] [])
-held_anew kind slots told_old told_new disks_old disks_new s t lost c d st on told read there bytes held =
+held_anew kind slots told_old told_new disks_old disks_new s t lost c d st on told read there bytes each held =
     held_again kind slots told_old told_new disks_old disks_new s t lost c d st told read there bytes
     (λ e u. let few = led_once (devices_in t) (addresses_of st.pointers) on e u in let one = units_once kind s lost st.pointers held.stored held.once e u in omega (arith, few, one))
-    (service_back kind t (addresses_of st.pointers) on) held
+    each (service_back kind t (addresses_of st.pointers) on) held
 
 -- a store that begins holds what the one before it held
 pub begins_held : (kind : Kind) (slots : List (Option ℕ)) (told : Type 0) (disks : List (List ℕ)) (s : Space) (lost : Option Dva) (c : Cache) (st : Stored)
     → HoldsBlocks kind slots told disks s lost c st → Now (HoldsBlocks kind slots told disks s None c) (λ n. Swaps st n [] [])
 begins_held kind slots told disks s lost c st held =
-    held_again kind slots told told disks disks s s lost c c st held.told held.read (λ x h. record { used = h.used; whole = tt }) (λ x h. refl) held.once held.back held
+    held_again kind slots told told disks disks s s lost c c st held.told held.read (λ x h. record { used = h.used; whole = tt }) (λ x h. refl) held.once held.all held.back held
+
+-- what is held is so still where the bytes of each block stay
+pub read_held : (kind : Kind) (slots : List (Option ℕ)) (told_old told_new : Type 0) (disks_old disks_new : List (List ℕ)) (s : Space) (lost : Option Dva) (c d : Cache) (st : Stored)
+    → told_new → AreRead disks_new slots s d
+    → ((x : Dva) → IsStoredAt kind s lost x → address_bytes (view_of disks_new slots s) x ≡ address_bytes (view_of disks_old slots s) x)
+    → HoldsBlocks kind slots told_old disks_old s lost c st → HoldsBlocks kind slots told_new disks_new s lost d st
+read_held kind slots told_old told_new disks_old disks_new s lost c d st told read bytes held = record {
+  told = told;
+  settled = held.settled;
+  read = read;
+  stored = held.stored;
+  once = held.once;
+  all = held.all;
+  back = held.back;
+  alone = held.alone;
+  resolves = held.resolves;
+  there = λ b h. held.there b h ∙ sym (bytes b.at h);
+  nothing = held.nothing;
+}
 
 -- what the devices hold is so whatever is told of them
 pub retold : (kind : Kind) (slots : List (Option ℕ)) (told other : Type 0) (disks : List (List ℕ)) (s : Space) (lost : Option Dva) (c : Cache) (st : Stored)
     → other → HoldsBlocks kind slots told disks s lost c st → HoldsBlocks kind slots other disks s lost c st
-retold kind slots told other disks s lost c st is_told held = record {
-  told = is_told;
-  taken = held.taken;
-  read = held.read;
-  stored = held.stored;
-  once = held.once;
-  back = held.back;
-  alone = held.alone;
-  resolves = held.resolves;
-  there = held.there;
-  nothing = held.nothing;
-}
+retold kind slots told other disks s lost c st is_told held = read_held kind slots told other disks disks s lost c c st is_told held.read (λ x h. refl) held
 
 -- ---- a store that is only read
 

@@ -52,11 +52,11 @@ if_no false x y h = refl
 abbrev some_place : ℕ → ℕ → Option Place
 some_place d u = Some (d, u)
 
-same_place : (d u : ℕ) (q : Place) → some_place d u ≡ Some q → (q.0 ≡ d) × (q.1 ≡ u)
+pub same_place : (d u : ℕ) (q : Place) → some_place d u ≡ Some q → (q.0 ≡ d) × (q.1 ≡ u)
 same_place d u q e = (cc, cc)
 
 -- the place of a unit in an entry is a copy by it
-copies_by : (p : DevPart) (e : Entry) (u : ℕ) → in_source e u ≡ true → has_unit p.fresh u ≡ false → is_copy_by p e.dev (e.dst + (u - e.src)) e ≡ true
+pub copies_by : (p : DevPart) (e : Entry) (u : ℕ) → in_source e u ≡ true → has_unit p.fresh u ≡ false → is_copy_by p e.dev (e.dst + (u - e.src)) e ≡ true
 copies_by p e u inside unmarked =
     let from : e.src ≤ u = grind (arith, nat_tests, inside) in
     let to : u < e.src + e.len = grind (arith, nat_tests, inside) in
@@ -64,7 +64,7 @@ copies_by p e u inside unmarked =
     let none : has_unit p.fresh (e.src + (e.dst + (u - e.src) - e.dst)) ≡ false = ap (has_unit p.fresh) same ∙ unmarked in
     grind (arith, nat_tests, from, to, none)
 
-entries_copy : (p : DevPart) (u : ℕ) (q : Place) → has_unit p.fresh u ≡ false → (es : List Entry) → target es u ≡ Some q → 0 < sum_by (λ (e : Entry). one_if (is_copy_by p q.0 q.1 e)) es
+pub entries_copy : (p : DevPart) (u : ℕ) (q : Place) → has_unit p.fresh u ≡ false → (es : List Entry) → target es u ≡ Some q → 0 < sum_by (λ (e : Entry). one_if (is_copy_by p q.0 q.1 e)) es
 entries_copy p u q unmarked [] is = absurd (none_some q is)
 entries_copy p u q unmarked (e ∷ es) is = by (in_source e u) refl (entries_copy p u q unmarked es)
   where
@@ -83,7 +83,7 @@ entries_copy p u q unmarked (e ∷ es) is = by (in_source e u) refl (entries_cop
 abbrev each_copies : Place → DevPart → ℕ
 each_copies q p = if is_leaving p.row.state then sum_by (λ (e : Entry). one_if (is_copy_by p q.0 q.1 e)) p.entries else 0
 
-parts_copy : (q : Place) (u : ℕ) (ps : List DevPart) (d : ℕ) → is_leaving (state_of_dev ps d) ≡ true → is_fresh ps d u ≡ false → target (part_of ps d).entries u ≡ Some q → 0 < copy_hits ps q.0 q.1
+pub parts_copy : (q : Place) (u : ℕ) (ps : List DevPart) (d : ℕ) → is_leaving (state_of_dev ps d) ≡ true → is_fresh ps d u ≡ false → target (part_of ps d).entries u ≡ Some q → 0 < copy_hits ps q.0 q.1
 parts_copy q u [] d leaving unmarked is = absurd (false_true leaving)
 parts_copy q u (p ∷ ps) zero leaving unmarked is =
     let s = sum_by-cons (each_copies q) p ps in

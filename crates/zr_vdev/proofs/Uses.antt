@@ -95,7 +95,7 @@ copied_role s d u is =
     (has_late false (part_of s.parts.devs d).late1 u) (has_late true (part_of s.parts.devs d).late1 u) (has_late false (part_of s.parts.devs d).late2 u) (has_late true (part_of s.parts.devs d).late2 u)
     (nat_lt 0 (address_hits s.meta d u)) (nat_lt 0 (address_hits s.saved_meta d u)) is
 
-entry_copies : (s : Space) (a : Dva) (p : DevPart) (source d u : ℕ) (es : List Entry) → list_any (leads_to_copied s a p source d u) es ≡ true → 0 < sum_by (λ (e : Entry). one_if (is_copy_by p d u e)) es
+pub entry_copies : (s : Space) (a : Dva) (p : DevPart) (source d u : ℕ) (es : List Entry) → list_any (leads_to_copied s a p source d u) es ≡ true → 0 < sum_by (λ (e : Entry). one_if (is_copy_by p d u e)) es
 entry_copies s a p source d u [] is = absurd (false_true is)
 entry_copies s a p source d u (e ∷ es) is =
     let more = list_any-append (leads_to_copied s a p source d u) (e ∷ []) es in
@@ -105,7 +105,7 @@ entry_copies s a p source d u (e ∷ es) is =
       | inr none ↦ let rest = entry_copies s a p source d u es (grind (arith, nat_tests, more, is, none)) in omega (arith, rest, sum)
     ]
 
-copies_counted : (s : Space) (a : Dva) (source : ℕ) (parts : List DevPart) (d u : ℕ) → copy_from s a source parts d u ≡ true → 0 < copy_hits parts d u
+pub copies_counted : (s : Space) (a : Dva) (source : ℕ) (parts : List DevPart) (d u : ℕ) → copy_from s a source parts d u ≡ true → 0 < copy_hits parts d u
 copies_counted s a source [] d u is = absurd (false_true is)
 copies_counted s a source (p ∷ ps) d u is =
     let sum = sum_by-cons (λ (q : DevPart). if is_leaving q.row.state then sum_by (λ (e : Entry). one_if (is_copy_by q d u e)) q.entries else 0) p ps in

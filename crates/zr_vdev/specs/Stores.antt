@@ -8,7 +8,7 @@ use Rattle.zr_shelf.specs.Moments.{World, IsStill}
 use Rattle.zr_shelf.specs.Doings.{WritesOnly}
 use Rattle.zr_chain.specs.declared.visit.Visited.{Visited}
 use Rattle.zr_chain.specs.declared.visit.Visited.TheVariants.{Piece}
-use Rattle.zr_rules.specs.Places.{is_on, is_fresh, in_address, part_of, state_of_dev}
+use Rattle.zr_rules.specs.Places.{Place, is_on, is_fresh, in_address, part_of, state_of_dev}
 use Rattle.zr_rules.specs.Devices.{Devices}
 use Rattle.zr_rules.specs.Roles.{Role, is_live_role, is_copy_role, is_meta_role, is_free_role, is_held_role, is_deferred_role}
 use Rattle.zr_rules.specs.Roles.Role.{Free, FreshLive, FreshCopy}
@@ -28,7 +28,7 @@ use Rattle.zr_vdev.specs.declared.kind.Kind.TheVariants.{Block, Meta}
 use Rattle.zr_vdev.specs.Runs.{view_of}
 use Rattle.zr_vdev.specs.Puts.{IsWriteOf, GivesBack}
 use Rattle.zr_vdev.specs.Caches.{AreRead}
-use Rattle.zr_vdev.specs.Alike.{CopiesStand}
+use Rattle.zr_vdev.specs.Alike.{CopiesStand, IsCopyAt}
 
 -- ---- what is held
 
@@ -70,14 +70,24 @@ GivesBackLost kind old new (Some at) txg = (IsInUse kind old at × GivesBack kin
 abbrev pub addresses_of : List Bptr → List Dva
 addresses_of pointers = map (λ (b : Bptr). b.at) pointers
 
--- The pointers are those of blocks that are stored, no two of which lead to one unit, so no address comes twice. Each leads to units, and all may be given back one after another. A pointer has the
--- bytes of its address, and none where no block is stored: what stands in free units is nothing.
+-- Each unit in use by blocks is one to which some pointer leads, and each copy is one of a unit in use. Of metadata nothing is asked.
+pub record LeadsToAll (s : Space) (list : List Dva) : Type 0 where
+  pub used : (d u : ℕ) → is_live_role (role_at s d u) ≡ true → 0 < live_hits (devices_in s) list d u
+  pub copied : (d u : ℕ) (p : Place) → IsCopyAt s d u p → is_live_role (role_at s d u) ≡ true
+
+abbrev pub IsAll : Kind → Space → List Dva → Type 0
+IsAll Block s list = LeadsToAll s list
+IsAll Meta s list = Unit {0}
+
+-- The pointers are those of blocks that are stored, no two of which lead to one unit, so no address comes twice. Each leads to units, and all may be given back one after another. Of blocks of objects they are
+-- all: units in use to which none leads there are not, so none that a put took for nothing. A pointer has the bytes of its address, and none where no block is stored: what stands in free units is nothing.
 pub record HoldsBlocks (kind : Kind) (slots : List (Option ℕ)) (tells : Type 0) (disks : List (List ℕ)) (space : Space) (lost : Option Dva) (cache : Cache) (s : Stored) : Type 0 where
   pub told : tells
-  pub taken : (at : Dva) → lost ≡ Some at → IsTaken kind space at
+  pub settled : lost ≡ None
   pub read : AreRead disks slots space cache
   pub stored : All (λ (b : Bptr). IsStoredAt kind space lost b.at) s.pointers
   pub once : (d u : ℕ) → live_hits (devices_in space) (addresses_of s.pointers) d u ≤ 1
+  pub all : IsAll kind space (addresses_of s.pointers)
   pub back : MayGoBack kind space (addresses_of s.pointers)
   pub alone : IsOnce s
   pub resolves : (at : Dva) → 0 < hits s.pointers at → is_resolved (devices_in space) at ≡ true
@@ -161,7 +171,7 @@ pub record KeepsOthers (kind : Kind) (old new : Space) : Type 0 where
 abbrev pub WaitsStill : Space → Space → Type 0
 WaitsStill old new = (d u : ℕ) → is_deferred_role (role_at new d u) ≡ true → is_deferred_role (role_at old d u) ≡ true
 
--- Where no put had failed at the start none has failed since, and nothing was given back.
+-- Where nothing was lost at the start nothing is lost now, and nothing was given back.
 abbrev pub GivesNothing : Option Dva → Option Dva → Space → Space → Type 0
 GivesNothing lost_old lost_new old new = lost_old ≡ None → (lost_new ≡ None) × WaitsStill old new
 

@@ -19,8 +19,8 @@ ghost use Rattle.zr_vdev.specs.declared.kind.Kind.TheVariants.{Meta};
 
 use zr_shelf::Shelf;
 
-/// A store that begins over the same devices holds what the one before it held, also where that one's last put took units
-/// for nothing. What is held is held as well on a shelf that is told later of the same disks.
+/// A store that begins over the same devices holds what the one before it held. What is held is held as well on a shelf
+/// that is told later of the same disks.
 pub fn held_by_the_next<S: Shelf>()
     ensures anew { (shelf : S) (kind : Kind) (slots : List (Option ℕ)) (disks : List (List ℕ)) (space : Space) (lost : Option Dva) (cache : Cache) (s : Stored) → HoldsBlocks kind slots (S.tells shelf) disks space lost cache s → Now (HoldsBlocks kind slots (S.tells shelf) disks space None cache) (λ n. Swaps s n [] []) }
     ensures retold { (before later : S) (kind : Kind) (slots : List (Option ℕ)) (disks : List (List ℕ)) (space : Space) (lost : Option Dva) (cache : Cache) (s : Stored) → S.tells later → HoldsBlocks kind slots (S.tells before) disks space lost cache s → HoldsBlocks kind slots (S.tells later) disks space lost cache s }

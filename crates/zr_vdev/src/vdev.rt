@@ -1,8 +1,8 @@
 //! The store of blocks on a shelf.
 //!
 //! A block is stored where its units are in use. What stands in free units is nothing: a pointer to them reads no bytes,
-//! so a put that fails half way changes nothing that can be read. The units that such a put took are noted as lost, and
-//! nothing is read there either. The next put gives them back.
+//! so a put that fails half way changes nothing that can be read. It gives back the units that it took. Where memory runs
+//! out before that they are noted as lost, nothing is read there either, and the next put gives them back.
 ghost use Rattle.std.specs.Prelude.{◌≡◌, ◌≤◌, ◌↔◌, true, false, IsTrue, OnOk, OnErr, IfOk};
 ghost use Rattle.std.specs.List.{list_any};
 ghost use Rattle.std.specs.Map.{remove_entry};
@@ -27,8 +27,8 @@ use zr_space::Space;
 use zr_store::{Blocks, StoreErr};
 
 /// A store of the blocks of one kind on a shelf. A block is where its address leads, over devices that are gone or not, and
-/// a free goes that way too. `lost` is the address whose units the last put took and could not write. They stay taken until
-/// the next put gives them back.
+/// a free goes that way too. A put that fails gives back what it took. `lost` is the address whose units the last put took
+/// and could not write, if memory ran out before it gave them back: they stay taken until the next put does so.
 #[derive(Drop)]
 pub struct Vdev<'a, S: Shelf, P: Place> {
     pub space: &'a mut Space,
@@ -150,7 +150,7 @@ impl<'a, S: Shelf, P: Place> Vdev<'a, S, P> {
     }
 
     /// Whether a block is stored at the address. For blocks it costs what `Space::is_freeable` does, and for metadata it is
-    /// logarithmic in the extents of the device. After a put that failed it visits the parts of the address once more.
+    /// logarithmic in the extents of the device. While units are lost it visits the parts of the address once more.
     pub fn has(&self, alloc: Global, at: &Dva) -> Result<bool, NoMemory>
         ensures { IfOk result (λ answer. IsTrue answer ↔ IsStoredAt self.now.mount.kind self.now.space.now self.now.lost at.now) }
     {
@@ -213,6 +213,8 @@ impl<S: Shelf, P: Place> Blocks for Vdev<'_, S, P> {
             Ok(b) => Ok(b),
             Err(failure) => {
                 self.lost = failure.taken;
+                give_back_lost(self.space, self.mount.kind, failure.taken, self.mount.txg)?;
+                self.lost = None;
                 Err(failure.error)
             }
         }

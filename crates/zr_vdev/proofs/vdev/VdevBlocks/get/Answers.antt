@@ -1,9 +1,9 @@
-use Rattle.std.proofs.Common.{refl, ap}
+use Rattle.std.proofs.Common.{ap}
 use Rattle.zr_shelf.specs.Disks.{Stand}
 use Rattle.zr_view.specs.Views.{address_bytes}
 use Rattle.zr_vdev.specs.declared.kind.Mount.{Mount}
 use Rattle.zr_vdev.specs.Runs.{view_of}
-use Rattle.zr_vdev.proofs.Held.{transport}
+use Rattle.zr_vdev.proofs.Moves.{read_held}
 use Rattle.zr_vdev.proofs.Follows.{continues_on, read_step}
 use Rattle.zr_vdev.proofs.vdev.VdevBlocks.get.Goals as goal
 
@@ -22,6 +22,5 @@ returns-then-stored-clause-same g c = λ s held.
     let e = c.get_block.ensures in
     let old = g.S.Shelf.world v.shelf.now in
     let new = g.S.Shelf.world c.get_block.new.shelf in
-    transport v.mount.kind v.mount.slots.now (g.S.Shelf.tells v.shelf.now) (g.S.Shelf.tells c.get_block.new.shelf) old.now.seen new.now.seen v.space.now v.space.now v.lost v.lost v.cache.now c.get_block.new.cache s
-    held refl (e.told held.told) (e.cache held.told held.read) held.taken (λ back. back) (λ x h. h) (λ x h. h)
-    (λ x h. ap (λ (stand : Stand). address_bytes (view_of stand.seen v.mount.slots.now v.space.now) x) (e.still held.told).now)
+    read_held v.mount.kind v.mount.slots.now (g.S.Shelf.tells v.shelf.now) (g.S.Shelf.tells c.get_block.new.shelf) old.now.seen new.now.seen v.space.now v.lost v.cache.now c.get_block.new.cache s
+    (e.told held.told) (e.cache held.told held.read) (λ x h. ap (λ (stand : Stand). address_bytes (view_of stand.seen v.mount.slots.now v.space.now) x) (e.still held.told).now) held
