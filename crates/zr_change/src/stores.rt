@@ -34,7 +34,7 @@ fn put_new<B: Blocks>(
     ensures pointer { IfOk result (IsPointerFor new.now) }
     ensures count { IfOk result (λ p. length (own p) ≡ put_of new.now) }
     ensures ok { (s : Stored) → B.holds store.old s → IfOk result (λ p. Now (B.holds store.new) (λ n. PutsBlock units new.now s n p)) }
-    ensures err { (s : Stored) → B.holds store.old s → IfErr result (λ e. B.holds store.new s) }
+    ensures err { (s : Stored) → B.holds store.old s → IfErr result (λ e. (e ≡ NoMemory) ⊎ B.holds store.new s) }
 {
     match new {
         None => Ok(Ptr::Hole),
@@ -46,7 +46,7 @@ fn put_new<B: Blocks>(
 }
 
 /// Puts each planned block, and appends its change. There is room for the changes, so that no block is put and then not
-/// told. After an error the changes of all that were put are there.
+/// told. After an error the changes of all that were put are there, and their blocks are held unless memory ran out.
 fn put_each<B: Blocks>(
     alloc: Global,
     store: &mut B,
@@ -67,7 +67,7 @@ fn put_each<B: Blocks>(
     ensures leaves { AreLeaves changes.new.items }
     ensures changes { OnOk result (AreChangesFor plan.now changes.new.items) }
     ensures ok { (s : Stored) → B.holds store.old s → OnOk result (Now (B.holds store.new) (λ n. PutsPlan units plan.now changes.new.items s n)) }
-    ensures err { (s : Stored) → B.holds store.old s → IfErr result (λ e. Now (B.holds store.new) (λ n. Swaps s n [] (leaves_of changes.new.items))) }
+    ensures err { (s : Stored) → B.holds store.old s → IfErr result (λ e. (e ≡ NoMemory) ⊎ Now (B.holds store.new) (λ n. Swaps s n [] (leaves_of changes.new.items))) }
 {
     for p in plan {
         let new = put_new(alloc, store, units, &p.new)?;
