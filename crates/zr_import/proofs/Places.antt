@@ -5,7 +5,7 @@ use Rattle.std.proofs.Common.{◌≡◌, ◌<◌, ◌+◌, ◌*◌, ◌/◌, ◌
 use Rattle.std.proofs.Math.Nat.{mod-eq_of_lt}
 use Rattle.std.proofs.lemmas.Bool.{cases_lt}
 use Rattle.std.proofs.lemmas.Grind.{flat_map-append}
-use Rattle.std.proofs.lemmas.List.Elements.{All-nil, All-cons, All-head, All-tail}
+use Rattle.std.proofs.lemmas.List.Elements.{All-nil, All-cons, All-append, All-head, All-tail}
 use Rattle.zr_bptr.specs.declared.Bptr.{Bptr}
 use Rattle.zr_bptr.specs.declared.Ptr.{Ptr}
 use Rattle.zr_bptr.specs.declared.Ptr.TheVariants.{Hole, At}
@@ -13,7 +13,7 @@ use Rattle.zr_bptr.specs.declared.Tree.{Tree}
 use Rattle.zr_bptr.specs.declared.ObjRec.{ObjRec}
 use Rattle.zr_store.specs.Store.{Stored}
 use Rattle.zr_tree.specs.Blocks.{FitsAt}
-use Rattle.zr_tree.specs.Trees.{kids, slot, digit, leaf_at, tree_at, reach, tree_reach, IsSoundAt}
+use Rattle.zr_tree.specs.Trees.{kids, slot, digit, leaf_at, blocks, tree_at, reach, tree_reach, IsSoundAt}
 use Rattle.zr_tree.proofs.Frames.{hole_leaf}
 use Rattle.zr_objset.specs.Records.{records_in, record_in, record_of, object_reach, leaf_reach}
 use Rattle.zr_image.specs.Roots.{HasRootSize}
@@ -145,6 +145,22 @@ sound_leaf s zero p i sound = sound
 sound_leaf s (suc below) Hole i sound = (tt, tt)
 sound_leaf s (suc below) (At b) i sound = sound_leaf s below (slot (kids s below b) (digit below i)) i (sound_slot s below (kids s below b) (digit below i) sound.2)
 
+abbrev IsAbove : Bptr → Type 0
+IsAbove b = 0 < b.level
+
+blocks_above : (s : Stored) (level : ℕ) → ((p : Ptr) → IsSoundAt s level p → All IsAbove (blocks s level p)) → (ps : List Ptr) → All (IsSoundAt s level) ps → All IsAbove (flat_map (blocks s level) ps)
+blocks_above s level each [] all = All-nil IsAbove
+blocks_above s level each (p ∷ ps) all =
+    All-append IsAbove (blocks s level p) (flat_map (blocks s level) ps) (each p (All-head (IsSoundAt s level) p ps all)) (blocks_above s level each ps (All-tail (IsSoundAt s level) p ps all))
+
+-- the tree blocks are above the leaves
+sound_above : (s : Stored) (level : ℕ) (p : Ptr) → IsSoundAt s level p → All IsAbove (blocks s level p)
+sound_above s zero p sound = All-nil IsAbove
+sound_above s (suc below) Hole sound = All-nil IsAbove
+sound_above s (suc below) (At b) sound =
+    let high : IsAbove b = (let l = sound.0.0 in omega (arith, l)) in
+    All-cons IsAbove b (flat_map (blocks s below) (kids s below b)) high (blocks_above s below (λ q is. sound_above s below q is) (kids s below b) sound.2)
+
 low_leaf : (s : Stored) (shape : Shape) (level : ℕ) (p : Ptr) (i : ℕ) (b : Bptr) → 0 < shape.leaves → (MayStand shape level 0 p → StandBelow s shape level 0 p) → leaf_at s level p i ≡ At b → i < 32 ^ level → i < shape.leaves
 low_leaf s shape zero p i b some stand is lt = omega (arith, some, lt)
 low_leaf s shape (suc below) Hole i b some stand is lt = absurd (cc)
@@ -161,7 +177,7 @@ record_at s (At b) k r is = (b, refl, is)
 -- what was found of each object is so of the objects of the directory
 pub in_place : (s : Stored) (shape : Shape) (dir : Tree) (objects : List ObjRec) → shape.leaves ≡ 4096 → IsSoundAt s dir.height dir.root → (MayStand shape dir.height 0 dir.root → StandBelow s shape dir.height 0 dir.root)
     → objects ≡ flat_map (objects_in s) (tree_reach s dir) → All (HasItsLength s) objects → IsInPlace s dir
-in_place s shape dir objects limit sound stand are all = record { leaves = leaf; objects = object }
+in_place s shape dir objects limit sound stand are all = record { leaves = leaf; objects = object; above = sound_above s dir.height dir.root sound }
   where
     leaf : (i : ℕ) (b : Bptr) → tree_at s dir i ≡ At b → (i < 4096) × (b.level ≡ 0)
     leaf i b is =
