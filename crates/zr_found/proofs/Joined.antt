@@ -1,6 +1,6 @@
 -- The objects of a directory in an image, and the store that has its blocks.
 use Rattle.std.proofs.Common.{◌≡◌, ◌<◌, ◌≤◌, ◌*◌, ◌/◌, ◌%◌, ℕ, List, [], length, Option, Some, None, lt-ltb, le-ltb, refl, sym, ◌∙◌, ap, subst, arith, ⊎_elim}
-use Rattle.std.specs.List.{sum_by, flat_map}
+use Rattle.std.specs.List.{sum_by, flat_map, All}
 use Rattle.std.specs.FinMap as fin
 use Rattle.std.proofs.lemmas.Bool.{cases_lt}
 use Rattle.zr_bptr.specs.declared.Bptr.{Bptr}
@@ -8,7 +8,7 @@ use Rattle.zr_bptr.specs.declared.Ptr.{Ptr}
 use Rattle.zr_bptr.specs.declared.Ptr.TheVariants.{Hole, At}
 use Rattle.zr_bptr.specs.declared.ObjRec.{ObjRec}
 use Rattle.zr_store.specs.Store.{Stored, AreStored, hits, one_at}
-use Rattle.zr_tree.specs.Trees.{tree_at, tree_reach, own}
+use Rattle.zr_tree.specs.Trees.{tree_at, tree_blocks, tree_reach, own}
 use Rattle.zr_tree.proofs.Frames.{Agree, agree_front, first_of}
 use Rattle.zr_objset.specs.Records.{record_in, record_of, bytes_of, leaf_reach, all_reach}
 use Rattle.zr_objset.proofs.Keeping.{tree_same, same_objects}
@@ -50,6 +50,15 @@ module _ (image s : Stored) (a : Account) (none : a.changes.objects ≡ []) (pla
       let all = ap (sum_by weight) h.pointers in
       omega (arith, reach, all)
 
+  no_others : (weight : Bptr → ℕ) → sum_by weight s.pointers ≤ sum_by weight (all_reach s a.dir)
+  no_others weight =
+      let reach = ap (sum_by weight) (same_objects image s a.dir agree).reach in
+      let all = ap (sum_by weight) h.pointers in
+      omega (arith, reach, all)
+
+  above : All (λ b. 0 < b.level) (tree_blocks s a.dir)
+  above = subst (All (λ b. 0 < b.level)) (sym (tree_same image s a.dir dir_agree).same_blocks) place.above
+
   level_here : (i : ℕ) (b : Bptr) → tree_at s a.dir i ≡ At b → b.level ≡ 0
   level_here i b is = level_there i b (sym ((tree_same image s a.dir dir_agree).leaves i) ∙ is)
 
@@ -61,7 +70,7 @@ module _ (image s : Stored) (a : Account) (none : a.changes.objects ≡ []) (pla
   past_none id le = none_in (tree_at image a.dir (id / 16)) (id % 16) (λ b is. let low = (place.leaves (id / 16) b is).0 in omega (arith, le, low))
 
   blocks : HasAllBlocks s a.dir a.changes
-  blocks = all_blocks s a.dir a.changes none level_here stored h.once (λ id le. record_same id ∙ past_none id le)
+  blocks = all_blocks s a.dir a.changes none level_here above (λ id le. record_same id ∙ past_none id le) stored no_others h.once
 
   -- ---- one object
 

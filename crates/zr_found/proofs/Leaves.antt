@@ -1,22 +1,25 @@
 -- The leaves of a tree, index by index.
-use Rattle.std.proofs.Common.{◌≡◌, ◌<◌, ◌≤◌, ◌+◌, ◌*◌, ◌/◌, ◌%◌, ◌^◌, ℕ, zero, suc, List, [], ◌∷◌, ◌++◌, map, refl, sym, ◌∙◌, ap, arith, ⊎_elim, lt-ltb, le-ltb}
+use Rattle.std.proofs.Common.{◌≡◌, ◌<◌, ◌≤◌, ◌+◌, ◌*◌, ◌/◌, ◌%◌, ◌^◌, ℕ, zero, suc, List, [], ◌∷◌, ◌++◌, map, length, refl, sym, ◌∙◌, ap, arith, ⊎_elim, lt-ltb, le-ltb}
 use Rattle.std.specs.List.{sum_by}
+use Rattle.std.specs.Simd.{first_chunks}
 use Rattle.std.proofs.Math.Nat.{pow-suc, pow-succ', add-mul, mul-add-div, mul_assoc, mul_comm}
 use Rattle.std.proofs.lemmas.Nat.{div-mul-add}
 use Rattle.std.proofs.lemmas.Bool.{cases_lt, eq-eqb}
-use Rattle.std.proofs.lemmas.List.{map-append}
+use Rattle.std.proofs.lemmas.List.{map-append, length-map}
 use Rattle.std.proofs.lemmas.List.Sums.{sum_by-append, sum_by-cons}
 use Rattle.zr_bptr.specs.declared.Bptr.{Bptr}
 use Rattle.zr_bptr.specs.declared.Ptr.{Ptr}
 use Rattle.zr_bptr.specs.declared.Ptr.TheVariants.{Hole, At}
 use Rattle.zr_bptr.specs.declared.Tree.{Tree}
+use Rattle.zr_bptr.proofs.Pieces.{length-first_chunks}
 use Rattle.zr_store.specs.Store.{Stored}
+use Rattle.zr_tree.specs.Blocks.{pointers_in, read_pointer}
 use Rattle.zr_tree.specs.Trees.{own, kids, slot, digit, leaf_at, leaves_below, tree_at, tree_leaves, weigh}
 use Rattle.zr_txg.specs.Tables.{value_at}
 use Rattle.zr_lookup.specs.Lists.{IsBetween}
 use Rattle.zr_lookup.specs.Objects.{HasLeaves, block_in}
 use Rattle.zr_lookup.proofs.Keys.{rising, past, joined, in_front, in_back}
-use Rattle.zr_found.proofs.Totals.{total, total_more, total_less, total_none, total_places, sum_flat}
+use Rattle.zr_found.proofs.Totals.{total, total_more, total_same, total_none, total_places, sum_flat}
 
 -- ---- a leaf is told by the digits of its index
 
@@ -52,9 +55,9 @@ module _ (s : Stored) (weight : Bptr → ℕ) where
   abbrev below_it : ℕ → Ptr → ℕ
   below_it level p = sum_by weight (leaves_below s level p)
 
-  hole_none : (level : ℕ) → below_it level Hole ≡ 0
-  hole_none zero = refl
-  hole_none (suc below) = refl
+  kids_long : (below : ℕ) (b : Bptr) → length (kids s below b) ≡ 32
+  unfolding pointers_in
+  kids_long below b = length-map (first_chunks 128 32 (s.bytes b)) read_pointer ∙ length-first_chunks 128 32 (s.bytes b)
 
   -- the leaves below one pointer of a block
   in_kid : (below : ℕ) (b : Bptr) (n i : ℕ) → n < 32 → i < 32 ^ below → at_leaf (suc below) (At b) (n * 32 ^ below + i) ≡ at_leaf below (slot (kids s below b) n) i
@@ -68,8 +71,8 @@ module _ (s : Stored) (weight : Bptr → ℕ) where
       ∙ ap (λ (k : ℕ). leaf_at s below (slot (kids s below b) n) k) turned
       ∙ leaf_again s below (slot (kids s below b) n) n i)
 
-  in_kids : (below : ℕ) (b : Bptr) → ((p : Ptr) → total (at_leaf below p) (32 ^ below) ≤ below_it below p) → (n : ℕ) → n ≤ 32
-      → total (at_leaf (suc below) (At b)) (n * 32 ^ below) ≤ total (λ k. below_it below (slot (kids s below b) k)) n
+  in_kids : (below : ℕ) (b : Bptr) → ((p : Ptr) → total (at_leaf below p) (32 ^ below) ≡ below_it below p) → (n : ℕ) → n ≤ 32
+      → total (at_leaf (suc below) (At b)) (n * 32 ^ below) ≡ total (λ k. below_it below (slot (kids s below b) k)) n
   in_kids below b each zero le = let e : 0 * 32 ^ below ≡ 0 = omega arith in let none = ap (total (at_leaf (suc below) (At b))) e in omega (arith, none)
   in_kids below b each (suc n) le =
       let w = 32 ^ below in
@@ -77,39 +80,47 @@ module _ (s : Stored) (weight : Bptr → ℕ) where
       let e : suc n * w ≡ n * w + w = (let d = add-mul n 1 w in let m : suc n * w ≡ (n + 1) * w = ap (λ (k : ℕ). k * w) (omega arith) in omega (arith, d, m)) in
       let all = ap (total f) e in
       let parts = total_more f (n * w) w in
-      let here = total_less (λ i. f (n * w + i)) (at_leaf below (slot (kids s below b) n)) w (λ i lt. let k = in_kid below b n i (omega (arith, le)) lt in omega (arith, k)) in
+      let here = total_same (λ i. f (n * w + i)) (at_leaf below (slot (kids s below b) n)) w (λ i lt. in_kid below b n i (omega (arith, le)) lt) in
       let one = each (slot (kids s below b) n) in
       let rest = in_kids below b each n (omega (arith, le)) in
       omega (arith, all, parts, here, one, rest)
 
-  pub leaves_weigh : (level : ℕ) (p : Ptr) → total (at_leaf level p) (32 ^ level) ≤ below_it level p
+  pub leaves_weigh : (level : ℕ) (p : Ptr) → total (at_leaf level p) (32 ^ level) ≡ below_it level p
   leaves_weigh zero p = let o = own_weight weight p in omega (arith, o)
   leaves_weigh (suc below) Hole = let z = total_none (at_leaf (suc below) Hole) (32 ^ suc below) (λ i. refl) in omega (arith, z)
   leaves_weigh (suc below) (At b) =
       let wide = ap (total (at_leaf (suc below) (At b))) (pow-succ' 32 below) in
       let all = in_kids below b (λ p. leaves_weigh below p) 32 (omega arith) in
-      let places = total_places (below_it below) Hole (hole_none below) (kids s below b) 32 in
+      let places = total_places (below_it below) Hole (kids s below b) 32 (kids_long below b) in
       let flat = sum_flat weight (leaves_below s below) (kids s below b) in
       omega (arith, wide, all, places, flat)
 
   tree_inside : (t : Tree) (i : ℕ) → i < 32 ^ t.height → tree_at s t i ≡ leaf_at s t.height t.root i
   tree_inside t i lt = rw (lt-ltb i (32 ^ t.height) lt) refl
 
+  -- the leaves of a tree at all its indices, and at no others
+  pub tree_whole : (t : Tree) (more : ℕ) → total (λ i. weigh weight (tree_at s t i)) (32 ^ t.height + more) ≡ sum_by weight (tree_leaves s t)
+  tree_whole t more =
+      let f = λ (i : ℕ). weigh weight (tree_at s t i) in
+      let top = 32 ^ t.height in
+      let parts = total_more f top more in
+      let past_it = total_none (λ i. f (top + i)) more (λ i. ap (weigh weight) (tree_outside t (top + i) (omega arith))) in
+      let low = total_same f (at_leaf t.height t.root) top (λ i lt. ap (weigh weight) (tree_inside t i lt)) in
+      let all = leaves_weigh t.height t.root in
+      omega (arith, parts, past_it, low, all)
+    where
+      tree_outside : (u : Tree) (i : ℕ) → 32 ^ u.height ≤ i → tree_at s u i ≡ Hole
+      tree_outside u i le = rw (le-ltb i (32 ^ u.height) le) refl
+
   -- the leaves of a tree at the first indices
   pub tree_weigh : (t : Tree) (m : ℕ) → total (λ i. weigh weight (tree_at s t i)) m ≤ sum_by weight (tree_leaves s t)
   tree_weigh t m =
       let f = λ (i : ℕ). weigh weight (tree_at s t i) in
       let top = 32 ^ t.height in
-      let more = total_more f m top in
+      let parts = total_more f m top in
       let turned = ap (total f) (let e : m + top ≡ top + m = omega arith in e) in
-      let parts = total_more f top m in
-      let past_it = total_none (λ i. f (top + i)) m (λ i. ap (weigh weight) (tree_outside t (top + i) (omega arith))) in
-      let low = total_less f (at_leaf t.height t.root) top (λ i lt. let e = ap (weigh weight) (tree_inside t i lt) in omega (arith, e)) in
-      let all = leaves_weigh t.height t.root in
-      omega (arith, more, turned, parts, past_it, low, all)
-    where
-      tree_outside : (u : Tree) (i : ℕ) → 32 ^ u.height ≤ i → tree_at s u i ≡ Hole
-      tree_outside u i le = rw (le-ltb i (32 ^ u.height) le) refl
+      let all = tree_whole t m in
+      omega (arith, parts, turned, all)
 
 pub tree_past : (s : Stored) (t : Tree) (i : ℕ) → 32 ^ t.height ≤ i → tree_at s t i ≡ Hole
 tree_past s t i le = rw (le-ltb i (32 ^ t.height) le) refl

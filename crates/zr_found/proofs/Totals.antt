@@ -1,5 +1,5 @@
 -- Sums over the first numbers, and over lists by their places.
-use Rattle.std.proofs.Common.{◌≡◌, ◌<◌, ◌≤◌, ◌+◌, ◌-◌, ℕ, zero, suc, List, [], ◌∷◌, refl, sym, ◌∙◌, ap, arith}
+use Rattle.std.proofs.Common.{◌≡◌, ◌<◌, ◌≤◌, ◌+◌, ◌-◌, ℕ, zero, suc, List, [], ◌∷◌, length, refl, sym, ◌∙◌, ap, arith}
 use Rattle.std.specs.Prelude.{slice_index_or}
 use Rattle.std.specs.List.{sum_by, flat_map}
 use Rattle.std.proofs.lemmas.List.Sums.{sum_by-append, sum_by-cons}
@@ -21,16 +21,16 @@ pub total_first : (f : ℕ → ℕ) (n : ℕ) → total f (suc n) ≡ f 0 + tota
 total_first f zero = omega arith
 total_first f (suc n) = let rest = total_first f n in omega (arith, rest)
 
-pub total_less : (f g : ℕ → ℕ) (n : ℕ) → ((i : ℕ) → i < n → f i ≤ g i) → total f n ≤ total g n
-total_less f g zero less = omega arith
-total_less f g (suc n) less =
-    let rest = total_less f g n (λ i lt. less i (omega (arith, lt))) in
-    let last = less n (omega arith) in
-    omega (arith, rest, last)
-
 pub total_none : (f : ℕ → ℕ) (n : ℕ) → ((i : ℕ) → f i ≡ 0) → total f n ≡ 0
 total_none f zero none = refl
 total_none f (suc n) none = let rest = total_none f n none in let last = none n in omega (arith, rest, last)
+
+pub total_same : (f g : ℕ → ℕ) (n : ℕ) → ((i : ℕ) → i < n → f i ≡ g i) → total f n ≡ total g n
+total_same f g zero same = refl
+total_same f g (suc n) same =
+    let rest = total_same f g n (λ i lt. same i (omega (arith, lt))) in
+    let last = same n (omega arith) in
+    omega (arith, rest, last)
 
 -- one value is no more than the sum
 pub total_one : (f : ℕ → ℕ) (i n : ℕ) → i < n → f i ≤ total f n
@@ -41,13 +41,14 @@ total_one f i n lt =
     let parts = total_more f (suc i) k in
     omega (arith, all, parts)
 
--- the values at the first places are no more than those of the list, where none is nothing
-pub total_places : {X : Type 0} (h : X → ℕ) (d : X) → h d ≡ 0 → (xs : List X) (n : ℕ) → total (λ k. h (slice_index_or xs k d)) n ≤ sum_by h xs
-total_places h d none [] n = let z = total_none (λ k. h (slice_index_or [] k d)) n (λ k. none) in omega (arith, z)
-total_places h d none (x ∷ xs) zero = omega arith
-total_places h d none (x ∷ xs) (suc n) =
+-- the values at the places of a list are its sum
+pub total_places : {X : Type 0} (h : X → ℕ) (d : X) (xs : List X) (n : ℕ) → length xs ≡ n → total (λ k. h (slice_index_or xs k d)) n ≡ sum_by h xs
+total_places h d [] zero long = refl
+total_places h d [] (suc n) long = absurd (omega (arith, long))
+total_places h d (x ∷ xs) zero long = absurd (omega (arith, long))
+total_places h d (x ∷ xs) (suc n) long =
     let first = total_first (λ k. h (slice_index_or (x ∷ xs) k d)) n in
-    let rest = total_places h d none xs n in
+    let rest = total_places h d xs n (omega (arith, long)) in
     omega (arith, first, rest, sum_by-cons h x xs)
 
 -- a sum over lists that are joined is the sum of their sums

@@ -340,7 +340,7 @@ edit_done s n a b objects id r e plan bytes has small found some more row planne
       o.1,
       (
         none_needed s n a b id r e plan has.blocks o.0 small found some more row planned dir changed once o.2 bytes size each,
-        objects_then s n a b id (olds_of plan) (leaves_of changed.recorded.changes) (map leaf_of (set_leaves (had s n a b id r plan low count has.blocks small found row olds dir changed once).leaves changed.recorded.changes) ++ tree_blocks s r.tree) has.blocks
+        objects_then s n a b id (olds_of plan) (leaves_of changed.recorded.changes) (map leaf_of (set_leaves (had s n a b id r plan low count has.blocks small found row olds dir changed once).leaves changed.recorded.changes) ++ tree_blocks s r.tree) small has.blocks
             (other_group s n a b id r plan low count has.blocks small found row olds dir changed once)
             (changes_blocks s n a b id r plan low count has.blocks small found row olds dir changed once)
             objects (fin.insert objects id (with_bytes o.0 e.off bytes)) has.each

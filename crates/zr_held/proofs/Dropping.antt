@@ -87,7 +87,7 @@ module _ (s n : Stored) (a b : Account) (objects : Objects) (id : ℕ) (r : ObjR
   }
 
   pub dropped : HasObjects n b (fin.remove objects id)
-  dropped = objects_then s n a b id blocks [] [] has.blocks (group_of id None a b dir sets) changes_all objects (fin.remove objects id) has.each
+  dropped = objects_then s n a b id blocks [] [] low has.blocks (group_of id None a b dir sets) changes_all objects (fin.remove objects id) has.each
       (λ i apart. taken_there objects id i (λ e. apart (sym e)))
       (subst (λ (x : Option ObjRec). IsObjectAt n b id x (fin.get (fin.remove objects id) id)) (sym gone) (taken_here objects id))
 

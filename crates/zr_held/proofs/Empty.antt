@@ -1,5 +1,5 @@
 -- A pool without objects.
-use Rattle.std.proofs.Common.{◌≡◌, ◌∙◌, ◌/◌, ◌%◌, ℕ, zero, suc, List, [], ◌++◌, Bool, true, false, Option, None, refl, sym, ap, subst, arith, nat_lt}
+use Rattle.std.proofs.Common.{◌≡◌, ◌∙◌, ◌≤◌, ◌/◌, ◌%◌, ℕ, zero, suc, List, [], ◌++◌, Bool, true, false, Option, None, refl, sym, ap, subst, arith, nat_lt}
 use Rattle.std.specs.Prelude.{unwrap_or, option_map, if◌then◌else◌}
 use Rattle.std.specs.List.{sum_by}
 use Rattle.std.specs.FinMap as fin
@@ -21,7 +21,7 @@ use Rattle.zr_moves.specs.Account.{Account, IsObjectAt}
 use Rattle.zr_held.specs.Held.{AreBlocksNow, blocks_below, HasObjects}
 use Rattle.zr_held.specs.Steps.{no_tree}
 
-module _ (s : Stored) (a : Account) (dir : a.dir ≡ no_tree) (group : a.changes.objects ≡ []) (once : IsOnce s) where
+module _ (s : Stored) (a : Account) (dir : a.dir ≡ no_tree) (group : a.changes.objects ≡ []) (none : s.pointers ≡ []) (once : IsOnce s) where
   hole_at : (y : Bool) → (if y then Hole else Hole) ≡ Hole
   hole_at true = refl
   hole_at false = refl
@@ -51,8 +51,11 @@ module _ (s : Stored) (a : Account) (dir : a.dir ≡ no_tree) (group : a.changes
       let rest = nothing_below weight n in
       omega (arith, reach, rest, sum_by-append weight (tree_reach s a.dir) (blocks_below (λ (_ : ℕ). []) n))
 
+  no_others : (weight : Bptr → ℕ) (n : ℕ) → sum_by weight s.pointers ≤ n
+  no_others weight n = let e = ap (sum_by weight) none in omega (arith, e)
+
   pub none_held : HasObjects s a fin.empty
   none_held = record {
-    blocks = record { blocks = λ _. []; each = none_blocks; stored = nothing_stored; once = once; past = λ id le. no_record id };
+    blocks = record { blocks = λ _. []; each = none_blocks; stored = nothing_stored; whole = λ n le weight. no_others weight (sum_by weight (tree_reach s a.dir ++ blocks_below (λ (_ : ℕ). []) n)); once = once; past = λ id le. no_record id };
     each = λ id. subst (λ (x : Option ObjRec). IsObjectAt s a id x (fin.get (fin.empty {X = Object} {R = nat_cmp}) id)) (sym (none_now id)) (fin.get-empty nat_cmp id);
   }

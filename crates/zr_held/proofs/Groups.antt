@@ -276,6 +276,27 @@ module _ (s n : Stored) (a b : Account) (count : ℕ) (group : IsGroup a.changes
         sum_by-append weight (blocks_now n b.dir es) (tree_reach n b.dir),
       )
 
+  -- where all that was stored is the blocks of the objects below a number that no change passes, so is all that is stored now
+  no_others : (m : ℕ) → 65536 ≤ m → (weight : Bptr → ℕ) → sum_by weight s.pointers ≤ sum_by weight (tree_reach s a.dir ++ blocks_below h.blocks m)
+      → sum_by weight n.pointers ≤ sum_by weight (tree_reach n b.dir ++ blocks_below news m)
+  no_others m le weight whole =
+      let swap = parts_swap weight h.blocks news (tree_weight weight) (new_weight weight) es group.rising (changed_weight weight) (kept_weight weight) m in
+      let out = group_weight weight m le in
+      let into = part_all (new_weight weight) m es (low_ids m es le lawful) ∙ sym (sum_flat weight (λ e. object_blocks n (record_of n b.dir e.0)) es) in
+      let w = writes.swaps.stored weight in
+      omega (
+        arith,
+        whole,
+        swap,
+        out,
+        into,
+        w,
+        sum_by-append weight (tree_reach s a.dir) (blocks_below h.blocks m),
+        sum_by-append weight (tree_reach n b.dir) (blocks_below news m),
+        sum_by-append weight (blocks_of s es) (tree_reach s a.dir),
+        sum_by-append weight (blocks_now n b.dir es) (tree_reach n b.dir),
+      )
+
   past_by : (id : ℕ) → 65536 ≤ id → (v : Option ObjectChange) → value_at es id ≡ v → record_of n b.dir id ≡ None
   past_by id le None is = writes.rest id (ap (option_map (λ (x : ObjectChange). x.object)) is) ∙ h.past id le
   past_by id le (Some c) is = absurd (let low = (each_value IsChangeOf id c es lawful is).id in omega (arith, low, le))
@@ -285,6 +306,7 @@ module _ (s n : Stored) (a b : Account) (count : ℕ) (group : IsGroup a.changes
     blocks = news;
     each = λ id. are_after id (before id) (after id) (h.blocks id) (h.each id) (carries id);
     stored = stored_after;
+    whole = λ m le weight. no_others m le weight (h.whole m le weight);
     once = once;
     past = λ id le. past_by id le (value_at es id) refl;
   }

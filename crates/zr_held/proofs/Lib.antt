@@ -14,3 +14,4 @@ pub mod Edits
 pub mod Contents
 pub mod Empty
 pub mod Again
+pub mod Whole

@@ -83,7 +83,7 @@ module _ (s : Stored) (a b : Account) (objects : Objects) (id units : ℕ) (low 
   }
 
   pub made : HasObjects s b (fin.insert objects id (model.blank units))
-  made = objects_then s s a b id [] [] [] has.blocks (group_of id (Some (new_record units)) a b dir sets) changes_none objects (fin.insert objects id (model.blank units)) has.each
+  made = objects_then s s a b id [] [] [] low has.blocks (group_of id (Some (new_record units)) a b dir sets) changes_none objects (fin.insert objects id (model.blank units)) has.each
       (λ i apart. given_there objects id i (model.blank units) (λ e. apart (sym e)))
       (subst (λ (x : Option ObjRec). IsObjectAt s b id x (fin.get (fin.insert objects id (model.blank units)) id)) (sym found)
       (subst (λ (o : Option Object). IsObjectAt s b id (Some (new_record units)) o) (sym (given_here objects id (model.blank units))) is_blank))

@@ -1,5 +1,5 @@
 -- The blocks of one object change, and all others stay.
-use Rattle.std.proofs.Common.{◌≡◌, ◌≢◌, ◌∙◌, ◌≤◌, ◌+◌, ℕ, suc, List, [], ◌++◌, Option, None, refl, sym, ap, subst, arith}
+use Rattle.std.proofs.Common.{◌≡◌, ◌≢◌, ◌∙◌, ◌<◌, ◌≤◌, ◌+◌, ℕ, suc, List, [], ◌++◌, Option, None, refl, sym, ap, subst, arith}
 use Rattle.std.specs.Prelude.{unwrap_or, nat_lt, if◌then◌else◌}
 use Rattle.std.specs.List.{sum_by}
 use Rattle.std.specs.FinMap as fin
@@ -55,7 +55,7 @@ module _ (s : Stored) (dir : Tree) (g : Changes) (h : HasAllBlocks s dir g) wher
 
 -- ---- the one object
 
-module _ (s n : Stored) (a b : Account) (id : ℕ) (out into bs : List Bptr) (h : HasAllBlocks s a.dir a.changes) (group : IsOtherGroup id a b) (c : ChangesBlocks s n b id (h.blocks id) bs out into) where
+module _ (s n : Stored) (a b : Account) (id : ℕ) (out into bs : List Bptr) (small : id < 65536) (h : HasAllBlocks s a.dir a.changes) (group : IsOtherGroup id a b) (c : ChangesBlocks s n b id (h.blocks id) bs out into) where
   dir_agrees : Agree s n (tree_reach s a.dir)
   dir_agrees = beside s n out into (tree_reach s a.dir) c.swaps h.once (beside_dir s a.dir a.changes h id out c.among)
 
@@ -97,8 +97,25 @@ module _ (s n : Stored) (a b : Account) (id : ℕ) (out into bs : List Bptr) (h 
       let dir = ap (sum_by weight) dir_same in
       omega (arith, all, changed, more, swap, balance, among, dir, sum_by-append weight (tree_reach s a.dir) (blocks_below h.blocks top), sum_by-append weight (tree_reach n b.dir) (blocks_below (with_blocks h.blocks id bs) m))
 
+  -- where all that was stored is the blocks of the objects below m, so is all that is stored now
+  no_others : (m : ℕ) → id < m → (weight : Bptr → ℕ) → sum_by weight s.pointers ≤ sum_by weight (tree_reach s a.dir ++ blocks_below h.blocks m)
+      → sum_by weight n.pointers ≤ sum_by weight (tree_reach n b.dir ++ blocks_below (with_blocks h.blocks id bs) m)
+  no_others m lt weight whole =
+      let changed = changed_below h.blocks weight id bs m lt in
+      let swap = c.swaps.stored weight in
+      let balance = c.balance weight in
+      let dir = ap (sum_by weight) dir_same in
+      omega (arith, whole, changed, swap, balance, dir, sum_by-append weight (tree_reach s a.dir) (blocks_below h.blocks m), sum_by-append weight (tree_reach n b.dir) (blocks_below (with_blocks h.blocks id bs) m))
+
   pub blocks_then : HasAllBlocks n b.dir b.changes
-  blocks_then = record { blocks = with_blocks h.blocks id bs; each = each_now; stored = all_stored; once = c.once; past = λ i le. records_same i ∙ h.past i le }
+  blocks_then = record {
+    blocks = with_blocks h.blocks id bs;
+    each = each_now;
+    stored = all_stored;
+    whole = λ m le weight. no_others m (omega (arith, small, le)) weight (h.whole m le weight);
+    once = c.once;
+    past = λ i le. records_same i ∙ h.past i le;
+  }
 
   other_object : (i : ℕ) (found : Option Object) → id ≢ i → IsObjectAt s a i (record_now s a.dir a.changes i) found → IsObjectAt n b i (record_now n b.dir b.changes i) found
   other_object i found apart is =

@@ -50,6 +50,6 @@ module _ (s n : Stored) (a b : Account) (objects : Objects) (swap : Swaps s n []
   }
 
   pub same : HasObjects n b objects
-  same = objects_then s n a b 0 [] [] (has.blocks.blocks 0) has.blocks group_stays none_changes objects objects has.each (λ i apart. refl)
+  same = objects_then s n a b 0 [] [] (has.blocks.blocks 0) (omega arith) has.blocks group_stays none_changes objects objects has.each (λ i apart. refl)
       (subst (λ (x : Option ObjRec). IsObjectAt n b 0 x (fin.get objects 0)) (sym record_stays)
       (object_stays s n a b 0 (changes_same 0) (record_now s a.dir a.changes 0) (has.blocks.blocks 0) (fin.get objects 0) refl record_stays agrees (has.blocks.each 0) (has.each 0)))

@@ -25,7 +25,7 @@ ghost use Rattle.zr_moves.specs.Account.{Account};
 ghost use Rattle.zr_moves.specs.Changes.{new_record};
 ghost use Rattle.zr_store.specs.Store.{Stored, Swaps, AreStored, IsOnce};
 ghost use Rattle.zr_txg.specs.Changes.{IsGroup};
-ghost use Rattle.zr_held.specs.Held.{HasObjects};
+ghost use Rattle.zr_held.specs.Held.{HasObjects, AreAllOf};
 ghost use Rattle.zr_held.specs.Steps.{IsObjectOf, no_tree};
 
 /// A store that holds the same pointers holds the same objects, of an account with the same directory and group: the bytes
@@ -34,9 +34,9 @@ pub fn same_objects()
     ensures { (s n : Stored) (a b : Account) (objects : Objects) → Swaps s n [] [] → b.dir ≡ a.dir → b.changes ≡ a.changes → HasObjects s a objects → HasObjects n b objects }
 {}
 
-/// A pool with no directory and an empty group has no objects.
+/// A pool with no directory and an empty group has no objects, where no block is stored.
 pub fn no_objects()
-    ensures { (s : Stored) (a : Account) → a.dir ≡ no_tree → a.changes.objects ≡ [] → IsOnce s → HasObjects s a fin.empty }
+    ensures { (s : Stored) (a : Account) → a.dir ≡ no_tree → a.changes.objects ≡ [] → s.pointers ≡ [] → IsOnce s → HasObjects s a fin.empty }
 {}
 
 /// There is an object exactly where there is a record, and it has the record's units.
@@ -89,4 +89,9 @@ pub fn group_committed()
     ensures stored { (s : Stored) (a : Account) (objects : Objects) (count : ℕ) → IsGroup a.changes.objects count → IsLawfulGroup a.changes → HasObjects s a objects → AreStored (blocks_of s a.changes.objects ++ tree_reach s a.dir) s }
     ensures committed { (s n : Stored) (a b : Account) (objects : Objects) (count : ℕ) → IsGroup a.changes.objects count → IsLawfulGroup a.changes → WritesGroup s n a.changes a.dir b.dir → b.changes.objects ≡ [] → IsOnce n
         → HasObjects s a objects → HasObjects n b objects }
+{}
+
+/// Nothing else is stored: each block is one of the directory or of an object, as the account has them.
+pub fn blocks_are_all()
+    ensures { (s : Stored) (a : Account) (objects : Objects) → HasObjects s a objects → AreAllOf s a }
 {}
