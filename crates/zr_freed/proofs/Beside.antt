@@ -1,60 +1,33 @@
 -- The spaces of one root: whatever their late sets are, and whatever metadata of another root lies beside, the same blocks are in use.
-use Rattle.std.proofs.Common.{◌≡◌, inl, inr, ℕ, zero, suc, ◌+◌, ◌<◌, ◌≤◌, Bool, true, false, not, ◌&&◌, nat_lt, List, [], ◌∷◌, length, map, refl, sym, ◌∙◌, ap, subst, arith}
-use Rattle.std.specs.Prelude.{All, if◌then◌else◌}
+use Rattle.std.proofs.Common.{◌≡◌, inl, inr, ℕ, ◌+◌, ◌≤◌, Bool, true, not, ◌&&◌, nat_lt, List, [], ◌∷◌, length, map, refl, sym, ◌∙◌, ap, subst, arith}
+use Rattle.std.specs.Prelude.{if◌then◌else◌}
 use Rattle.std.specs.List.{sum_by}
-use Rattle.std.proofs.lemmas.Bool.Decides.{nat_tests}
+use Rattle.std.proofs.lemmas.Bool.{cases_Bool}
 use Rattle.std.proofs.lemmas.List.{length-map}
 use Rattle.std.proofs.lemmas.List.Sums.{sum_by-cons}
 use Rattle.std.proofs.Math.ListN.{get_or-map}
 use Rattle.zr_base.specs.declared.space.DevPart.{DevPart}
-use Rattle.zr_base.specs.declared.space.DevRow.{DevRow}
 use Rattle.zr_base.specs.declared.space.Dva.{Dva}
-use Rattle.zr_base.specs.declared.space.Entry.{Entry}
-use Rattle.zr_base.specs.declared.space.Extent.{Extent}
 use Rattle.zr_base.specs.declared.space.SpaceParts.{SpaceParts}
 use Rattle.zr_base.specs.Extents.{has_unit}
-use Rattle.zr_freed.specs.Chains.{AreInUse}
+use Rattle.zr_freed.proofs.Whole.{copy_held, live_held}
+use Rattle.zr_freed.specs.Chains.{AreInUse, HasSingleCopies}
 use Rattle.zr_image.specs.Roots.{without_late}
 use Rattle.zr_rules.specs.Devices.{Devices}
 use Rattle.zr_rules.specs.Equation.{devices_in, live_hits}
-use Rattle.zr_rules.specs.Places.{no_part, part_of, is_fresh, is_gone, is_held, is_kept, is_leaving, address_hits}
-use Rattle.zr_rules.specs.Resolve.{leads_to}
-use Rattle.zr_rules.specs.Roles.{Role, is_live_role}
-use Rattle.zr_rules.specs.Roles.Role.{Absent, Free, FreshLive, Live, FreshCopy, Copy, Kept, DeferredBlock, DeferredMeta, Late1Block, Late1Meta, Late2Block, Late2Meta, Meta, SavedMeta}
-use Rattle.zr_rules.specs.Space.{Space, OpenSets, copy_hits, has_late, has_place, held_role, is_born, is_copy_by, opened_of, other_role, role_at}
+use Rattle.zr_rules.specs.Places.{no_part, part_of, is_fresh, is_gone, is_held, is_kept, is_leaving}
+use Rattle.zr_rules.specs.Roles.{Role, is_copy_role, is_live_role}
+use Rattle.zr_rules.specs.Roles.Role.{Absent, FreshLive, Live, FreshCopy, Copy, Kept}
+use Rattle.zr_rules.specs.Space.{Space, OpenSets, copy_hits, has_place, held_role, is_born, is_copy_by, opened_of, other_role, role_at}
 use Rattle.zr_space.proofs.Devs.{devices_as}
 use Rattle.zr_space.specs.Live.{IsFreeable}
 use Rattle.zr_space.specs.Opens.{IsOpened}
+use Rattle.zr_vdev.proofs.Alike.{AreNoNewCopies}
 use Rattle.zr_vdev.proofs.Back.{spends_same}
-use Rattle.zr_vdev.proofs.Leading.{false_true}
 use Rattle.zr_vdev.proofs.Uses.{use_along}
+use Rattle.zr_vdev.proofs.Whole.{all_same}
+use Rattle.zr_vdev.specs.Stores.{LeadsToAll}
 use Rattle.zr_vdev.specs.declared.kind.Kind.TheVariants.{Block}
-
--- ---- roles
-
-other_dead : (x1 x2 x3 x4 x5 x6 x7 x8 : Bool)
-    → is_live_role (if x1 then DeferredBlock else (if x2 then DeferredMeta else (if x3 then Late1Block else (if x4 then Late1Meta else (if x5 then Late2Block else (if x6 then Late2Meta else (if x7 then Meta else (if x8 then SavedMeta else Free)))))))) ≡ false
-other_dead true x2 x3 x4 x5 x6 x7 x8 = refl
-other_dead false true x3 x4 x5 x6 x7 x8 = refl
-other_dead false false true x4 x5 x6 x7 x8 = refl
-other_dead false false false true x5 x6 x7 x8 = refl
-other_dead false false false false true x6 x7 x8 = refl
-other_dead false false false false false true x7 x8 = refl
-other_dead false false false false false false true x8 = refl
-other_dead false false false false false false false true = refl
-other_dead false false false false false false false false = refl
-
-not_live : (s : Space) (d u : ℕ) → is_live_role (other_role s d u) ≡ false
-not_live s d u =
-    other_dead (has_unit (opened_of s d).deferred u) (has_unit (opened_of s d).dropped u) (has_late false (part_of s.parts.devs d).late1 u) (has_late true (part_of s.parts.devs d).late1 u)
-    (has_late false (part_of s.parts.devs d).late2 u) (has_late true (part_of s.parts.devs d).late2 u) (nat_lt 0 (address_hits s.meta d u)) (nat_lt 0 (address_hits s.saved_meta d u))
-
--- a role of a block is one of a unit that is held, whatever else there is
-held_alike : (place held : Bool) (own one other : Role) → is_live_role one ≡ false → is_live_role (if not place then Absent else (if held then own else one)) ≡ true
-    → (if not place then Absent else (if held then own else other)) ≡ (if not place then Absent else (if held then own else one))
-held_alike true true own one other dead live = refl
-held_alike true false own one other dead live = absurd (false_true (sym dead ∙ live))
-held_alike false held own one other dead live = absurd (false_true live)
 
 -- ---- parts that differ in their late sets
 
@@ -121,14 +94,18 @@ module _ (own parts : SpaceParts) (meta saved : List Dva) (s t : Space) (same : 
       ap (λ (p : DevPart). of_held (has_unit p.kept u) (copy_hits t.parts.devs d u) (is_born t d u)) (part d)
       ∙ (ap (λ (n : ℕ). of_held (is_kept s.parts.devs d u) n (is_born t d u)) (copies d u) ∙ ap (λ (b : Bool). of_held (is_kept s.parts.devs d u) (copy_hits s.parts.devs d u) b) (born d u))
 
-  -- a unit that is in use has the same role
-  role : (d u : ℕ) → is_live_role (role_at s d u) ≡ true → role_at t d u ≡ role_at s d u
+  -- a unit that is held has the same role
+  held_same : (d u : ℕ) → is_held s.parts.devs d u ≡ true → role_at t d u ≡ role_at s d u
   unfolding role_at
-  role d u live =
+  held_same d u is =
       ap (λ (b : Bool). if not b then Absent else (if is_held t.parts.devs d u then held_role t d u else other_role t d u)) (place d u)
-      ∙ (ap (λ (b : Bool). if not (has_place s d u) then Absent else (if b then held_role t d u else other_role t d u)) (held d u)
-      ∙ (ap (λ (r : Role). if not (has_place s d u) then Absent else (if is_held s.parts.devs d u then r else other_role t d u)) (own_role d u)
-      ∙ held_alike (has_place s d u) (is_held s.parts.devs d u) (held_role s d u) (other_role s d u) (other_role t d u) (not_live s d u) live))
+      ∙ (ap (λ (b : Bool). if not (has_place s d u) then Absent else (if b then held_role t d u else other_role t d u)) (held d u ∙ is)
+      ∙ (ap (λ (r : Role). if not (has_place s d u) then Absent else r) (own_role d u)
+      ∙ ap (λ (b : Bool). if not (has_place s d u) then Absent else (if b then held_role s d u else other_role s d u)) (sym is)))
+
+  -- and so has one that is in use
+  role : (d u : ℕ) → is_live_role (role_at s d u) ≡ true → role_at t d u ≡ role_at s d u
+  role d u live = held_same d u (live_held s d u live)
 
   one : (a : Dva) → IsFreeable s a → IsFreeable t a
   one a h = use_along Block s t a devices (λ sp. spends_same s t (a ∷ []) devices counts fresh sp) (λ d u led. role d u (h.used d u led)) h
@@ -139,3 +116,27 @@ module _ (own parts : SpaceParts) (meta saved : List Dva) (s t : Space) (same : 
     once = λ d u. subst (λ (ds : Devices). live_hits ds list d u ≤ 1) (sym devices) (h.once d u);
     spends = spends_same s t list devices counts fresh h.spends;
   }
+
+  live_same : (d u : ℕ) → is_live_role (role_at t d u) ≡ is_live_role (role_at s d u)
+  live_same d u = elim (cases_Bool (is_live_role (role_at s d u))) [
+    | inl live ↦ ap is_live_role (role d u live)
+    | inr dead ↦ elim (cases_Bool (is_live_role (role_at t d u))) [
+      | inl live ↦ ap is_live_role (held_same d u (sym (held d u) ∙ live_held t d u live))
+      | inr none ↦ none ∙ sym dead
+    ]
+  ]
+
+  -- no copy is there alone
+  no_new_copies : AreNoNewCopies s t
+  no_new_copies = record {
+    row = λ d. ap (λ (p : DevPart). p.row) (part d);
+    entries = λ d. ap (λ (p : DevPart). p.entries) (part d);
+    marks = λ d u is. fresh d u ∙ is;
+    copy = λ d u is. sym (ap is_copy_role (held_same d u (sym (held d u) ∙ copy_held t d u is))) ∙ is;
+  }
+
+  pub all_beside : (list : List Dva) → LeadsToAll s list → LeadsToAll t list
+  all_beside list h = all_same Block s t list devices live_same no_new_copies h
+
+  pub single_beside : HasSingleCopies t → HasSingleCopies s
+  single_beside h d u = let same_hits = copies d u in let one = h d u in omega (arith, same_hits, one)

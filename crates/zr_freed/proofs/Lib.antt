@@ -1,3 +1,4 @@
 pub mod Turns
+pub mod Whole
 pub mod Beside
 pub mod Bytes

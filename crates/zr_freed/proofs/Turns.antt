@@ -1,5 +1,5 @@
 -- From the last free to the first: what may be freed behind a free might be freed before it, and leads elsewhere.
-use Rattle.std.proofs.Common.{◌≡◌, ◌⊎◌, inl, inr, ℕ, zero, suc, ◌+◌, ◌<◌, ◌≤◌, ◌||◌, Bool, true, false, nat_lt, List, [], ◌∷◌, Option, Some, None, refl, sym, ◌∙◌, ap, subst, arith}
+use Rattle.std.proofs.Common.{◌≡◌, inl, inr, ℕ, zero, suc, ◌+◌, ◌<◌, ◌≤◌, ◌||◌, Bool, true, false, nat_lt, List, [], ◌∷◌, Option, None, refl, sym, ◌∙◌, ap, subst, arith}
 use Rattle.std.specs.Prelude.{All}
 use Rattle.std.specs.List.{sum_by}
 use Rattle.std.proofs.lemmas.Bool.Decides.{nat_tests}
@@ -24,11 +24,11 @@ use Rattle.zr_store.specs.Store.{Stored}
 use Rattle.zr_vdev.proofs.Back.{spends_turn, spends_freed}
 use Rattle.zr_vdev.proofs.Follows.{give_devices}
 use Rattle.zr_vdev.proofs.GoingBack.{tail_back}
-use Rattle.zr_vdev.proofs.Leading.{Resolves, false_true, zero_or, leads_some, some_leads}
+use Rattle.zr_vdev.proofs.Leading.{Resolves, false_true, zero_or, some_leads}
 use Rattle.zr_vdev.proofs.Moves.{bytes_now, holds_all}
 use Rattle.zr_vdev.proofs.Uses.{give_ends, use_along}
 use Rattle.zr_vdev.specs.Caches.{AreRead}
-use Rattle.zr_vdev.specs.Stores.{HoldsBlocks, IsStoredAt, addresses_of}
+use Rattle.zr_vdev.specs.Stores.{HoldsBlocks, IsStoredAt, LeadsToAll, addresses_of}
 use Rattle.zr_vdev.specs.declared.kind.Kind.TheVariants.{Block}
 
 -- a unit that is obsolete behind the free and was not before is one that the address passes
@@ -170,14 +170,10 @@ all_stored s (p ∷ ps) all =
     All-cons (λ (b : Bptr). IsStoredAt Block s None b.at) p ps (record { used = All-head (IsFreeable s) p.at (addresses_of ps) all; whole = tt })
     (all_stored s ps (All-tail (IsFreeable s) p.at (addresses_of ps) all))
 
-none_some : (at : Dva) → None ≡ Some at → ⊥
-none_some at e = cc
-
 -- the blocks, as the disks have them
 abbrev pub held_blocks : List (Option ℕ) → List (List ℕ) → Space → List Bptr → Stored
 held_blocks slots disks s ps = record { pointers = ps; bytes = bytes_now Block slots disks s None }
 
-pub in_use_held : (told : Type 0) (disks : List (List ℕ)) (slots : List (Option ℕ)) (cache : Cache) (s : Space) (ps : List Bptr) → told → AreRead disks slots s cache → AreInUse s (addresses_of ps)
+pub in_use_held : (told : Type 0) (disks : List (List ℕ)) (slots : List (Option ℕ)) (cache : Cache) (s : Space) (ps : List Bptr) → told → AreRead disks slots s cache → AreInUse s (addresses_of ps) → LeadsToAll s (addresses_of ps)
     → HoldsBlocks Block slots told disks s None cache (held_blocks slots disks s ps)
-in_use_held told disks slots cache s ps is_told read are =
-    holds_all Block slots told disks s None cache ps is_told read (λ at is. absurd (none_some at is)) (all_stored s ps are.each) are.once are.spends
+in_use_held told disks slots cache s ps is_told read are all = holds_all Block slots told disks s None cache ps is_told read refl (all_stored s ps are.each) are.once all are.spends

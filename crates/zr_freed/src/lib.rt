@@ -2,8 +2,8 @@
 //!
 //! Whoever opens a root must know that the pointers that it met lead to units of their own, over removed devices or not. Each
 //! pointer that is met is freed in a space that is thrown away: where all of them could be freed, no two led to one unit, no
-//! obsolete unit was passed, and no entry was passed by more units than it has. So the space that the frees began from holds
-//! the blocks.
+//! obsolete unit was passed, and no entry was passed by more units than it has. Where then just what only the checkpoint has
+//! is held, they led to each unit in use. So the space that the frees began from holds the blocks, and no others.
 #![tactic(auto)]
 
 ghost use Rattle.std.specs.Prelude.{ℕ, ◌*◌, List, [], length, map, Option, None, ◌≡◌, true};
@@ -11,7 +11,7 @@ ghost use Rattle.zr_base.specs.declared.space.Dva.{Dva};
 ghost use Rattle.zr_base.specs.declared.space.SpaceParts.{SpaceParts};
 ghost use Rattle.zr_bptr.specs.declared.Bptr.{Bptr};
 ghost use Rattle.zr_cache.specs.declared.table.Cache.{Cache};
-ghost use Rattle.zr_freed.specs.Chains.{AreInUse, FreesInTurn};
+ghost use Rattle.zr_freed.specs.Chains.{AreInUse, FreesInTurn, HasSingleCopies, LeavesKept};
 ghost use Rattle.zr_image.specs.Roots.{without_late};
 ghost use Rattle.zr_obsolete.specs.Obsolete.{Fits};
 ghost use Rattle.zr_rules.specs.Devices.{Devices};
@@ -23,7 +23,7 @@ ghost use Rattle.zr_space.specs.Opens.{IsOpened};
 ghost use Rattle.zr_store.specs.Store.{Stored};
 ghost use Rattle.zr_vdev.specs.Caches.{AreRead};
 ghost use Rattle.zr_vdev.specs.Mounts.{AreMounted};
-ghost use Rattle.zr_vdev.specs.Stores.{HoldsBlocks, addresses_of};
+ghost use Rattle.zr_vdev.specs.Stores.{HoldsBlocks, LeadsToAll, addresses_of};
 ghost use Rattle.zr_vdev.specs.declared.kind.Kind.TheVariants.{Block};
 ghost use Rattle.zr_view.specs.Views.{address_bytes};
 
@@ -40,9 +40,15 @@ pub fn freed_are_in_use()
     ensures { (birth : ℕ) (old new : Space) (list : List Dva) → Spends old [] → FreesInTurn birth old new list → AreInUse old list }
 {}
 
+/// Where no unit has the copies of two, and behind the frees just what was kept is held, they led to all that was in use where
+/// they began: to each unit in use by blocks, and each copy was one of such a unit.
+pub fn freed_lead_to_all()
+    ensures { (birth : ℕ) (old new : Space) (list : List Dva) → HasSingleCopies old → LeavesKept old new → FreesInTurn birth old new list → LeadsToAll old list }
+{}
+
 /// So a store over the space where the frees began holds the blocks with these addresses, as its disks have them.
 pub fn freed_are_held<S: Shelf>()
-    ensures { (birth : ℕ) (shelf : S) (disks : List (List ℕ)) (slots : List (Option ℕ)) (cache : Cache) (old new : Space) (pointers : List Bptr) → S.tells shelf → AreRead disks slots old cache → Spends old [] → FreesInTurn birth old new (addresses_of pointers)
+    ensures { (birth : ℕ) (shelf : S) (disks : List (List ℕ)) (slots : List (Option ℕ)) (cache : Cache) (old new : Space) (pointers : List Bptr) → S.tells shelf → AreRead disks slots old cache → Spends old [] → HasSingleCopies old → LeavesKept old new → FreesInTurn birth old new (addresses_of pointers)
         → (s : Stored) × HoldsBlocks Block slots (S.tells shelf) disks old None cache s × (s.pointers ≡ pointers) }
 {}
 
@@ -50,6 +56,12 @@ pub fn freed_are_held<S: Shelf>()
 /// one of them, beside nothing, is in use in each.
 pub fn in_use_beside()
     ensures { (own parts : SpaceParts) (meta saved : List Dva) (old new : Space) (list : List Dva) → without_late own ≡ without_late parts → IsOpened own meta [] old → IsOpened parts meta saved new → AreInUse old list → AreInUse new list }
+{}
+
+/// And where they lead to all that is in use in one of them, they do in each. No unit has the copies of two there if none has here.
+pub fn all_beside()
+    ensures all { (own parts : SpaceParts) (meta saved : List Dva) (old new : Space) (list : List Dva) → without_late own ≡ without_late parts → IsOpened own meta [] old → IsOpened parts meta saved new → LeadsToAll old list → LeadsToAll new list }
+    ensures single { (own parts : SpaceParts) (meta saved : List Dva) (old new : Space) → without_late own ≡ without_late parts → IsOpened own meta [] old → IsOpened parts meta saved new → HasSingleCopies new → HasSingleCopies old }
 {}
 
 /// An address that resolves over devices whose units stand on disks has all of its bytes there.

@@ -1,10 +1,12 @@
 -- What an opened pool holds: the blocks to which the directory of its root leads, and the objects that these are.
-use Rattle.std.proofs.Common.{◌≡◌, ℕ, ◌<◌, List, [], ◌∷◌, map, length, Option, None, sym, ◌∙◌, ap, subst, arith}
+use Rattle.std.proofs.Common.{◌≡◌, ℕ, ◌<◌, ◌≤◌, Bool, true, false, List, [], ◌∷◌, map, length, Option, None, sym, ◌∙◌, ap, subst, arith}
 use Rattle.std.specs.Prelude.{All, Contains}
 use Rattle.std.proofs.Math.ListN.{get_or-map}
 use Rattle.zr_base.specs.declared.space.DevPart.{DevPart}
 use Rattle.zr_base.specs.declared.space.Dva.{Dva}
 use Rattle.zr_base.specs.declared.space.SpaceParts.{SpaceParts}
+use Rattle.zr_base.specs.declared.space.Extent.{Extent}
+use Rattle.zr_base.specs.Extents.{has_unit}
 use Rattle.zr_bptr.specs.declared.Bptr.{Bptr}
 use Rattle.zr_bptr.specs.declared.Tree.{Tree}
 use Rattle.zr_cache.specs.Entries.{entries}
@@ -12,10 +14,11 @@ use Rattle.zr_cache.specs.Sums.{Entry}
 use Rattle.zr_cache.specs.declared.table.Cache.{Cache}
 use Rattle.zr_found.proofs.Joined.{holds_found}
 use Rattle.zr_found.specs.Found.{HasReached, HoldsFound}
-use Rattle.zr_freed.proofs.Beside.{in_use_beside}
+use Rattle.zr_freed.proofs.Beside.{all_beside, in_use_beside, single_beside}
 use Rattle.zr_freed.proofs.Bytes.{long_address}
 use Rattle.zr_freed.proofs.Turns.{fits_spends, freed_in_use, held_blocks, in_use_held}
-use Rattle.zr_freed.specs.Chains.{AreInUse, FreesInTurn}
+use Rattle.zr_freed.proofs.Whole.{freed_lead_to_all}
+use Rattle.zr_freed.specs.Chains.{AreInUse, FreesInTurn, HasSingleCopies, LeavesKept}
 use Rattle.zr_image.specs.Reading.{store_of}
 use Rattle.zr_image.specs.Roots.{without_late}
 use Rattle.zr_image.specs.StateOf.{AreObjects}
@@ -27,8 +30,8 @@ use Rattle.zr_judge.specs.Parts.{HasMapping}
 use Rattle.zr_objset.specs.Records.{all_reach}
 use Rattle.zr_obsolete.specs.Obsolete.{Fits}
 use Rattle.zr_rules.specs.Equation.{Spends, devices_in}
-use Rattle.zr_rules.specs.Places.{no_part, part_of}
-use Rattle.zr_rules.specs.Space.{Space}
+use Rattle.zr_rules.specs.Places.{is_held, no_part, one_if, part_of}
+use Rattle.zr_rules.specs.Space.{IsLawful, Space}
 use Rattle.zr_space.specs.Opens.{IsOpened}
 use Rattle.zr_store.proofs.Meeting.{at_each}
 use Rattle.zr_store.specs.Store.{Stored, hits}
@@ -37,7 +40,7 @@ use Rattle.zr_sync.specs.Pools.{IsOpen}
 use Rattle.zr_sync.specs.declared.open.OpenPool.{OpenPool}
 use Rattle.zr_vdev.specs.Caches.{AreRead}
 use Rattle.zr_vdev.specs.Runs.{view_of}
-use Rattle.zr_vdev.specs.Stores.{HoldsBlocks, IsStoredAt, addresses_of}
+use Rattle.zr_vdev.specs.Stores.{HoldsBlocks, IsStoredAt, LeadsToAll, addresses_of}
 use Rattle.zr_vdev.specs.declared.kind.Kind.TheVariants.{Block}
 use Rattle.zr_view.specs.Views.{View}
 use Rattle.zr_roots.proofs.Parts.{part_lawful}
@@ -58,13 +61,24 @@ in_turn txg old new (b ∷ bs) (birth, (mid, (one, rest))) = (mid, (one.may, one
 abbrev bare : DevPart → DevPart
 bare p = record p { late1 = []; late2 = [] }
 
--- no entry of the space of a root has more obsolete units than units
+-- the space of a root has its devices, but for their late sets
+start_part : (parts own : SpaceParts) (meta : List Dva) (s : Space) → without_late own ≡ without_late parts → IsOpened own meta [] s → (d : ℕ) → bare (part_of s.parts.devs d) ≡ bare (part_of parts.devs d)
+start_part parts own meta s same opened d =
+    ap (λ (ps : SpaceParts). bare (part_of ps.devs d)) opened.parts_are ∙ (sym (get_or-map bare own.devs d no_part) ∙ (ap (λ (ps : SpaceParts). part_of ps.devs d) same ∙ get_or-map bare parts.devs d no_part))
+
+-- no entry of it has more obsolete units than units
 start_fits : (parts : SpaceParts) → All HasMapping parts.devs → (own : SpaceParts) (meta : List Dva) (s : Space) → without_late own ≡ without_late parts → IsOpened own meta [] s
     → (d : ℕ) → Fits (part_of s.parts.devs d).entries (part_of s.parts.devs d).counts (part_of s.parts.devs d).fresh
 start_fits parts mapped own meta s same opened d =
-    let one : bare (part_of s.parts.devs d) ≡ bare (part_of parts.devs d) =
-    ap (λ (ps : SpaceParts). bare (part_of ps.devs d)) opened.parts_are ∙ (sym (get_or-map bare own.devs d no_part) ∙ (ap (λ (ps : SpaceParts). part_of ps.devs d) same ∙ get_or-map bare parts.devs d no_part)) in
-    subst (λ (p : DevPart). Fits p.entries p.counts p.fresh) (sym one) (part_lawful parts.devs mapped d).counts.fits
+    subst (λ (p : DevPart). Fits p.entries p.counts p.fresh) (sym (start_part parts own meta s same opened d)) (part_lawful parts.devs mapped d).counts.fits
+
+-- a lawful space has each copy once
+lawful_single : (s : Space) → IsLawful s → HasSingleCopies s
+lawful_single s lawful d u = let few = lawful.copies d u in let bit = bit_most (is_held s.parts.devs d u) in omega (arith, few, bit)
+  where
+    bit_most : (b : Bool) → one_if b ≤ 1
+    bit_most true = omega arith
+    bit_most false = omega arith
 
 module _ (tells : Type 0) (told : tells) (disks : List (List ℕ)) (sizes : List ℕ) (sized : map length disks ≡ sizes) (pool : OpenPool) (root : Root) (saved : List Dva) (txg : ℕ) (ready : IsOpen sizes pool) (parts : IsOpened root.parts root.meta saved pool.space)
     (dir : pool.dir ≡ root.head.dir) (group : pool.group.objects ≡ []) (cache : entries pool.cache ≡ []) (mapped : All HasMapping root.parts.devs) where
@@ -90,11 +104,24 @@ module _ (tells : Type 0) (told : tells) (disks : List (List ℕ)) (sizes : List
         in_use_beside held.of_parts.own root.parts root.meta saved held.start pool.space held.of_parts.same held.of_parts.opened parts (addresses_of blocks)
         (freed_in_use last_group held.start held.left (addresses_of blocks) none_spent (in_turn txg held.start held.left blocks held.marks))
 
+    left_kept : LeavesKept held.start held.left
+    left_kept d u =
+        ap (λ (es : List Extent). has_unit es u) (held.kept d)
+        ∙ sym (ap (λ (p : DevPart). has_unit p.kept u) (start_part root.parts held.of_parts.own root.meta held.start held.of_parts.same held.of_parts.opened d))
+
+    -- just what is kept was left, so they are all blocks
+    led : LeadsToAll pool.space (addresses_of blocks)
+    led =
+        all_beside held.of_parts.own root.parts root.meta saved held.start pool.space held.of_parts.same held.of_parts.opened parts (addresses_of blocks)
+        (freed_lead_to_all last_group held.start held.left (addresses_of blocks)
+        (single_beside held.of_parts.own root.parts root.meta saved held.start pool.space held.of_parts.same held.of_parts.opened parts (lawful_single pool.space ready.lawful)) left_kept
+        (in_turn txg held.start held.left blocks held.marks))
+
     abbrev stored : Stored
     stored = held_blocks slots disks pool.space blocks
 
     holds : HoldsBlocks Block slots tells disks pool.space None pool.cache stored
-    holds = in_use_held tells disks slots pool.cache pool.space blocks told (nothing_cached disks slots pool.space pool.cache cache) used
+    holds = in_use_held tells disks slots pool.cache pool.space blocks told (nothing_cached disks slots pool.space pool.cache cache) used led
 
     met : (b : Bptr) → 0 < hits blocks b.at → IsStoredAt Block pool.space None b.at
     met b some = at_each (IsStoredAt Block pool.space None) blocks b.at holds.stored some

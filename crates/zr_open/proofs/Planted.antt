@@ -1,5 +1,5 @@
 -- The metadata of a pool that is opened, as its space has it: the blocks of all trees of its root are stored, and the trees stand in them.
-use Rattle.std.proofs.Common.{◌≡◌, inl, ℕ, zero, suc, ◌+◌, ◌-◌, ◌<◌, ◌≤◌, Bool, true, false, List, [], ◌∷◌, ◌++◌, None, Some, refl, sym, ◌∙◌, ap, subst, arith}
+use Rattle.std.proofs.Common.{◌≡◌, inl, ℕ, zero, suc, ◌+◌, ◌-◌, ◌<◌, ◌≤◌, Bool, true, false, List, [], ◌∷◌, ◌++◌, None, refl, sym, ◌∙◌, ap, subst, arith}
 use Rattle.std.specs.Prelude.{All, IsTrue, nat_lt}
 use Rattle.std.specs.List.{flat_map, sum_by}
 use Rattle.std.proofs.lemmas.Bool.Decides.{nat_tests}
@@ -118,9 +118,6 @@ module _ (s : Space) (lawful : IsLawful s) where
 
 -- ---- what is stored
 
-none_some : (at : Dva) → None ≡ Some at → ⊥
-none_some at e = cc
-
 module _ (tells : Type 0) (told : tells) (disks : List (List ℕ)) (pool : OpenPool) (lawful : IsLawful pool.space) (empty : entries pool.cache ≡ []) (ps : List Bptr) (same : (d u : ℕ) → address_hits (addresses_of ps) d u ≡ address_hits pool.space.meta d u) (long : All HasUnits ps) where
   all_there : All (λ (b : Bptr). IsStoredAt Meta pool.space None b.at) ps
   all_there = all_meta pool.space lawful ps (λ d u. let e = same d u in omega (arith, e)) long
@@ -130,11 +127,12 @@ module _ (tells : Type 0) (told : tells) (disks : List (List ℕ)) (pool : OpenP
 
   pub planted : HasMeta tells disks pool store
   planted =
-      holds_all Meta pool.table.slots tells disks pool.space None pool.cache ps told (nothing_cached disks pool.table.slots pool.space pool.cache empty) (λ at is. absurd (none_some at is)) all_there
+      holds_all Meta pool.table.slots tells disks pool.space None pool.cache ps told (nothing_cached disks pool.table.slots pool.space pool.cache empty) refl all_there
       (λ d u.
       let most = led_most pool.space lawful ps all_there d u in let e = same d u in let o = lawful.once d u in
       let p = one_most (has_place pool.space d u) in
       omega (arith, most, e, o, p))
+      tt
       tt
     where
       one_most : (b : Bool) → one_if b ≤ 1
