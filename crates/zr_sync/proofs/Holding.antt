@@ -13,7 +13,7 @@ use Rattle.zr_rules.specs.Equation.{devices_in, live_hits}
 use Rattle.zr_rules.specs.Frees.{MarksNothing}
 use Rattle.zr_rules.specs.Places.{part_of}
 use Rattle.zr_rules.specs.Resolve.{is_resolved, leads_to, resolve_hits}
-use Rattle.zr_rules.specs.Roles.{Role, aged, cleared, is_live_role}
+use Rattle.zr_rules.specs.Roles.{Role, aged, cleared, is_live_role, is_copy_role}
 use Rattle.zr_rules.specs.Space.{Space, role_at}
 use Rattle.zr_rules.specs.Steps.{Commits}
 use Rattle.zr_scan.specs.declared.error.ScanErr.{ScanErr}
@@ -26,10 +26,12 @@ use Rattle.zr_vdev.specs.Runs.{view_of}
 use Rattle.zr_vdev.specs.Stores.{HoldsBlocks, addresses_of}
 use Rattle.zr_vdev.specs.declared.kind.Kind.{Kind}
 use Rattle.zr_vdev.specs.declared.kind.Kind.TheVariants.{Block}
+use Rattle.zr_vdev.proofs.Alike.{AreNoNewCopies, commits_no_copy}
 use Rattle.zr_vdev.proofs.Back.{spends_same}
 use Rattle.zr_vdev.proofs.Frames.{held_beside}
 use Rattle.zr_vdev.proofs.Held.{read_same}
-use Rattle.zr_vdev.proofs.Moves.{held_again}
+use Rattle.zr_vdev.proofs.Moves.{held_again, read_held}
+use Rattle.zr_vdev.proofs.Whole.{all_same}
 use Rattle.zr_view.specs.Views.{address_bytes}
 use Rattle.zr_commit.specs.Objects.{WritesGroup}
 use Rattle.zr_sync.specs.Holds.{HasBlocks, HasWritten, AreTreesStored}
@@ -71,18 +73,8 @@ below_labels sizes pool o d slot lt is =
 -- what is held where each address has its bytes
 pub same_holds : (kind : Kind) (slots : List (Option ℕ)) (t1 t2 : Type 0) (before now : List (List ℕ)) (x : Space) (c : Cache) (s : Stored) → t2 → ((a : Dva) → address_bytes (view_of now slots x) a ≡ address_bytes (view_of before slots x) a)
     → HoldsBlocks kind slots t1 before x None c s → HoldsBlocks kind slots t2 now x None c s
-same_holds kind slots t1 t2 before now x c s told same held = record {
-  told = told;
-  taken = held.taken;
-  read = λ e among. let was = held.read e among in record { runs_of = was.runs_of; same = was.same ∙ sym (same e.0.pointer.at) };
-  stored = held.stored;
-  once = held.once;
-  back = held.back;
-  alone = held.alone;
-  resolves = held.resolves;
-  there = λ b h. held.there b h ∙ sym (same b.at);
-  nothing = held.nothing;
-}
+same_holds kind slots t1 t2 before now x c s told same held =
+    read_held kind slots t1 t2 before now x None c c s told (λ e among. let was = held.read e among in record { runs_of = was.runs_of; same = was.same ∙ sym (same e.0.pointer.at) }) (λ a h. same a) held
 
 -- a root that is published leaves the bytes of each address
 pub published_bytes : (sizes both all : List ℕ) (u : Uber) (r : Result (Unit {0}) ScanErr) (a b : World) (pool : OpenPool) → IsOpen sizes pool → IsUber u → Publishes sizes both all u r a b
@@ -99,12 +91,13 @@ published_holds sizes both all u r a b pool t1 t2 s o lawful published told held
 
 -- ---- the end of a group
 
--- The devices and their mappings stay, nothing is marked, and what is in use by blocks stays so.
+-- The devices and their mappings stay, and nothing is marked. The units in use by blocks are the same, and no copy is new.
 pub record StaysLive (old new : Space) : Type 0 where
   pub devices : devices_in new ≡ devices_in old
   pub counts : (d : ℕ) → (part_of new.parts.devs d).counts ≡ (part_of old.parts.devs d).counts
   pub fresh : MarksNothing old new
-  pub live : (d u : ℕ) → is_live_role (role_at old d u) ≡ true → is_live_role (role_at new d u) ≡ true
+  pub live : (d u : ℕ) → is_live_role (role_at new d u) ≡ is_live_role (role_at old d u)
+  pub copy : (d u : ℕ) → is_copy_role (role_at new d u) ≡ true → is_copy_role (role_at old d u) ≡ true
 
 -- what may be given back still may
 still_freeable : (old new : Space) (a : Dva) → StaysLive old new → IsFreeable old a → IsFreeable new a
@@ -116,11 +109,19 @@ still_freeable old new a stays h =
       some = h.some;
       resolves = subst (λ (ds : Devices). is_resolved ds a ≡ true) (sym stays.devices) h.resolves;
       once = λ d u. subst (λ (ds : Devices). resolve_hits ds a d u ≤ 1) (sym stays.devices) (h.once d u);
-      used = λ d u leads. stays.live d u (h.used d u (subst (λ (ds : Devices). leads_to ds a d u ≡ true) stays.devices leads));
+      used = λ d u leads. stays.live d u ∙ h.used d u (subst (λ (ds : Devices). leads_to ds a d u ≡ true) stays.devices leads);
       spends = spends_same old new (a ∷ []) stays.devices stays.counts stays.fresh h.spends;
     }
 
--- so the blocks of objects stay
+live_no_copy : (old new : Space) → StaysLive old new → AreNoNewCopies old new
+live_no_copy old new stays = record {
+  row = λ d. ap (λ (ds : Devices). ds.row d) stays.devices;
+  entries = λ d. ap (λ (ds : Devices). ds.entries d) stays.devices;
+  marks = λ d u is. stays.fresh d u ∙ is;
+  copy = stays.copy;
+}
+
+-- so the blocks of objects stay, and are all
 pub live_holds : (t : Type 0) (disks : List (List ℕ)) (x y : OpenPool) (s : Stored) → StaysLive x.space y.space → y.table ≡ x.table → y.cache ≡ x.cache → HasBlocks t disks x s → Now (HasBlocks t disks y) (λ n. Swaps s n [] [])
 live_holds t disks x y s stays table cache held =
     subst (λ (w : Table). Now (HoldsBlocks Block w.slots t disks y.space None y.cache) (λ n. Swaps s n [] [])) (sym table)
@@ -129,25 +130,27 @@ live_holds t disks x y s stays table cache held =
     (λ a h. record { used = still_freeable x.space y.space a stays h.used; whole = tt })
     (λ a h. ap (λ (ds : Devices). address_bytes (record { disks = disks; slots = x.table.slots; devices = ds }) a) stays.devices)
     (λ d u. subst (λ (ds : Devices). live_hits ds (addresses_of s.pointers) d u ≤ 1) (sym stays.devices) (held.once d u))
+    (all_same Block x.space y.space (addresses_of s.pointers) stays.devices stays.live (live_no_copy x.space y.space stays) held.all)
     (spends_same x.space y.space (addresses_of s.pointers) stays.devices stays.counts stays.fresh held.back)
     held))
 
-aged_live : (r : Role) → is_live_role r ≡ true → is_live_role (aged r) ≡ true
-aged_live r is = grind (arith, is)
+aged_live : (r : Role) → is_live_role (aged r) ≡ is_live_role r
+aged_live r = grind (arith)
 
-cleared_live : (r : Role) → is_live_role r ≡ true → is_live_role (cleared r) ≡ true
-cleared_live r is = grind (arith, is)
+cleared_live : (r : Role) → is_live_role (cleared r) ≡ is_live_role r
+cleared_live r = grind (arith)
 
-ended_role : (reset : Bool) (r q : Role) → q ≡ (if reset then cleared r else aged r) → is_live_role r ≡ true → is_live_role q ≡ true
-ended_role true r q is live = ap is_live_role is ∙ cleared_live r live
-ended_role false r q is live = ap is_live_role is ∙ aged_live r live
+ended_role : (reset : Bool) (r q : Role) → q ≡ (if reset then cleared r else aged r) → is_live_role q ≡ is_live_role r
+ended_role true r q is = ap is_live_role is ∙ cleared_live r
+ended_role false r q is = ap is_live_role is ∙ aged_live r
 
 ended_live : (reset : Bool) (old new : Space) → Commits reset old new → StaysLive old new
 ended_live reset old new h = record {
   devices = commits_devices reset old new h;
   counts = h.counts;
   fresh = h.fresh;
-  live = λ d u live. ended_role reset (role_at old d u) (role_at new d u) (h.roles d u) live;
+  live = λ d u. ended_role reset (role_at old d u) (role_at new d u) (h.roles d u);
+  copy = (commits_no_copy reset old new h).copy;
 }
 
 -- a group that ends leaves the blocks of objects

@@ -164,6 +164,7 @@ meta_ends reset t disks x y s table cache commits metas held =
     (λ a h. ap (λ (ds : Devices). address_bytes (record { disks = disks; slots = x.table.slots; devices = ds }) a) devices)
     (λ d u. subst (λ (ds : Devices). live_hits ds (addresses_of s.pointers) d u ≤ 1) (sym devices) (held.once d u))
     tt
+    tt
     held))
 
 -- A root is published, and the group ends: each stream records its part.

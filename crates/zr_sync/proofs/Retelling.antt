@@ -18,7 +18,7 @@ use Rattle.zr_rules.specs.Steps.{Discards, DiscardsSome, is_among, kept_extents,
 use Rattle.zr_space.specs.Drops.{HasRole, IsMeta}
 use Rattle.zr_store.specs.Store.{Now, Stored, Swaps}
 use Rattle.zr_vdev.proofs.Held.{read_same}
-use Rattle.zr_vdev.proofs.Moves.{held_again, retold}
+use Rattle.zr_vdev.proofs.Moves.{held_again, read_held, retold}
 use Rattle.zr_vdev.specs.Stores.{HoldsBlocks, addresses_of}
 use Rattle.zr_vdev.specs.declared.kind.Kind.TheVariants.{Meta as MetaKind}
 use Rattle.zr_view.specs.Views.{address_bytes}
@@ -135,18 +135,7 @@ cache_leaves t1 t2 disks x y rest seen =
     z = record x { cache = y.cache }
 
     seen_now : (s : Stored) → HasMeta t1 disks x s → HasMeta t2 disks z s
-    seen_now s held = record {
-      told = seen.told;
-      taken = held.taken;
-      read = (subst (λ (o : OpenPool). IsSeen t2 disks o) rest seen).read;
-      stored = held.stored;
-      once = held.once;
-      back = held.back;
-      alone = held.alone;
-      resolves = held.resolves;
-      there = held.there;
-      nothing = held.nothing;
-    }
+    seen_now s held = read_held MetaKind x.table.slots t1 t2 disks disks x.space None x.cache y.cache s seen.told (subst (λ (o : OpenPool). IsSeen t2 disks o) rest seen).read (λ a h. refl) held
 
 -- ---- what is kept is given back
 
@@ -176,6 +165,7 @@ meta_again t1 t2 disks x y s told stays table cache held =
     (λ a h. record { used = still_meta x.space y.space a stays h.used; whole = tt })
     (λ a h. ap (λ (ds : Devices). address_bytes (record { disks = disks; slots = x.table.slots; devices = ds }) a) stays.devices)
     (λ d u. subst (λ (ds : Devices). live_hits ds (addresses_of s.pointers) d u ≤ 1) (sym stays.devices) (held.once d u))
+    tt
     tt
     held))
 

@@ -19,7 +19,7 @@ use Rattle.zr_rules.specs.Devices.{Devices}
 use Rattle.zr_rules.specs.Equation.{devices_in}
 use Rattle.zr_rules.specs.Frees.{in_any}
 use Rattle.zr_rules.specs.Places.{in_address, part_of}
-use Rattle.zr_rules.specs.Roles.{Role, discarded, dropped, saved, is_live_role}
+use Rattle.zr_rules.specs.Roles.{Role, discarded, dropped, saved, is_live_role, is_copy_role}
 use Rattle.zr_rules.specs.Roles.Role.{DeferredMeta, SavedMeta}
 use Rattle.zr_rules.specs.Space.{Space, role_at, IsLawful}
 use Rattle.zr_rules.specs.Steps.{HoldsCheckpoint, Discards, DiscardsSome, is_among, kept_extents, with_ckpt}
@@ -127,12 +127,16 @@ held_devices txg old new h =
 saved_live : (r : Role) → is_live_role (saved r) ≡ is_live_role r
 saved_live r = grind (arith)
 
+saved_copy : (r : Role) → is_copy_role (saved r) ≡ is_copy_role r
+saved_copy r = grind (arith)
+
 held_live : (txg : ℕ) (old new : Space) → HoldsCheckpoint old new txg → StaysLive old new
 held_live txg old new h = record {
   devices = held_devices txg old new h;
   counts = λ d. (h.each d).counts;
   fresh = h.fresh;
-  live = λ d u live. ap is_live_role (h.roles d u) ∙ (saved_live (role_at old d u) ∙ live);
+  live = λ d u. ap is_live_role (h.roles d u) ∙ saved_live (role_at old d u);
+  copy = λ d u is. sym (ap is_copy_role (h.roles d u) ∙ saved_copy (role_at old d u)) ∙ is;
 }
 
 pub ckpt_role : (s : Space) (c : CkptPart) (d u : ℕ) → role_at (with_ckpt s c) d u ≡ role_at s d u
@@ -140,7 +144,7 @@ unfolding role_at
 ckpt_role s c d u = refl
 
 pub ckpt_live : (s : Space) (c : CkptPart) → StaysLive s (with_ckpt s c)
-ckpt_live s c = record { devices = refl; counts = λ d. refl; fresh = λ d u. refl; live = λ d u live. ap is_live_role (ckpt_role s c d u) ∙ live }
+ckpt_live s c = record { devices = refl; counts = λ d. refl; fresh = λ d u. refl; live = λ d u. ap is_live_role (ckpt_role s c d u); copy = λ d u is. sym (ap is_copy_role (ckpt_role s c d u)) ∙ is }
 
 pub ckpt_lawful : (s : Space) (c : CkptPart) → IsLawful s → IsLawful (with_ckpt s c)
 ckpt_lawful s c l = record { devices = l.devices; sets = l.sets; once = l.once; copies = l.copies; born = l.born }
@@ -299,16 +303,21 @@ discards_devices old new es g =
     ∙ (ap (λ (r : ℕ → DevRow). make (length old.parts.devs) r (devices_in new).entries) (fun_ext (λ d. (g.frame.each d).row))
     ∙ ap (λ (e : ℕ → List Entry). make (length old.parts.devs) (devices_in old).row e) (fun_ext (λ d. (g.frame.each d).entries)))
 
-discarded_live : (b : Bool) (r : Role) → is_live_role r ≡ true → is_live_role (if b then discarded r else r) ≡ true
-discarded_live true r is = grind (arith, is)
-discarded_live false r is = is
+discarded_live : (b : Bool) (r : Role) → is_live_role (if b then discarded r else r) ≡ is_live_role r
+discarded_live true r = grind (arith)
+discarded_live false r = refl
+
+discarded_copy : (b : Bool) (r : Role) → is_copy_role (if b then discarded r else r) ≡ is_copy_role r
+discarded_copy true r = grind (arith)
+discarded_copy false r = refl
 
 discards_live : (old new : Space) (es : List (ℕ × Extent)) → Discards old new es → StaysLive old new
 discards_live old new es g = record {
   devices = discards_devices old new es g;
   counts = λ d. (g.frame.each d).counts;
   fresh = g.fresh;
-  live = λ d u live. ap is_live_role (g.roles d u) ∙ discarded_live (is_among es d u) (role_at old d u) live;
+  live = λ d u. ap is_live_role (g.roles d u) ∙ discarded_live (is_among es d u) (role_at old d u);
+  copy = λ d u is. sym (ap is_copy_role (g.roles d u) ∙ discarded_copy (is_among es d u) (role_at old d u)) ∙ is;
 }
 
 -- a step of discarding leaves the devices, what is live and what makes a pool open

@@ -1,5 +1,5 @@
 -- The head that a commit writes, through the steps behind it.
-use Rattle.std.proofs.Common.{◌≡◌, ◌∙◌, ℕ, Bool, List, [], length, take, Option, Some, None, sym, ap, subst, arith}
+use Rattle.std.proofs.Common.{◌≡◌, ◌∙◌, ℕ, Bool, List, [], length, take, Option, None, refl, sym, ap, subst, arith}
 use Rattle.zr_base.specs.declared.space.DevRow.{DevRow}
 use Rattle.zr_base.specs.declared.space.Dva.{Dva}
 use Rattle.zr_bptr.specs.declared.Ptr.{Ptr}
@@ -48,13 +48,10 @@ head_stands kind slots tells disks space lost cache table s n h root len held w 
 }
 
 -- a store of metadata in which nothing is, to begin with
-none_some : (at : Dva) → None ≡ Some at → ⊥
-none_some at e = cc
-
 pub empty_holds : (slots : List (Option ℕ)) (tells : Type 0) (disks : List (List ℕ)) (space : Space) (cache : Cache) → tells → AreRead disks slots space cache
     → HoldsBlocks Meta slots tells disks space None cache (record { pointers = []; bytes = bytes_now Meta slots disks space None })
 empty_holds slots tells disks space cache told read =
-    holds_all Meta slots tells disks space None cache [] told read (λ at e. absurd (none_some at e)) (λ i d lt. absurd (omega (arith, lt))) (λ d u. omega arith) tt
+    holds_all Meta slots tells disks space None cache [] told read refl (λ i d lt. absurd (omega (arith, lt))) (λ d u. omega arith) tt tt
 
 -- ---- what is told through the steps
 
