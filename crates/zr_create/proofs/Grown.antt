@@ -10,6 +10,7 @@ use Rattle.std.proofs.lemmas.List.Elements.{All-cons, All-head, All-nil, All-tai
 use Rattle.std.proofs.lemmas.List.Sums.{sum_by-cons}
 use Rattle.std.proofs.lemmas.Option.{option_and_then_some}
 use Rattle.zr_base.specs.declared.space.DevPart.{DevPart}
+use Rattle.zr_base.specs.declared.space.DevState.TheVariants.{On}
 use Rattle.zr_base.specs.declared.space.Dva.{Dva}
 use Rattle.zr_base.specs.declared.space.Entry.{Entry}
 use Rattle.zr_base.specs.Extents.{has_unit}
@@ -18,27 +19,28 @@ use Rattle.zr_cache.specs.declared.table.Cache.{Cache}
 use Rattle.zr_rules.specs.Devices.{state_at}
 use Rattle.zr_rules.specs.Equation.{devices_in, live_hits, way_hits, ways_in, fresh_in, Spends}
 use Rattle.zr_rules.specs.Mappings.{entry_at, target}
-use Rattle.zr_rules.specs.Places.{Place, count_below, is_fresh, is_gone, is_place, no_part, one_if, part_of, places_of, state_of_dev}
+use Rattle.zr_rules.specs.Places.{Place, count_below, is_fresh, is_gone, is_leaving, is_place, no_part, one_if, part_of, places_of, state_of_dev}
 use Rattle.zr_rules.specs.Resolve.{is_there, is_at, leads_to, pass_hits, passed, passed_units, resolve, resolve_hits, resolved, resolved_units, is_resolved}
-use Rattle.zr_rules.specs.Roles.{Role, is_live_role}
-use Rattle.zr_rules.specs.Roles.Role.{Free}
-use Rattle.zr_rules.specs.Space.{Space, role_at}
+use Rattle.zr_rules.specs.Roles.{Role, is_live_role, is_copy_role}
+use Rattle.zr_rules.specs.Roles.Role.{Absent, Free}
+use Rattle.zr_rules.specs.Space.{Space, has_place, role_at}
 use Rattle.zr_rules.specs.Steps as steps
 use Rattle.zr_space.specs.Drops.{IsMeta}
 use Rattle.zr_space.specs.Live.{IsFreeable}
 use Rattle.zr_space.proofs.Paths.{part_past}
 use Rattle.zr_store.specs.Store.{Stored, Swaps, Now}
 use Rattle.zr_store.proofs.Meeting.{at_each}
+use Rattle.zr_vdev.specs.Alike.{IsCopyAt}
 use Rattle.zr_vdev.specs.Caches.{AreRead}
 use Rattle.zr_vdev.specs.Runs.{view_of}
-use Rattle.zr_vdev.specs.Stores.{HoldsBlocks, IsInUse, IsStoredAt, MayGoBack, addresses_of}
+use Rattle.zr_vdev.specs.Stores.{HoldsBlocks, IsAll, IsInUse, IsStoredAt, MayGoBack, addresses_of}
 use Rattle.zr_vdev.specs.declared.kind.Kind.{Kind}
 use Rattle.zr_vdev.specs.declared.kind.Kind.TheVariants.{Block, Meta}
 use Rattle.zr_vdev.proofs.Moves.{bytes_now, each_resolves, holds_all}
 use Rattle.zr_view.specs.Views.{slot_of, unit_bytes, place_bytes, address_bytes}
 use Rattle.zr_create.proofs.Taken.{new_part}
 
-false_true : false ≡ true → ⊥
+pub false_true : false ≡ true → ⊥
 false_true e = cc
 
 both : (a b : Bool) → (a && b) ≡ true → (a ≡ true) × (b ≡ true)
@@ -49,9 +51,6 @@ if_false : {A : Type 0} (b : Bool) (x y : A) → b ≡ false → (if b then x el
 if_false true x y h = cc
 if_false false x y h = refl
 
-none_some : (at : Dva) → None ≡ Some at → ⊥
-none_some at e = cc
-
 cases_bool : (b : Bool) → (b ≡ true) ⊎ (b ≡ false)
 cases_bool true = inl refl
 cases_bool false = inr refl
@@ -61,6 +60,11 @@ nothing_some p e = cc
 
 some_same : (p q : Place) → Some p ≡ Some q → p ≡ q
 some_same p q e = cc
+
+-- a unit of a device that has it not is absent
+pub absent : (s : Space) (d u : ℕ) → has_place s d u ≡ false → role_at s d u ≡ Absent
+unfolding role_at
+absent s d u none = rw none refl
 
 count_same : (n : ℕ) (f g : ℕ → Bool) → ((k : ℕ) → f k ≡ g k) → count_below n f ≡ count_below n g
 count_same zero f g same = refl
@@ -249,20 +253,27 @@ module _ (s t : Space) (units txg : ℕ) (adds : steps.AddsDevice s t units txg)
     | inr le ↦ none_fresh d u le
   ]
 
-  -- nor is one gone
+  -- a device that came behind the others is in service
+  new_serves : (d : ℕ) → length s.parts.devs ≤ d → state_of_dev t.parts.devs d ≡ On
+  new_serves d le = elim (cases_eq d (length s.parts.devs)) [
+    | inl is ↦
+        ap (λ (ps : List DevPart). (part_of ps d).row.state) adds.devs
+        ∙ (ap (λ (e : ℕ). (part_of (s.parts.devs ++ new_part units txg ∷ []) e).row.state) is ∙ ap (λ (p : DevPart). p.row.state) (get_or-append_seam s.parts.devs (new_part units txg) [] no_part))
+    | inr ne ↦ ap (λ (p : DevPart). p.row.state) (part_past t.parts.devs d (omega (arith, le, ne, more)))
+  ]
+
+  -- so one that is gone or leaving was there before
   gone_stays : (d : ℕ) → is_gone (state_of_dev t.parts.devs d) ≡ true → d < length s.parts.devs
   gone_stays d gone = elim (cases_lt d (length s.parts.devs)) [
     | inl lt ↦ lt
-    | inr le ↦ absurd (false_true (sym (new_there d le) ∙ gone))
+    | inr le ↦ absurd (false_true (sym (ap is_gone (new_serves d le)) ∙ gone))
   ]
-    where
-      new_there : (d : ℕ) → length s.parts.devs ≤ d → is_gone (state_of_dev t.parts.devs d) ≡ false
-      new_there d le = elim (cases_eq d (length s.parts.devs)) [
-        | inl is ↦
-            ap (λ (ps : List DevPart). is_gone (part_of ps d).row.state) adds.devs
-            ∙ (ap (λ (e : ℕ). is_gone (part_of (s.parts.devs ++ new_part units txg ∷ []) e).row.state) is ∙ ap (λ (p : DevPart). is_gone p.row.state) (get_or-append_seam s.parts.devs (new_part units txg) [] no_part))
-        | inr ne ↦ ap (λ (p : DevPart). is_gone p.row.state) (part_past t.parts.devs d (omega (arith, le, ne, more)))
-      ]
+
+  pub leaving_before : (d : ℕ) → is_leaving (state_of_dev t.parts.devs d) ≡ true → d < length s.parts.devs
+  leaving_before d leaving = elim (cases_lt d (length s.parts.devs)) [
+    | inl lt ↦ lt
+    | inr le ↦ absurd (false_true (sym (ap is_leaving (new_serves d le)) ∙ leaving))
+  ]
 
   ways_still : (list : List Dva) (d : ℕ) (e : Entry) → All Leads list → ways_in (devices_in t) list d e ≡ ways_in (devices_in s) list d e
   ways_still list d e all = count_same e.len _ _ (λ k. ap (λ (n : ℕ). nat_lt 0 n) (way_hits_still list d (e.src + k) all))
@@ -330,6 +341,45 @@ module _ (s t : Space) (units txg : ℕ) (adds : steps.AddsDevice s t units txg)
   back_still Block list all h = spends_still list all h
   back_still Meta list all h = tt
 
+  -- ---- that some block leads to each unit in use
+
+  -- a unit with a role that is no free unit's is one of a device of before
+  pub role_known : (P : Role → Bool) → P Absent ≡ false → P Free ≡ false → (d u : ℕ) → P (role_at t d u) ≡ true → d < length s.parts.devs
+  role_known P away unused d u is = elim (cases_lt d (length s.parts.devs)) [
+    | inl lt ↦ lt
+    | inr le ↦ absurd (false_true (sym (none (grind (arith, nat_tests, le)) ((d == length s.parts.devs) && nat_lt u units) (adds.roles d u)) ∙ is))
+  ]
+    where
+      none : has_place s d u ≡ false → (b : Bool) → role_at t d u ≡ (if b then Free else role_at s d u) → P (role_at t d u) ≡ false
+      none beyond true new = ap P new ∙ unused
+      none beyond false new = ap P (new ∙ absent s d u beyond) ∙ away
+
+  -- so a copy was one before
+  pub copy_before : (d u : ℕ) (p : Place) → IsCopyAt t d u p → IsCopyAt s d u p
+  copy_before d u p c =
+      let known = leaving_before d c.leaving in
+      let part = part_stays d known in
+      record {
+        leaving = sym (ap (λ (q : DevPart). is_leaving q.row.state) part) ∙ c.leaving;
+        within = subst (λ (q : DevPart). u < q.row.units) part c.within;
+        unmarked = sym (ap (λ (q : DevPart). has_unit q.fresh u) part) ∙ c.unmarked;
+        leads = sym (ap (λ (q : DevPart). target q.entries u) part) ∙ c.leads;
+        copy = sym (ap is_copy_role (role_before p.0 p.1 (role_known is_copy_role refl refl p.0 p.1 c.copy))) ∙ c.copy;
+      }
+
+  -- and where all were known before they are
+  all_still : (kind : Kind) (list : List Dva) → All Leads list → IsAll kind s list → IsAll kind t list
+  all_still Block list lead all = record {
+    used = λ d u live.
+        let was = all.used d u (sym (ap is_live_role (role_before d u (role_known is_live_role refl refl d u live))) ∙ live) in
+        let same = live_hits_still list d u lead in
+        omega (arith, was, same);
+    copied = λ d u p c.
+        let before = copy_before d u p c in
+        ap is_live_role (role_before d u (leaving_before d c.leaving)) ∙ all.copied d u p before;
+  }
+  all_still Meta list lead all = tt
+
   -- ---- bytes
 
   module _ (slots now_slots : List (Option ℕ)) (same_slots : (d : ℕ) → d < length s.parts.devs → slot_of now_slots d ≡ slot_of slots d) (disks : List (List ℕ)) where
@@ -370,8 +420,8 @@ module _ (s t : Space) (units txg : ℕ) (adds : steps.AddsDevice s t units txg)
         let all : All (λ (b : Bptr). IsStoredAt kind t None b.at) st.pointers = λ i e lt. stored_still kind _ (held.stored i e lt) in
         let lead = each_resolves kind s None st.pointers held.stored in
         let next =
-        holds_all kind now_slots is_told now t None c st.pointers tells (read_still c held.read) (λ at is. absurd (none_some at is)) all
-        (λ d u. let same = live_hits_still (addresses_of st.pointers) d u lead in let few = held.once d u in omega (arith, same, few)) (back_still kind (addresses_of st.pointers) lead held.back) in
+        holds_all kind now_slots is_told now t None c st.pointers tells (read_still c held.read) refl all
+        (λ d u. let same = live_hits_still (addresses_of st.pointers) d u lead in let few = held.once d u in omega (arith, same, few)) (all_still kind (addresses_of st.pointers) lead held.all) (back_still kind (addresses_of st.pointers) lead held.back) in
         record {
           stored = record { pointers = st.pointers; bytes = bytes_now kind now_slots now t None };
           held = next;

@@ -39,7 +39,7 @@ module _ (sizes : List ℕ) (x : OpenPool) (slot units : ℕ) (o : IsPool 0 size
   abbrev y : OpenPool
   y = record x { table = table; space = space; streams = streams }
 
-  same_slots : (d : ℕ) → d < length x.space.parts.devs → slot_of table.slots d ≡ slot_of x.table.slots d
+  pub same_slots : (d : ℕ) → d < length x.space.parts.devs → slot_of table.slots d ≡ slot_of x.table.slots d
   same_slots d lt =
       let n = o.devices in
       ap (λ (t : Table). slot_of t.slots d) is_table ∙ at_other x.table.slots x.table.count slot d (λ is. omega (arith, lt, n, is))

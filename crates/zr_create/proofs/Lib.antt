@@ -8,6 +8,7 @@ pub mod Nothing
 pub mod Beside
 pub mod Grown
 pub mod Keeping
+pub mod Copies
 pub mod Staying
 pub mod Labelled
 pub mod Prepared

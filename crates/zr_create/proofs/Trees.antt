@@ -9,7 +9,6 @@ use Rattle.std.proofs.lemmas.List.Elements.{All-nil, All-cons}
 use Rattle.std.proofs.Math.Seq.{get_or-append_seam}
 use Rattle.zr_base.specs.declared.space.CondPart.{CondPart}
 use Rattle.zr_base.specs.declared.space.DevPart.{DevPart}
-use Rattle.zr_base.specs.declared.space.Dva.{Dva}
 use Rattle.zr_base.specs.declared.space.Entry.{Entry}
 use Rattle.zr_base.specs.Extents.{has_unit}
 use Rattle.zr_base.specs.Words.{words}
@@ -297,14 +296,11 @@ module _ (sizes : List ℕ) (x : OpenPool) (slot units : ℕ) (o : IsPool 0 size
 no_cond_part : (c : CondPart) → None ≡ Some c → ⊥
 no_cond_part c is = cc
 
-none_lost : (at : Dva) → None ≡ Some at → ⊥
-none_lost at is = cc
-
 -- a pool without devices has no streams
 pub blank_trees : (tells : Type 0) (disks : List (List ℕ)) (pool : OpenPool) → tells → IsBlank pool → HasTrees Had tells disks pool
 blank_trees tells disks pool told blank =
     let none : Stored = record { pointers = []; bytes = bytes_now Meta pool.table.slots disks pool.space None } in
-    let held : HasMeta tells disks pool none = holds_all Meta pool.table.slots tells disks pool.space None pool.cache [] told (nothing_cached disks pool.table.slots pool.space pool.cache blank.cache) (λ at is. absurd (none_lost at is)) (All-nil (λ (b : Bptr). IsStoredAt Meta pool.space None b.at)) (λ d u. omega arith) tt in
+    let held : HasMeta tells disks pool none = holds_all Meta pool.table.slots tells disks pool.space None pool.cache [] told (nothing_cached disks pool.table.slots pool.space pool.cache blank.cache) refl (All-nil (λ (b : Bptr). IsStoredAt Meta pool.space None b.at)) (λ d u. omega arith) tt tt in
     let all : StandBeside none (rows_of (λ dev. device_trees (streams_at pool dev) nothing_at) 0 ++ (cond_trees no_cond nothing_in ++ head_tree no_tree [])) = record { stored = λ weight. (let least : 0 ≤ 0 = omega arith in least); once = held.alone; stand = holes_stand none 3 } in
     let count = blank.count in (
       [],

@@ -10,6 +10,7 @@ ghost use Rattle.zr_newest.specs.Newest.{PreparesSlot};
 ghost use Rattle.zr_shelf.specs.Counts.{NoneFell};
 ghost use Rattle.zr_slots.specs.Checks.{AreNamed};
 ghost use Rattle.zr_slots.specs.Phases.{IsPrepared};
+ghost use Rattle.zr_sync.specs.Copies.{KeepsCopies};
 ghost use Rattle.zr_sync.specs.Empty.{no_streams};
 ghost use Rattle.zr_sync.specs.Objects.{HoldsObjects};
 ghost use Rattle.zr_sync.specs.Pools.{AreStreams, IsPool, IsOpen};
@@ -107,6 +108,7 @@ pub fn take_on<S: Shelf>(
     ensures taken { OnOk result (TakesOn slot units pool.old pool.new) }
     ensures stays { (objects : Objects) → HoldsObjects (S.tells shelf.old) (S.world shelf.old).now.seen pool.old objects → OnOk result (HoldsObjects (S.tells shelf.new) (S.world shelf.new).now.seen pool.new objects) }
     ensures trees { HasTrees Had (S.tells shelf.old) (S.world shelf.old).now.seen pool.old → OnOk result (HasTrees Had (S.tells shelf.new) (S.world shelf.new).now.seen pool.new) }
+    ensures copies { S.tells shelf.old → OnOk result (KeepsCopies (S.world shelf.old) (S.world shelf.new) pool.old pool.new) }
 {
     let txg = pool.group.txg();
     let label = label_of(pool.guid, pool.table.count, txg, units, pool.name);
@@ -148,6 +150,7 @@ pub fn take_all<S: Shelf>(
     ensures prepares { S.tells shelf.old → PreparesInPart (S.sizes shelf.old) named.now (S.world shelf.old) (S.world shelf.new) }
     ensures prepared { S.tells shelf.old → OnOk result (PreparesFirst (S.sizes shelf.old) named.now (length named.now) (S.world shelf.old) (S.world shelf.new)) }
     ensures same { OnOk result (KeepsRest pool.old pool.new) }
+    ensures stays { (objects : Objects) → HoldsObjects (S.tells shelf.old) (S.world shelf.old).now.seen pool.old objects → OnOk result (HoldsObjects (S.tells shelf.new) (S.world shelf.new).now.seen pool.new objects) }
     ensures trees { HasTrees Had (S.tells shelf.old) (S.world shelf.old).now.seen pool.old → OnOk result (HasTrees Had (S.tells shelf.new) (S.world shelf.new).now.seen pool.new) }
 {
     for i in 0..named.len() {

@@ -1,5 +1,6 @@
 pub mod Finding
 pub mod Versions
+pub mod Copies
 pub mod Ways
 pub mod Giving
 pub mod Reading

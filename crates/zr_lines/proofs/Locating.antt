@@ -8,6 +8,8 @@ use Rattle.zr_sync.specs.Holds.{HasBlocks}
 use Rattle.zr_lookup.specs.Objects.{record_now}
 use Rattle.zr_rules.specs.Space.{Space}
 use Rattle.zr_store.specs.Store.{AreStored, Now, Stored}
+use Rattle.zr_vdev.specs.declared.kind.Kind.TheVariants.{Block}
+use Rattle.zr_vdev.proofs.Moves.{retold}
 use Rattle.zr_sync.specs.Pools.{IsSamePool}
 use Rattle.zr_sync.specs.declared.open.OpenPool.{OpenPool}
 use Rattle.zr_txg.specs.Changes.{Changes}
@@ -20,18 +22,7 @@ use Rattle.zr_lines.proofs.Pools.{same_more}
 
 -- what the disks hold is held also where they are told for another reason
 told_by : {t1 t2 : Type 0} → (t1 → t2) → (disks : List (List ℕ)) (x : OpenPool) (s : Stored) → HasBlocks t1 disks x s → HasBlocks t2 disks x s
-told_by f disks x s h = record {
-  told = f h.told;
-  taken = h.taken;
-  read = h.read;
-  stored = h.stored;
-  once = h.once;
-  back = h.back;
-  alone = h.alone;
-  resolves = h.resolves;
-  there = h.there;
-  nothing = h.nothing;
-}
+told_by {t1} {t2} f disks x s h = retold Block x.table.slots t1 t2 disks x.space None x.cache s (f h.told) h
 
 pub behind_commit : (reach : Reach) (id : ℕ) (e : Edit) (old p x : OpenPool) → IsFull reach old.group id e → IsSamePool old p → p.group ≡ old.group → IsSamePool p x → x.group.objects ≡ [] → x.group.txg ≡ p.group.txg + 1 → IsBehindCommit reach id e old x
 behind_commit reach id e old p x full same group later empty txg = record {

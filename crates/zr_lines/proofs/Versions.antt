@@ -1,5 +1,5 @@
 -- A pool of the first version is one of the second as it stands.
-use Rattle.std.proofs.Common.{◌≡◌, ℕ, ◌==◌, Bool, true, false, List, [], ◌∷◌, take, inr, refl, ap, subst, ◌∙◌, arith, if◌then◌else◌}
+use Rattle.std.proofs.Common.{◌≡◌, ℕ, ◌==◌, Bool, true, false, List, [], ◌∷◌, take, inr, refl, sym, ap, subst, ◌∙◌, arith, if◌then◌else◌}
 use Rattle.std.specs.Prelude.{IsTrue, IfSome, ◌&&◌, nat_le}
 use Rattle.std.specs.List.{list_all}
 use Rattle.std.proofs.lemmas.Bool.Decides.{nat_tests}
@@ -8,7 +8,7 @@ use Rattle.zr_label.specs.Blocks.{is_going, is_row, most_units}
 use Rattle.zr_label.specs.declared.root.Uber.{Uber}
 use Rattle.zr_model.specs.Objects.{Objects}
 use Rattle.zr_moves.specs.Moves.{with_version}
-use Rattle.zr_rules.specs.Roles.{is_live_role}
+use Rattle.zr_rules.specs.Roles.{is_live_role, is_copy_role}
 use Rattle.zr_rules.specs.Space.{Space, role_at, IsLawful}
 use Rattle.zr_shelf.specs.Moments.{World}
 use Rattle.zr_sync.specs.Anew.{RenewsLogs}
@@ -30,7 +30,7 @@ unfolding role_at
 version_role s v d u = refl
 
 version_live : (s : Space) (v : ℕ) → StaysLive s (with_version s v)
-version_live s v = record { devices = refl; counts = λ d. refl; fresh = λ d u. refl; live = λ d u live. ap is_live_role (version_role s v d u) ∙ live }
+version_live s v = record { devices = refl; counts = λ d. refl; fresh = λ d u. refl; live = λ d u. ap is_live_role (version_role s v d u); copy = λ d u is. sym (ap is_copy_role (version_role s v d u)) ∙ is }
 
 version_lawful : (s : Space) (v : ℕ) → IsLawful s → IsLawful (with_version s v)
 version_lawful s v l = record { devices = l.devices; sets = l.sets; once = l.once; copies = l.copies; born = l.born }

@@ -12,6 +12,7 @@ use Rattle.zr_sync.specs.Pools.{IsOpen}
 use Rattle.zr_sync.proofs.Disks.{works_more, works_still}
 use Rattle.zr_create.proofs.Taken.{IsFree}
 use Rattle.zr_create.proofs.Checking.{next_free}
+use Rattle.zr_create.proofs.Copies.{copies_still}
 use Rattle.zr_create.proofs.Keeping.{objects_still}
 use Rattle.zr_create.proofs.Lasting.{grown_last, next_alone, next_few, slot_known, still_alone}
 use Rattle.zr_create.specs.Adding.{IsNextSlot, PreparesNext}
@@ -105,6 +106,13 @@ returns-clause-moves g c = λ h.
     let here = c.in_ok-commit.ensures in
     let again = begins_again (g.S.Shelf.tells second) (g.S.Shelf.world second).now.seen c.commit.new.pool here.ends.ended.opened (here.trees before) in
     c.in_ok-commit-2.ensures.moves (c.in_ok-take_on.ensures.trees again)
+
+pub returns-clause-copies : goal.returns-clause-copies
+returns-clause-copies g c = λ t h.
+    let told = c.check_next.ensures.told t in
+    let told2 = c.commit.ensures.told told in
+    let before = copies_still (g.S.Shelf.world c.args.shelf.now) (g.S.Shelf.world c.check_next.new.shelf) c.args.pool.now (c.check_next.ensures.still t) h in
+    c.in_ok-commit-2.ensures.copies (c.take_on.ensures.told told2) (c.in_ok-take_on.ensures.copies told2 (c.in_ok-commit.ensures.copies told before))
 
 -- ---- what is left
 

@@ -2,9 +2,7 @@ use Rattle.std.proofs.Common.{◌≡◌, ◌≤◌, ℕ, true, List, Ok, inl, in
 use Rattle.std.proofs.lemmas.List.{length-map}
 use Rattle.zr_shelf.specs.Disks.{Stand}
 use Rattle.std.specs.FinMap as map
-use Rattle.zr_cache.specs.Entries.{entries}
 use Rattle.zr_rules.specs.Space.{Space}
-use Rattle.zr_txg.specs.declared.group.Group.{Group}
 use Rattle.zr_create.specs.Devices.{HaveDisks, HasDevicesIn}
 use Rattle.zr_create.proofs.Staying.{still_in}
 use Rattle.zr_sync.proofs.Disks.{works_more, works_still}
@@ -71,14 +69,10 @@ returns-clause-disks g c = λ t.
 
 pub returns-clause-objects : goal.returns-clause-objects
 returns-clause-objects g c = λ t.
-    let told = c.take_all.ensures.told (c.check_new.ensures.told t) in
-    let before = c.take_all.new.pool in
-    let blank = c.in_ok-pool.ensures.blank in
-    let same = c.in_ok-take_all.ensures.same in
-    c.in_ok-commit.ensures.stays map.empty
-    (none_held (g.S.Shelf.tells c.take_all.new.shelf) (g.S.Shelf.world c.take_all.new.shelf).now.seen before told
-    (new_serve (g.S.Shelf.sizes c.take_all.new.shelf) (g.S.Shelf.sizes c.check_new.new.shelf) _ c.args.named.now before c.in_ok-take_all.ensures.pool c.in_ok-take_all.ensures.devices) (same.dir ∙ blank.dir) (ap (λ (x : Group). x.objects) same.group ∙ blank.objects)
-    (ap entries same.cache ∙ blank.cache))
+    let told = c.check_new.ensures.told t in
+    let first = c.check_new.new.shelf in
+    let none = none_held (g.S.Shelf.tells first) (g.S.Shelf.world first).now.seen c.in_ok-pool.pool told c.in_ok-pool.ensures.blank in
+    c.in_ok-commit.ensures.stays map.empty (c.in_ok-take_all.ensures.stays map.empty none)
 
 pub returns-clause-recorded : goal.returns-clause-recorded
 returns-clause-recorded g c = λ t.
@@ -98,13 +92,11 @@ returns-clause-trees g c = λ t.
 
 pub returns-clause-ends : goal.returns-clause-ends
 returns-clause-ends g c = λ t.
-    let told = c.take_all.ensures.told (c.check_new.ensures.told t) in
+    let told = c.check_new.ensures.told t in
+    let first = c.check_new.new.shelf in
     let before = c.take_all.new.pool in
-    let blank = c.in_ok-pool.ensures.blank in
-    let same = c.in_ok-take_all.ensures.same in
-    let held = none_held (g.S.Shelf.tells c.take_all.new.shelf) (g.S.Shelf.world c.take_all.new.shelf).now.seen before told
-    (new_serve (g.S.Shelf.sizes c.take_all.new.shelf) (g.S.Shelf.sizes c.check_new.new.shelf) _ c.args.named.now before c.in_ok-take_all.ensures.pool c.in_ok-take_all.ensures.devices) (same.dir ∙ blank.dir) (ap (λ (x : Group). x.objects) same.group ∙ blank.objects)
-    (ap entries same.cache ∙ blank.cache) in
+    let none = none_held (g.S.Shelf.tells first) (g.S.Shelf.world first).now.seen c.in_ok-pool.pool told c.in_ok-pool.ensures.blank in
+    let held = c.in_ok-take_all.ensures.stays map.empty none in
     let done = c.in_ok-commit.ensures in
     let commits = ends_by c.commit.ensures.sizes done.pool done.same done.last done.txg done.written done.ends done.empty done.stands done.safe done.trees done.moves done.copies held (done.stays map.empty held) in
     record {
@@ -194,7 +186,8 @@ returns-in_err-commit-clause-stops g c = λ t.
     let some : 1 ≤ x.table.count = let n = taken.devices.count in let least = c.requires.some in omega (arith, n, least) in
     let ready = with_some (g.S.Shelf.sizes second) x taken.pool some in
     let service = new_serve (g.S.Shelf.sizes second) (g.S.Shelf.sizes first) _ named x taken.pool taken.devices in
-    let held = none_held (g.S.Shelf.tells second) (g.S.Shelf.world second).now.seen x told2 service (taken.same.dir ∙ blank.dir) (ap (λ (z : Group). z.objects) taken.same.group ∙ blank.objects) (ap entries taken.same.cache ∙ blank.cache) in (
+    let none = none_held (g.S.Shelf.tells first) (g.S.Shelf.world first).now.seen c.in_ok-pool.pool told blank in
+    let held = taken.stays map.empty none in (
       g.S.Shelf.world first,
       still,
       inr (record {
@@ -235,7 +228,8 @@ returns-clause-stops g c = λ t.
     let some : 1 ≤ x.table.count = let n = taken.devices.count in let least = c.requires.some in omega (arith, n, least) in
     let ready = with_some (g.S.Shelf.sizes second) x taken.pool some in
     let service = new_serve (g.S.Shelf.sizes second) (g.S.Shelf.sizes first) _ named x taken.pool taken.devices in
-    let held = none_held (g.S.Shelf.tells second) (g.S.Shelf.world second).now.seen x told2 service (taken.same.dir ∙ blank.dir) (ap (λ (z : Group). z.objects) taken.same.group ∙ blank.objects) (ap entries taken.same.cache ∙ blank.cache) in (
+    let none = none_held (g.S.Shelf.tells first) (g.S.Shelf.world first).now.seen c.in_ok-pool.pool told blank in
+    let held = taken.stays map.empty none in (
       g.S.Shelf.world first,
       still,
       inr (record {

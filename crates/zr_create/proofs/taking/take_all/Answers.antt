@@ -43,6 +43,7 @@ loop-i-preserved g c =
           more_labelled (g.S.Shelf.world c.args.shelf.now).now.seen (g.S.Shelf.world c.loop-i.shelf).now.seen (g.S.Shelf.world c.take_on.new.shelf).now.seen c.args.named.now c.loop-i.i slot c.in-Some.units c.loop-i.pool c.take_on.new.pool c.requires.apart inside refl count
           (let size = pool.table.size in omega (arith, few, size)) c.in_ok-take_on.ensures.taken (c.in_ok-take_on.ensures.labelled (c.loop-i.invariant.told t)) (c.loop-i.invariant.labelled t);
       only = only_more sizes c.args.named.now c.loop-i.i slot c.in-Some.units c.args.pool.now c.loop-i.pool c.take_on.new.pool pool few count refl units c.loop-i.invariant.same c.in_ok-take_on.ensures.taken c.loop-i.invariant.only;
+      stays = λ objects h. c.in_ok-take_on.ensures.stays objects (c.loop-i.invariant.stays objects h);
       trees = λ h. c.in_ok-take_on.ensures.trees (c.loop-i.invariant.trees h);
     }
 

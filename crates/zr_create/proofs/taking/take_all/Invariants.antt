@@ -1,7 +1,9 @@
 use Rattle.std.proofs.Common.{◌≡◌, ℕ, ◌<◌, Some}
 use Rattle.std.specs.Prelude.{slice_index}
+use Rattle.zr_model.specs.Objects.{Objects}
 use Rattle.zr_shelf.specs.Counts.{NoneFell}
 use Rattle.zr_view.specs.Views.{slot_of}
+use Rattle.zr_sync.specs.Objects.{HoldsObjects}
 use Rattle.zr_sync.specs.Pools.{IsPool}
 use Rattle.zr_sync.specs.Trees.{HasTrees}
 use Rattle.zr_sync.specs.Trees.Stage.{Had}
@@ -24,5 +26,6 @@ invariant-loop-i g l = record {
   only : (d slot : ℕ) → slot_of l.pool.table.slots d ≡ Some slot → (k : ℕ) × (k < l.i) × (slice_index l.named k ≡ slot);
   firsts : g.S.Shelf.tells l.fn.shelf → PreparesFirst (g.S.Shelf.sizes l.fn.shelf) l.named l.i (g.S.Shelf.world l.fn.shelf) (g.S.Shelf.world l.shelf);
   labelled : g.S.Shelf.tells l.fn.shelf → LabelsSlots (g.S.Shelf.world l.fn.shelf).now.seen (g.S.Shelf.world l.shelf).now.seen l.named l.i l.pool;
+  stays : (objects : Objects) → HoldsObjects (g.S.Shelf.tells l.fn.shelf) (g.S.Shelf.world l.fn.shelf).now.seen l.fn.pool objects → HoldsObjects (g.S.Shelf.tells l.shelf) (g.S.Shelf.world l.shelf).now.seen l.pool objects;
   trees : HasTrees Had (g.S.Shelf.tells l.fn.shelf) (g.S.Shelf.world l.fn.shelf).now.seen l.fn.pool → HasTrees Had (g.S.Shelf.tells l.shelf) (g.S.Shelf.world l.shelf).now.seen l.pool;
 }

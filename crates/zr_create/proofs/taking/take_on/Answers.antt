@@ -10,6 +10,7 @@ use Rattle.zr_slots.specs.Phases.{Prepares}
 use Rattle.zr_sync.proofs.Disks.{works_prepared}
 use Rattle.zr_create.proofs.Rows.{any_version, sized}
 use Rattle.zr_create.proofs.Beside.{prepared_beside}
+use Rattle.zr_create.proofs.Copies.{copies_kept}
 use Rattle.zr_create.proofs.Keeping.{objects_kept}
 use Rattle.zr_create.proofs.Taken.{taken}
 use Rattle.zr_create.proofs.Trees.{trees_kept}
@@ -50,6 +51,13 @@ returns-clause-trees g c = λ h.
     let w1 = g.S.Shelf.world c.prepare_device.new.shelf in
     trees_kept (g.S.Shelf.sizes c.args.shelf.now) x c.args.slot c.args.units c.requires.pool c.requires.free c.txg-txg.result c.enter.new.table c.add_dev.new.self c.push_streams.new.streams c.enter.ensures c.in_ok-add_dev.ensures.ok c.in_ok-add_dev.ensures.opened
     c.in_ok-push_streams.ensures.items w0.now.seen w1.now.seen (prepared_beside (slice_index (g.S.Shelf.sizes c.args.shelf.now) c.args.slot) c.args.slot _ c.prepare_device.result w0 w1 (c.prepare_device.ensures.order told)) (g.S.Shelf.tells c.args.shelf.now) (g.S.Shelf.tells c.prepare_device.new.shelf) (c.prepare_device.ensures.told told) h
+
+pub returns-clause-copies : goal.returns-clause-copies
+returns-clause-copies g c = λ t.
+    let w0 = g.S.Shelf.world c.args.shelf.now in
+    let w1 = g.S.Shelf.world c.prepare_device.new.shelf in
+    copies_kept (g.S.Shelf.sizes c.args.shelf.now) c.args.pool.now c.args.slot c.args.units c.requires.pool c.requires.free c.txg-txg.result c.enter.new.table c.add_dev.new.self c.push_streams.new.streams c.enter.ensures c.in_ok-add_dev.ensures.ok
+    w0.now.seen w1.now.seen (prepared_beside (slice_index (g.S.Shelf.sizes c.args.shelf.now) c.args.slot) c.args.slot _ c.prepare_device.result w0 w1 (c.prepare_device.ensures.order t))
 
 -- ---- the slot
 

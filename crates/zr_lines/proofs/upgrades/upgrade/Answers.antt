@@ -1,7 +1,9 @@
 use Rattle.std.proofs.Common.{true, inl, refl, ap, sym, subst}
 use Rattle.zr_shelf.proofs.Runs.{still}
+use Rattle.zr_sync.specs.Copies.{HasCopies}
 use Rattle.zr_sync.specs.Objects.{HoldsObjects}
 use Rattle.zr_sync.specs.declared.open.OpenPool.{OpenPool}
+use Rattle.zr_lines.proofs.Copies.{renewed_copies}
 use Rattle.zr_lines.proofs.Resetting.{upgraded}
 use Rattle.zr_lines.proofs.Versions.{renewed_objects, renewed_trees, upgrades_from}
 use Rattle.zr_last.proofs.Ending.{leaves_by}
@@ -42,6 +44,11 @@ returns-clause-moves g c = λ h.
     let tells = g.S.Shelf.tells old in
     let disks = (g.S.Shelf.world old).now.seen in
     c.in_ok-commit_anew.ensures.moves (subst (λ (x : OpenPool). HasTrees Untold tells disks x) (sym c.renew.ensures.value) (renewed_trees tells disks c.args.pool.now h))
+
+pub returns-clause-copies : goal.returns-clause-copies
+returns-clause-copies g c = λ told h.
+    let disks = (g.S.Shelf.world c.args.shelf.now).now.seen in
+    c.in_ok-commit_anew.ensures.copies told (subst (λ (x : OpenPool). HasCopies disks x) (sym c.renew.ensures.value) (renewed_copies disks c.args.pool.now h))
 
 -- ---- the last root
 
