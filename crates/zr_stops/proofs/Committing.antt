@@ -1,8 +1,8 @@
 -- A crash shows the objects from before a group, or those that it commits.
 use Rattle.std.proofs.Common.{◌≡◌, ◌⊎◌, inl, inr, ℕ, ◌+◌, ◌<◌, ◌≤◌, Bool, List, [], map, length, Option, Ok, sym, ◌∙◌, ap, subst, arith}
 use Rattle.std.specs.Prelude.{Contains, slice_index, slice_index_or, unwrap_or}
-use Rattle.std.proofs.lemmas.Bool.{cases_lt}
-use Rattle.std.proofs.lemmas.Bool.Decides.{nat_tests}
+use Rattle.std.proofs.lemmas.Bool.{cases_lt, ltb-true}
+use Rattle.zr_chain.proofs.Ways.{and_left_of}
 use Rattle.std.proofs.Math.ListN.{get_or-eq_default}
 use Rattle.std.proofs.Math.Path.{fun_ext}
 use Rattle.zr_base.specs.declared.space.DevPart.{DevPart}
@@ -211,7 +211,7 @@ module _ (sizes : List ℕ) (last : Uber) (first old : OpenPool) (before after :
     large_slot : (root : Uber) (sl : ℕ) → IsSlotInBoth root u old.table.slots sl → 8388608 ≤ whole (slice_index sizes sl)
     large_slot root sl h =
         let at = h.at_index in
-        let known : h.index < u.count = let is_in = at.in_root in grind (arith, nat_tests, is_in) in
+        let known : h.index < u.count = ltb-true _ _ (and_left_of _ _ at.in_root) in
         let count = is.count in
         large sizes old ready h.index sl (omega (arith, known, count)) at.here
 

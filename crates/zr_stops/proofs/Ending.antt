@@ -1,7 +1,8 @@
 -- A commit leaves the pool committed, and so does one commit after another.
 use Rattle.std.proofs.Common.{◌≡◌, inl, inr, ℕ, zero, suc, ◌<◌, ◌≤◌, Bool, List, [], ◌∷◌, map, length, Option, Some, None, refl, sym, ◌∙◌, subst, arith}
 use Rattle.std.specs.Prelude.{IfSome, slice_index, unwrap_or}
-use Rattle.std.proofs.lemmas.Bool.Decides.{nat_tests}
+use Rattle.std.proofs.lemmas.Bool.{ltb-true}
+use Rattle.zr_chain.proofs.Ways.{and_left_of}
 use Rattle.zr_current.proofs.Committed.{goes_on, large, sizes_kept}
 use Rattle.zr_current.specs.Current.{GoesOnFrom}
 use Rattle.zr_label.specs.Blocks.{IsUber}
@@ -66,7 +67,7 @@ module _ (sizes : List ℕ) (reset : Bool) (last u : Uber) (old new : OpenPool) 
 
   large_slot : (v : Uber) (sl : ℕ) → IsSlotInBoth v u old.table.slots sl → 8388608 ≤ whole (slice_index sizes sl)
   large_slot v sl is =
-      let known : is.index < u.count = let in_root = is.at_index.in_root in grind (arith, nat_tests, in_root) in
+      let known : is.index < u.count = ltb-true _ _ (and_left_of _ _ is.at_index.in_root) in
       let count = next.count in
       large sizes old ready is.index sl (omega (arith, known, count)) is.at_index.here
 

@@ -2,7 +2,8 @@
 use Rattle.std.proofs.Common.{◌≡◌, ◌⊎◌, inl, inr, ℕ, zero, suc, ◌<◌, ◌≤◌, true, List, [], map, length, Option, Some, None, Ok, Result, refl, sym, ◌∙◌, ap, subst, arith, ⊎_elim}
 use Rattle.std.specs.FinMap as objects
 use Rattle.std.specs.Prelude.{Contains, slice_index, slice_index_or, unwrap_or}
-use Rattle.std.proofs.lemmas.Bool.Decides.{nat_tests}
+use Rattle.std.proofs.lemmas.Bool.{ltb-true}
+use Rattle.zr_chain.proofs.Ways.{and_left_of}
 use Rattle.zr_base.specs.declared.space.DevRow.{DevRow}
 use Rattle.zr_base.specs.declared.space.Dva.{Dva}
 use Rattle.zr_create.specs.Making.{CommitsFirst, HasNoRoot, MakesBehind, PreparesFirst, PreparesInPart, PreparesOne}
@@ -170,7 +171,7 @@ module _ (sizes : List ℕ) (start : World) (bare : IsBare sizes start.now) (poo
       large_slot : (root : Uber) (sl : ℕ) → IsSlotInBoth root u pool.table.slots sl → 8388608 ≤ whole (slice_index sizes sl)
       large_slot root sl h =
           let at = h.at_index in
-          let known : h.index < u.count = let is_in = at.in_root in grind (arith, nat_tests, is_in) in
+          let known : h.index < u.count = ltb-true _ _ (and_left_of _ _ at.in_root) in
           let count = is_next.count in
           large sizes pool ready h.index sl (omega (arith, known, count)) at.here
 
