@@ -127,6 +127,13 @@ target_hit p (e ∷ es) w q is unmarked =
       | inr not_it ↦ let rest = target_hit p es w q (target_rest e es w (Some q) not_it is) unmarked in omega (arith, sum, rest)
     ]
 
+-- where an unmarked unit of a device that is leaving was put there is its copy
+pub target_copy : (s : Space) → IsLawful s → (d w : ℕ) (q : Place) → is_leaving (state_of_dev s.parts.devs d) ≡ true → is_fresh s.parts.devs d w ≡ false → target (part_of s.parts.devs d).entries w ≡ Some q → is_copy_role (role_at s q.0 q.1) ≡ true
+target_copy s l d w q leaving unmarked to =
+    let hit = target_hit (part_of s.parts.devs d) (part_of s.parts.devs d).entries w q to unmarked in
+    let few = hits_least s.parts.devs d q.0 q.1 leaving in
+    is_copy s l q.0 q.1 (omega (arith, hit, few))
+
 one_none : (b : Bool) → one_if b ≡ 0 → b ≡ false
 one_none true is = absurd (omega (arith, is))
 one_none false is = refl

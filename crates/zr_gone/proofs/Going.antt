@@ -210,7 +210,7 @@ module _ (old new : Space) (d txg : ℕ) (may : MayGo old d txg) (fin : Finishes
     pub leads : resolve n devices_now e u ≡ next p
     pub passes : (x y : ℕ) → hits_of x y (passed n devices_now e u) ≡ hits_of x y (passed m devices_then e u) + one_if (is_mine p x y)
 
-  next_here : (u : ℕ) → next (d, u) ≡ target (devices_then.entries d) u
+  pub next_here : (u : ℕ) → next (d, u) ≡ target (devices_then.entries d) u
   next_here u = ap (λ (b : Bool). if b then target (devices_then.entries d) u else Some (d, u)) (same_dev d)
 
   pub next_away : (p : Place) → p.0 ≢ d → next p ≡ Some p

@@ -213,6 +213,30 @@ module _ (old new : Space) (d txg : ℕ) (may : MayGo old d txg) (fin : Finishes
         | inr not_it ↦ let none = ap one_if not_it in led_role dev (from + 1) n x y (rest_led dev from n all) (omega (arith, some, sum, none))
       ]
 
+  -- what led to a place leads where the place does
+  place_through : (r p q : Place) → to_next p ≡ Some q → one_if (is_place r p.0 p.1) ≤ one_if (is_at (to_next r) q.0 q.1)
+  place_through r p q to = elim (cases_bool (is_place r p.0 p.1)) [
+    | inl it ↦
+        let dev : r.0 ≡ p.0 = grind (arith, nat_tests, it) in
+        let unit : r.1 ≡ p.1 = grind (arith, nat_tests, it) in
+        let same : r ≡ p = ap₂ (λ (a b : ℕ). (a, b)) dev unit in
+        let own : is_place q q.0 q.1 ≡ true = grind (arith, nat_tests) in
+        let at = ap one_if (ap (λ (o : Option Place). is_at o q.0 q.1) (ap to_next same ∙ to) ∙ own) in
+        let one = ap one_if it in
+        omega (arith, one, at)
+    | inr not_it ↦ let none = ap one_if not_it in omega (arith, none)
+  ]
+
+  led_through : (dev from n : ℕ) (p q : Place) → AllLed dev from n → to_next p ≡ Some q → led (devices_in old) dev from n p.0 p.1 ≤ led (devices_in new) dev from n q.0 q.1
+  led_through dev from zero p q all to = omega arith
+  led_through dev from (suc n) p q all to =
+      let h = first_led dev from n all in
+      let rest = led_through dev (from + 1) n p q (rest_led dev from n all) to in
+      let now : one_if (is_at (resolved (devices_in new) dev from) q.0 q.1) ≡ one_if (is_at (to_next h.place) q.0 q.1) = ap (λ (o : Option Place). one_if (is_at o q.0 q.1)) (led_now dev from h) in
+      let was : one_if (is_at (resolved (devices_in old) dev from) p.0 p.1) ≡ one_if (is_place h.place p.0 p.1) = ap (λ (o : Option Place). one_if (is_at o p.0 p.1)) h.leads in
+      let more = place_through h.place p q to in
+      omega (arith, rest, now, was, more, led-next (devices_in new) dev from n q.0 q.1, led-next (devices_in old) dev from n p.0 p.1)
+
   -- of another device it passes what it passed
   ways_other : (dev from n x y : ℕ) → x ≢ d → AllLed dev from n → ways (devices_in new) dev from n x y ≡ ways (devices_in old) dev from n x y
   ways_other dev from zero x y other all = refl
@@ -302,6 +326,9 @@ module _ (old new : Space) (d txg : ℕ) (may : MayGo old d txg) (fin : Finishes
 
     pub address_once : (x y : ℕ) → resolve_hits (devices_in new) a x y ≤ resolve_hits (devices_in old) a (cause x y).0 (cause x y).1
     address_once x y = led_once a.dev a.start a.len x y all_led
+
+    pub address_through : (p q : Place) → to_next p ≡ Some q → resolve_hits (devices_in old) a p.0 p.1 ≤ resolve_hits (devices_in new) a q.0 q.1
+    address_through p q to = led_through a.dev a.start a.len p q all_led to
 
     pub address_some : is_resolved (devices_in new) a ≡ true
     address_some = led_some a.dev a.start a.len all_led

@@ -1,6 +1,6 @@
 -- What may be freed, and what a store holds, once the device is gone.
-use Rattle.std.proofs.Common.{◌≡◌, ◌≢◌, inl, inr, ℕ, zero, suc, ◌+◌, ◌<◌, ◌≤◌, Bool, true, false, nat_lt, List, [], ◌∷◌, length, replicate, Option, None, refl, sym, ◌∙◌, ap, subst, arith}
-use Rattle.std.specs.Prelude.{All, Contains, slice_index}
+use Rattle.std.proofs.Common.{◌≡◌, ◌≢◌, inl, inr, ℕ, zero, suc, ◌+◌, ◌<◌, ◌≤◌, ◌==◌, ◌||◌, Bool, true, false, nat_lt, List, [], ◌∷◌, length, replicate, Option, Some, None, refl, sym, ◌∙◌, ap, subst, arith}
+use Rattle.std.specs.Prelude.{All, Contains, if◌then◌else◌, slice_index}
 use Rattle.std.proofs.Math.Path.{fun_ext}
 use Rattle.std.proofs.lemmas.List.Elements.{All-cons, All-head, All-nil, All-tail}
 use Rattle.std.proofs.lemmas.List.Sums.{sum_by-cons}
@@ -14,11 +14,14 @@ use Rattle.zr_bptr.specs.declared.Bptr.{Bptr}
 use Rattle.zr_cache.specs.Entries.{entries}
 use Rattle.zr_cache.specs.Sums.{Entry as Cached}
 use Rattle.zr_cache.specs.declared.table.Cache.{Cache}
+use Rattle.zr_chain.proofs.Ways.{cases_bool}
 use Rattle.zr_rules.specs.Equation.{Spends, devices_in, fresh_in, live_hits, way_hits, ways_in}
 use Rattle.zr_rules.specs.Mappings.{entry_at}
-use Rattle.zr_rules.specs.Places.{count_below, is_fresh, is_gone, one_if, part_of, state_of_dev}
+use Rattle.zr_rules.specs.Places.{Place, count_below, is_fresh, is_gone, one_if, part_of, state_of_dev}
 use Rattle.zr_rules.specs.Resolve.{pass_hits, resolve_hits}
-use Rattle.zr_rules.specs.Space.{Space}
+use Rattle.zr_rules.specs.Roles.{Role, is_copy_role, is_live_role, taken_over}
+use Rattle.zr_rules.specs.Roles.Role.{Absent}
+use Rattle.zr_rules.specs.Space.{Space, role_at}
 use Rattle.zr_rules.specs.Steps.{Finishes}
 use Rattle.zr_space.specs.Live.{IsFreeable}
 use Rattle.zr_store.specs.Store.{Now, Stored, Swaps}
@@ -27,12 +30,12 @@ use Rattle.zr_vdev.proofs.Moves.{held_again}
 use Rattle.zr_vdev.specs.Alike.{CopiesStand}
 use Rattle.zr_vdev.specs.Caches.{AreRead}
 use Rattle.zr_vdev.specs.Runs.{view_of}
-use Rattle.zr_vdev.specs.Stores.{HoldsBlocks, IsStoredAt, addresses_of}
+use Rattle.zr_vdev.specs.Stores.{HoldsBlocks, IsStoredAt, LeadsToAll, addresses_of}
 use Rattle.zr_vdev.specs.declared.kind.Kind.TheVariants.{Block}
 use Rattle.zr_view.specs.Views.{address_bytes}
 use Rattle.zr_gone.specs.Order.{MayGo}
-use Rattle.zr_gone.proofs.Going.{gone_other}
-use Rattle.zr_gone.proofs.Leading.{IsUsed, address_here, address_once, address_other, address_reads, address_role, address_some, address_unmarked, cause}
+use Rattle.zr_gone.proofs.Going.{false_true, gone_other, next, next_away, next_here}
+use Rattle.zr_gone.proofs.Leading.{IsUsed, address_here, address_once, address_other, address_reads, address_role, address_some, address_through, address_unmarked, cause}
 
 zeros : (n i : ℕ) → slice_index (replicate n 0) i ≡ 0
 zeros zero zero = refl
@@ -78,6 +81,13 @@ module _ (old new : Space) (d txg : ℕ) (may : MayGo old d txg) (fin : Finishes
       let first = address_once old new d txg may fin a (All-head Used a more all) x y in
       let rest = lives_once more x y (All-tail Used a more all) in
       omega (arith, first, rest, sum_by-cons (λ (b : Dva). resolve_hits (devices_in new) b x y) a more, sum_by-cons (λ (b : Dva). resolve_hits (devices_in old) b c.0 c.1) a more)
+
+  lives_through : (list : List Dva) (p q : Place) → All Used list → next old new d txg may fin p ≡ Some q → live_hits (devices_in old) list p.0 p.1 ≤ live_hits (devices_in new) list q.0 q.1
+  lives_through [] p q all to = omega arith
+  lives_through (a ∷ more) p q all to =
+      let first = address_through old new d txg may fin a (All-head Used a more all) p q to in
+      let rest = lives_through more p q (All-tail Used a more all) to in
+      omega (arith, first, rest, sum_by-cons (λ (b : Dva). resolve_hits (devices_in new) b q.0 q.1) a more, sum_by-cons (λ (b : Dva). resolve_hits (devices_in old) b p.0 p.1) a more)
 
   ways_other : (list : List Dva) (x y : ℕ) → x ≢ d → All Used list → way_hits (devices_in new) list x y ≡ way_hits (devices_in old) list x y
   ways_other [] x y other all = refl
@@ -159,6 +169,42 @@ module _ (old new : Space) (d txg : ℕ) (may : MayGo old d txg) (fin : Finishes
           room i lt;
     }
 
+  -- ---- all units in use
+
+  -- a unit in use was one, or a copy
+  role_before : (b : Bool) (r : Role) → is_live_role (if b then Absent else taken_over r) ≡ true → (b ≡ false) × ((is_live_role r || is_copy_role r) ≡ true)
+  role_before true r is = absurd (false_true is)
+  role_before false r is = (refl, grind (arith, nat_tests, is))
+
+  no_copy : (b : Bool) (r : Role) → is_copy_role (if b then Absent else taken_over r) ≡ false
+  no_copy true r = refl
+  no_copy false r = grind (arith)
+
+  -- so what led to it, or to the unit of which it is a copy, leads to it
+  used_still : (list : List Dva) → All Used list → LeadsToAll old list → (x y : ℕ) → is_live_role (role_at new x y) ≡ true → 0 < live_hits (devices_in new) list x y
+  used_still list all leads x y live =
+      let was = role_before (x == d) (role_at old x y) (subst (λ (r : Role). is_live_role r ≡ true) (fin.roles x y) live) in
+      elim (cases_bool (is_live_role (role_at old x y))) [
+        | inl there ↦
+            let away : x ≢ d = grind (arith, nat_tests, was.0) in
+            let some = leads.used x y there in
+            let more = lives_through list (x, y) (x, y) all (next_away old new d txg may fin (x, y) away) in
+            omega (arith, some, more)
+        | inr not_it ↦
+            let copy : is_copy_role (role_at old x y) ≡ true = (let none = not_it in let one = was.1 in grind (arith, none, one)) in
+            let from = may.order.sources x y copy in
+            let some = leads.used d from.0 (leads.copied d from.0 (x, y) from.1) in
+            let more = lives_through list (d, from.0) (x, y) all (next_here old new d txg may fin from.0 ∙ from.1.leads) in
+            omega (arith, some, more)
+      ]
+
+  -- no unit is a copy any more
+  pub leads_still : (list : List Dva) → All Used list → LeadsToAll old list → LeadsToAll new list
+  leads_still list all leads = record {
+    used = used_still list all leads;
+    copied = λ e u p c. absurd (false_true (sym (ap is_copy_role (fin.roles p.0 p.1) ∙ no_copy (p.0 == d) (role_at old p.0 p.1)) ∙ c.copy));
+  }
+
   -- ---- what may be freed
 
   alone : (a : Dva) → IsFreeable old a → All Used (a ∷ [])
@@ -195,5 +241,6 @@ module _ (old new : Space) (d txg : ℕ) (may : MayGo old d txg) (fin : Finishes
       (λ a is. record { used = freeable_still a is.used; whole = tt })
       (λ a is. reads_still disks slots stands a is.used)
       (λ x y. (let most = held.once (source x y).0 (source x y).1 in let few = lives_once (addresses_of st.pointers) x y all in omega (arith, most, few)))
+      (leads_still (addresses_of st.pointers) all held.all)
       (spends_still (addresses_of st.pointers) held.back all)
       held
