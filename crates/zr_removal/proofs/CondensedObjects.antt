@@ -12,6 +12,7 @@ use Rattle.zr_rules.specs.Condense.{folded}
 use Rattle.zr_rules.specs.Devices.{state_at}
 use Rattle.zr_rules.specs.Equation.{devices_in}
 use Rattle.zr_rules.specs.Places.{is_gone, part_of}
+use Rattle.zr_rules.specs.Roles.{is_live_role}
 use Rattle.zr_rules.specs.Space.{Space, role_at}
 use Rattle.zr_rules.specs.Steps.{CondensesFrom, CondensesSome, due_device}
 use Rattle.zr_space.specs.Condensing.{IsUnderWay, LeadsAsBefore}
@@ -23,12 +24,13 @@ use Rattle.zr_sync.specs.declared.open.Table.{Table}
 use Rattle.zr_vdev.proofs.Leading.{Resolves}
 use Rattle.zr_vdev.proofs.Moves.{each_resolves, held_again}
 use Rattle.zr_vdev.specs.Caches.{AreRead}
-use Rattle.zr_vdev.specs.Stores.{HoldsBlocks, addresses_of}
+use Rattle.zr_vdev.specs.Stores.{HoldsBlocks, LeadsToAll, addresses_of}
 use Rattle.zr_vdev.specs.declared.kind.Kind.TheVariants.{Block}
 use Rattle.zr_removal.specs.Condensing.{is_done}
 use Rattle.zr_removal.proofs.Alike.{bytes_same, is_resolved_same, unit_same}
 use Rattle.zr_removal.proofs.Condensed.{step_keeps}
 use Rattle.zr_removal.proofs.Fitting.{fits_folded, maps_stay, recasts, roles_stay}
+use Rattle.zr_removal.proofs.Standing.{WereCopies, were_condensed}
 use Rattle.zr_removal.proofs.Recasts.{Recasts, bytes_still, freeable_still, live_still, spends_still}
 
 -- ---- what a step makes of the space
@@ -94,20 +96,28 @@ module _ (s t : Space) (outcome : Condensed) (m : CondensesSome s outcome t) (di
 -- ---- what the disks hold
 
 module _ (slots : List (Option ℕ)) (tells : Type 0) (disks : List (List ℕ)) (s t : Space) (c k : Cache) (st : Stored) (read : AreRead disks slots t k) (held : HoldsBlocks Block slots tells disks s None c st) where
-  recast_blocks : Recasts s t → Now (HoldsBlocks Block slots tells disks t None k) (λ n. Swaps st n [] [])
-  recast_blocks h =
+  -- some pointer leads to each unit in use still
+  recast_leads : (h : Recasts s t) → WereCopies s t → All (Resolves (devices_in s)) (addresses_of st.pointers) → LeadsToAll t (addresses_of st.pointers)
+  recast_leads h were all = record {
+    used = λ e u live. (let some = held.all.used e u (sym (ap is_live_role (h.is.roles e u)) ∙ live) in let same = live_still s t h (addresses_of st.pointers) held.back all e u in omega (arith, some, same));
+    copied = λ e u p copy. ap is_live_role (h.is.roles e u) ∙ held.all.copied e u p (were e u p copy);
+  }
+
+  recast_blocks : Recasts s t → WereCopies s t → Now (HoldsBlocks Block slots tells disks t None k) (λ n. Swaps st n [] [])
+  recast_blocks h were =
       let all : All (Resolves (devices_in s)) (addresses_of st.pointers) = each_resolves Block s None st.pointers held.stored in
       held_again Block slots tells tells disks disks s t None c k st held.told read
       (λ a is. record { used = freeable_still s t h a is.used; whole = tt })
       (λ a is. bytes_still s t h a is.used disks slots)
       (λ e u. (let most = held.once e u in let same = live_still s t h (addresses_of st.pointers) held.back all e u in omega (arith, most, same)))
+      (recast_leads h were all)
       (spends_still s t h (addresses_of st.pointers) held.back all)
       held
 
   same_blocks : t ≡ s → Now (HoldsBlocks Block slots tells disks t None k) (λ n. Swaps st n [] [])
   same_blocks same =
       subst (λ (space : Space). Now (HoldsBlocks Block slots tells disks space None k) (λ n. Swaps st n [] [])) (sym same)
-      (held_again Block slots tells tells disks disks s s None c k st held.told (subst (λ (space : Space). AreRead disks slots space k) same read) (λ a is. record { used = is.used; whole = tt }) (λ a is. refl) held.once held.back held)
+      (held_again Block slots tells tells disks disks s s None c k st held.told (subst (λ (space : Space). AreRead disks slots space k) same read) (λ a is. record { used = is.used; whole = tt }) (λ a is. refl) held.once held.all held.back held)
 
 -- the disks hold the same objects behind a step, where the last one empties the cache
 pub objects_condensed : (x y : OpenPool) (outcome : Condensed) → CondensesSome x.space outcome y.space → LeadsAsBefore x.space y.space → ((c : CondPart) → x.space.parts.cond ≡ Some c → IsUnderWay x.space c) → entries y.cache ≡ (if is_done outcome then [] else entries x.cache)
@@ -116,7 +126,7 @@ objects_condensed x y outcome step leads under_way cached table dir group tells 
     let slots = x.table.slots in
     let read = reads_condensed x.space y.space outcome step disks slots x.cache y.cache cached holds.held.read in
     let again : Now (HoldsBlocks Block slots tells disks y.space None y.cache) (λ n. Swaps holds.stored n [] []) = elim (recasts_from x.space.parts.cond (due_device x.space) x.space y.space outcome step leads under_way) [
-      | inl h ↦ recast_blocks slots tells disks x.space y.space x.cache y.cache holds.stored read holds.held h
+      | inl h ↦ recast_blocks slots tells disks x.space y.space x.cache y.cache holds.stored read holds.held h (were_condensed x.space y.space outcome step under_way)
       | inr same ↦ same_blocks slots tells disks x.space y.space x.cache y.cache holds.stored read holds.held same
     ] in
     objects_stay x y objects dir group holds

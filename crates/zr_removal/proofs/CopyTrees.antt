@@ -55,7 +55,7 @@ use Rattle.zr_removal.proofs.Outgoing.{TurnsOne, copies_one, count, gone_same, m
 -- ---- the metadata
 
 -- metadata is not free, so a write into free units leaves its bytes
-meta_writes : (slots : List (Option ℕ)) (s : Space) (before now : World) (a : Dva) → ((d e slot : ℕ) → slot_of slots d ≡ Some slot → slot_of slots e ≡ Some slot → d ≡ e) → WritesOnly (IsWriteIntoFree slots s) before now → IsMeta s a
+pub meta_writes : (slots : List (Option ℕ)) (s : Space) (before now : World) (a : Dva) → ((d e slot : ℕ) → slot_of slots d ≡ Some slot → slot_of slots e ≡ Some slot → d ≡ e) → WritesOnly (IsWriteIntoFree slots s) before now → IsMeta s a
     → address_bytes (view_of now.now.seen slots s) a ≡ address_bytes (view_of before.now.seen slots s) a
 meta_writes slots s before now a apart wrote is =
     address_same slots (devices_in s) before.now.seen now.now.seen a (λ d u led. run_stays Meta slots s (one_unit d u) (omega arith) (barred d u led) apart before now wrote)
@@ -108,6 +108,7 @@ module _ (s t : Space) (d : ℕ) (p : Plan) (plan : IsPlan s d p) (m : MakesCopy
       (λ a is. record { used = still_meta a is.used; whole = tt })
       (λ a is. bytes_same es ds many gone size maps now.now.seen slots a ∙ meta_writes slots s before now a apart wrote is.used)
       (λ e u. (let most = held.once e u in let same = live_same es ds many gone size maps (addresses_of st.pointers) e u in omega (arith, most, same)))
+      tt
       tt
       held
 

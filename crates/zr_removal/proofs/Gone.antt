@@ -1,7 +1,8 @@
 -- The end of a removal: what led to the device leads to its copies, so the disks hold the same objects.
-use Rattle.std.proofs.Common.{◌≡◌, ◌∙◌, ℕ, zero, suc, ◌<◌, ◌≤◌, Bool, true, false, List, [], ◌∷◌, ◌++◌, Option, Some, None, refl, sym, ap, subst, arith}
+use Rattle.std.proofs.Common.{◌≡◌, ◌∙◌, inl, inr, ℕ, zero, suc, ◌<◌, ◌≤◌, Bool, true, false, List, [], ◌∷◌, ◌++◌, Option, Some, None, refl, sym, ap, subst, arith}
 use Rattle.std.specs.Prelude.{Contains, if◌then◌else◌, map, option_and_then}
 use Rattle.std.specs.List.{flat_map}
+use Rattle.std.proofs.lemmas.Bool.{cases_Bool}
 use Rattle.std.proofs.lemmas.Bool.Decides.{nat_tests}
 use Rattle.zr_base.specs.declared.space.DevRow.{DevRow}
 use Rattle.zr_base.specs.declared.space.Dva.{Dva}
@@ -15,23 +16,25 @@ use Rattle.zr_model.specs.Objects.{Objects}
 use Rattle.zr_rules.specs.Devices.{Devices, state_at}
 use Rattle.zr_rules.specs.Equation.{Spends, devices_in, live_hits}
 use Rattle.zr_rules.specs.Mappings.{target}
-use Rattle.zr_rules.specs.Places.{Place, is_gone, part_of, places_of, state_of_dev}
+use Rattle.zr_rules.specs.Places.{Place, is_gone, is_leaving, part_of, places_of, state_of_dev}
 use Rattle.zr_rules.specs.Resolve.{is_there, resolve, resolved}
-use Rattle.zr_rules.specs.Roles.{Role, is_live_role}
+use Rattle.zr_rules.specs.Roles.{Role, is_copy_role, is_held_role, is_live_role}
 use Rattle.zr_rules.specs.Space.{Space, role_at}
 use Rattle.zr_rules.specs.Steps.{Finishes}
+use Rattle.zr_space.specs.Leavings.{HasSource}
 use Rattle.zr_store.specs.Store.{Now, Stored, Swaps}
 use Rattle.zr_sync.proofs.Stays.{objects_stay}
 use Rattle.zr_sync.specs.Copies.{HasCopies}
 use Rattle.zr_sync.specs.Objects.{HoldsObjects}
 use Rattle.zr_sync.specs.Pools.{IsOpen}
 use Rattle.zr_sync.specs.declared.open.OpenPool.{OpenPool}
-use Rattle.zr_vdev.proofs.Alike.{copies_stay, metadata_no_copy}
+use Rattle.zr_vdev.proofs.Alike.{copies_stay, held_stays, metadata_no_copy}
 use Rattle.zr_vdev.proofs.Back.{spends_same}
 use Rattle.zr_vdev.proofs.Follows.{rows_devices}
 use Rattle.zr_vdev.proofs.Moves.{held_again, retold}
 use Rattle.zr_vdev.proofs.Uses.{use_along}
-use Rattle.zr_vdev.specs.Alike.{CopiesStand}
+use Rattle.zr_vdev.proofs.Whole.{all_same}
+use Rattle.zr_vdev.specs.Alike.{CopiesStand, IsCopyAt}
 use Rattle.zr_vdev.specs.Caches.{AreRead}
 use Rattle.zr_vdev.specs.Runs.{view_of}
 use Rattle.zr_vdev.specs.Stores.{HoldsBlocks, KeepsOthers, KeepsRows, addresses_of, may_change}
@@ -55,8 +58,18 @@ none_cached : (e : Cached) → Contains [] e → ⊥
 none_cached e among = let lt = among.1 in omega (arith, lt)
 
 -- an empty cache has nothing but what was read
-none_read : (disks : List (List ℕ)) (slots : List (Option ℕ)) (s : Space) (k : Cache) → entries k ≡ [] → AreRead disks slots s k
+pub none_read : (disks : List (List ℕ)) (slots : List (Option ℕ)) (s : Space) (k : Cache) → entries k ≡ [] → AreRead disks slots s k
 none_read disks slots s k empty e among = absurd (none_cached e (subst (λ (them : List Cached). Contains them e) empty among))
+
+not_held_live : (r : Role) → is_held_role r ≡ false → is_live_role r ≡ false
+not_held_live r is = grind (arith, nat_tests, is)
+
+-- the units in use by blocks are the same
+live_given : (s t : Space) → KeepsOthers Meta s t → (d u : ℕ) → is_live_role (role_at t d u) ≡ is_live_role (role_at s d u)
+live_given s t others d u = elim (cases_Bool (is_held_role (role_at s d u))) [
+  | inl held ↦ ap is_live_role (others.stays d u (held_stays (role_at s d u) held))
+  | inr free ↦ not_held_live (role_at t d u) (others.held d u ∙ free) ∙ sym (not_held_live (role_at s d u) free)
+]
 
 blocks_given : (slots : List (Option ℕ)) (tells : Type 0) (disks : List (List ℕ)) (s t : Space) (c k : Cache) (st : Stored) → KeepsOthers Meta s t → AreRead disks slots t k → HoldsBlocks Block slots tells disks s None c st → Now (HoldsBlocks Block slots tells disks t None k) (λ n. Swaps st n [] [])
 blocks_given slots tells disks s t c k st others read held =
@@ -66,6 +79,7 @@ blocks_given slots tells disks s t c k st others read held =
     (λ a is. record { used = use_along Block s t a devices (back (a ∷ [])) (λ d u led. others.stays d u (live_apart (role_at s d u) (is.used.used d u led))) is.used; whole = tt })
     (λ a is. ap (λ (ds : Devices). address_bytes (record { disks = disks; slots = slots; devices = ds }) a) devices)
     (λ d u. subst (λ (ds : Devices). live_hits ds (addresses_of st.pointers) d u ≤ 1) (sym devices) (held.once d u))
+    (all_same Block s t (addresses_of st.pointers) devices (live_given s t others) (metadata_no_copy s t others) held.all)
     (back (addresses_of st.pointers) held.back)
     held
 
@@ -89,6 +103,12 @@ gone_before sizes x given txg o rows past d gone =
     let before = (past d no_row (omega (arith, known, size, few))).gone in
     let is = ap (λ (r : DevRow). r.gone) (same ∙ o.rows d known) in
     omega (arith, before, is)
+
+-- where no other device is leaving each copy is one of a unit of this one
+pub source_here : (s : Space) (d : ℕ) → ((e : ℕ) → is_leaving (state_of_dev s.parts.devs e) ≡ true → e ≡ d) → (e v : ℕ) → is_copy_role (role_at s e v) ≡ true → HasSource s e v → (u : ℕ) × IsCopyAt s d u (e, v)
+source_here s d alone e v copy from =
+    let at : IsCopyAt s from.dev from.unit (e, v) = record { leaving = from.leaving; within = from.within; unmarked = from.unmarked; leads = from.leads; copy = copy } in
+    (from.unit, subst (λ (k : ℕ). IsCopyAt s k from.unit (e, v)) (alone from.dev from.leaving) at)
 
 -- behind metadata that was left on it, where the cache is emptied
 pub objects_gone : (x y : OpenPool) (given : Space) (d txg : ℕ) → KeepsOthers Meta x.space given → MayGo given d txg → Finishes given y.space d txg → entries y.cache ≡ [] → y.table.slots ≡ x.table.slots → y.dir ≡ x.dir → y.group ≡ x.group
@@ -139,16 +159,17 @@ module _ (x y : OpenPool) (d : ℕ) (h : ForgetsSlot x y d) (gone : is_gone (sta
       ap (λ (l : List ℕ). l ++ flat_map (place_bytes (view_of disks y.table.slots x.space)) rest) (place_still o (leads_there (devices_in x.space).count (devices_in x.space) q.0 q.1))
       ∙ ap (λ (l : List ℕ). place_bytes (view_of disks x.table.slots x.space) o ++ l) (units_still qs)
 
-  address_still : (a : Dva) → address_bytes (view_of disks y.table.slots x.space) a ≡ address_bytes (view_of disks x.table.slots x.space) a
+  pub address_still : (a : Dva) → address_bytes (view_of disks y.table.slots x.space) a ≡ address_bytes (view_of disks x.table.slots x.space) a
   address_still a = units_still (places_of a)
 
   blocks_still : (tells : Type 0) (st : Stored) → HoldsBlocks Block x.table.slots tells disks x.space None x.cache st → HoldsBlocks Block y.table.slots tells disks x.space None x.cache st
   blocks_still tells st held = record {
     told = held.told;
-    taken = held.taken;
+    settled = held.settled;
     read = λ e among. (let was = held.read e among in record { runs_of = was.runs_of; same = was.same ∙ sym (address_still e.0.pointer.at) });
     stored = held.stored;
     once = held.once;
+    all = held.all;
     back = held.back;
     alone = held.alone;
     resolves = held.resolves;

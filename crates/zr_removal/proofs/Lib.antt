@@ -15,3 +15,8 @@ pub mod Fitting
 pub mod CondensedObjects
 pub mod Standing
 pub mod Gone
+pub mod GivenTrees
+pub mod BackTrees
+pub mod GoneShown
+pub mod GoneTrees
+pub mod Idle

@@ -1,8 +1,8 @@
 -- A device of which only changes whether it is leaving, or of which units are copied, is read as before: the disks hold the same objects, and show the last root.
-use Rattle.std.proofs.Common.{◌≡◌, ◌≢◌, inl, inr, ℕ, ◌+◌, ◌<◌, ◌≤◌, Bool, true, false, List, [], ◌∷◌, map, length, Option, Some, None, refl, sym, ◌∙◌, ap, subst, arith}
+use Rattle.std.proofs.Common.{◌≡◌, ◌≢◌, ◌⊎◌, inl, inr, ℕ, ◌+◌, ◌-◌, ◌<◌, ◌≤◌, Bool, true, false, List, [], ◌∷◌, ◌++◌, map, length, Option, Some, None, refl, sym, ◌∙◌, ap, subst, arith}
 use Rattle.std.specs.Prelude.{IfSome, if◌then◌else◌, nat_lt, slice_index, slice_index_or, slice_set}
 use Rattle.std.proofs.Math.Path.{fun_ext}
-use Rattle.std.proofs.lemmas.Bool.{cases_eq}
+use Rattle.std.proofs.lemmas.Bool.{cases_Bool, cases_eq}
 use Rattle.std.proofs.lemmas.Bool.Decides.{nat_tests}
 use Rattle.std.proofs.lemmas.List.{get_or-set_same, get_or-set_other}
 use Rattle.zr_base.specs.Extents.{has_unit}
@@ -14,6 +14,7 @@ use Rattle.zr_base.specs.declared.space.Entry.{Entry}
 use Rattle.zr_base.specs.declared.space.Extent.{Extent}
 use Rattle.zr_base.specs.declared.space.Policy.{Policy}
 use Rattle.zr_cache.specs.declared.table.Cache.{Cache}
+use Rattle.zr_gone.proofs.Copies.{target_copy}
 use Rattle.zr_label.specs.Blocks.{no_row}
 use Rattle.zr_label.specs.declared.root.Seen.{Seen}
 use Rattle.zr_label.specs.declared.root.Uber.{Uber}
@@ -25,12 +26,12 @@ use Rattle.zr_newest.proofs.Seen.{slots_alike}
 use Rattle.zr_newest.specs.Newest.{AreAt, HasSameDevices, IsAbove}
 use Rattle.zr_rules.specs.Devices.{Devices, state_at}
 use Rattle.zr_rules.specs.Equation.{Spends, devices_in, fresh_in, ways_in}
-use Rattle.zr_rules.specs.Mappings.{entry_at}
-use Rattle.zr_rules.specs.Places.{count_below, in_address, is_fresh, is_gone, is_leaving, part_of, state_of_dev}
+use Rattle.zr_rules.specs.Mappings.{entry_at, in_source, target}
+use Rattle.zr_rules.specs.Places.{Place, count_below, in_address, is_fresh, is_gone, is_kept, is_leaving, part_of, state_of_dev, units_of_dev}
 use Rattle.zr_rules.specs.Resolve.{leads_to}
-use Rattle.zr_rules.specs.Roles.{Role, is_live_role}
+use Rattle.zr_rules.specs.Roles.{Role, is_copy_role, is_held_role, is_kept_role, is_live_role}
 use Rattle.zr_rules.specs.Roles.Role.{Free, FreshCopy}
-use Rattle.zr_rules.specs.Space.{Space, role_at}
+use Rattle.zr_rules.specs.Space.{IsLawful, Space, role_at}
 use Rattle.zr_rules.specs.Steps.{IsSameElsewhere}
 use Rattle.zr_shelf.specs.Disks.{PendingWrite}
 use Rattle.zr_shelf.specs.Doings.{WritesOnly}
@@ -50,10 +51,11 @@ use Rattle.zr_vdev.proofs.Follows.{widen}
 use Rattle.zr_vdev.proofs.Frames.{run_stays}
 use Rattle.zr_vdev.proofs.Held.{address_same, one_unit}
 use Rattle.zr_vdev.proofs.Moves.{held_again}
+use Rattle.zr_vdev.specs.Alike.{IsCopyAt}
 use Rattle.zr_vdev.specs.Caches.{AreRead}
 use Rattle.zr_vdev.specs.Copies.{CopiesUnits, IsWriteIntoFree}
 use Rattle.zr_vdev.specs.Runs.{view_of}
-use Rattle.zr_vdev.specs.Stores.{HoldsBlocks, IsWriteInto, addresses_of, is_open_role, may_write}
+use Rattle.zr_vdev.specs.Stores.{HoldsBlocks, IsWriteInto, LeadsToAll, addresses_of, is_open_role, may_write}
 use Rattle.zr_vdev.specs.declared.kind.Kind.TheVariants.{Block, Meta}
 use Rattle.zr_view.specs.Views.{address_bytes, slot_of}
 use Rattle.zr_removal.specs.Rows.{with_row}
@@ -68,6 +70,11 @@ pub record TurnsOne (s t : Space) (d : ℕ) : Type 0 where
   pub fresh : (u : ℕ) → is_fresh s.parts.devs d u ≡ false → is_fresh t.parts.devs d u ≡ false
   pub live : (e u : ℕ) → is_live_role (role_at s e u) ≡ true → is_live_role (role_at t e u) ≡ true
   pub elsewhere : IsSameElsewhere s t d
+
+-- The units in use by blocks were so before, and each copy was one before, or is of a unit that was in use.
+pub record KeepsUsed (s t : Space) : Type 0 where
+  pub live : (e u : ℕ) → is_live_role (role_at t e u) ≡ true → is_live_role (role_at s e u) ≡ true
+  pub copied : (e u : ℕ) (p : Place) → IsCopyAt t e u p → IsCopyAt s e u p ⊎ (is_live_role (role_at s e u) ≡ true)
 
 module _ (s t : Space) (d : ℕ) (h : TurnsOne s t d) where
   abbrev es : Devices
@@ -142,6 +149,16 @@ module _ (s t : Space) (d : ℕ) (h : TurnsOne s t d) where
     spends = spends_turned (a ∷ []) is.spends;
   }
 
+  -- some pointer leads to each unit in use still
+  leads_turned : KeepsUsed s t → (list : List Dva) → LeadsToAll s list → LeadsToAll t list
+  leads_turned keeps list all = record {
+    used = λ e u live. (let some = all.used e u (keeps.live e u live) in let same = live_same es ds count gone_same size_same maps_same list e u in omega (arith, some, same));
+    copied = λ e u p copy. h.live e u (elim (keeps.copied e u p copy) [
+      | inl was ↦ all.copied e u p was
+      | inr live ↦ live
+    ]);
+  }
+
   -- ---- what the disks hold
 
   pub reads_turned : (disks : List (List ℕ)) (slots : List (Option ℕ)) (c : Cache) → AreRead disks slots s c → AreRead disks slots t c
@@ -158,13 +175,14 @@ module _ (s t : Space) (d : ℕ) (h : TurnsOne s t d) where
       }
 
   -- what is in use has its bytes, on these disks as on those
-  pub blocks_turned : (slots : List (Option ℕ)) (t1 t2 : Type 0) (before now : List (List ℕ)) (c k : Cache) (st : Stored) → t2 → AreRead now slots t k → ((a : Dva) → IsFreeable s a → address_bytes (view_of now slots s) a ≡ address_bytes (view_of before slots s) a)
+  pub blocks_turned : KeepsUsed s t → (slots : List (Option ℕ)) (t1 t2 : Type 0) (before now : List (List ℕ)) (c k : Cache) (st : Stored) → t2 → AreRead now slots t k → ((a : Dva) → IsFreeable s a → address_bytes (view_of now slots s) a ≡ address_bytes (view_of before slots s) a)
       → HoldsBlocks Block slots t1 before s None c st → Now (HoldsBlocks Block slots t2 now t None k) (λ n. Swaps st n [] [])
-  blocks_turned slots t1 t2 before now c k st told read bytes held =
+  blocks_turned keeps slots t1 t2 before now c k st told read bytes held =
       held_again Block slots t1 t2 before now s t None c k st told read
       (λ a is. record { used = freeable_turned a is.used; whole = tt })
       (λ a is. bytes_same es ds count gone_same size_same maps_same now slots a ∙ bytes a is.used)
       (λ e u. (let most = held.once e u in let same = live_same es ds count gone_same size_same maps_same (addresses_of st.pointers) e u in omega (arith, most, same)))
+      (leads_turned keeps (addresses_of st.pointers) held.all)
       (spends_turned (addresses_of st.pointers) held.back)
       held
 
@@ -180,18 +198,39 @@ leaves_one x y d h on = record {
   elsewhere = h.leaves.elsewhere;
 }
 
+-- the device has no entries yet, so the copies are those of before
+leaves_used : (x y : OpenPool) (d : ℕ) → LeavesPool x y d → KeepsUsed x.space y.space
+leaves_used x y d h = record {
+  live = λ e u is. ap (λ (r : Role). is_live_role r) (sym (h.leaves.roles e u)) ∙ is;
+  copied = λ e u p copy. elim (cases_eq e d) [
+    | inl here ↦
+        let empty : (part_of y.space.parts.devs e).entries ≡ [] = ap (λ (k : ℕ). (part_of y.space.parts.devs k).entries) here ∙ h.leaves.entries in
+        let no_way : None ≡ Some p = sym (ap (λ (es : List Entry). target es u) empty) ∙ copy.leads in
+        absurd cc
+    | inr other ↦
+        let part = h.leaves.elsewhere.others e other in
+        inl (record {
+          leaving = sym (ap (λ (r : DevRow). is_leaving r.state) part.row) ∙ copy.leaving;
+          within = subst (λ (r : DevRow). u < r.units) part.row copy.within;
+          unmarked = sym (h.leaves.elsewhere.fresh e u other) ∙ copy.unmarked;
+          leads = sym (ap (λ (es : List Entry). target es u) part.entries) ∙ copy.leads;
+          copy = ap is_copy_role (sym (h.leaves.roles p.0 p.1)) ∙ copy.copy;
+        })
+  ];
+}
+
 -- the disks hold the same objects for a pool of which one device turned
-pub objects_turned : (x y : OpenPool) (d : ℕ) → TurnsOne x.space y.space d → y.table.slots ≡ x.table.slots → y.cache ≡ x.cache → y.dir ≡ x.dir → y.group ≡ x.group → (t : Type 0) (disks : List (List ℕ)) (objects : Objects) → HoldsObjects t disks x objects → HoldsObjects t disks y objects
-objects_turned x y d one slots cache dir group t disks objects holds =
+pub objects_turned : (x y : OpenPool) (d : ℕ) → TurnsOne x.space y.space d → KeepsUsed x.space y.space → y.table.slots ≡ x.table.slots → y.cache ≡ x.cache → y.dir ≡ x.dir → y.group ≡ x.group → (t : Type 0) (disks : List (List ℕ)) (objects : Objects) → HoldsObjects t disks x objects → HoldsObjects t disks y objects
+objects_turned x y d one keeps slots cache dir group t disks objects holds =
     let these = x.table.slots in
-    let again = blocks_turned x.space y.space d one these t t disks disks x.cache x.cache holds.stored holds.held.told (reads_turned x.space y.space d one disks these x.cache holds.held.read) (λ a is. refl) holds.held in
+    let again = blocks_turned x.space y.space d one keeps these t t disks disks x.cache x.cache holds.stored holds.held.told (reads_turned x.space y.space d one disks these x.cache holds.held.read) (λ a is. refl) holds.held in
     objects_stay x y objects dir group holds
     (subst (λ (those : List (Option ℕ)). Now (HoldsBlocks Block those t disks y.space None y.cache) (λ n. Swaps holds.stored n [] [])) (sym slots)
     (subst (λ (k : Cache). Now (HoldsBlocks Block these t disks y.space None k) (λ n. Swaps holds.stored n [] [])) (sym cache) again))
 
 pub objects_out : (x y : OpenPool) (d : ℕ) → LeavesPool x y d → state_of_dev x.space.parts.devs d ≡ On → (t : Type 0) (disks : List (List ℕ)) (objects : Objects) → HoldsObjects t disks x objects → HoldsObjects t disks y objects
 objects_out x y d h on t disks objects holds =
-    objects_turned x y d (leaves_one x y d h on) (ap (λ (w : Table). w.slots) h.table) (ap (λ (p : OpenPool). p.cache) h.rest) (ap (λ (p : OpenPool). p.dir) h.rest) (ap (λ (p : OpenPool). p.group) h.rest) t disks objects holds
+    objects_turned x y d (leaves_one x y d h on) (leaves_used x y d h) (ap (λ (w : Table). w.slots) h.table) (ap (λ (p : OpenPool). p.cache) h.rest) (ap (λ (p : OpenPool). p.dir) h.rest) (ap (λ (p : OpenPool). p.group) h.rest) t disks objects holds
 
 -- ---- units of it are copied
 
@@ -222,6 +261,67 @@ copies_one old new d p plan m = record {
   elsewhere = m.elsewhere;
 }
 
+-- a unit has gone where the entries of before say, or it is one of the last
+target_last : (xs : List Entry) (e : Entry) (u : ℕ) (q : Place) → target (xs ++ e ∷ []) u ≡ Some q → (target xs u ≡ Some q) ⊎ (in_source e u ≡ true)
+target_last [] e u q is = elim (cases_Bool (in_source e u)) [
+  | inl here ↦ inr here
+  | inr out ↦
+      let no_way : None ≡ Some q = sym (ap (λ (b : Bool). if b then Some (e.dev, e.dst + (u - e.src)) else None) out) ∙ is in
+      absurd cc
+]
+target_last (x ∷ xs) e u q is = elim (cases_Bool (in_source x u)) [
+  | inl here ↦
+      let rest : List Entry → Option Place = λ (es : List Entry). target es u in
+      inl (ap (λ (b : Bool). if b then Some (x.dev, x.dst + (u - x.src)) else rest xs) here ∙ sym (ap (λ (b : Bool). if b then Some (x.dev, x.dst + (u - x.src)) else rest (xs ++ e ∷ [])) here) ∙ is)
+  | inr out ↦ elim (target_last xs e u q (sym (ap (λ (b : Bool). if b then Some (x.dev, x.dst + (u - x.src)) else target (xs ++ e ∷ []) u) out) ∙ is)) [
+    | inl old ↦ inl (ap (λ (b : Bool). if b then Some (x.dev, x.dst + (u - x.src)) else target xs u) out ∙ old)
+    | inr new ↦ inr new
+  ]
+]
+
+not_kept : (s : Space) (d u : ℕ) → is_kept s.parts.devs d u ≡ false → is_kept_role (role_at s d u) ≡ false
+unfolding role_at
+not_kept s d u none = grind (arith, nat_tests, none)
+
+live_alone : (r : Role) → is_held_role r ≡ true → is_kept_role r ≡ false → is_copy_role r ≡ false → is_live_role r ≡ true
+live_alone r held kept copy = grind (arith, nat_tests, held, kept, copy)
+
+live_before : (b : Bool) (r : Role) → is_live_role (if b then FreshCopy else r) ≡ true → is_live_role r ≡ true
+live_before true r is = absurd (let no_way : false ≡ true = is in cc)
+live_before false r is = is
+
+-- what is copied is in use, where the device has no kept units and no copies
+module _ (old new : Space) (d : ℕ) (p : Plan) (lawful : IsLawful old) (unkept : (u : ℕ) → is_kept old.parts.devs d u ≡ false) (none : (u : ℕ) → is_copy_role (role_at old d u) ≡ false) (plan : IsPlan old d p) (m : MakesCopy old new d p) where
+  source_live : (u : ℕ) → in_source (record { src = p.from.start; dev = p.to.dev; dst = p.to.start; len = p.from.len }) u ≡ true → is_live_role (role_at old d u) ≡ true
+  source_live u inside = live_alone (role_at old d u) (plan.held u (grind (arith, nat_tests, inside))) (not_kept old d u (unkept u)) (none u)
+
+  was_there : (e u : ℕ) (q : Place) → is_leaving (state_of_dev old.parts.devs e) ≡ true → u < units_of_dev old.parts.devs e → is_fresh old.parts.devs e u ≡ false → target (part_of old.parts.devs e).entries u ≡ Some q → IsCopyAt old e u q
+  was_there e u q leaving within unmarked to = record { leaving = leaving; within = within; unmarked = unmarked; leads = to; copy = target_copy old lawful e u q leaving unmarked to }
+
+  copy_here : (u : ℕ) (q : Place) → IsCopyAt new d u q → IsCopyAt old d u q ⊎ (is_live_role (role_at old d u) ≡ true)
+  copy_here u q copy =
+      let within : u < units_of_dev old.parts.devs d = subst (λ (r : DevRow). u < r.units) m.row_is copy.within in
+      let unmarked : is_fresh old.parts.devs d u ≡ false = sym (ap (λ (list : List Extent). has_unit list u) m.fresh) ∙ copy.unmarked in
+      elim (target_last (part_of old.parts.devs d).entries (record { src = p.from.start; dev = p.to.dev; dst = p.to.start; len = p.from.len }) u q (sym (ap (λ (es : List Entry). target es u) m.entries) ∙ copy.leads)) [
+        | inl to ↦ inl (was_there d u q plan.leaving within unmarked to)
+        | inr inside ↦ inr (source_live u inside)
+      ]
+
+  pub copies_used : KeepsUsed old new
+  copies_used = record {
+    live = λ e u is. live_before (in_address p.to e u) (role_at old e u) (sym (ap (λ (r : Role). is_live_role r) (m.roles e u)) ∙ is);
+    copied = λ e u q copy. elim (cases_eq e d) [
+      | inl here ↦ subst (λ (k : ℕ). IsCopyAt old k u q ⊎ (is_live_role (role_at old k u) ≡ true)) (sym here) (copy_here u q (subst (λ (k : ℕ). IsCopyAt new k u q) here copy))
+      | inr other ↦
+          let part = m.elsewhere.others e other in
+          inl (was_there e u q
+          (sym (ap (λ (r : DevRow). is_leaving r.state) part.row) ∙ copy.leaving)
+          (subst (λ (r : DevRow). u < r.units) part.row copy.within)
+          (sym (m.elsewhere.fresh e u other) ∙ copy.unmarked)
+          (sym (ap (λ (es : List Entry). target es u) part.entries) ∙ copy.leads))
+    ];
+  }
+
 -- no unit may be written behind it that might not before
 opened_else : (b : Bool) (r : Role) → (b ≡ true → r ≡ Free) → is_open_role (if b then FreshCopy else r) ≡ true → is_open_role r ≡ true
 opened_else true r free is = ap is_open_role (free refl)
@@ -248,12 +348,16 @@ free_writes slots s before now a apart wrote is =
 
 -- so the disks hold the same objects behind a copy
 pub objects_copied : (policy : Policy) (x y : OpenPool) (t0 t1 t2 : Type 0) (before now : World) (n : ℕ) (objects : Objects) → ((d e slot : ℕ) → slot_of x.table.slots d ≡ Some slot → slot_of x.table.slots e ≡ Some slot → d ≡ e)
+    → IsLawful x.space → ((d u : ℕ) → is_leaving (state_of_dev x.space.parts.devs d) ≡ true → is_kept x.space.parts.devs d u ≡ false) → ((d u : ℕ) → is_leaving (state_of_dev x.space.parts.devs d) ≡ true → is_copy_role (role_at x.space d u) ≡ false)
     → CopiesUnits policy x.table.slots t0 before now x.space y.space n → WritesOnly (IsWriteIntoFree x.table.slots x.space) before now → (AreRead before.now.seen x.table.slots x.space x.cache → AreRead now.now.seen x.table.slots y.space y.cache)
     → y ≡ record x { space = y.space; cache = y.cache } → t2 → HoldsObjects t1 before.now.seen x objects → HoldsObjects t2 now.now.seen y objects
-objects_copied policy x y t0 t1 t2 before now n objects apart copies wrote read rest told holds =
+objects_copied policy x y t0 t1 t2 before now n objects apart lawful unkept none copies wrote read rest told holds =
     let slots = x.table.slots in
-    let one = copies_one x.space y.space copies.dev copies.plan copies.plans.plan copies.makes in
-    let again = blocks_turned x.space y.space copies.dev one slots t1 t2 before.now.seen now.now.seen x.cache y.cache holds.stored told (read holds.held.read) (λ a is. free_writes slots x.space before now a apart wrote is) holds.held in
+    let d = copies.dev in
+    let plan = copies.plans.plan in
+    let one = copies_one x.space y.space d copies.plan plan copies.makes in
+    let used = copies_used x.space y.space d copies.plan lawful (λ u. unkept d u plan.leaving) (λ u. none d u plan.leaving) plan copies.makes in
+    let again = blocks_turned x.space y.space d one used slots t1 t2 before.now.seen now.now.seen x.cache y.cache holds.stored told (read holds.held.read) (λ a is. free_writes slots x.space before now a apart wrote is) holds.held in
     objects_stay x y objects (ap (λ (p : OpenPool). p.dir) rest) (ap (λ (p : OpenPool). p.group) rest) holds
     (subst (λ (w : Table). Now (HoldsBlocks Block w.slots t2 now.now.seen y.space None y.cache) (λ m. Swaps holds.stored m [] [])) (sym (ap (λ (p : OpenPool). p.table) rest)) again)
 
@@ -263,7 +367,7 @@ pub objects_tried : (x y : OpenPool) (t1 t2 : Type 0) (before now : World) (obje
 objects_tried x y t1 t2 before now objects apart wrote read rest told holds =
     let slots = x.table.slots in
     let again = held_again Block slots t1 t2 before.now.seen now.now.seen x.space x.space None x.cache y.cache holds.stored told (read holds.held.read)
-    (λ a is. record { used = is.used; whole = tt }) (λ a is. free_writes slots x.space before now a apart wrote is.used) holds.held.once holds.held.back holds.held in
+    (λ a is. record { used = is.used; whole = tt }) (λ a is. free_writes slots x.space before now a apart wrote is.used) holds.held.once holds.held.all holds.held.back holds.held in
     objects_stay x y objects (ap (λ (p : OpenPool). p.dir) rest) (ap (λ (p : OpenPool). p.group) rest) holds
     (subst (λ (p : OpenPool). Now (HoldsBlocks Block p.table.slots t2 now.now.seen p.space None y.cache) (λ m. Swaps holds.stored m [] [])) (sym rest) again)
 

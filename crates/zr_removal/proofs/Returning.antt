@@ -12,7 +12,7 @@ use Rattle.zr_last.proofs.Lasting.{units_last}
 use Rattle.zr_last.specs.Last.{KeepsDevices, KeepsLast}
 use Rattle.zr_model.specs.Objects.{Objects}
 use Rattle.zr_rules.specs.Places.{is_gone, is_leaving, state_of_dev}
-use Rattle.zr_rules.specs.Roles.{Role, given_up, is_free_role, is_held_role, is_live_role, is_meta_role}
+use Rattle.zr_rules.specs.Roles.{Role, given_up, is_copy_role, is_free_role, is_held_role, is_live_role, is_meta_role}
 use Rattle.zr_rules.specs.Space.{Space, role_at}
 use Rattle.zr_rules.specs.Steps.{Cancels}
 use Rattle.zr_shelf.proofs.Doings.{writes_more}
@@ -39,7 +39,7 @@ use Rattle.zr_view.specs.Views.{slot_of}
 use Rattle.zr_removal.specs.Rows.{with_row}
 use Rattle.zr_removal.specs.Streams.{GivesStreams}
 use Rattle.zr_removal.specs.Turns.{CancelsInPart, CancelsSpace, ComesBack}
-use Rattle.zr_removal.proofs.Outgoing.{TurnsOne, into_free, objects_tried, objects_turned, turned_devices, turned_last}
+use Rattle.zr_removal.proofs.Outgoing.{KeepsUsed, TurnsOne, into_free, objects_tried, objects_turned, turned_devices, turned_last}
 use Rattle.zr_removal.proofs.Turned.{leaving_is, leaving_there}
 
 -- ---- roles
@@ -64,7 +64,7 @@ open_still r is = grind (arith, nat_tests, is)
 pub there_still : (s : DevState) → is_leaving s ≡ true → is_gone s ≡ false
 there_still s is = ap (λ (state : DevState). is_gone state) (leaving_is s is)
 
-cancels_one : (s t : Space) (d : ℕ) → Cancels s t d → is_leaving (state_of_dev s.parts.devs d) ≡ true → TurnsOne s t d
+pub cancels_one : (s t : Space) (d : ℕ) → Cancels s t d → is_leaving (state_of_dev s.parts.devs d) ≡ true → TurnsOne s t d
 cancels_one s t d h leaving = record {
   was = there_still (state_of_dev s.parts.devs d) leaving;
   is = ap (λ (r : DevRow). is_gone r.state) h.row_is;
@@ -74,9 +74,22 @@ cancels_one s t d h leaving = record {
   elsewhere = h.elsewhere;
 }
 
+live_before : (r : Role) → is_live_role (given_up r) ≡ true → is_live_role r ≡ true
+live_before r is = grind (arith, nat_tests, is)
+
+no_copy : (r : Role) → is_copy_role (given_up r) ≡ false
+no_copy r = grind (arith)
+
+-- no unit is a copy any more
+cancels_used : (s t : Space) (d : ℕ) → Cancels s t d → KeepsUsed s t
+cancels_used s t d h = record {
+  live = λ e u is. live_before (role_at s e u) (sym (ap (λ (r : Role). is_live_role r) (h.roles e u)) ∙ is);
+  copied = λ e u p copy. absurd (let no_way : false ≡ true = sym (ap (λ (r : Role). is_copy_role r) (h.roles p.0 p.1) ∙ no_copy (role_at s p.0 p.1)) ∙ copy.copy in cc);
+}
+
 pub objects_returned : (x y : OpenPool) (d : ℕ) → CancelsSpace x y d → is_leaving (state_of_dev x.space.parts.devs d) ≡ true → (t : Type 0) (disks : List (List ℕ)) (objects : Objects) → HoldsObjects t disks x objects → HoldsObjects t disks y objects
 objects_returned x y d h leaving t disks objects holds =
-    objects_turned x y d (cancels_one x.space y.space d h.cancels leaving) (ap (λ (w : Table). w.slots) h.table) (ap (λ (p : OpenPool). p.cache) h.rest) (ap (λ (p : OpenPool). p.dir) h.rest) (ap (λ (p : OpenPool). p.group) h.rest) t disks objects holds
+    objects_turned x y d (cancels_one x.space y.space d h.cancels leaving) (cancels_used x.space y.space d h.cancels) (ap (λ (w : Table). w.slots) h.table) (ap (λ (p : OpenPool). p.cache) h.rest) (ap (λ (p : OpenPool). p.dir) h.rest) (ap (λ (p : OpenPool). p.group) h.rest) t disks objects holds
 
 -- ---- metadata is given back
 

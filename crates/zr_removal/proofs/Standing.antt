@@ -14,7 +14,7 @@ use Rattle.zr_base.specs.declared.space.Extent.{Extent}
 use Rattle.zr_rules.specs.Condense.{folded, is_due}
 use Rattle.zr_rules.specs.Frees.{IsSamePart}
 use Rattle.zr_rules.specs.Mappings.{target}
-use Rattle.zr_rules.specs.Places.{is_gone, is_leaving, part_of, state_of_dev}
+use Rattle.zr_rules.specs.Places.{Place, is_gone, is_leaving, part_of, state_of_dev}
 use Rattle.zr_rules.specs.Roles.{Role, given_up, is_copy_role, taken_over}
 use Rattle.zr_rules.specs.Roles.Role.{Absent}
 use Rattle.zr_rules.specs.Space.{Space, role_at}
@@ -24,7 +24,7 @@ use Rattle.zr_sync.specs.Copies.{HasCopies}
 use Rattle.zr_sync.specs.declared.open.OpenPool.{OpenPool}
 use Rattle.zr_sync.specs.declared.open.Table.{Table}
 use Rattle.zr_vdev.proofs.Alike.{copies_stay, metadata_no_copy}
-use Rattle.zr_vdev.specs.Alike.{CopiesStand}
+use Rattle.zr_vdev.specs.Alike.{CopiesStand, IsCopyAt}
 use Rattle.zr_view.specs.Views.{slot_of, unit_bytes}
 use Rattle.zr_removal.specs.Refusals.{HasNoRemoval}
 use Rattle.zr_removal.specs.Turns.{ComesBack, ForgetsSlot, LeavesPool, Vanishes}
@@ -101,16 +101,19 @@ module _ (x y : OpenPool) (d : ℕ) (h : ForgetsSlot x y d) (gone : is_gone (sta
 
 -- ---- a mapping is condensed
 
+-- each copy was one before
+abbrev pub WereCopies : Space → Space → Type 0
+WereCopies s t = (e u : ℕ) (p : Place) → IsCopyAt t e u p → IsCopyAt s e u p
+
 -- the mapping of a device that is gone is another
-copies_remapped : (disks : List (List ℕ)) (slots : List (Option ℕ)) (s t : Space) (d : ℕ) (entries : List Entry) (counts : List ℕ) (fresh : List Extent) (cond : Option CondPart) → Remaps s t d entries counts fresh cond → is_gone (state_of_dev s.parts.devs d) ≡ true
-    → CopiesStand disks slots s → CopiesStand disks slots t
-copies_remapped disks slots s t d entries counts fresh cond r gone stand e u p c = stand e u p (record {
+copies_remapped : (s t : Space) (d : ℕ) (entries : List Entry) (counts : List ℕ) (fresh : List Extent) (cond : Option CondPart) → Remaps s t d entries counts fresh cond → is_gone (state_of_dev s.parts.devs d) ≡ true → WereCopies s t
+copies_remapped s t d entries counts fresh cond r gone e u p c = record {
   leaving = sym (ap (λ (row : DevRow). is_leaving row.state) part.row) ∙ c.leaving;
   within = subst (λ (row : DevRow). u < row.units) part.row c.within;
   unmarked = sym (r.elsewhere.fresh e u other) ∙ c.unmarked;
   leads = sym (ap (λ (es : List Entry). target es u) part.entries) ∙ c.leads;
   copy = sym (ap is_copy_role (r.roles p.0 p.1)) ∙ c.copy;
-})
+}
   where
     other : e ≢ d
     other here =
@@ -120,12 +123,11 @@ copies_remapped disks slots s t d entries counts fresh cond r gone stand e u p c
     part : IsSamePart (part_of s.parts.devs e) (part_of t.parts.devs e)
     part = r.elsewhere.others e other
 
-copies_through : (disks : List (List ℕ)) (slots : List (Option ℕ)) (s t : Space) (counts : List ℕ) (fresh : List Extent) (c : CondPart) (outcome : Condensed) → Condenses s counts fresh c outcome t → is_gone (state_of_dev s.parts.devs c.dev) ≡ true
-    → CopiesStand disks slots s → CopiesStand disks slots t
-copies_through disks slots s t counts fresh c outcome m gone =
+copies_through : (s t : Space) (counts : List ℕ) (fresh : List Extent) (c : CondPart) (outcome : Condensed) → Condenses s counts fresh c outcome t → is_gone (state_of_dev s.parts.devs c.dev) ≡ true → WereCopies s t
+copies_through s t counts fresh c outcome m gone =
     both_ways ((worked (part_of s.parts.devs c.dev).entries counts c).at == length (part_of s.parts.devs c.dev).entries) m
-    (λ done. copies_remapped disks slots s t c.dev _ _ _ _ done.1 gone)
-    (λ kept. copies_remapped disks slots s t c.dev _ _ _ _ kept.1 gone)
+    (λ done. copies_remapped s t c.dev _ _ _ _ done.1 gone)
+    (λ kept. copies_remapped s t c.dev _ _ _ _ kept.1 gone)
 
 same_some : (a b : ℕ) → Some a ≡ Some b → a ≡ b
 same_some a b e = cc
@@ -145,13 +147,15 @@ due_is_gone s d is =
     let found = due_gone s.parts.devs 0 d is in
     subst (λ (k : ℕ). is_gone (state_of_dev s.parts.devs k) ≡ true) (let e = found.1 in omega (arith, e)) found.2
 
-copies_from : (disks : List (List ℕ)) (slots : List (Option ℕ)) (cond : Option CondPart) (due : Option ℕ) (s t : Space) (outcome : Condensed) → CondensesFrom cond due s outcome t → ((c : CondPart) → cond ≡ Some c → IsUnderWay s c) → ((d : ℕ) → due ≡ Some d → is_gone (state_of_dev s.parts.devs d) ≡ true)
-    → CopiesStand disks slots s → CopiesStand disks slots t
-copies_from disks slots (Some c) due s t outcome m under_way dues =
-    copies_through disks slots s t (part_of s.parts.devs c.dev).counts (part_of s.parts.devs c.dev).fresh c outcome m (ap (λ (state : DevState). is_gone state) (under_way c refl).gone)
-copies_from disks slots None (Some d) s t outcome m under_way dues =
-    copies_through disks slots s t (folded (part_of s.parts.devs d).entries (part_of s.parts.devs d).counts (part_of s.parts.devs d).fresh) [] (record { dev = d; at = 0; entries = []; counts = [] }) outcome m (dues d refl)
-copies_from disks slots None None s t outcome m under_way dues = subst (λ (space : Space). CopiesStand disks slots s → CopiesStand disks slots space) (sym m.1) (λ stand. stand)
+copies_from : (cond : Option CondPart) (due : Option ℕ) (s t : Space) (outcome : Condensed) → CondensesFrom cond due s outcome t → ((c : CondPart) → cond ≡ Some c → IsUnderWay s c) → ((d : ℕ) → due ≡ Some d → is_gone (state_of_dev s.parts.devs d) ≡ true) → WereCopies s t
+copies_from (Some c) due s t outcome m under_way dues =
+    copies_through s t (part_of s.parts.devs c.dev).counts (part_of s.parts.devs c.dev).fresh c outcome m (ap (λ (state : DevState). is_gone state) (under_way c refl).gone)
+copies_from None (Some d) s t outcome m under_way dues =
+    copies_through s t (folded (part_of s.parts.devs d).entries (part_of s.parts.devs d).counts (part_of s.parts.devs d).fresh) [] (record { dev = d; at = 0; entries = []; counts = [] }) outcome m (dues d refl)
+copies_from None None s t outcome m under_way dues = subst (λ (space : Space). WereCopies s space) (sym m.1) (λ e u p c. c)
+
+pub were_condensed : (s t : Space) (outcome : Condensed) → CondensesSome s outcome t → ((c : CondPart) → s.parts.cond ≡ Some c → IsUnderWay s c) → WereCopies s t
+were_condensed s t outcome step under_way = copies_from s.parts.cond (due_device s) s t outcome step under_way (due_is_gone s)
 
 pub copies_condensed : (disks : List (List ℕ)) (slots : List (Option ℕ)) (s t : Space) (outcome : Condensed) → CondensesSome s outcome t → ((c : CondPart) → s.parts.cond ≡ Some c → IsUnderWay s c) → CopiesStand disks slots s → CopiesStand disks slots t
-copies_condensed disks slots s t outcome step under_way = copies_from disks slots s.parts.cond (due_device s) s t outcome step under_way (due_is_gone s)
+copies_condensed disks slots s t outcome step under_way stand e u p c = stand e u p (were_condensed s t outcome step under_way e u p c)

@@ -6,3 +6,4 @@ pub mod Rows
 pub mod Steps
 pub mod Streams
 pub mod Turns
+pub mod Trees

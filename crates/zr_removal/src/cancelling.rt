@@ -1,7 +1,8 @@
 //! A removal is given up.
 //!
 //! The copies are freed and the device is in service again, with what it held. Its commit is a reset. The pool holds the
-//! objects that it held: the device is read as before.
+//! objects that it held: the device is read as before. The trees of its streams stand as the last root has them: those of the
+//! mapping that the device had are given back.
 ghost use Rattle.std.specs.Prelude.{◌≡◌, ◌<◌, ℕ, List, true, IsErrOf, IfErr, IfOk, OnOk};
 ghost use Rattle.zr_base.specs.Counts.{HasRisen};
 ghost use Rattle.zr_base.specs.declared.refusal.Refusal.{Refusal};
@@ -13,10 +14,13 @@ ghost use Rattle.zr_sync.specs.Copies.{KeepsCopies};
 ghost use Rattle.zr_sync.specs.Ends.{LeavesCommitted};
 ghost use Rattle.zr_sync.specs.Objects.{HoldsObjects};
 ghost use Rattle.zr_sync.specs.Pools.{IsOpen};
+ghost use Rattle.zr_sync.specs.Trees.{HasTrees};
+ghost use Rattle.zr_sync.specs.Trees.Stage.{Had};
 ghost use Rattle.zr_sync.specs.Writes.{WorksOnDisks, WritesIntoFree};
 ghost use Rattle.zr_sync.specs.declared.fault.Fault.TheVariants.{No, Stops};
 ghost use Rattle.zr_sync.specs.declared.stop.Stop.TheVariants.{DiskFault};
 ghost use Rattle.zr_removal.specs.Refusals.{HasRemoval, IsCancelRefusal};
+ghost use Rattle.zr_removal.specs.Trees.{ForgetsFresh};
 ghost use Rattle.zr_removal.specs.Turns.{CancelsInPart, CancelsRemoval, CancelsSpace, ComesBack};
 
 use crate::rows::set_row;
@@ -45,6 +49,7 @@ fn return_device(pool: &mut OpenPool) -> Result<u32, NoMemory>
     ensures leaving { IfOk result (λ d. is_leaving (state_of_dev pool.old.space.parts.devs d) ≡ true) }
     ensures known { IfOk result (λ d. d < pool.old.table.count) }
     ensures cancels { IfOk result (CancelsSpace pool.old pool.new) }
+    ensures root { IfOk result (ForgetsFresh pool.old.space pool.new.space) }
     ensures pool { (sizes : List ℕ) → IsOpen sizes pool.old → OnOk result (IsOpen sizes pool.new) }
 {
     let dev = pool.space.cancel()?;
@@ -75,6 +80,7 @@ fn come_back<S: Shelf>(
     ensures comes { IfOk result (ComesBack pool.old pool.new) }
     ensures written { S.tells shelf.old → WritesIntoFree pool.old (S.world shelf.old) (S.world shelf.new) }
     ensures objects { (objects : Objects) → HoldsObjects (S.tells shelf.old) (S.world shelf.old).now.seen pool.old objects → OnOk result (HoldsObjects (S.tells shelf.new) (S.world shelf.new).now.seen pool.new objects) }
+    ensures trees { HasTrees Had (S.tells shelf.old) (S.world shelf.old).now.seen pool.old → OnOk result (HasTrees Had (S.tells shelf.new) (S.world shelf.new).now.seen pool.new) }
 {
     let dev = return_device(pool)?;
     give_mapping(alloc, pool, shelf, pick, dev)?;
@@ -101,6 +107,7 @@ pub fn cancel_removal<S: Shelf>(
     ensures shown { S.tells shelf.old → OnOk result (KeepsLast (S.world shelf.old) (S.world shelf.new) pool.old pool.new) }
     ensures ends { (objects : Objects) → HoldsObjects (S.tells shelf.old) (S.world shelf.old).now.seen pool.old objects → OnOk result (LeavesCommitted pool.new (S.world shelf.new).now) }
     ensures objects { (objects : Objects) → HoldsObjects (S.tells shelf.old) (S.world shelf.old).now.seen pool.old objects → OnOk result (HoldsObjects (S.tells shelf.new) (S.world shelf.new).now.seen pool.new objects) }
+    ensures trees { HasTrees Had (Unit {0}) (S.world shelf.old).now.seen pool.old → S.tells shelf.old → OnOk result (HasTrees Had (Unit {0}) (S.world shelf.new).now.seen pool.new) }
     ensures copies { S.tells shelf.old → OnOk result (KeepsCopies (S.world shelf.old) (S.world shelf.new) pool.old pool.new) }
     ensures stops { (objects : Objects) → HoldsObjects (S.tells shelf.old) (S.world shelf.old).now.seen pool.old objects → CancelsInPart (S.sizes shelf.old) objects pool.old (S.world shelf.old) (S.world shelf.new) }
 {
@@ -129,6 +136,7 @@ pub fn cancel<S: Shelf>(
     ensures shown { S.tells shelf.old → OnOk result (KeepsLast (S.world shelf.old) (S.world shelf.new) pool.old pool.new) }
     ensures ends { (objects : Objects) → HoldsObjects (S.tells shelf.old) (S.world shelf.old).now.seen pool.old objects → OnOk result (LeavesCommitted pool.new (S.world shelf.new).now) }
     ensures objects { (objects : Objects) → HoldsObjects (S.tells shelf.old) (S.world shelf.old).now.seen pool.old objects → OnOk result (HoldsObjects (S.tells shelf.new) (S.world shelf.new).now.seen pool.new objects) }
+    ensures trees { HasTrees Had (Unit {0}) (S.world shelf.old).now.seen pool.old → S.tells shelf.old → OnOk result (HasTrees Had (Unit {0}) (S.world shelf.new).now.seen pool.new) }
     ensures copies { S.tells shelf.old → OnOk result (KeepsCopies (S.world shelf.old) (S.world shelf.new) pool.old pool.new) }
     ensures stops { (objects : Objects) → HoldsObjects (S.tells shelf.old) (S.world shelf.old).now.seen pool.old objects → CancelsInPart (S.sizes shelf.old) objects pool.old (S.world shelf.old) (S.world shelf.new) }
     ensures refused { (r : Refusal) → IsErrOf result (No r) → IsCancelRefusal pool.old.space r }

@@ -2,8 +2,9 @@
 //!
 //! Units are copied until none is left, and then the device is gone: its commit, a reset, is the first root of which the
 //! device is no part. Where a disk fails in copying, the removal is given up, since what was not copied has to stay.
-ghost use Rattle.std.specs.Prelude.{◌≡◌, ◌<◌, ◌⊎◌, ℕ, List, true, false, IsErrOf, IfErr, IfOk, IfSome, OnOk};
+ghost use Rattle.std.specs.Prelude.{◌≡◌, ◌+◌, ◌<◌, ◌⊎◌, ℕ, List, true, false, IsErrOf, IfErr, IfOk, IfSome, OnOk};
 ghost use Rattle.zr_base.specs.Counts.{HasRisen};
+ghost use Rattle.zr_beside.specs.Beside.{Standing};
 ghost use Rattle.zr_base.specs.declared.refusal.Refusal.{Refusal};
 ghost use Rattle.zr_rules.specs.Columns.{uncopied_units};
 ghost use Rattle.zr_rules.specs.Frees.{IsSameRoot};
@@ -17,8 +18,8 @@ ghost use Rattle.zr_shelf.specs.Doings.{WritesOnly};
 ghost use Rattle.zr_sync.specs.Copies.{HasCopies, KeepsCopies};
 ghost use Rattle.zr_sync.specs.Ends.{LeavesCommitted};
 ghost use Rattle.zr_sync.specs.Objects.{HoldsObjects};
-ghost use Rattle.zr_sync.specs.Trees.{HasTrees};
-ghost use Rattle.zr_sync.specs.Trees.Stage.{Had};
+ghost use Rattle.zr_sync.specs.Trees.{HasTrees, HoldsStreams, every, one_stage};
+ghost use Rattle.zr_sync.specs.Trees.Stage.{Had, Recorded};
 ghost use Rattle.zr_vdev.specs.Caches.{AreRead};
 ghost use Rattle.zr_vdev.specs.Copies.{CopiesUnits, IsWriteIntoFree};
 ghost use Rattle.zr_vdev.specs.Stores.{is_open_role};
@@ -32,6 +33,7 @@ ghost use Rattle.zr_sync.specs.declared.fault.Fault.TheVariants.{No, Stops};
 ghost use Rattle.zr_sync.specs.declared.stop.Stop.TheVariants.{DiskFault};
 ghost use Rattle.zr_removal.specs.Refusals.{HasRemoval, IsStepRefusal};
 ghost use Rattle.zr_removal.specs.Steps.{StepsOn};
+ghost use Rattle.zr_removal.specs.Trees.{ForgetsSets, IsClearOfMeta, freeing, is_of_sets};
 ghost use Rattle.zr_removal.specs.Turns.{CancelsInPart, EndsRemoval, FinishesSpace, ForgetsSlot, Vanishes};
 
 use crate::cancelling::cancel_removal;
@@ -82,6 +84,8 @@ fn retire(pool: &mut OpenPool) -> Result<u32, NoMemory>
     ensures finishes { IfOk result (FinishesSpace pool.old pool.new) }
     ensures pool { (sizes : List ℕ) → IsOpen sizes pool.old → OnOk result (IsOpen sizes pool.new) }
     ensures objects { (disks : List (List ℕ)) (objects : Objects) → HasCopies disks pool.old → HoldsObjects (Unit {0}) disks pool.old objects → OnOk result (HoldsObjects (Unit {0}) disks pool.new objects) }
+    ensures root { IsClearOfMeta pool.old.space → IfOk result (ForgetsSets pool.old.space pool.new.space) }
+    ensures trees { IsClearOfMeta pool.old.space → (others : List Standing) (disks : List (List ℕ)) → HoldsStreams (every Had) (one_stage Had) others (Unit {0}) disks pool.old → IfOk result (λ dev. HoldsStreams (freeing is_of_sets dev) (one_stage Had) others (Unit {0}) disks pool.new) }
 {
     let txg = pool.group.txg();
     if !are_past(&pool.table.rows, txg) {
@@ -123,7 +127,9 @@ fn vanish<S: Shelf>(
     ensures leaving { IfOk result (λ d. is_leaving (state_of_dev pool.old.space.parts.devs d) ≡ true) }
     ensures known { IfOk result (λ d. d < pool.new.table.count) }
     ensures vanishes { IfOk result (Vanishes pool.old pool.new) }
+    ensures written { S.tells shelf.old → WritesIntoFree pool.old (S.world shelf.old) (S.world shelf.new) }
     ensures objects { HasCopies (S.world shelf.old).now.seen pool.old → (objects : Objects) → HoldsObjects (S.tells shelf.old) (S.world shelf.old).now.seen pool.old objects → OnOk result (HoldsObjects (S.tells shelf.new) (S.world shelf.new).now.seen pool.new objects) }
+    ensures trees { IsClearOfMeta pool.old.space → HasTrees Had (S.tells shelf.old) (S.world shelf.old).now.seen pool.old → OnOk result (HasTrees Had (S.tells shelf.new) (S.world shelf.new).now.seen pool.new) }
 {
     let dev = retire(pool)?;
     give_sets(alloc, pool, shelf, pick, dev)?;
@@ -139,6 +145,7 @@ fn let_go(pool: &mut OpenPool, dev: u32)
     ensures pool { (sizes : List ℕ) → IsOpen sizes pool.old → IsOpen sizes pool.new }
     ensures objects { (disks : List (List ℕ)) (objects : Objects) → HoldsObjects (Unit {0}) disks pool.old objects → HoldsObjects (Unit {0}) disks pool.new objects }
     ensures copies { (disks : List (List ℕ)) → HasCopies disks pool.old → HasCopies disks pool.new }
+    ensures trees { (disks : List (List ℕ)) → HasTrees Had (Unit {0}) disks pool.old → HasTrees Had (Unit {0}) disks pool.new }
 {
     forget_slot(&mut pool.table, dev);
 }
@@ -197,8 +204,11 @@ fn commit_gone<S: Shelf>(
     ensures same { OnOk result (IsSamePool pool.old pool.new) }
     ensures last { OnOk result (IfSome pool.new.last (IsNextRoot pool.old true)) }
     ensures shown { S.tells shelf.old → OnOk result (IfSome pool.new.last (λ u. (before : World) × IsShownFrom (S.sizes shelf.old) pool.old u before (S.world shelf.new))) }
+    ensures written { S.tells shelf.old → OnOk result (IfSome pool.new.last (λ u. (mid : World) × WritesIntoFree pool.old (S.world shelf.old) mid × IsShownFrom (S.sizes shelf.old) pool.old u mid (S.world shelf.new))) }
+    ensures txg { OnOk result (pool.new.group.txg ≡ pool.old.group.txg + 1) }
     ensures ends { OnOk result (EndsGroup true pool.old.space pool.new.space) }
     ensures objects { (objects : Objects) → HoldsObjects (S.tells shelf.old) (S.world shelf.old).now.seen pool.old objects → OnOk result (HoldsObjects (S.tells shelf.new) (S.world shelf.new).now.seen pool.new objects) }
+    ensures trees { HasTrees Had (S.tells shelf.old) (S.world shelf.old).now.seen pool.old → OnOk result (HasTrees Recorded (S.tells shelf.new) (S.world shelf.new).now.seen pool.new) }
     ensures copies { S.tells shelf.old → OnOk result (KeepsCopies (S.world shelf.old) (S.world shelf.new) pool.old pool.new) }
 {
     if anew {
@@ -233,7 +243,9 @@ fn finish_removal<S: Shelf>(
     ensures pool { OnOk result (IsOpen (S.sizes shelf.new) pool.new) }
     ensures leaving { IfOk result (λ d. is_leaving (state_of_dev pool.old.space.parts.devs d) ≡ true) }
     ensures ends { IfOk result (EndsRemoval (S.sizes shelf.old) (S.tells shelf.old) (S.world shelf.new) pool.old pool.new) }
+    ensures shown { S.tells shelf.old → OnOk result (KeepsLast (S.world shelf.old) (S.world shelf.new) pool.old pool.new) }
     ensures objects { HasCopies (S.world shelf.old).now.seen pool.old → (objects : Objects) → HoldsObjects (S.tells shelf.old) (S.world shelf.old).now.seen pool.old objects → OnOk result (HoldsObjects (S.tells shelf.new) (S.world shelf.new).now.seen pool.new objects) }
+    ensures trees { IsClearOfMeta pool.old.space → HasTrees Had (Unit {0}) (S.world shelf.old).now.seen pool.old → S.tells shelf.old → OnOk result (HasTrees Had (Unit {0}) (S.world shelf.new).now.seen pool.new) }
     ensures copies { S.tells shelf.old → OnOk result (KeepsCopies (S.world shelf.old) (S.world shelf.new) pool.old pool.new) }
 {
     let anew = has_metadata(&pool.space);
@@ -245,10 +257,11 @@ fn finish_removal<S: Shelf>(
 
 /// Makes a step of the removal that goes on: copies the next units, at most 256, or ends the removal where none is left.
 /// A copy costs one read and one write, and an end costs a commit, and a walk over the mapping and its marks. Behind a copy, and
-/// behind a removal that was given up, the pool holds the objects that it held, and behind a copy the trees of its streams stand
-/// as the last root has them. It holds them behind the end of a removal too, where each copy has the bytes of its unit: that
-/// stays so through every step. While units are left to copy, and where no device is leaving, it has written, wherever it
-/// stops, what the giving up of a removal may have written.
+/// behind a removal that was given up, the pool holds the objects that it held, and the trees of its streams stand as the last
+/// root has them. It holds its objects behind the end of a removal too, where each copy has the bytes of its unit: that stays so
+/// through every step. The trees stand there too, where no metadata was left on the device and none is kept of a saved root.
+/// Whatever a step comes to, the disks show the pool's last root behind it, where they did before. While units are left to
+/// copy, and where no device is leaving, it has written, wherever it stops, what the giving up of a removal may have written.
 ///
 /// For now want of memory is also the answer where fewer units are free than are left to copy: the room that is asked for
 /// when a removal begins rules that out, and no law says so yet.
@@ -276,8 +289,11 @@ pub fn step_evac<S: Shelf>(
     ensures back_shown { S.tells shelf.old → IfOk result (λ done. (d : ℕ) → done ≡ evacuated.Cancelled d → KeepsLast (S.world shelf.old) (S.world shelf.new) pool.old pool.new) }
     ensures back_ends { (objects : Objects) → HoldsObjects (S.tells shelf.old) (S.world shelf.old).now.seen pool.old objects → IfOk result (λ done. (d : ℕ) → done ≡ evacuated.Cancelled d → LeavesCommitted pool.new (S.world shelf.new).now) }
     ensures back_objects { (objects : Objects) → HoldsObjects (S.tells shelf.old) (S.world shelf.old).now.seen pool.old objects → IfOk result (λ done. (d : ℕ) → done ≡ evacuated.Cancelled d → HoldsObjects (S.tells shelf.new) (S.world shelf.new).now.seen pool.new objects) }
+    ensures back_trees { HasTrees Had (Unit {0}) (S.world shelf.old).now.seen pool.old → S.tells shelf.old → IfOk result (λ done. (d : ℕ) → done ≡ evacuated.Cancelled d → HasTrees Had (Unit {0}) (S.world shelf.new).now.seen pool.new) }
     ensures back_stops { (objects : Objects) → HoldsObjects (S.tells shelf.old) (S.world shelf.old).now.seen pool.old objects → IfOk result (λ done. (d : ℕ) → done ≡ evacuated.Cancelled d → CancelsInPart (S.sizes shelf.old) objects pool.old (S.world shelf.old) (S.world shelf.new)) }
+    ensures gone_shown { S.tells shelf.old → IfOk result (λ done. (d : ℕ) → done ≡ evacuated.Gone d → KeepsLast (S.world shelf.old) (S.world shelf.new) pool.old pool.new) }
     ensures gone_objects { HasCopies (S.world shelf.old).now.seen pool.old → (objects : Objects) → HoldsObjects (S.tells shelf.old) (S.world shelf.old).now.seen pool.old objects → IfOk result (λ done. (d : ℕ) → done ≡ evacuated.Gone d → HoldsObjects (S.tells shelf.new) (S.world shelf.new).now.seen pool.new objects) }
+    ensures gone_trees { IsClearOfMeta pool.old.space → HasTrees Had (Unit {0}) (S.world shelf.old).now.seen pool.old → S.tells shelf.old → IfOk result (λ done. (d : ℕ) → done ≡ evacuated.Gone d → HasTrees Had (Unit {0}) (S.world shelf.new).now.seen pool.new) }
     ensures copies { S.tells shelf.old → OnOk result (KeepsCopies (S.world shelf.old) (S.world shelf.new) pool.old pool.new) }
     ensures stops { (HasRemoval pool.old.space → 0 < uncopied_units pool.old.space) → (objects : Objects) → HoldsObjects (S.tells shelf.old) (S.world shelf.old).now.seen pool.old objects → CancelsInPart (S.sizes shelf.old) objects pool.old (S.world shelf.old) (S.world shelf.new) }
     ensures refused { (r : Refusal) → IsErrOf result (No r) → IsStepRefusal pool.old.space r }
@@ -285,6 +301,7 @@ pub fn step_evac<S: Shelf>(
     ensures untouched { (r : Refusal) → IsErrOf result (No r) → S.world shelf.new ≡ S.world shelf.old }
 {
     demand_to_step(pool)?;
+    pool.space.copies_in_order();
     match copy_next(alloc, pool, shelf, pick)? {
         Copied::Units(units) => Ok(Evacuated::Copied(units)),
         Copied::Nothing => Ok(Evacuated::Gone(finish_removal(alloc, pool, shelf, pick)?)),

@@ -14,6 +14,7 @@ use zr_space::Space;
 fn give_saved(space: &mut Space) -> Result<(), NoMemory>
     ensures gives { OnOk result (GivesMetadata space.old space.new) }
     ensures none { OnOk result (space.new.saved_meta ≡ []) }
+    ensures idle { space.old.saved_meta ≡ [] → OnOk result (space.new ≡ space.old) }
 {
     let mut more = true;
     while more {
@@ -28,6 +29,7 @@ fn give_current(space: &mut Space, dev: u32) -> Result<(), NoMemory>
     requires unsaved { space.old.saved_meta ≡ [] }
     ensures gives { OnOk result (GivesMetadata space.old space.new) }
     ensures none { OnOk result ((u : ℕ) → is_meta_role (role_at space.new dev u) ≡ false) }
+    ensures idle { ((u : ℕ) → is_meta_role (role_at space.old dev u) ≡ false) → OnOk result (space.new ≡ space.old) }
 {
     let mut more = true;
     while more {
@@ -42,6 +44,7 @@ pub fn give_metadata(space: &mut Space, dev: u32) -> Result<(), NoMemory>
     requires { dev < length space.old.parts.devs }
     ensures gives { OnOk result (GivesMetadata space.old space.new) }
     ensures none { OnOk result ((u : ℕ) → is_meta_role (role_at space.new dev u) ≡ false) }
+    ensures idle { space.old.saved_meta ≡ [] → ((u : ℕ) → is_meta_role (role_at space.old dev u) ≡ false) → OnOk result (space.new ≡ space.old) }
 {
     give_saved(space)?;
     give_current(space, dev)

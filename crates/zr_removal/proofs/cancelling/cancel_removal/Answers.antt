@@ -6,7 +6,10 @@ use Rattle.zr_sync.proofs.Disks.{works_more}
 use Rattle.zr_sync.specs.Commits.{IsShownFrom}
 use Rattle.zr_sync.proofs.Leading.{committed_told}
 use Rattle.zr_sync.specs.Heads.{IsSeen}
+use Rattle.zr_sync.proofs.Regrouping.{begins_again}
+use Rattle.zr_sync.proofs.Retelling.{trees_told}
 use Rattle.zr_sync.specs.Trees.{HasLastTrees}
+use Rattle.zr_sync.specs.Trees.Stage.{Had, Recorded}
 use Rattle.zr_removal.proofs.Returning.{back_last, stops_back}
 use Rattle.zr_removal.proofs.Standing.{copies_back}
 use Rattle.zr_removal.proofs.cancelling.cancel_removal.Goals as goal
@@ -58,6 +61,15 @@ returns-clause-shown g c = λ told.
 pub returns-clause-copies : goal.returns-clause-copies
 returns-clause-copies g c = λ told stand.
     c.in_ok-commit.ensures.copies (c.come_back.ensures.told told) (copies_back (g.S.Shelf.world c.come_back.new.shelf).now.seen c.args.pool.now c.come_back.new.pool c.in_ok-dev.dev c.in_ok-dev.ensures.comes)
+
+pub returns-clause-trees : goal.returns-clause-trees
+returns-clause-trees g c = λ trees told.
+    let old = c.args.shelf.now in
+    let new = c.commit.new.shelf in
+    let seen = (g.S.Shelf.world new).now.seen in
+    let done = c.in_ok-commit.ensures in
+    let was = trees_told Had (Unit {0}) (g.S.Shelf.tells old) (g.S.Shelf.world old).now.seen c.args.pool.now told trees in
+    begins_again (Unit {0}) seen c.commit.new.pool done.ends.ended.opened (trees_told Recorded (g.S.Shelf.tells new) (Unit {0}) seen c.commit.new.pool tt (done.trees (c.in_ok-dev.ensures.trees was)))
 
 -- ---- wherever it stops
 

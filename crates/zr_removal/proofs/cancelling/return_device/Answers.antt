@@ -21,3 +21,7 @@ returns-clause-pool c = λ sizes o.
     let known : d < x.table.count = let n = o.devices in omega (arith, there, n) in
     subst (λ (t : Table). IsOpen sizes (record x { space = s; table = t })) (sym table)
     (turned_open sizes x s d row o (cancels_turn sizes x s d o known c.in_ok-dev.ensures.ok (leaving_is (state_of_dev x.space.parts.devs d) c.in_ok-dev.ensures.index)))
+
+-- what the last root has
+pub returns-clause-root : goal.returns-clause-root
+returns-clause-root c = record { held = c.in_ok-dev.ensures.held; kept = c.in_ok-dev.ensures.kept; others = c.in_ok-dev.ensures.marks; none = c.in_ok-dev.ensures.unmarked }

@@ -10,7 +10,12 @@ use Rattle.zr_sync.specs.declared.open.Table.{Table}
 use Rattle.zr_sync.proofs.Disks.{works_more}
 use Rattle.zr_removal.proofs.Ending.{gone_now}
 use Rattle.zr_removal.proofs.Gone.{objects_told}
+use Rattle.zr_removal.proofs.GoneShown.{gone_last}
+use Rattle.zr_removal.proofs.Returning.{leaving_known}
 use Rattle.zr_removal.proofs.Standing.{copies_vanished}
+use Rattle.zr_sync.proofs.Regrouping.{begins_again}
+use Rattle.zr_sync.proofs.Retelling.{trees_told}
+use Rattle.zr_sync.specs.Trees.Stage.{Had, Recorded}
 use Rattle.zr_removal.proofs.evacuate.finish_removal.Goals as goal
 
 pub let_go-requires-clause-known : goal.let_go-requires-clause-known
@@ -59,6 +64,23 @@ returns-clause-ends g c =
 pub returns-clause-pool : goal.returns-clause-pool
 returns-clause-pool g c = c.let_go.ensures.pool (g.S.Shelf.sizes c.commit_gone.new.shelf) c.in_ok-commit_gone.ensures.pool
 
+-- ---- what the disks show
+
+pub returns-clause-shown : goal.returns-clause-shown
+returns-clause-shown g c = λ told h.
+    let old = c.args.shelf.now in
+    let mid = c.vanish.new.shelf in
+    let new = c.commit_gone.new.shelf in
+    let x = c.args.pool.now in
+    let d = c.in_ok-dev.dev in
+    let gone = c.in_ok-dev.ensures in
+    let done = c.in_ok-commit_gone.ensures in
+    let still = c.vanish.ensures.told told in
+    let known = leaving_known (g.S.Shelf.sizes old) x d c.requires.pool gone.leaving in
+    let left = subst (λ (n : List ℕ). IsOpen n c.let_go.new.pool) c.commit_gone.ensures.sizes (c.let_go.ensures.pool (g.S.Shelf.sizes new) done.pool) in
+    gone_last (g.S.Shelf.sizes old) (g.S.Shelf.sizes mid) x c.vanish.new.pool c.commit_gone.new.pool c.let_go.new.pool d (g.S.Shelf.world old) (g.S.Shelf.world mid) (g.S.Shelf.world new) c.requires.pool known gone.vanishes (g.S.Shelf.sound old told).sized
+    (c.vanish.ensures.written told) gone.pool (g.S.Shelf.sound mid still).sized done.txg done.last (done.written still) done.same c.let_go.ensures.forgets left h
+
 -- ---- what the disks hold
 
 pub returns-clause-objects : goal.returns-clause-objects
@@ -73,3 +95,12 @@ pub returns-clause-copies : goal.returns-clause-copies
 returns-clause-copies g c = λ told stand.
     c.let_go.ensures.copies (g.S.Shelf.world c.commit_gone.new.shelf).now.seen
     (c.in_ok-commit_gone.ensures.copies (c.vanish.ensures.told told) (copies_vanished (g.S.Shelf.world c.vanish.new.shelf).now.seen c.args.pool.now c.vanish.new.pool c.in_ok-dev.dev c.in_ok-dev.ensures.vanishes))
+
+pub returns-clause-trees : goal.returns-clause-trees
+returns-clause-trees g c = λ clear trees told.
+    let old = c.args.shelf.now in
+    let new = c.commit_gone.new.shelf in
+    let seen = (g.S.Shelf.world new).now.seen in
+    let done = c.in_ok-commit_gone.ensures in
+    let was = trees_told Had (Unit {0}) (g.S.Shelf.tells old) (g.S.Shelf.world old).now.seen c.args.pool.now told trees in
+    c.let_go.ensures.trees seen (begins_again (Unit {0}) seen c.commit_gone.new.pool done.ends.ended.opened (trees_told Recorded (g.S.Shelf.tells new) (Unit {0}) seen c.commit_gone.new.pool tt (done.trees (c.in_ok-dev.ensures.trees clear was))))

@@ -1,4 +1,4 @@
-use Rattle.std.proofs.Common.{◌≡◌, ◌∙◌, inl, inr, true, ap, subst, arith}
+use Rattle.std.proofs.Common.{◌≡◌, ◌∙◌, inl, inr, true, sym, ap, subst, arith}
 use Rattle.zr_rules.specs.Places.{is_leaving, state_of_dev}
 use Rattle.zr_rules.specs.Space.{Space}
 use Rattle.zr_shelf.proofs.Doings.{writes_nothing}
@@ -6,6 +6,8 @@ use Rattle.zr_sync.proofs.Disks.{works_more}
 use Rattle.zr_vdev.specs.Caches.{AreRead}
 use Rattle.zr_vdev.specs.Stores.{IsWriteInto}
 use Rattle.zr_vdev.specs.declared.kind.Kind.TheVariants.{Block}
+use Rattle.zr_removal.specs.Trees.{IsClearOfMeta}
+use Rattle.zr_removal.proofs.BackTrees.{trees_tried}
 use Rattle.zr_removal.proofs.CopyTrees.{trees_copied}
 use Rattle.zr_removal.proofs.Ending.{cancels_before, ends_before}
 use Rattle.zr_removal.proofs.Outgoing.{copies_open, into_free, last_copied, objects_copied, objects_tried}
@@ -70,7 +72,8 @@ returns-in-Units-clause-objects g c = λ objects h n is.
     let old = c.args.shelf.now in
     let new = c.copy_next.new.shelf in
     let told = h.held.told in
-    objects_copied c.args.pick.now.policy x y (g.S.Shelf.tells old) (g.S.Shelf.tells old) (g.S.Shelf.tells new) (g.S.Shelf.world old) (g.S.Shelf.world new) c.in-Units.units objects c.requires.pool.mounted.apart (c.in_ok-units.ensures.units c.in-Units.units c.in-Units.is)
+    objects_copied c.args.pick.now.policy x y (g.S.Shelf.tells old) (g.S.Shelf.tells old) (g.S.Shelf.tells new) (g.S.Shelf.world old) (g.S.Shelf.world new) c.in-Units.units objects c.requires.pool.mounted.apart
+    c.requires.pool.lawful c.copies_in_order.ensures.unkept c.copies_in_order.ensures.no_copies (c.in_ok-units.ensures.units c.in-Units.units c.in-Units.is)
     (c.copy_next.ensures.written told) (c.copy_next.ensures.read told) c.copy_next.ensures.rest (c.copy_next.ensures.told told) h
 
 pub returns-in-Units-clause-trees : goal.returns-in-Units-clause-trees
@@ -133,6 +136,19 @@ returns-in_ok-cancel_removal-in-Fault-clause-back_objects g c = λ objects h d i
     (λ read. subst (λ (s : Space). AreRead (g.S.Shelf.world mid).now.seen x.table.slots s tried.cache) space (c.copy_next.ensures.read told read)) same (c.copy_next.ensures.told told) h in
     c.in_ok-cancel_removal-in-Fault.ensures.objects objects held
 
+pub returns-in_ok-cancel_removal-in-Fault-clause-back_trees : goal.returns-in_ok-cancel_removal-in-Fault-clause-back_trees
+returns-in_ok-cancel_removal-in-Fault-clause-back_trees g c = λ trees told d is.
+    let x = c.args.pool.now in
+    let tried = c.copy_next.new.pool in
+    let old = c.args.shelf.now in
+    let mid = c.copy_next.new.shelf in
+    let space : tried.space ≡ x.space = c.in_ok-units.ensures.same (inr c.in-Fault.is) in
+    let same : tried ≡ record x { cache = tried.cache } = c.copy_next.ensures.rest ∙ ap (λ (s : Space). record x { space = s; cache = tried.cache }) space in
+    let stand =
+    trees_tried x tried (Unit {0}) (Unit {0}) (g.S.Shelf.world old) (g.S.Shelf.world mid) c.requires.pool.mounted.apart (c.copy_next.ensures.written told)
+    (λ read. subst (λ (s : Space). AreRead (g.S.Shelf.world mid).now.seen x.table.slots s tried.cache) space (c.copy_next.ensures.read told read)) same tt trees in
+    c.in_ok-cancel_removal-in-Fault.ensures.trees stand (c.copy_next.ensures.told told)
+
 pub returns-in_ok-cancel_removal-in-Fault-clause-back_stops : goal.returns-in_ok-cancel_removal-in-Fault-clause-back_stops
 returns-in_ok-cancel_removal-in-Fault-clause-back_stops g c = λ objects h d is.
     let old = c.args.shelf.now in
@@ -175,6 +191,13 @@ returns-in_ok-cancel_removal-in-Fault-clause-stops g c = λ left objects h.
 
 -- ---- what the end of a removal leaves, and copies
 
+pub returns-in_ok-finish_removal-in-Nothing-clause-gone_shown : goal.returns-in_ok-finish_removal-in-Nothing-clause-gone_shown
+returns-in_ok-finish_removal-in-Nothing-clause-gone_shown g c = λ told d is h.
+    let old = c.args.shelf.now in
+    let mid = c.copy_next.new.shelf in
+    c.in_ok-finish_removal-in-Nothing.ensures.shown (c.copy_next.ensures.told told)
+    (last_copied (g.S.Shelf.sizes old) c.args.pool.now c.copy_next.new.pool (g.S.Shelf.world old) (g.S.Shelf.world mid) c.requires.pool (g.S.Shelf.sound old told).sized (c.copy_next.ensures.written told) c.copy_next.ensures.rest h)
+
 pub returns-in_ok-finish_removal-in-Nothing-clause-gone_objects : goal.returns-in_ok-finish_removal-in-Nothing-clause-gone_objects
 returns-in_ok-finish_removal-in-Nothing-clause-gone_objects g c = λ copies objects h d is.
     let x = c.args.pool.now in
@@ -188,6 +211,19 @@ returns-in_ok-finish_removal-in-Nothing-clause-gone_objects g c = λ copies obje
     objects_tried x tried (g.S.Shelf.tells old) (g.S.Shelf.tells mid) (g.S.Shelf.world old) (g.S.Shelf.world mid) objects c.requires.pool.mounted.apart (c.copy_next.ensures.written told)
     (λ read. subst (λ (s : Space). AreRead (g.S.Shelf.world mid).now.seen x.table.slots s tried.cache) space (c.copy_next.ensures.read told read)) same (c.copy_next.ensures.told told) h in
     c.in_ok-finish_removal-in-Nothing.ensures.objects (c.copy_next.ensures.copies told copies) objects held
+
+pub returns-in_ok-finish_removal-in-Nothing-clause-gone_trees : goal.returns-in_ok-finish_removal-in-Nothing-clause-gone_trees
+returns-in_ok-finish_removal-in-Nothing-clause-gone_trees g c = λ clear trees told d is.
+    let x = c.args.pool.now in
+    let tried = c.copy_next.new.pool in
+    let old = c.args.shelf.now in
+    let mid = c.copy_next.new.shelf in
+    let space : tried.space ≡ x.space = c.in_ok-units.ensures.same (inl c.in-Nothing.is) in
+    let same : tried ≡ record x { cache = tried.cache } = c.copy_next.ensures.rest ∙ ap (λ (s : Space). record x { space = s; cache = tried.cache }) space in
+    let stand =
+    trees_tried x tried (Unit {0}) (Unit {0}) (g.S.Shelf.world old) (g.S.Shelf.world mid) c.requires.pool.mounted.apart (c.copy_next.ensures.written told)
+    (λ read. subst (λ (s : Space). AreRead (g.S.Shelf.world mid).now.seen x.table.slots s tried.cache) space (c.copy_next.ensures.read told read)) same tt trees in
+    c.in_ok-finish_removal-in-Nothing.ensures.trees (subst (λ (s : Space). IsClearOfMeta s) (sym space) clear) stand (c.copy_next.ensures.told told)
 
 pub returns-in_ok-finish_removal-in-Nothing-clause-copies : goal.returns-in_ok-finish_removal-in-Nothing-clause-copies
 returns-in_ok-finish_removal-in-Nothing-clause-copies g c = λ told stand. c.in_ok-finish_removal-in-Nothing.ensures.copies (c.copy_next.ensures.told told) (c.copy_next.ensures.copies told stand)

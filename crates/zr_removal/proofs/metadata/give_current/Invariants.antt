@@ -10,6 +10,7 @@ invariant-loop-more l = record {
   gives : GivesMetadata l.fn.space l.space;
   unsaved : l.space.saved_meta ≡ [];
   none : l.more ≡ false → (u : ℕ) → is_meta_role (role_at l.space l.dev u) ≡ false;
+  idle : ((u : ℕ) → is_meta_role (role_at l.fn.space l.dev u) ≡ false) → l.space ≡ l.fn.space;
 }
 
 abbrev pub decreases-loop-more : goal.decreases-loop-more

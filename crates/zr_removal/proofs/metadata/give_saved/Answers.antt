@@ -1,8 +1,10 @@
+use Rattle.std.proofs.Common.{refl}
+use Rattle.zr_removal.proofs.Idle.{idle_saved}
 use Rattle.zr_removal.proofs.Giving.{gives_itself, none_saved, saved_step}
 use Rattle.zr_removal.proofs.metadata.give_saved.Goals as goal
 
 pub loop-more-init : goal.loop-more-init
-loop-more-init c = record { gives = gives_itself c.args.space.now; none = λ e. cc }
+loop-more-init c = record { gives = gives_itself c.args.space.now; none = λ e. cc; idle = λ none. refl }
 
 pub loop-more-preserved : goal.loop-more-preserved
 loop-more-preserved c =
@@ -13,4 +15,5 @@ loop-more-preserved c =
     record {
       gives = saved_step first mid new b c.loop-more.invariant.gives c.in_ok-more.ensures.yes c.in_ok-more.ensures.no;
       none = none_saved mid new b c.in_ok-more.ensures.no;
+      idle = λ none. idle_saved first mid new b (c.loop-more.invariant.idle none) none c.in_ok-more.ensures.yes c.in_ok-more.ensures.no;
     }

@@ -7,6 +7,7 @@ abbrev pub invariant-loop-more : goal.invariant-loop-more
 invariant-loop-more l = record {
   gives : GivesMetadata l.fn.space l.space;
   none : l.more ≡ false → l.space.saved_meta ≡ [];
+  idle : l.fn.space.saved_meta ≡ [] → l.space ≡ l.fn.space;
 }
 
 abbrev pub decreases-loop-more : goal.decreases-loop-more
