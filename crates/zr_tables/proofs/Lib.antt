@@ -1,3 +1,5 @@
 pub mod Lines
 pub mod Walking
 pub mod Staying
+pub mod Units
+pub mod Read

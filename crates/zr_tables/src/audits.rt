@@ -1,13 +1,13 @@
 //! The units that a walk over an open pool finds, beside those that are counted.
-ghost use Rattle.std.specs.Prelude.{◌≡◌, ◌<◌, ◌≤◌, ◌++◌, ℕ, List, All, IfOk, IfSome, IsErrOf, length, map};
-ghost use Rattle.zr_audit.specs.Found.{allocated_units};
+ghost use Rattle.std.specs.Prelude.{◌≡◌, ◌<◌, ◌≤◌, ◌++◌, ℕ, List, All, IfOk, IfSome, IsErrOf, length, map, false};
+ghost use Rattle.zr_audit.specs.Found.{AreMeta, allocated_units};
 ghost use Rattle.zr_base.specs.Counts.{HasRisen};
 ghost use Rattle.zr_base.specs.declared.refusal.Refusal.{Refusal};
 ghost use Rattle.zr_base.specs.declared.refusal.Refusal.TheVariants.{Damaged};
 ghost use Rattle.zr_base.specs.declared.space.Dva.{Dva};
 ghost use Rattle.zr_bptr.specs.Spelling.{IsTree};
 ghost use Rattle.zr_lookup.specs.Groups.{IsLawfulGroup};
-ghost use Rattle.zr_rules.specs.Places.{is_gone, state_of_dev};
+ghost use Rattle.zr_rules.specs.Places.{is_gone, is_leaving, state_of_dev};
 ghost use Rattle.zr_shelf.specs.Counts.{NoneFell};
 ghost use Rattle.zr_shelf.specs.Moments.{IsStill};
 ghost use Rattle.zr_store.specs.Causes.{Costs, HasCause};
@@ -154,6 +154,9 @@ pub fn audit<S: Shelf>(
 
     // Where the units add up, the two numbers are equal.
     ensures equal { (s : Stored) → HoldsRead pool.old.table.slots (S.tells shelf.old) (S.world shelf.old).now.seen pool.old.space pool.old.cache s → AddsUp s pool.old → IfOk result (λ lines. map (λ l. l.walked) lines ≡ map (λ l. l.allocated) lines) }
+
+    // So they are where the disks hold the pool's objects, no device is leaving, and the metadata is what is counted as such.
+    ensures whole { (objects : Objects) → HoldsObjects (S.tells shelf.old) (S.world shelf.old).now.seen pool.old objects → ((d : ℕ) → is_leaving (state_of_dev pool.old.space.parts.devs d) ≡ false) → (s : Stored) → HoldsRead pool.old.table.slots (S.tells shelf.old) (S.world shelf.old).now.seen pool.old.space pool.old.cache s → AreMeta pool.old.space (metadata_of s pool.old) → IfOk result (λ lines. map (λ l. l.walked) lines ≡ map (λ l. l.allocated) lines) }
 {
     let met = meet_all(alloc, pool, shelf)?;
     let counted = zr_audit::audit(alloc, &pool.space, met.live.as_slice(), met.meta.as_slice())?;

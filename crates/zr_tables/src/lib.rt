@@ -8,6 +8,7 @@
 mod audits;
 mod lists;
 mod live;
+mod live_units;
 mod maps;
 mod metadata;
 mod stand;
@@ -15,6 +16,7 @@ mod stand;
 pub use audits::audit;
 pub use lists::list;
 pub use live::live_addresses;
+pub use live_units::live_units_are_led_to;
 pub use maps::map_lines;
 pub use metadata::metadata_addresses;
 pub use stand::status;

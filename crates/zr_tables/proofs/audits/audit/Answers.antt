@@ -9,6 +9,7 @@ use Rattle.zr_script.specs.declared.reply.AuditLine.{AuditLine}
 use Rattle.zr_sync.specs.declared.open.OpenPool.{OpenPool}
 use Rattle.zr_sync.proofs.Disks.{works_still}
 use Rattle.zr_tables.specs.Audits.{concrete, metadata_of}
+use Rattle.zr_tables.proofs.Read.{read_adds_up}
 use Rattle.zr_tables.proofs.Lines.{as_many, indices_are, walked_are, allocated_are, read_each}
 use Rattle.zr_tables.proofs.audits.audit.Goals as goal
 
@@ -71,6 +72,9 @@ returns-clause-equal g c = λ s holds sound.
     ∙ (walked_are c.meet_all.new.pool.space c.in_ok-counted.counted.walked c.in_ok-counted.counted.allocated
     ∙ (ap (λ (xs : List ℕ). map (slice_index xs) (concrete c.meet_all.new.pool.space)) equal
     ∙ (sym (allocated_are c.meet_all.new.pool.space c.in_ok-counted.counted.walked c.in_ok-counted.counted.allocated) ∙ sym (ap (map (λ (l : AuditLine). l.allocated)) c.in_ok-lines_of.ensures.lines))))
+
+pub returns-clause-whole : goal.returns-clause-whole
+returns-clause-whole g c = λ objects h none s holds metadata. returns-clause-equal g c s holds (read_adds_up _ _ _ c.args.pool.now objects h s holds none metadata)
 
 pub returns-in_err-met-clause-stays : goal.returns-in_err-met-clause-stays
 returns-in_err-met-clause-stays g c = λ objects h. reading_stays _ _ _ _ _ _ _ _ c.args.pool.now c.meet_all.new.pool objects c.meet_all.ensures.same c.meet_all.ensures.reads h
