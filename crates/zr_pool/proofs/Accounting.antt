@@ -68,7 +68,7 @@ module _ (old : Stand) (world : World) (before : DeviceState) (command : Command
   with_account answer t a l standing current copied behinds begun =
       let b = behinds t.after.shelf (part_held pool world.now.seen t.after t.stands_for) in
       record {
-        after = record { told = t.after; account = pool; shown = is_shown before.told.is_open before.shown command answer; trees = is_standing before.told.is_open before.told.shelf before.trees command answer; behind = b.behind; begun = begun_behind before.begun answer; current = is_current before.told.is_open before.told.shelf before.current command answer; found = is_found before.account before.trees before.current before.found command answer; copies = is_copied before.told.is_open before.told.shelf before.copies command answer pool };
+        after = record { told = t.after; account = pool; shown = is_shown before.told.is_open before.shown answer; trees = is_standing before.told.is_open before.told.shelf before.trees command answer; behind = b.behind; begun = begun_behind before.begun answer; current = is_current before.told.is_open before.told.shelf before.current command answer; found = is_found before.account before.trees before.current before.found command answer; copies = is_copied before.told.is_open before.told.shelf before.copies command answer pool };
         stands_for = record { told = t.stands_for; account = refl; shown = l.last t.after t.takes; trees = standing; behind = b.stands; begun = begun; current = current; found = b.found; copies = copied };
         takes = record { objects = t.takes; account = a.turn; lawful = a.lawful; shown = refl; trees = refl; behind = b.turn; begun = refl; current = refl; found = refl; copies = refl; rejoined = l.rejoined t.after t.takes; found_again = l.found_again t.after t.takes };
       }

@@ -30,8 +30,8 @@ use Rattle.zr_removal.specs.Steps.{StepsOn}
 use Rattle.zr_removal.specs.Turns.{CancelsRemoval, EndsRemoval}
 use Rattle.zr_removal.specs.declared.evacuate.Evacuated.{Evacuated}
 use Rattle.zr_removal.specs.declared.evacuate.Evacuated.TheVariants.{Copied, Gone, Cancelled}
-use Rattle.zr_pool.specs.Behind.{is_return}
-use Rattle.zr_pool.specs.Plain.{IsBeyond, IsMissing, IsObjectCause, IsPlainOf, IsPlainOn, IsThere, ends_removal, is_background, is_copy}
+use Rattle.zr_pool.specs.Behind.{copies_or_returns, is_return}
+use Rattle.zr_pool.specs.Plain.{IsBeyond, IsMissing, IsObjectCause, IsPlainOf, IsPlainOn, IsThere, is_background}
 use Rattle.zr_pool.specs.Replies.{condense_reply, evac_reply}
 
 pub plain_refusal : (objects : Objects) (command : Command) (r : Refusal) → (r ≡ refusal.NoSuchObject → IsMissing objects command) → (r ≡ refusal.OutOfRange → IsBeyond objects command) → (r ≡ refusal.ObjectExists → IsThere objects command)
@@ -167,15 +167,15 @@ evac_copies P (Copied n) copies on = copies n refl
 evac_copies P (Gone index) copies on = absurd (let no_way : false ≡ true = on in cc)
 evac_copies P (Cancelled index) copies on = absurd (let no_way : false ≡ true = on in cc)
 
-pub evac_copy : (P : Type 0) (done : Evacuated) → ((n : ℕ) → done ≡ Copied n → P) → is_copy cmd.StepEvac (evac_reply done) ≡ true → P
-evac_copy P (Copied n) copies on = copies n refl
-evac_copy P (Gone index) copies on = absurd (let no_way : false ≡ true = on in cc)
-evac_copy P (Cancelled index) copies on = absurd (let no_way : false ≡ true = on in cc)
+pub evac_moves : (P : Type 0) (done : Evacuated) → ((n : ℕ) → done ≡ Copied n → P) → ((d : ℕ) → done ≡ Cancelled d → P) → copies_or_returns cmd.StepEvac (evac_reply done) ≡ true → P
+evac_moves P (Copied n) copies returns on = copies n refl
+evac_moves P (Gone index) copies returns on = absurd (let no_way : false ≡ true = on in cc)
+evac_moves P (Cancelled index) copies returns on = returns index refl
 
-pub evac_shows : (P : Type 0) (done : Evacuated) → ((n : ℕ) → done ≡ Copied n → P) → ((d : ℕ) → done ≡ Cancelled d → P) → ends_removal cmd.StepEvac (evac_reply done) ≡ false → P
-evac_shows P (Copied n) shows returns off = shows n refl
-evac_shows P (Gone index) shows returns off = absurd (let no_way : true ≡ false = off in cc)
-evac_shows P (Cancelled index) shows returns off = returns index refl
+pub evac_shows : (P : Type 0) (done : Evacuated) → ((n : ℕ) → done ≡ Copied n → P) → ((d : ℕ) → done ≡ Cancelled d → P) → ((d : ℕ) → done ≡ Gone d → P) → P
+evac_shows P (Copied n) copies returns ends = copies n refl
+evac_shows P (Gone index) copies returns ends = ends index refl
+evac_shows P (Cancelled index) copies returns ends = returns index refl
 
 pub evac_returns : (P : Type 0) (done : Evacuated) (command : Command) → ((d : ℕ) → done ≡ Cancelled d → P) → is_return (evac_reply done) command ≡ true → P
 evac_returns P (Copied n) command returns on = absurd (let no_way : false ≡ true = on in cc)
@@ -186,6 +186,11 @@ pub condense_no_return : (done : Condensed) (command : Command) → is_return (c
 condense_no_return (condensed.Kept entries) command on = let no_way : false ≡ true = on in cc
 condense_no_return condensed.Done command on = let no_way : false ≡ true = on in cc
 condense_no_return condensed.Nothing command on = let no_way : false ≡ true = on in cc
+
+pub condense_no_move : (done : Condensed) → copies_or_returns cmd.StepCondense (condense_reply done) ≡ true → ⊥
+condense_no_move (condensed.Kept entries) on = let no_way : false ≡ true = on in cc
+condense_no_move condensed.Done on = let no_way : false ≡ true = on in cc
+condense_no_move condensed.Nothing on = let no_way : false ≡ true = on in cc
 
 -- a step of condensing leaves the objects
 pub condense_acts : (copies : Bool) (Holds : PoolState → Type 0) (p : PoolState) (done : Condensed) → Holds p → IsPlainOf copies Holds p cmd.StepCondense (condense_reply done)

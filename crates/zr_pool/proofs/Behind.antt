@@ -53,7 +53,7 @@ use Rattle.zr_open.specs.Shown.{Shows}
 use Rattle.zr_stops.proofs.Returning.{returns_either}
 use Rattle.zr_stops.proofs.Preparing.{settled_left}
 use Rattle.zr_pool.proofs.Closed.{closed_behind, closed_shows, flushes_keep, still_closed, stands_as}
-use Rattle.zr_pool.proofs.Groups.{acknowledged_commits, background_no_commit, background_no_reset, commits_in_group, ends_told, not_ending, opening_stops, opens_no_commit, opens_no_end, silent_leaves, silent_no_commit, silent_no_reset, tables_silent, writing_resets}
+use Rattle.zr_pool.proofs.Groups.{acknowledged_commits, background_no_commit, background_no_reset, commits_in_group, not_ending, opening_stops, opens_no_commit, opens_no_end, silent_leaves, silent_no_commit, silent_no_reset, tables_silent, writing_resets}
 use Rattle.zr_pool.proofs.Founding.{WasWhole, background_alone, ends_found, found_commit, found_in_group, found_line, found_silent, group_found, in_one, loud_no_step, next_group_found, one_group_whole, refused_found, stays_found, table_no_step}
 use Rattle.zr_pool.proofs.Outside.{keeps_outside}
 use Rattle.zr_pool.proofs.Resets.{behind_last, reset_behind}
@@ -61,7 +61,7 @@ use Rattle.zr_pool.proofs.Turning.{left_of}
 use Rattle.zr_pool.specs.Behind.{ComesFrom, HasReset, IsBehindTurn, LeavesEither, LeavesOnly, OpensTo, StaysTold, StopsInCreate, StopsInOpening, StopsInReset, WritesTold, all_there, are_there, commits_nothing, ends_no_removal, ends_reset, is_acknowledged, is_commit, is_create, is_import, is_in_group, is_known, is_readable, is_refusal, is_resetting, is_silent, is_writing_trees, keeps_trees, leaves_told, may_commit, may_stop, none_gone}
 use Rattle.zr_pool.specs.Behind.ComesFrom.{kept, committed, changed, made, found}
 use Rattle.zr_pool.specs.Ends.{answer_of, is_closing}
-use Rattle.zr_pool.specs.Plain.{IsDone, ends_removal, is_background}
+use Rattle.zr_pool.specs.Plain.{IsDone, is_background}
 use Rattle.zr_pool.specs.Pools.{AreCurrent, DeviceState, IsBehind, IsClosedBehind, IsFoundBehind, IsPartOf, stand_of, IsAsBegun, IsUnwritten}
 use Rattle.zr_pool.specs.Turns.{IsClosedAnswer, IsTurn, IsWithin, is_found, is_opened, is_opener, is_table}
 use Rattle.zr_shelf.proofs.Doings.{writes_still}
@@ -442,7 +442,7 @@ module _ (old new : World) (before : DeviceState) (command : Command) (x y : Ope
         by_known true known = told_behind new before command now_told pool answer p p.objects (λ none create done. is_open none) (λ none import done. is_open none) told (committed leaves (p, told, refl)) (to (commit_stands p known ends)) (λ on. refl) (λ acknowledged. refl) (finds known)
         by_known false known = untold new before command now_told pool answer (not_made pool) (not_opened now_told answer) (λ q told_q some readable left. no_way (sym known ∙ known_some before some (readable_then answer commits_some readable))) (λ q told_q knows on there. no_reset on) (λ q told_q knows acknowledged. no_way (sym known ∙ knows))
 
-    pub open_behinds : (r : Result (Option Reply) Fault) → IfOk r (λ answered. IfSome answered IsDone) → OnOk r (IsOpen sizes y) → IfOk r (λ answered. IfSome answered (λ answer. ends_removal command answer ≡ false → KeepsLast old new x y)) → ((p : PoolState) → HoldsState (Unit {0}) old.now.seen x p → IfOk r (λ answered. IfSome answered (λ answer. ends_reset answer command ≡ true → HasReset y new.now p.objects))) → ((p : PoolState) → HoldsState (Unit {0}) old.now.seen x p → WritesTold command x old → OnOk r (IfSome y.last (λ u. TellsMoves new.now.seen y u.root u.len))) → (is_in_group command ≡ true → (p : PoolState) → HoldsState (Unit {0}) old.now.seen x p → OnOk r (StaysTold sizes p.objects command x y old new))
+    pub open_behinds : (r : Result (Option Reply) Fault) → IfOk r (λ answered. IfSome answered IsDone) → OnOk r (IsOpen sizes y) → OnOk r (KeepsLast old new x y) → ((p : PoolState) → HoldsState (Unit {0}) old.now.seen x p → IfOk r (λ answered. IfSome answered (λ answer. ends_reset answer command ≡ true → HasReset y new.now p.objects))) → ((p : PoolState) → HoldsState (Unit {0}) old.now.seen x p → WritesTold command x old → OnOk r (IfSome y.last (λ u. TellsMoves new.now.seen y u.root u.len))) → (is_in_group command ≡ true → (p : PoolState) → HoldsState (Unit {0}) old.now.seen x p → OnOk r (StaysTold sizes p.objects command x y old new))
         → ((p : PoolState) → HoldsState (Unit {0}) old.now.seen x p → (n : Refusal) → r ≡ Err (No n) → StaysInOneGroup sizes p.objects x y old new) → IfOk r (λ answered. IfSome answered (λ answer. is_background command answer ≡ true → WritesIntoFree x old new × OpensNoUnit x y)) → (is_silent command ≡ true → IsStill old new) → (is_silent command ≡ true → (p : PoolState) → HoldsState (Unit {0}) old.now.seen x p → OnOk r (OpensNoUnit x y))
         → (is_commit command ≡ true → (p : PoolState) → HoldsState (Unit {0}) old.now.seen x p → OnOk r (EndsCommitted sizes false x y p.objects old new)) → ((n : Refusal) → r ≡ Err (No n) → IsOpen sizes y)
         → IfOk (answer_of r) (λ answered. IfSome answered (λ answer. Behinds new before command now_told (left_of (is_closing command r) y) answer))
@@ -475,7 +475,7 @@ module _ (old new : World) (before : DeviceState) (command : Command) (x y : Ope
         reset_told : is_in_group command ≡ false → ends_reset answer command ≡ true → (p : PoolState) → before.told.shelf ≡ Is p → is_known before ≡ true → (are_there (Some y) || (before.trees && is_writing_trees command)) ≡ true → Behinds new before command now_told (Some y) answer
         reset_told off on p told known there =
             told_behind new before command now_told (Some y) answer p p.objects (λ none create is_done. is_open none) (λ none import is_done. is_open none) told (changed on (p, told, refl))
-            (to_disks sizes p.objects y new.now sized_new (reset_behind sizes p.objects y new.now (keeps (ends_told answer command on) (known_last known)) ready sized_new (resets p (held p told) on) (reads p told there))) (λ also. refl) (λ acknowledged. refl) (λ is_so. absurd (not_ending answer command on (found_in_group x before.trees before.current before.found command answer done (of_open answer is_so))))
+            (to_disks sizes p.objects y new.now sized_new (reset_behind sizes p.objects y new.now (keeps (known_last known)) ready sized_new (resets p (held p told) on) (reads p told there))) (λ also. refl) (λ acknowledged. refl) (λ is_so. absurd (not_ending answer command on (found_in_group x before.trees before.current before.found command answer done (of_open answer is_so))))
 
         reset_known : is_in_group command ≡ false → ends_reset answer command ≡ true → (p : PoolState) → before.told.shelf ≡ Is p → (a b : Bool) → is_known before ≡ a → (are_there (Some y) || (before.trees && is_writing_trees command)) ≡ b → Behinds new before command now_told (Some y) answer
         reset_known off on p told true true known there = reset_told off on p told known there

@@ -26,7 +26,7 @@ use Rattle.zr_sync.proofs.SavedRoots.{ckpt_role}
 use Rattle.zr_vdev.proofs.Alike.{AreNoNewCopies, copies_none, copies_stay}
 use Rattle.zr_vdev.specs.Alike.{CopiesStand}
 use Rattle.zr_last.specs.Last.{KeepsRoot}
-use Rattle.zr_pool.specs.Behind.{StaysTold, is_in_group}
+use Rattle.zr_pool.specs.Behind.{StaysTold, is_in_group, spares_copies}
 use Rattle.zr_pool.specs.Ends.{answer_of, is_closing}
 use Rattle.zr_pool.specs.Plain.{IsDone, is_background, is_of_removal}
 use Rattle.zr_pool.specs.Pools.{AreCopied, IsPartOf, is_evacuating}
@@ -96,26 +96,69 @@ removal_alone cmd.StepCondense on (inr (inl is)) = no_way is
 removal_alone cmd.StepCondense on (inr (inr is)) = no_way is
 removal_alone command on which = no_way on
 
--- a line that leaves copies works in the group that is open or commits it, or is of a removal
+either_true : (a b : Bool) → (a || b) ≡ true → (a ≡ true) ⊎ (b ≡ true)
+either_true true b is = inl refl
+either_true false b is = inr is
+
+-- ---- lines that add a device or are an upgrade
+
+spares_alone : (command : Command) → spares_copies command ≡ true → (is_on_objects command ≡ true) ⊎ (is_table command ≡ true) → ⊥
+spares_alone (cmd.Add dev) on (inl is) = no_way is
+spares_alone (cmd.Add dev) on (inr is) = no_way is
+spares_alone cmd.Upgrade on (inl is) = no_way is
+spares_alone cmd.Upgrade on (inr is) = no_way is
+spares_alone command on which = no_way on
+
+spares_pool : (command : Command) → spares_copies command ≡ true → is_on_pool command ≡ true
+spares_pool (cmd.Add dev) on = refl
+spares_pool cmd.Upgrade on = refl
+spares_pool command on = no_way on
+
+abbrev ChangesDevices : Command → Type 0
+ChangesDevices command = (spares_copies command || is_of_removal command) ≡ true
+
+-- one of these, or of a removal, is on no object and no table
+pub copies_elsewhere : (command : Command) → ChangesDevices command → (is_on_objects command ≡ true) ⊎ (is_table command ≡ true) → ⊥
+copies_elsewhere command on which = elim (either_true (spares_copies command) (is_of_removal command) on) [
+  | inl spares ↦ spares_alone command spares which
+  | inr removes ↦ removal_alone command removes (elim which [ inl is ↦ inl is | inr is ↦ inr (inl is) ])
+]
+
+-- it is one of these where it is on a whole pool
+pub copies_on_pool : (command : Command) → ChangesDevices command → is_on_pool command ≡ true → spares_copies command ≡ true
+copies_on_pool command on pool = elim (either_true (spares_copies command) (is_of_removal command) on) [
+  | inl spares ↦ spares
+  | inr removes ↦ absurd (removal_alone command removes (inr (inr pool)))
+]
+
+pub copies_somewhere : (command : Command) → ChangesDevices command → is_on_pool command ≡ false → is_of_removal command ≡ false → ⊥
+copies_somewhere command on no_pool no_removal = elim (either_true (spares_copies command) (is_of_removal command) on) [
+  | inl spares ↦ no_way (sym no_pool ∙ spares_pool command spares)
+  | inr removes ↦ no_way (sym no_removal ∙ removes)
+]
+
+-- a line that leaves copies works in the group that is open or commits it, adds a device, is an upgrade, or is of a removal
 in_background : (command : Command) (answer : Reply) → is_background command answer ≡ true → is_of_removal command ≡ true
 in_background cmd.StepEvac answer is = refl
 in_background cmd.StepCondense answer is = refl
 in_background command answer is = no_way is
 
-either_true : (a b : Bool) → (a || b) ≡ true → (a ≡ true) ⊎ (b ≡ true)
-either_true true b is = inl refl
-either_true false b is = inr is
+or_second : (a b : Bool) → b ≡ true → (a || b) ≡ true
+or_second true b is = refl
+or_second false b is = is
 
 both_true : (a b : Bool) → (a && b) ≡ true → (a ≡ true) × (b ≡ true)
 both_true true b is = (refl, is)
 both_true false b is = no_way is
 
-leaves_how : (command : Command) (answer : Reply) → IsDone answer → leaves_copies command answer ≡ true → (is_in_group command ≡ true) ⊎ (is_of_removal command ≡ true)
+leaves_how : (command : Command) (answer : Reply) → IsDone answer → leaves_copies command answer ≡ true → (is_in_group command ≡ true) ⊎ ChangesDevices command
 leaves_how command (reply.No r) done is = absurd done
 leaves_how (cmd.Remove dev) answer done is = inr refl
+leaves_how (cmd.Add dev) answer done is = inr refl
+leaves_how cmd.Upgrade answer done is = inr refl
 leaves_how command answer done is = elim (either_true (is_in_group command) (is_background command answer) is) [
   | inl group ↦ inl group
-  | inr step ↦ inr (in_background command answer step)
+  | inr step ↦ inr (or_second (spares_copies command) (is_of_removal command) (in_background command answer step))
 ]
 
 -- ---- where a pool is open
@@ -132,10 +175,10 @@ module _ (sizes : List ℕ) (old new : World) (part : ShelfPart) (copies : Bool)
 
   pub open_copied : (r : Result (Option Reply) Fault) → IfOk r (λ found. IfSome found IsDone) → (is_in_group command ≡ true → (p : PoolState) → HoldsState (Unit {0}) old.now.seen x p → OnOk r (StaysTold sizes p.objects command x y old new))
       → ((p : PoolState) → HoldsState (Unit {0}) old.now.seen x p → (n : Refusal) → r ≡ Err (No n) → StaysInOneGroup sizes p.objects x y old new)
-      → (is_of_removal command ≡ true → OnOk r (KeepsCopies old new x y))
+      → (ChangesDevices command → OnOk r (KeepsCopies old new x y))
       → IfOk (answer_of r) (λ found. IfSome found (λ answer. is_copied true part copies command answer (left_of (is_closing command r) y) ≡ true → AreCopied (left_of (is_closing command r) y) new.now.seen))
-  open_copied (Ok None) done group group_no removal = tt
-  open_copied (Ok (Some answer)) done group group_no removal = λ is.
+  open_copied (Ok None) done group group_no devices = tt
+  open_copied (Ok (Some answer)) done group group_no devices = λ is.
       let pool = left_of (is_closing command (Ok (Some answer))) y in
       elim (either_true (none_leaving pool) (copies && (is_told part && leaves_copies command answer)) is) [
         | inl none ↦ none_copied new.now.seen pool none
@@ -144,17 +187,17 @@ module _ (sizes : List ℕ) (old new : World) (part : ShelfPart) (copies : Bool)
             let p = told_state part held told.0 in
             left_copied (is_closing command (Ok (Some answer))) y new.now.seen (elim (leaves_how command answer done told.1) [
               | inl works ↦ told_copies sizes p.0.objects command x y old new (group works p.0 p.1) (stood all.0)
-              | inr removes ↦ removal removes (stood all.0)
+              | inr changes ↦ devices changes (stood all.0)
             ])
       ]
-  open_copied (Err (No n)) done group group_no removal = λ is.
+  open_copied (Err (No n)) done group group_no devices = λ is.
       elim (either_true (none_leaving (Some y)) (copies && (is_told part && true)) is) [
         | inl none ↦ none_copied new.now.seen (Some y) none
         | inr stays ↦ let all = both_true copies (is_told part && true) stays in
             let p = told_state part held (both_true (is_told part) true all.1).0 in
             one_group_copies sizes p.0.objects x y old new (group_no p.0 p.1 n refl) (stood all.0)
       ]
-  open_copied (Err (Stops s)) done group group_no removal = tt
+  open_copied (Err (Stops s)) done group group_no devices = tt
 
 -- ---- where none is open
 

@@ -34,9 +34,9 @@ use Rattle.zr_sync.specs.declared.open.OpenPool.{OpenPool}
 use Rattle.zr_vdev.proofs.Follows.{others_itself}
 use Rattle.zr_vdev.specs.Stores.{IsWriteInto, KeepsOthers, is_open_role}
 use Rattle.zr_vdev.specs.declared.kind.Kind.TheVariants.{Block}
-use Rattle.zr_pool.specs.Behind.{StopsInOpening, ends_no_removal, ends_reset, is_acknowledged, is_commit, is_in_group, is_readable, is_resetting, is_return, is_silent, is_writing_trees, may_stop, none_gone}
+use Rattle.zr_pool.specs.Behind.{StopsInOpening, copies_or_returns, ends_no_removal, ends_reset, is_acknowledged, is_commit, is_in_group, is_readable, is_resetting, is_return, is_silent, is_writing_trees, may_stop, none_gone}
 use Rattle.zr_pool.proofs.Working.{removal_works}
-use Rattle.zr_pool.specs.Plain.{IsDone, ends_removal, is_background, is_copy, is_of_removal}
+use Rattle.zr_pool.specs.Plain.{IsDone, is_background, is_copy, is_of_removal}
 use Rattle.zr_pool.specs.Pools.{is_evacuating}
 use Rattle.zr_pool.specs.Turns.{is_on_objects, is_on_pool, is_opener, is_table}
 
@@ -112,14 +112,6 @@ writing_resets cmd.Checkpoint on = refl
 writing_resets cmd.Upgrade on = refl
 writing_resets command on = no_way on
 
-pub resets_told : (command : Command) (answer : Reply) → is_resetting command ≡ true → ends_removal command answer ≡ false
-resets_told (cmd.Add dev) answer on = refl
-resets_told cmd.Checkpoint answer on = refl
-resets_told cmd.Discard answer on = refl
-resets_told cmd.Upgrade answer on = refl
-resets_told (cmd.Remove dev) answer on = refl
-resets_told command answer on = no_way on
-
 -- a line that ended with a reset is one that does, or a removal was given up
 pub resets_or_returns : (answer : Reply) (command : Command) → ends_reset answer command ≡ true → (is_resetting command ≡ true) ⊎ (is_return answer command ≡ true)
 resets_or_returns (reply.No r) command on = no_way on
@@ -141,11 +133,6 @@ not_ending answer command on group = elim (resets_or_returns answer command on) 
   | inr returns ↦ not_returning answer command returns group
 ]
 
-pub returns_told : (answer : Reply) (command : Command) → is_return answer command ≡ true → ends_removal command answer ≡ false
-returns_told (reply.Cancelled i) cmd.Cancel on = refl
-returns_told (reply.Cancelled i) cmd.StepEvac on = refl
-returns_told answer command on = no_way on
-
 pub return_elsewhere : (answer : Reply) (command : Command) → is_return answer command ≡ true → (is_on_objects command ≡ true) ⊎ ((is_table command ≡ true) ⊎ (is_on_pool command ≡ true)) → ⊥
 return_elsewhere (reply.Cancelled i) cmd.Cancel on (inl is) = no_way is
 return_elsewhere (reply.Cancelled i) cmd.Cancel on (inr (inl is)) = no_way is
@@ -154,13 +141,6 @@ return_elsewhere (reply.Cancelled i) cmd.StepEvac on (inl is) = no_way is
 return_elsewhere (reply.Cancelled i) cmd.StepEvac on (inr (inl is)) = no_way is
 return_elsewhere (reply.Cancelled i) cmd.StepEvac on (inr (inr is)) = no_way is
 return_elsewhere answer command on which = no_way on
-
--- the objects are told behind it
-pub ends_told : (answer : Reply) (command : Command) → ends_reset answer command ≡ true → ends_removal command answer ≡ false
-ends_told answer command on = elim (resets_or_returns answer command on) [
-  | inl resets ↦ resets_told command answer resets
-  | inr returns ↦ returns_told answer command returns
-]
 
 -- it is none of these
 pub resets_elsewhere : (command : Command) → is_resetting command ≡ true → (is_on_objects command ≡ true) ⊎ (is_table command ≡ true) → ⊥
@@ -313,9 +293,22 @@ pub record IsOfRemoval (command : Command) : Type 0 where
   pub table : is_table command ≡ false
   pub pool : is_on_pool command ≡ false
 
-pub copy_removal : (command : Command) (answer : Reply) → is_copy command answer ≡ true → IsOfRemoval command
+copy_removal : (command : Command) (answer : Reply) → is_copy command answer ≡ true → IsOfRemoval command
 copy_removal cmd.StepEvac answer is = record { removal = refl; objects = refl; table = refl; pool = refl }
 copy_removal command answer is = no_way is
+
+return_removal : (answer : Reply) (command : Command) → is_return answer command ≡ true → IsOfRemoval command
+return_removal (reply.Cancelled i) cmd.Cancel is = record { removal = refl; objects = refl; table = refl; pool = refl }
+return_removal (reply.Cancelled i) cmd.StepEvac is = record { removal = refl; objects = refl; table = refl; pool = refl }
+return_removal (reply.Cancelled i) command is = no_way is
+return_removal answer command is = no_way is
+
+pub moved_removal : (command : Command) (answer : Reply) → copies_or_returns command answer ≡ true → IsOfRemoval command
+moved_removal command answer is = by (is_copy command answer) refl is
+  where
+    by : (b : Bool) → is_copy command answer ≡ b → (b || is_return answer command) ≡ true → IsOfRemoval command
+    by true copied on = copy_removal command answer copied
+    by false none on = return_removal answer command on
 
 pub background_removal : (command : Command) (answer : Reply) → is_background command answer ≡ true → IsOfRemoval command
 background_removal cmd.StepEvac answer is = record { removal = refl; objects = refl; table = refl; pool = refl }

@@ -1,6 +1,6 @@
 -- Whether the disks show the pool behind a line, and what an import finds of what was left.
 use Rattle.std.proofs.Common.{◌≡◌, ℕ, List, Bool, true, false, length, map, Option, Some, None, Result, Ok, Err, refl, sym, ◌∙◌, ap, subst}
-use Rattle.std.specs.Prelude.{IfOk, IfSome, OnErr, OnOk, is_some, not, ◌&&◌}
+use Rattle.std.specs.Prelude.{IfOk, IfSome, OnErr, OnOk, is_some, ◌&&◌}
 use Rattle.zr_base.specs.declared.refusal.Refusal.{Refusal}
 use Rattle.zr_label.specs.declared.root.Uber.{Uber}
 use Rattle.zr_last.proofs.Lasting.{same_last}
@@ -24,7 +24,7 @@ use Rattle.zr_sync.specs.declared.fault.Fault.TheVariants.{No, Stops}
 use Rattle.zr_sync.specs.declared.open.OpenPool.{OpenPool}
 use Rattle.zr_pool.specs.Ends.{answer_of, is_closing}
 use Rattle.zr_pool.specs.Behind.{is_commit, leaves_trees}
-use Rattle.zr_pool.specs.Plain.{IsDone, IsFoundAgain, IsObjectsTurn, IsRejoined, ends_removal, shelf_of}
+use Rattle.zr_pool.specs.Plain.{IsFoundAgain, IsObjectsTurn, IsRejoined, shelf_of}
 use Rattle.zr_pool.specs.Pools.{AreLeft, AreShown, DeviceState, IsAtRest, IsPartOf, IsStateOf}
 use Rattle.zr_pool.specs.Turns.{IsOpenAnswer, IsTurn, is_shown, is_standing, is_told}
 use Rattle.zr_pool.proofs.Finding.{moved_found}
@@ -51,7 +51,7 @@ module _ (old new : Stand) (before : DeviceState) (command : Command) (pool : Op
 
   -- the disks show the pool where they are told to, and an import finds what was left
   pub record Lasts (answer : Reply) : Type 0 where
-    pub last : (after : State) → Takes answer after → is_shown before.told.is_open before.shown command answer ≡ true → AreShown pool new.seen after.shelf (is_standing before.told.is_open before.told.shelf before.trees command answer)
+    pub last : (after : State) → Takes answer after → is_shown before.told.is_open before.shown answer ≡ true → AreShown pool new.seen after.shelf (is_standing before.told.is_open before.told.shelf before.trees command answer)
     pub rejoined : (after : State) → Takes answer after → before.shown ≡ true → command ≡ cmd.Import → answer ≡ reply.Done → IsRejoined before.told.shelf after.shelf
     pub found_again : (after : State) → Takes answer after → before.shown ≡ true → before.trees ≡ true → command ≡ cmd.Import → answer ≡ reply.Done → IsFoundAgain before.told.shelf after.shelf
 
@@ -65,13 +65,10 @@ both_true true true is = (refl, refl)
 both_true true false is = false_true is
 both_true false b is = false_true is
 
-not_true : (b : Bool) → not b ≡ true → b ≡ false
-not_true true is = false_true is
-not_true false is = refl
-
-shown_before : (shown : Bool) (command : Command) (answer : Reply) → IsDone answer → is_shown true shown command answer ≡ true → (shown ≡ true) × (ends_removal command answer ≡ false)
-shown_before shown command (reply.No r) done is = absurd done
-shown_before shown command answer done is = let both = both_true shown (not (ends_removal command answer)) is in (both.0, not_true (ends_removal command answer) both.1)
+-- disks that are told to show the pool behind a line were told to before it
+shown_before : (shown : Bool) (answer : Reply) → is_shown true shown answer ≡ true → shown ≡ true
+shown_before shown (reply.No r) is = is
+shown_before shown answer is = is
 
 -- trees that are told to stand behind a line were told to before it
 standing_before : (part : ShelfPart) (trees : Bool) (command : Command) (answer : Reply) → is_standing true part trees command answer ≡ true → trees ≡ true
@@ -121,15 +118,14 @@ module _ (old new : Stand) (before : DeviceState) (command : Command) (x y : Ope
   not_imported : {P : Type 0} (answer : Reply) → command ≡ cmd.Import → answer ≡ reply.Done → IsOpenAnswer command answer → P
   not_imported answer imports answered a = absurd (subst (λ (q : Reply). IsOpenAnswer cmd.Import q) answered (subst (λ (k : Command). IsOpenAnswer k answer) imports a))
 
-  pub open_lasts : (r : Result (Option Reply) Fault) → IfOk r (λ found. IfSome found IsDone) → IfOk r (λ found. IfSome found (IsOpenAnswer command)) → IfOk r (λ found. IfSome found (λ answer. ends_removal command answer ≡ false → ShowsLast old.seen x → ShowsLast new.seen y))
+  pub open_lasts : (r : Result (Option Reply) Fault) → IfOk r (λ found. IfSome found (IsOpenAnswer command)) → OnOk r (ShowsLast old.seen x → ShowsLast new.seen y)
       → ((n : Refusal) → r ≡ Err (No n) → ShowsLast old.seen x → ShowsLast new.seen y) → (command ≡ cmd.Export → (p : PoolState) → HoldsState (Unit {0}) old.seen x p → OnOk r (IsAtRest new.seen y p))
       → (command ≡ cmd.Export → (p : PoolState) → HoldsState (Unit {0}) old.seen x p → OnOk r (TellsAtLast old new x y)) → OnOk r (IsOpen s2 y)
       → IfOk (answer_of r) (λ found. IfSome found (λ answer. Lasts old new before command (left_of (is_closing command r) y) answer))
-  open_lasts (Ok None) done a kept kept_no rest moves lawful = tt
-  open_lasts (Ok (Some answer)) done a kept kept_no rest moves lawful = record {
+  open_lasts (Ok None) a kept kept_no rest moves lawful = tt
+  open_lasts (Ok (Some answer)) a kept kept_no rest moves lawful = record {
     last = λ after t is.
-        let both = shown_before before.shown command answer done (sym (ap (λ (b : Bool). is_shown b before.shown command answer) stood.is_open) ∙ is) in
-        let shows = kept both.1 (was both.0) in
+        let shows = kept (was (shown_before before.shown answer (sym (ap (λ (b : Bool). is_shown b before.shown answer) stood.is_open) ∙ is))) in
         let turn = (in_open answer after t).1 in
         closed_or_not command answer y new.seen after.shelf (trees_behind answer) a shows (λ exports answered.
         left_behind before.told.shelf (trees_behind answer) after stood.part
@@ -139,12 +135,12 @@ module _ (old new : Stand) (before : DeviceState) (command : Command) (x y : Ope
     rejoined = λ after t shown imports answered. not_imported answer imports answered a;
     found_again = λ after t shown standing imports answered. not_imported answer imports answered a;
   }
-  open_lasts (Err (No n)) done a kept kept_no rest moves lawful = record {
+  open_lasts (Err (No n)) a kept kept_no rest moves lawful = record {
     last = λ after t is. kept_no n refl (was is);
     rejoined = λ after t shown imports answered. not_done n answered;
     found_again = λ after t shown standing imports answered. not_done n answered;
   }
-  open_lasts (Err (Stops s)) done a kept kept_no rest moves lawful = tt
+  open_lasts (Err (Stops s)) a kept kept_no rest moves lawful = tt
 
 -- ---- where none is open
 

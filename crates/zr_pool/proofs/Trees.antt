@@ -19,9 +19,9 @@ use Rattle.zr_sync.specs.Trees.Stage.{Had, Recorded}
 use Rattle.zr_sync.specs.declared.fault.Fault.{Fault}
 use Rattle.zr_sync.specs.declared.fault.Fault.TheVariants.{No, Stops}
 use Rattle.zr_sync.specs.declared.open.OpenPool.{OpenPool}
-use Rattle.zr_pool.specs.Behind.{EndsReset, KeepsTrees, StaysTold, is_in_group, is_resetting, is_writing_trees, keeps_trees, leaves_trees}
+use Rattle.zr_pool.specs.Behind.{EndsReset, KeepsTrees, StaysTold, copies_or_returns, is_in_group, is_resetting, is_writing_trees, keeps_trees, leaves_trees}
 use Rattle.zr_pool.specs.Ends.{answer_of, is_closing}
-use Rattle.zr_pool.specs.Plain.{IsDone, is_copy, is_of_removal}
+use Rattle.zr_pool.specs.Plain.{IsDone, is_of_removal}
 use Rattle.zr_pool.specs.Pools.{AreStanding, IsPartOf}
 use Rattle.zr_pool.specs.Turns.{is_standing, is_told}
 use Rattle.zr_pool.proofs.Groups.{no_way}
@@ -89,25 +89,25 @@ module _ (sizes : List ℕ) (old new : World) (part : ShelfPart) (trees : Bool) 
   pub open_standing : (r : Result (Option Reply) Fault) → IfOk r (λ found. IfSome found IsDone) → (is_in_group command ≡ true → (p : PoolState) → HoldsState (Unit {0}) old.now.seen x p → OnOk r (StaysTold sizes p.objects command x y old new))
       → ((p : PoolState) → HoldsState (Unit {0}) old.now.seen x p → (n : Refusal) → r ≡ Err (No n) → StaysInOneGroup sizes p.objects x y old new)
       → (is_resetting command ≡ true → (p : PoolState) → HoldsState (Unit {0}) old.now.seen x p → OnOk r (EndsReset command x y p.objects old new))
-      → IfOk r (λ found. IfSome found (λ answer. is_copy command answer ≡ true → KeepsTrees x y old new))
+      → IfOk r (λ found. IfSome found (λ answer. copies_or_returns command answer ≡ true → KeepsTrees x y old new))
       → IfOk (answer_of r) (λ found. IfSome found (λ answer. is_standing true part trees command answer ≡ true → AreStanding (left_of (is_closing command r) y) new.now.seen))
-  open_standing (Ok None) done group group_no resets copies = tt
-  open_standing (Ok (Some answer)) done group group_no resets copies = λ is.
+  open_standing (Ok None) done group group_no resets moves = tt
+  open_standing (Ok (Some answer)) done group group_no resets moves = λ is.
       let all = standing_done part trees command answer done is in
       let p = told_state part held all.1.0 in
       let h = stood all.0 in
-      left_standing (is_closing command (Ok (Some answer))) y new.now.seen (elim (either_true (keeps_trees command) (is_copy command answer) all.1.1) [
+      left_standing (is_closing command (Ok (Some answer))) y new.now.seen (elim (either_true (keeps_trees command) (copies_or_returns command answer) all.1.1) [
         | inl keeps ↦ elim (either_true (is_writing_trees command) (is_in_group command) keeps) [
           | inl writes ↦ (resets (writing_resets command writes) p.0 p.1).trees writes h
           | inr works ↦ told_trees sizes p.0.objects command x y old new (group works p.0 p.1) h
         ]
-        | inr copy ↦ copies copy h
+        | inr moved ↦ moves moved h
       ])
-  open_standing (Err (No n)) done group group_no resets copies = λ is.
+  open_standing (Err (No n)) done group group_no resets moves = λ is.
       let both = both_true trees (is_told part) is in
       let p = told_state part held both.1 in
       one_group_trees sizes p.0.objects x y old new (group_no p.0 p.1 n refl) (stood both.0)
-  open_standing (Err (Stops s)) done group group_no resets copies = tt
+  open_standing (Err (Stops s)) done group group_no resets moves = tt
 
 -- ---- where none is open
 

@@ -73,6 +73,10 @@ is_return (reply.Cancelled i) cmd.Cancel = true
 is_return (reply.Cancelled i) cmd.StepEvac = true
 is_return answer command = false
 
+-- units of a device that is leaving were copied, or its removal was given up
+abbrev pub copies_or_returns : Command → Reply → Bool
+copies_or_returns command answer = is_copy command answer || is_return answer command
+
 -- The line ended with a reset, and left the objects: one of those that do, or a removal was given up.
 abbrev pub ends_reset : Reply → Command → Bool
 ends_reset (reply.No r) command = false
@@ -93,6 +97,12 @@ is_writing_trees (cmd.Add dev) = true
 is_writing_trees cmd.Checkpoint = true
 is_writing_trees cmd.Upgrade = true
 is_writing_trees _ = false
+
+-- those that leave copies the bytes of their units: the adding of a device, and an upgrade
+abbrev pub spares_copies : Command → Bool
+spares_copies (cmd.Add dev) = true
+spares_copies cmd.Upgrade = true
+spares_copies _ = false
 
 -- It is told that the trees of the streams stood before the line, and it is one that writes them.
 abbrev pub WritesTold : Command → OpenPool → World → Type 0
@@ -124,9 +134,9 @@ ends_no_removal account _ = false
 abbrev pub keeps_trees : Command → Bool
 keeps_trees command = is_writing_trees command || is_in_group command
 
--- The line was done and left the trees standing: it is one of those, or units of a device that is leaving were copied.
+-- The line was done and left the trees standing: it is one of those, or units of a device that is leaving were copied, or its removal was given up.
 abbrev pub leaves_trees : Command → Reply → Bool
-leaves_trees command answer = keeps_trees command || is_copy command answer
+leaves_trees command answer = keeps_trees command || copies_or_returns command answer
 
 -- no device is gone
 abbrev pub all_there : List DevPart → Bool

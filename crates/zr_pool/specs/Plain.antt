@@ -130,11 +130,6 @@ abbrev pub is_copy : Command → Reply → Bool
 is_copy cmd.StepEvac (reply.Copied units) = true
 is_copy command answer = false
 
--- the step ended a removal: a device is gone
-abbrev pub ends_removal : Command → Reply → Bool
-ends_removal cmd.StepEvac (reply.Gone i) = true
-ends_removal command answer = false
-
 -- What the objects are behind the line is not told, by whether copies are told to have the bytes of their units: a device is gone, and they are not.
 abbrev pub is_untold_behind : Bool → Command → Reply → Bool
 is_untold_behind copies cmd.StepEvac (reply.Gone i) = not copies

@@ -4,6 +4,7 @@ use Rattle.std.specs.List.{list_any}
 use Rattle.zr_base.specs.declared.space.DevPart.{DevPart}
 use Rattle.zr_command.specs.Meanings.{Disks}
 use Rattle.zr_current.specs.Current.{GoesOnFrom, IsShownFor}
+use Rattle.zr_held.specs.Held.{AreAllOf}
 use Rattle.zr_image.specs.StateOf.{is_discarding}
 use Rattle.zr_label.specs.declared.root.Uber.{Uber}
 use Rattle.zr_last.specs.Last.{ShowsLast}
@@ -12,20 +13,25 @@ use Rattle.zr_model.specs.State.{State, PoolState, ShelfPart, Empty, Refused, Is
 use Rattle.zr_open.specs.Left.{LeavesObjects}
 use Rattle.zr_recorded.specs.Found.{StandsFound}
 use Rattle.zr_recorded.specs.Service.{IsWhole}
-use Rattle.zr_rules.specs.Places.{is_leaving}
-use Rattle.zr_rules.specs.Space.{Space}
+use Rattle.zr_rules.specs.Equation.{devices_in, live_hits}
+use Rattle.zr_rules.specs.Places.{is_leaving, one_if}
+use Rattle.zr_rules.specs.Roles.{is_live_role}
+use Rattle.zr_rules.specs.Space.{Space, role_at}
 use Rattle.zr_rules.specs.Steps.{has_condensing}
 use Rattle.zr_shelf.specs.Disks.{Stand}
 use Rattle.zr_stops.specs.Behind.{StandsBehind}
+use Rattle.zr_store.specs.Store.{Stored}
 use Rattle.zr_sync.specs.Copies.{HasCopies}
 use Rattle.zr_sync.specs.Heads.{HasHead}
+use Rattle.zr_sync.specs.Holds.{HasBlocks}
 use Rattle.zr_sync.specs.Moves.{TellsMoves}
-use Rattle.zr_sync.specs.Objects.{HoldsObjects}
+use Rattle.zr_sync.specs.Objects.{HoldsObjects, account_of}
 use Rattle.zr_sync.specs.Pools.{IsOpen}
 use Rattle.zr_sync.specs.States.{HoldsState}
 use Rattle.zr_sync.specs.Trees.{HasTrees}
 use Rattle.zr_sync.specs.Trees.Stage.{Had}
 use Rattle.zr_sync.specs.declared.open.OpenPool.{OpenPool}
+use Rattle.zr_vdev.specs.Stores.{addresses_of}
 
 -- a device is leaving
 abbrev pub is_evacuating : Space → Bool
@@ -46,6 +52,13 @@ pub record IsStateOf (disks : List (List ℕ)) (pool : OpenPool) (state : State)
   pub is_open : state.is_open ≡ true
   pub part : IsPartOf disks pool state.shelf
   pub work : state.work ≡ work_of pool.space
+
+-- The blocks that the disks hold are those of the open pool's directory and of its objects, and no others. To each live unit just one of them leads, and none to any other unit.
+pub record HasLiveUnits (disks : List (List ℕ)) (pool : OpenPool) : Type 0 where
+  pub stored : Stored
+  pub held : HasBlocks (Unit {0}) disks pool stored
+  pub all : AreAllOf stored (account_of pool)
+  pub once : (d u : ℕ) → live_hits (devices_in pool.space) (addresses_of stored.pointers) d u ≡ one_if (is_live_role (role_at pool.space d u))
 
 -- what the pool, if one is open, and the disks stand for
 abbrev pub StandsFor : Option OpenPool → List (List ℕ) → State → Type 0

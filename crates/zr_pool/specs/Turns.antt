@@ -19,8 +19,8 @@ use Rattle.zr_sync.specs.Pools.{IsOpen}
 use Rattle.zr_sync.specs.declared.open.OpenPool.{OpenPool}
 use Rattle.zr_pool.specs.Accounts.{Turns, Begins, BeginsNone}
 use Rattle.zr_pool.specs.Behind.{IsBehindTurn, LeavesBegun, LeavesEither, LeavesOnly, LeavesOpened, begun_behind, is_commit, is_in_group, leaves_trees, may_stop}
-use Rattle.zr_pool.specs.Plain.{IsFoundAgain, IsObjectsTurn, IsRejoined, ends_removal, is_background, is_of_removal}
-use Rattle.zr_pool.specs.Pools.{DeviceState, IsUnwritten, is_evacuating, no_device_state, stand_of}
+use Rattle.zr_pool.specs.Plain.{IsFoundAgain, IsObjectsTurn, IsRejoined, is_background, is_of_removal}
+use Rattle.zr_pool.specs.Pools.{DeviceState, IsUnwritten, is_evacuating, no_device_state, stand_of, HasLiveUnits}
 use Rattle.zr_recorded.specs.Crashes.{ShowsPool}
 use Rattle.zr_recorded.specs.Service.{IsWhole}
 use Rattle.zr_pool.specs.Replies.{TellsFault}
@@ -111,12 +111,11 @@ IsRemoveRefusal refusal.OnlyDevice = Unit {0}
 IsRemoveRefusal (refusal.NoRoom needed free) = free < needed
 IsRemoveRefusal r = ⊥
 
--- Whether the disks are told to show the pool behind a line, by whether one was open before it, and they were told so then: they show one that is made or opened, and so they do behind each line but a step that ends a
--- removal. A refusal leaves that.
-abbrev pub is_shown : Bool → Bool → Command → Reply → Bool
-is_shown is_open shown command (reply.No r) = shown
-is_shown true shown command answer = shown && not (ends_removal command answer)
-is_shown false shown command answer = true
+-- Whether the disks are told to show the pool behind a line, by whether one was open before it, and they were told so then: they show one that is made or opened, and so they do behind each line.
+abbrev pub is_shown : Bool → Bool → Reply → Bool
+is_shown is_open shown (reply.No r) = shown
+is_shown true shown answer = shown
+is_shown false shown answer = true
 
 -- the objects are told
 abbrev pub is_told : ShelfPart → Bool
@@ -144,10 +143,12 @@ abbrev pub none_leaving : Option OpenPool → Bool
 none_leaving None = true
 none_leaving (Some pool) = not (is_evacuating pool.space)
 
--- The line leaves copies the bytes of their units: it works in the group that is open or commits it, takes a device out of service, is a step in the background, or is refused.
+-- The line leaves copies the bytes of their units: it works in the group that is open or commits it, adds a device or takes one out of service, is an upgrade or a step in the background, or is refused.
 abbrev pub leaves_copies : Command → Reply → Bool
 leaves_copies command (reply.No r) = true
 leaves_copies (cmd.Remove dev) answer = true
+leaves_copies (cmd.Add dev) answer = true
+leaves_copies cmd.Upgrade answer = true
 leaves_copies command answer = is_in_group command || is_background command answer
 
 -- Whether copies are told to have the bytes of their units behind a line, by whether a pool was open before it, its objects were told, and copies were told so then, and by the account behind it: they are where no device
@@ -297,7 +298,7 @@ pub record IsDeviceTurn (p : Point DeviceState) (t : Turn DeviceState) : Type 0 
   pub objects : (on_objects_told p.state.copies).takes (told_point p) (told_turn t)
   pub account : IsAccountTurn p.shelf p.state.account t.command t.answer t.point.shelf t.point.state.account
   pub lawful : IfSome t.point.state.account (IsOpen (sizes_of t.point.shelf.disks))
-  pub shown : t.point.state.shown ≡ is_shown p.state.told.is_open p.state.shown t.command t.answer
+  pub shown : t.point.state.shown ≡ is_shown p.state.told.is_open p.state.shown t.answer
   pub trees : t.point.state.trees ≡ is_standing p.state.told.is_open p.state.told.shelf p.state.trees t.command t.answer
   pub behind : IsBehindTurn p.state t.command t.answer t.point.state.told.shelf t.point.state.account t.point.state.behind
   pub begun : t.point.state.begun ≡ begun_behind p.state.begun t.answer
@@ -308,12 +309,14 @@ pub record IsDeviceTurn (p : Point DeviceState) (t : Turn DeviceState) : Type 0 
   pub found_again : p.state.shown ≡ true → p.state.trees ≡ true → t.command ≡ cmd.Import → t.answer ≡ reply.Done → IsFoundAgain p.state.told.shelf t.point.state.told.shelf
 
 -- How the disks may stand between two lines: they read as behind the last, whatever an honest crash shows are the objects that were committed last, and where nothing was written yet they stand as at the beginning.
--- Where an import is told to find what was committed last, each device is in service and no root is saved, whatever a crash leaves shows a pool with these objects.
+-- Where an import is told to find what was committed last, each device is in service and no root is saved, whatever a crash leaves shows a pool with these objects. Where the objects of the open pool are told, its live units
+-- are those to which their blocks and the directory's lead, each once.
 pub record RestsOn (p : Point DeviceState) (disks : Disks) : Type 0 where
   pub reads : disks.seen ≡ p.shelf.disks
   pub shows : (objects : Objects) → p.state.behind ≡ Some objects → LeavesOnly objects disks
   pub unwritten : (first : Disks) → p.state.begun ≡ Some first → IsUnwritten first disks
   pub finds : p.state.found ≡ true → IfSome p.state.account (λ x. IsWhole x → x.saved ≡ None → (objects : Objects) → p.state.behind ≡ Some objects → (paths : List (List ℕ)) → ShowsPool paths objects (stand_of disks))
+  pub units : IfSome p.state.account (λ x. (q : PoolState) → p.state.told.shelf ≡ Is q → HasLiveUnits disks.seen x)
 
 -- How the disks may stand at a moment of a line: while one tells how an open pool stands, they read as before it. Whatever an honest crash shows are the objects that were committed last, or those from before
 -- the line, which it commits. Where no pool is open they are the former, or those that the line opens to; and where nothing was written yet, it is what a crash would have left at the beginning, or what is shown has the objects that were shown before the line, or those that it opens to.

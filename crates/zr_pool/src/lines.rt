@@ -20,7 +20,7 @@ ghost use Rattle.zr_sync.specs.Trees.{HasLastTrees};
 ghost use Rattle.zr_script.specs.declared.command.Command.TheVariants.{Export, StepDiscard};
 ghost use Rattle.zr_shelf.specs.Moments.{IsStill};
 ghost use Rattle.zr_pool.specs.Plain.{IsDone, IsPlainOf, IsPlainRefusal};
-ghost use Rattle.zr_pool.specs.Behind.{EndsReset, KeepsTrees, StopsInReset, is_commit, is_resetting};
+ghost use Rattle.zr_pool.specs.Behind.{EndsReset, KeepsTrees, StopsInReset, is_commit, is_resetting, spares_copies};
 ghost use Rattle.zr_pool.specs.Pools.{IsAtRest};
 ghost use Rattle.zr_pool.specs.Accounts.{Refuses, Turns};
 ghost use Rattle.zr_pool.specs.Replies.{step_reply};
@@ -200,6 +200,7 @@ pub fn pool_line<S: Shelf>(
     ensures still { command.now ≡ StepDiscard → IsStill (S.world shelf.old) (S.world shelf.new) }
     ensures steps { command.now ≡ StepDiscard → OnOk result (OpensNoUnit pool.old pool.new) }
     ensures step_copies { command.now ≡ StepDiscard → OnOk result (KeepsCopies (S.world shelf.old) (S.world shelf.new) pool.old pool.new) }
+    ensures copies { S.tells shelf.old → spares_copies command.now ≡ true → OnOk result (KeepsCopies (S.world shelf.old) (S.world shelf.new) pool.old pool.new) }
     ensures step_trees { command.now ≡ StepDiscard → OnOk result (KeepsTrees pool.old pool.new (S.world shelf.old) (S.world shelf.new)) }
     ensures left { command.now ≡ Export → (p : PoolState) → HoldsState (S.tells shelf.old) (S.world shelf.old).now.seen pool.old p → OnOk result (IsAtRest (S.world shelf.new).now.seen pool.new p) }
     ensures commits { is_commit command.now ≡ true → (p : PoolState) → HoldsState (S.tells shelf.old) (S.world shelf.old).now.seen pool.old p → OnOk result (EndsCommitted (S.sizes shelf.old) false pool.old pool.new p.objects (S.world shelf.old) (S.world shelf.new)) }

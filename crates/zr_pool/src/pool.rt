@@ -1,6 +1,6 @@
 //! The pool on the devices of the words, as a run over lines knows it.
 ghost use Rattle.std.specs.FinMap as map;
-ghost use Rattle.std.specs.Prelude.{◌≡◌, ◌≤◌, ℕ, Bool, List, Option, Some, None, true, false, is_some, IfOk, IfSome, IfNone, IsErrOf, OnOk, OnErr, length};
+ghost use Rattle.std.specs.Prelude.{◌≡◌, ◌≤◌, ◌||◌, ℕ, Bool, List, Option, Some, None, true, false, is_some, IfOk, IfSome, IfNone, IsErrOf, OnOk, OnErr, length};
 ghost use Rattle.zr_base.specs.Counts.{HasRisen};
 ghost use Rattle.zr_base.specs.declared.refusal.Refusal.{Refusal};
 ghost use Rattle.zr_script.specs.Grammar.{IsLine};
@@ -21,9 +21,9 @@ ghost use Rattle.zr_sync.specs.Ends.{ComesCommitted, EndsCommitted};
 ghost use Rattle.zr_lines.specs.Stops.{OpensNoUnit, StaysInOneGroup, WritesInOneGroup};
 ghost use Rattle.zr_script.specs.declared.command.Command.TheVariants.{Export, Import};
 ghost use Rattle.zr_open.specs.Left.{IsLeftCommitted};
-ghost use Rattle.zr_pool.specs.Plain.{IsDone, IsMade, IsOpeningCause, IsPlainOf, IsPlainRefusal, ends_removal, is_background, is_copy, is_of_removal, shelf_of};
+ghost use Rattle.zr_pool.specs.Plain.{IsDone, IsMade, IsOpeningCause, IsPlainOf, IsPlainRefusal, is_background, is_of_removal, shelf_of};
 ghost use Rattle.zr_open.specs.Flushed.{FlushesOnly};
-ghost use Rattle.zr_pool.specs.Behind.{EndsReset, HasReset, KeepsTrees, StaysTold, StopsInReset, StopsInOpening, ends_no_removal, is_commit, is_create, is_import, is_in_group, is_resetting, is_return, is_silent};
+ghost use Rattle.zr_pool.specs.Behind.{EndsReset, HasReset, KeepsTrees, StaysTold, StopsInReset, StopsInOpening, copies_or_returns, ends_no_removal, is_commit, is_create, is_import, is_in_group, is_resetting, is_return, is_silent, spares_copies};
 ghost use Rattle.zr_pool.specs.Pools.{IsAtRest, IsOnShelf};
 ghost use Rattle.zr_removal.specs.Turns.{CancelsInPart};
 ghost use Rattle.zr_pool.specs.Replies.{TellsFault};
@@ -103,7 +103,7 @@ fn open_line<S: Shelf>(
     ensures cause { (p : PoolState) → HoldsState (S.tells shelf.old) (S.world shelf.old).now.seen pool.old p → (r : Refusal) → IsErrOf result (No r) → IsPlainRefusal p command.now r }
     ensures still { S.tells shelf.old → is_silent command.now ≡ true → IsStill (S.world shelf.old) (S.world shelf.new) }
     ensures opens { is_silent command.now ≡ true → (p : PoolState) → HoldsState (S.tells shelf.old) (S.world shelf.old).now.seen pool.old p → OnOk result (OpensNoUnit pool.old pool.new) }
-    ensures shown { S.tells shelf.old → IfOk result (λ found. IfSome found (λ reply. ends_removal command.now reply ≡ false → KeepsLast (S.world shelf.old) (S.world shelf.new) pool.old pool.new)) }
+    ensures shown { S.tells shelf.old → OnOk result (KeepsLast (S.world shelf.old) (S.world shelf.new) pool.old pool.new) }
     ensures shown_no { S.tells shelf.old → (r : Refusal) → IsErrOf result (No r) → KeepsLast (S.world shelf.old) (S.world shelf.new) pool.old pool.new }
     ensures left { command.now ≡ Export → (p : PoolState) → HoldsState (S.tells shelf.old) (S.world shelf.old).now.seen pool.old p → OnOk result (IsAtRest (S.world shelf.new).now.seen pool.new p) }
     ensures one_group { is_in_group command.now ≡ true → (p : PoolState) → HoldsState (S.tells shelf.old) (S.world shelf.old).now.seen pool.old p → OnOk result (StaysTold (S.sizes shelf.old) p.objects command.now pool.old pool.new (S.world shelf.old) (S.world shelf.new)) }
@@ -113,8 +113,8 @@ fn open_line<S: Shelf>(
     ensures comes_back { (p : PoolState) → HoldsState (S.tells shelf.old) (S.world shelf.old).now.seen pool.old p → IfOk result (λ found. IfSome found (λ reply. is_return reply command.now ≡ true → HasReset pool.new (S.world shelf.new).now p.objects)) }
     ensures resets { is_resetting command.now ≡ true → (p : PoolState) → HoldsState (S.tells shelf.old) (S.world shelf.old).now.seen pool.old p → OnOk result (EndsReset command.now pool.old pool.new p.objects (S.world shelf.old) (S.world shelf.new)) }
     ensures background { S.tells shelf.old → IfOk result (λ found. IfSome found (λ reply. is_background command.now reply ≡ true → WritesIntoFree pool.old (S.world shelf.old) (S.world shelf.new) × OpensNoUnit pool.old pool.new)) }
-    ensures copied { S.tells shelf.old → IfOk result (λ found. IfSome found (λ reply. is_copy command.now reply ≡ true → KeepsTrees pool.old pool.new (S.world shelf.old) (S.world shelf.new))) }
-    ensures copies { S.tells shelf.old → is_of_removal command.now ≡ true → OnOk result (KeepsCopies (S.world shelf.old) (S.world shelf.new) pool.old pool.new) }
+    ensures trees { S.tells shelf.old → IfOk result (λ found. IfSome found (λ reply. copies_or_returns command.now reply ≡ true → KeepsTrees pool.old pool.new (S.world shelf.old) (S.world shelf.new))) }
+    ensures copies { S.tells shelf.old → (spares_copies command.now || is_of_removal command.now) ≡ true → OnOk result (KeepsCopies (S.world shelf.old) (S.world shelf.new) pool.old pool.new) }
     ensures stops_reset { is_resetting command.now ≡ true → (p : PoolState) → HoldsState (S.tells shelf.old) (S.world shelf.old).now.seen pool.old p → StopsInReset (S.sizes shelf.old) p.objects command.now pool.old (S.world shelf.old) (S.world shelf.new) }
     ensures stops_back { ends_no_removal (Some pool.old) command.now ≡ true → (p : PoolState) → HoldsState (S.tells shelf.old) (S.world shelf.old).now.seen pool.old p → CancelsInPart (S.sizes shelf.old) p.objects pool.old (S.world shelf.old) (S.world shelf.new) }
     ensures account { S.tells shelf.old → IfOk result (λ found. IfSome found (λ reply. Turns paths.now (S.sizes shelf.old) (S.world shelf.old).now.seen pool.old command.now reply (S.world shelf.new).now.seen pool.new)) }

@@ -26,8 +26,8 @@ ghost use Rattle.zr_sync.specs.States.{HasCheckpoint, HoldsState};
 ghost use Rattle.zr_sync.specs.Writes.{WorksOnDisks, WritesIntoFree};
 ghost use Rattle.zr_sync.specs.declared.fault.Fault.TheVariants.{No, Stops};
 ghost use Rattle.zr_sync.specs.declared.stop.Stop.TheVariants.{DiskFault};
-ghost use Rattle.zr_pool.specs.Behind.{HasReset, KeepsTrees, StopsInReset, ends_no_removal, is_resetting, is_return};
-ghost use Rattle.zr_pool.specs.Plain.{IsCheckpointCause, IsDone, IsPlainOf, IsPlainRefusal, ends_removal, is_background, is_copy, is_of_removal};
+ghost use Rattle.zr_pool.specs.Behind.{HasReset, KeepsTrees, StopsInReset, copies_or_returns, ends_no_removal, is_resetting, is_return};
+ghost use Rattle.zr_pool.specs.Plain.{IsCheckpointCause, IsDone, IsPlainOf, IsPlainRefusal, is_background, is_of_removal};
 ghost use Rattle.zr_pool.specs.Accounts.{IsRemovable, IsRemovalCause, Refuses, Turns};
 ghost use Rattle.zr_pool.specs.Replies.{TellsFault, condense_reply, evac_reply};
 ghost use Rattle.zr_pool.specs.Turns.{IsOpenAnswer, IsOpenRefusal, IsRemoveRefusal};
@@ -136,9 +136,9 @@ pub fn removal_line<S: Shelf>(
     ensures untouched { (r : Refusal) → IsErrOf result (No r) → S.world shelf.new ≡ S.world shelf.old }
     ensures acts { (copies : Bool) → (copies ≡ true → HasCopies (S.world shelf.old).now.seen pool.old) → (p : PoolState) → HoldsState (S.tells shelf.old) (S.world shelf.old).now.seen pool.old p → IfOk result (IsPlainOf copies (HoldsState (S.tells shelf.new) (S.world shelf.new).now.seen pool.new) p command.now) }
     ensures cause { (p : PoolState) → HoldsState (S.tells shelf.old) (S.world shelf.old).now.seen pool.old p → (r : Refusal) → IsErrOf result (No r) → IsPlainRefusal p command.now r }
-    ensures shown { S.tells shelf.old → IfOk result (λ reply. ends_removal command.now reply ≡ false → KeepsLast (S.world shelf.old) (S.world shelf.new) pool.old pool.new) }
+    ensures shown { S.tells shelf.old → OnOk result (KeepsLast (S.world shelf.old) (S.world shelf.new) pool.old pool.new) }
     ensures background { S.tells shelf.old → IfOk result (λ reply. is_background command.now reply ≡ true → WritesIntoFree pool.old (S.world shelf.old) (S.world shelf.new) × OpensNoUnit pool.old pool.new) }
-    ensures copied { S.tells shelf.old → IfOk result (λ reply. is_copy command.now reply ≡ true → KeepsTrees pool.old pool.new (S.world shelf.old) (S.world shelf.new)) }
+    ensures trees { S.tells shelf.old → IfOk result (λ reply. copies_or_returns command.now reply ≡ true → KeepsTrees pool.old pool.new (S.world shelf.old) (S.world shelf.new)) }
     ensures copies { S.tells shelf.old → OnOk result (KeepsCopies (S.world shelf.old) (S.world shelf.new) pool.old pool.new) }
     ensures still { command.now ≡ StepCondense → IsStill (S.world shelf.old) (S.world shelf.new) }
     ensures comes_back { (p : PoolState) → HoldsState (S.tells shelf.old) (S.world shelf.old).now.seen pool.old p → IfOk result (λ reply. is_return reply command.now ≡ true → HasReset pool.new (S.world shelf.new).now p.objects) }

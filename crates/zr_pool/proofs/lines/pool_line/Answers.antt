@@ -1,4 +1,4 @@
-use Rattle.std.proofs.Common.{inl, false, [], ◌∷◌, ◌++◌, ◌==◌, inr, sym, ◌∙◌, ap, subst, refl, Ok, Err}
+use Rattle.std.proofs.Common.{◌≡◌, inl, true, false, [], ◌∷◌, ◌++◌, ◌==◌, inr, sym, ◌∙◌, ap, subst, refl, Ok, Err}
 use Rattle.std.proofs.lemmas.Result.{err_from_is_err_and}
 use Rattle.zr_script.specs.declared.command.Command.{Command}
 use Rattle.zr_script.specs.declared.command.Command.TheVariants as cmd
@@ -15,7 +15,7 @@ use Rattle.zr_sync.specs.declared.open.OpenPool.{OpenPool}
 use Rattle.zr_pool.specs.Accounts.{Refuses, Turns}
 use Rattle.zr_pool.proofs.Acting.{plain_refusal, synced_as, added_as, saved_as, given_up_as, stepped_as, upgraded_as}
 use Rattle.zr_pool.specs.Turns.{IsOpenAnswer, IsOpenRefusal}
-use Rattle.zr_pool.proofs.Groups.{refused_stays, same_world, step_opens_none}
+use Rattle.zr_pool.proofs.Groups.{no_way, refused_stays, same_world, step_opens_none}
 use Rattle.zr_pool.proofs.Refused.{fault_same, add_refusal, take_cause, take_refusal, give_cause, give_refusal, step_cause, step_refusal}
 use Rattle.zr_last.proofs.Lasting.{commit_last, same_last}
 use Rattle.zr_shelf.specs.Disks.{Stand}
@@ -24,7 +24,7 @@ use Rattle.zr_pool.proofs.Copied.{step_copies}
 use Rattle.zr_pool.proofs.Staying.{stays_still, same_state, held_state, discarding_state, stepped_state, objects_told, objects_anew_unit, step_answer, some_units}
 use Rattle.zr_pool.proofs.Trees.{recorded_trees, writes_no_trees}
 use Rattle.zr_pool.proofs.Resets.{reset_told}
-use Rattle.zr_pool.specs.Behind.{WritesTold, is_writing_trees}
+use Rattle.zr_pool.specs.Behind.{WritesTold, is_writing_trees, spares_copies}
 use Rattle.zr_sync.proofs.Retelling.{trees_told}
 use Rattle.zr_sync.specs.Trees.{HasLastTrees}
 use Rattle.zr_sync.specs.Trees.Stage.{Had}
@@ -449,6 +449,27 @@ returns-in_ok-units-in-StepDiscard-clause-steps g c = λ step. step_opens_none c
 
 pub returns-in_ok-units-in-StepDiscard-clause-step_copies : goal.returns-in_ok-units-in-StepDiscard-clause-step_copies
 returns-in_ok-units-in-StepDiscard-clause-step_copies g c = λ step. step_copies (g.S.Shelf.world c.args.shelf.now).now.seen c.args.pool.now c.step.new.pool c.in_ok-units-in-StepDiscard.units c.in_ok-units-in-StepDiscard.ensures.root c.in_ok-units-in-StepDiscard.ensures.steps
+
+pub returns-in_ok-commit-in-Sync-clause-copies : goal.returns-in_ok-commit-in-Sync-clause-copies
+returns-in_ok-commit-in-Sync-clause-copies g c = λ told spares. no_way (subst (λ (command : Command). spares_copies command ≡ true) c.in-Sync.is spares)
+
+pub returns-in_ok-commit-in-Export-clause-copies : goal.returns-in_ok-commit-in-Export-clause-copies
+returns-in_ok-commit-in-Export-clause-copies g c = λ told spares. no_way (subst (λ (command : Command). spares_copies command ≡ true) c.in-Export.is spares)
+
+pub returns-in_ok-add-in-Add-clause-copies : goal.returns-in_ok-add-in-Add-clause-copies
+returns-in_ok-add-in-Add-clause-copies g c = λ told spares. c.in_ok-add-in-Add.ensures.copies told
+
+pub returns-in_ok-take-in-Checkpoint-clause-copies : goal.returns-in_ok-take-in-Checkpoint-clause-copies
+returns-in_ok-take-in-Checkpoint-clause-copies g c = λ told spares. no_way (subst (λ (command : Command). spares_copies command ≡ true) c.in-Checkpoint.is spares)
+
+pub returns-in_ok-give_up-in-Discard-clause-copies : goal.returns-in_ok-give_up-in-Discard-clause-copies
+returns-in_ok-give_up-in-Discard-clause-copies g c = λ told spares. no_way (subst (λ (command : Command). spares_copies command ≡ true) c.in-Discard.is spares)
+
+pub returns-in_ok-units-in-StepDiscard-clause-copies : goal.returns-in_ok-units-in-StepDiscard-clause-copies
+returns-in_ok-units-in-StepDiscard-clause-copies g c = λ told spares. no_way (subst (λ (command : Command). spares_copies command ≡ true) c.in-StepDiscard.is spares)
+
+pub returns-in_ok-upgrade-in-Upgrade-clause-copies : goal.returns-in_ok-upgrade-in-Upgrade-clause-copies
+returns-in_ok-upgrade-in-Upgrade-clause-copies g c = λ told spares. c.in_ok-upgrade-in-Upgrade.ensures.copies told
 
 pub returns-in_ok-units-in-StepDiscard-clause-step_trees : goal.returns-in_ok-units-in-StepDiscard-clause-step_trees
 returns-in_ok-units-in-StepDiscard-clause-step_trees g c = λ step. c.in_ok-units-in-StepDiscard.ensures.trees (g.S.Shelf.world c.args.shelf.now).now.seen

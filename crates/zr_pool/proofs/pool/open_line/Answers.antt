@@ -7,9 +7,9 @@ use Rattle.zr_script.specs.declared.command.Command.{Command}
 use Rattle.zr_vdev.specs.Stores.{IsWriteInto}
 use Rattle.zr_vdev.specs.declared.kind.Kind.TheVariants.{Block}
 use Rattle.zr_lines.proofs.Stopping.{in_group_itself}
-use Rattle.zr_pool.proofs.Copied.{removal_alone}
+use Rattle.zr_pool.proofs.Copied.{copies_elsewhere, copies_on_pool, copies_somewhere}
 use Rattle.zr_pool.proofs.Trees.{removal_writes_none}
-use Rattle.zr_pool.proofs.Groups.{background_removal, copy_removal, commit_alone, commits_in_group, condense_background, ends_none, none_of_them, not_of_removal, not_opener, no_way, opens_no_reset, pool_commits, refused_stays, resets_elsewhere, resets_somewhere, return_elsewhere, same_world, silent_objects, silent_pool, silent_removal}
+use Rattle.zr_pool.proofs.Groups.{background_removal, commit_alone, commits_in_group, condense_background, ends_none, moved_removal, none_of_them, not_of_removal, not_opener, no_way, opens_no_reset, pool_commits, refused_stays, resets_elsewhere, resets_somewhere, return_elsewhere, same_world, silent_objects, silent_pool, silent_removal}
 use Rattle.zr_pool.proofs.Leavings.{opener_refused}
 use Rattle.zr_pool.proofs.Refused.{fault_same}
 use Rattle.zr_pool.proofs.Shown.{same_root, still_last}
@@ -334,25 +334,28 @@ returns-then-is_opener-clause-stops_back g c = λ on p h. no_way (sym (sym c.is_
 pub returns-clause-stops_back : goal.returns-clause-stops_back
 returns-clause-stops_back g c = λ on p h. no_way (sym (sym c.is_of_removal.ensures ∙ c.if-is_of_removal.false) ∙ (ends_none (Some c.args.pool.now) c.args.command.now on).removal)
 
-pub returns-then-is_on_objects-clause-copied : goal.returns-then-is_on_objects-clause-copied
-returns-then-is_on_objects-clause-copied g c = λ told step. no_way (sym (copy_removal _ _ step).objects ∙ (sym c.is_on_objects.ensures ∙ c.if-is_on_objects.true))
+pub returns-then-is_on_objects-clause-trees : goal.returns-then-is_on_objects-clause-trees
+returns-then-is_on_objects-clause-trees g c = λ told step. no_way (sym (moved_removal _ _ step).objects ∙ (sym c.is_on_objects.ensures ∙ c.if-is_on_objects.true))
 
-pub returns-then-is_table-clause-copied : goal.returns-then-is_table-clause-copied
-returns-then-is_table-clause-copied g c = λ told step. no_way (sym (copy_removal _ _ step).table ∙ (sym c.is_table.ensures ∙ c.if-is_table.true))
+pub returns-then-is_table-clause-trees : goal.returns-then-is_table-clause-trees
+returns-then-is_table-clause-trees g c = λ told step. no_way (sym (moved_removal _ _ step).table ∙ (sym c.is_table.ensures ∙ c.if-is_table.true))
 
-pub returns-then-is_on_pool-clause-copied : goal.returns-then-is_on_pool-clause-copied
-returns-then-is_on_pool-clause-copied g c = λ told step. no_way (sym (copy_removal _ _ step).pool ∙ (sym c.is_on_pool.ensures ∙ c.if-is_on_pool.true))
+pub returns-then-is_on_pool-clause-trees : goal.returns-then-is_on_pool-clause-trees
+returns-then-is_on_pool-clause-trees g c = λ told step. no_way (sym (moved_removal _ _ step).pool ∙ (sym c.is_on_pool.ensures ∙ c.if-is_on_pool.true))
 
 -- ---- copies
 
 pub returns-then-is_on_objects-clause-copies : goal.returns-then-is_on_objects-clause-copies
-returns-then-is_on_objects-clause-copies g c = λ told on. absurd (removal_alone c.args.command.now on (inl (sym c.is_on_objects.ensures ∙ c.if-is_on_objects.true)))
+returns-then-is_on_objects-clause-copies g c = λ told on. absurd (copies_elsewhere c.args.command.now on (inl (sym c.is_on_objects.ensures ∙ c.if-is_on_objects.true)))
 
 pub returns-then-is_table-clause-copies : goal.returns-then-is_table-clause-copies
-returns-then-is_table-clause-copies g c = λ told on. absurd (removal_alone c.args.command.now on (inr (inl (sym c.is_table.ensures ∙ c.if-is_table.true))))
+returns-then-is_table-clause-copies g c = λ told on. absurd (copies_elsewhere c.args.command.now on (inr (sym c.is_table.ensures ∙ c.if-is_table.true)))
 
 pub returns-then-is_on_pool-clause-copies : goal.returns-then-is_on_pool-clause-copies
-returns-then-is_on_pool-clause-copies g c = λ told on. absurd (removal_alone c.args.command.now on (inr (inr (sym c.is_on_pool.ensures ∙ c.if-is_on_pool.true))))
+returns-then-is_on_pool-clause-copies g c = λ told on. c.in_ok-pool_line.ensures.copies told (copies_on_pool c.args.command.now on (sym c.is_on_pool.ensures ∙ c.if-is_on_pool.true))
 
 pub returns-clause-copies : goal.returns-clause-copies
-returns-clause-copies g c = λ told on. no_way (sym (sym c.is_of_removal.ensures ∙ c.if-is_of_removal.false) ∙ on)
+returns-clause-copies g c = λ told on. absurd (copies_somewhere c.args.command.now on (sym c.is_on_pool.ensures ∙ c.if-is_on_pool.false) (sym c.is_of_removal.ensures ∙ c.if-is_of_removal.false))
+
+pub returns-then-is_of_removal-clause-copies : goal.returns-then-is_of_removal-clause-copies
+returns-then-is_of_removal-clause-copies g c = λ told on. c.in_ok-removal_line.ensures.copies told

@@ -16,10 +16,10 @@ use Rattle.zr_last.specs.Last.{KeepsRoot}
 use Rattle.zr_lines.specs.Stops.{OpensNoUnit}
 use Rattle.zr_sync.specs.Writes.{WritesIntoFree}
 use Rattle.zr_sync.specs.declared.open.OpenPool.{OpenPool}
-use Rattle.zr_pool.specs.Behind.{HasReset, WritesTold, ends_no_removal, is_resetting, is_return, is_writing_trees}
-use Rattle.zr_pool.specs.Plain.{IsPlainOf, ends_removal, is_background, is_copy}
+use Rattle.zr_pool.specs.Behind.{HasReset, WritesTold, copies_or_returns, ends_no_removal, is_resetting, is_return, is_writing_trees}
+use Rattle.zr_pool.specs.Plain.{IsPlainOf, is_background}
 use Rattle.zr_pool.specs.Replies.{TellsFault}
-use Rattle.zr_pool.proofs.Acting.{back_ckpt, condense_acts, condense_no_return, condensed_root, evac_acts, evac_copies, evac_copy, evac_returns, evac_shows, removed_as}
+use Rattle.zr_pool.proofs.Acting.{back_ckpt, condense_acts, condense_no_move, condense_no_return, condensed_root, evac_acts, evac_copies, evac_moves, evac_returns, evac_shows, removed_as}
 use Rattle.zr_pool.proofs.Blaming.{step_blames}
 use Rattle.zr_pool.proofs.Groups.{left_to_copy, no_way, same_world}
 use Rattle.zr_pool.proofs.Staying.{same_state, told_anew}
@@ -233,18 +233,18 @@ returns-in_ok-step_condense-in-StepCondense-clause-acts g c = λ copies stand p 
 -- ---- what the disks show
 
 pub returns-in_ok-remove-in-Remove-clause-shown : goal.returns-in_ok-remove-in-Remove-clause-shown
-returns-in_ok-remove-in-Remove-clause-shown g c = λ told off. c.in_ok-remove-in-Remove.ensures.shown told
+returns-in_ok-remove-in-Remove-clause-shown g c = λ told. c.in_ok-remove-in-Remove.ensures.shown told
 
 pub returns-in_ok-cancel-in-Cancel-clause-shown : goal.returns-in_ok-cancel-in-Cancel-clause-shown
-returns-in_ok-cancel-in-Cancel-clause-shown g c = λ told off. c.in_ok-cancel-in-Cancel.ensures.shown told
+returns-in_ok-cancel-in-Cancel-clause-shown g c = λ told. c.in_ok-cancel-in-Cancel.ensures.shown told
 
 pub returns-in_ok-step_evac-in-StepEvac-clause-shown : goal.returns-in_ok-step_evac-in-StepEvac-clause-shown
-returns-in_ok-step_evac-in-StepEvac-clause-shown g c = λ told off.
-    evac_shows _ c.in_ok-step_evac-in-StepEvac.field-0 (c.in_ok-step_evac-in-StepEvac.ensures.shown told) (c.in_ok-step_evac-in-StepEvac.ensures.back_shown told)
-    (subst (λ (answer : Reply). ends_removal cmd.StepEvac answer ≡ false) c.evac_reply.ensures (subst (λ (command : Command). ends_removal command c.evac_reply.result ≡ false) c.in-StepEvac.is off))
+returns-in_ok-step_evac-in-StepEvac-clause-shown g c = λ told.
+    let done = c.in_ok-step_evac-in-StepEvac.ensures in
+    evac_shows _ c.in_ok-step_evac-in-StepEvac.field-0 (done.shown told) (done.back_shown told) (done.gone_shown told)
 
 pub returns-in_ok-step_condense-in-StepCondense-clause-shown : goal.returns-in_ok-step_condense-in-StepCondense-clause-shown
-returns-in_ok-step_condense-in-StepCondense-clause-shown g c = λ told off h.
+returns-in_ok-step_condense-in-StepCondense-clause-shown g c = λ told h.
     same_last (g.S.Shelf.world c.args.shelf.now).now.seen c.args.pool.now c.step_condense.new.pool (condensed_root c.args.pool.now c.step_condense.new.pool c.in_ok-step_condense-in-StepCondense.field-0 c.in_ok-step_condense-in-StepCondense.ensures.condenses) h
 
 pub returns-in_ok-remove-in-Remove-clause-resets : goal.returns-in_ok-remove-in-Remove-clause-resets
@@ -311,22 +311,23 @@ returns-in_ok-step_condense-in-StepCondense-clause-background g c = λ told on.
     let step = c.in_ok-step_condense-in-StepCondense.ensures in
     (writes_nothing (IsWriteInto Block x.table.slots x.space) (g.S.Shelf.world c.args.shelf.now), record { root = condensed_root x y c.in_ok-step_condense-in-StepCondense.field-0 step.condenses; units = λ d u is. ap is_open_role (sym (step.roles d u)) ∙ is })
 
--- ---- units that were copied
+-- ---- units that were copied, and a removal that was given up
 
-pub returns-in_ok-remove-in-Remove-clause-copied : goal.returns-in_ok-remove-in-Remove-clause-copied
-returns-in_ok-remove-in-Remove-clause-copied g c = λ told on. no_way (subst (λ (command : Command). is_copy command reply.Done ≡ true) c.in-Remove.is on)
+pub returns-in_ok-remove-in-Remove-clause-trees : goal.returns-in_ok-remove-in-Remove-clause-trees
+returns-in_ok-remove-in-Remove-clause-trees g c = λ told on. no_way (subst (λ (command : Command). copies_or_returns command reply.Done ≡ true) c.in-Remove.is on)
 
-pub returns-in_ok-cancel-in-Cancel-clause-copied : goal.returns-in_ok-cancel-in-Cancel-clause-copied
-returns-in_ok-cancel-in-Cancel-clause-copied g c = λ told on. no_way (subst (λ (command : Command). is_copy command (reply.Cancelled c.in_ok-cancel-in-Cancel.field-0) ≡ true) c.in-Cancel.is on)
+pub returns-in_ok-cancel-in-Cancel-clause-trees : goal.returns-in_ok-cancel-in-Cancel-clause-trees
+returns-in_ok-cancel-in-Cancel-clause-trees g c = λ told on stood. c.in_ok-cancel-in-Cancel.ensures.trees stood told
 
-pub returns-in_ok-step_evac-in-StepEvac-clause-copied : goal.returns-in_ok-step_evac-in-StepEvac-clause-copied
-returns-in_ok-step_evac-in-StepEvac-clause-copied g c = λ told on stood.
+pub returns-in_ok-step_evac-in-StepEvac-clause-trees : goal.returns-in_ok-step_evac-in-StepEvac-clause-trees
+returns-in_ok-step_evac-in-StepEvac-clause-trees g c = λ told on stood.
     let step = c.in_ok-step_evac-in-StepEvac.ensures in
-    evac_copy (HasTrees Had (Unit {0}) (g.S.Shelf.world c.step_evac.new.shelf).now.seen c.step_evac.new.pool) c.in_ok-step_evac-in-StepEvac.field-0 (λ n is. step.trees stood told n is)
-    (subst (λ (answer : Reply). is_copy cmd.StepEvac answer ≡ true) c.evac_reply.ensures (subst (λ (command : Command). is_copy command c.evac_reply.result ≡ true) c.in-StepEvac.is on))
+    evac_moves (HasTrees Had (Unit {0}) (g.S.Shelf.world c.step_evac.new.shelf).now.seen c.step_evac.new.pool) c.in_ok-step_evac-in-StepEvac.field-0 (λ n is. step.trees stood told n is) (λ d is. step.back_trees stood told d is)
+    (subst (λ (answer : Reply). copies_or_returns cmd.StepEvac answer ≡ true) c.evac_reply.ensures (subst (λ (command : Command). copies_or_returns command c.evac_reply.result ≡ true) c.in-StepEvac.is on))
 
-pub returns-in_ok-step_condense-in-StepCondense-clause-copied : goal.returns-in_ok-step_condense-in-StepCondense-clause-copied
-returns-in_ok-step_condense-in-StepCondense-clause-copied g c = λ told on. no_way (subst (λ (command : Command). is_copy command c.condense_reply.result ≡ true) c.in-StepCondense.is on)
+pub returns-in_ok-step_condense-in-StepCondense-clause-trees : goal.returns-in_ok-step_condense-in-StepCondense-clause-trees
+returns-in_ok-step_condense-in-StepCondense-clause-trees g c = λ told on.
+    absurd (condense_no_move c.in_ok-step_condense-in-StepCondense.field-0 (subst (λ (answer : Reply). copies_or_returns cmd.StepCondense answer ≡ true) c.condense_reply.ensures (subst (λ (command : Command). copies_or_returns command c.condense_reply.result ≡ true) c.in-StepCondense.is on)))
 
 -- ---- copies keep the bytes of their units
 

@@ -91,7 +91,7 @@ returns-clause-step g c = λ told paths before stood.
     let account_part = open_accounts old new before command x y (stood.account ∙ c.in-Some.is) c.as_slice.result.now (paths ∙ sym c.as_slice.ensures) (g.S.Shelf.sizes shelf) (g.S.Shelf.sizes c.open_line-done.new.shelf) (g.S.Shelf.sound shelf told).sized (g.S.Shelf.sound c.open_line-done.new.shelf behind).sized r
     c.open_line-done.ensures.answer (c.open_line-done.ensures.account told) (c.open_line-done.ensures.account_no told) c.open_line-done.ensures.pool c.open_line-done.ensures.pool_no in
     let last_part = open_lasts old new before command x y there (λ shown. subst (λ (o : Option OpenPool). AreShown o old.seen before.told.shelf before.trees) c.in-Some.is (stood.shown shown)) (λ stands. subst (λ (o : Option OpenPool). AreStanding o old.seen) c.in-Some.is (stood.trees stands)) (g.S.Shelf.sizes c.open_line-done.new.shelf) (g.S.Shelf.sound c.open_line-done.new.shelf behind).sized r
-    c.open_line-done.ensures.done c.open_line-done.ensures.answer (c.open_line-done.ensures.shown told) (c.open_line-done.ensures.shown_no told) (λ exports p held. c.open_line-done.ensures.left exports p (told_anew (Unit {0}) (g.S.Shelf.tells shelf) old.seen x p told held))
+    c.open_line-done.ensures.answer (c.open_line-done.ensures.shown told) (c.open_line-done.ensures.shown_no told) (λ exports p held. c.open_line-done.ensures.left exports p (told_anew (Unit {0}) (g.S.Shelf.tells shelf) old.seen x p told held))
     (λ exports p held. on_ok_weaker r (λ (ends : EndsCommitted (g.S.Shelf.sizes shelf) false x y p.objects (g.S.Shelf.world shelf) (g.S.Shelf.world c.open_line-done.new.shelf)). ends.moves) (c.open_line-done.ensures.commits (export_commits command exports) p (told_anew (Unit {0}) (g.S.Shelf.tells shelf) old.seen x p told held))) c.open_line-done.ensures.pool in
     let behind_part = λ (now_told : ShelfPart). open_behinds (g.S.Shelf.world shelf) (g.S.Shelf.world c.open_line-done.new.shelf) before command x y (g.S.Shelf.sizes shelf) (subst (λ (o : Option OpenPool). IfSome o (IsOpen (g.S.Shelf.sizes shelf))) c.in-Some.is c.requires.fits.is_open) (g.S.Shelf.sound shelf told).sized ((g.S.Shelf.sound c.open_line-done.new.shelf behind).sized ∙ c.open_line-done.ensures.sizes)
     there.part (stood.account ∙ c.in-Some.is) (λ shown. subst (λ (o : Option OpenPool). AreShown o old.seen before.told.shelf before.trees) c.in-Some.is (stood.shown shown)) (λ stands. subst (λ (o : Option OpenPool). AreStanding o old.seen) c.in-Some.is (stood.trees stands)) (subst (λ (o : Option OpenPool). IfSome before.behind (IsBehind o (disks_of old))) c.in-Some.is stood.behind) (subst (λ (o : Option OpenPool). IfSome before.begun (IsAsBegun o (disks_of old))) c.in-Some.is stood.begun) (λ on. subst (λ (o : Option OpenPool). AreCurrent o old.seen) c.in-Some.is (stood.current on)) (λ on. subst (λ (o : Option OpenPool). IfSome before.behind (IsFoundBehind o (disks_of old))) c.in-Some.is (stood.found on)) now_told r c.open_line-done.ensures.done (subst (λ (n : List ℕ). OnOk r (IsOpen n y)) c.open_line-done.ensures.sizes c.open_line-done.ensures.pool)
@@ -106,7 +106,7 @@ returns-clause-step g c = λ told paths before stood.
     (λ group p held. c.open_line-done.ensures.one_group group p (told_anew (Unit {0}) (g.S.Shelf.tells shelf) old.seen x p told held))
     (λ p held. c.open_line-done.ensures.one_group_no p (told_anew (Unit {0}) (g.S.Shelf.tells shelf) old.seen x p told held))
     (λ on p held. c.open_line-done.ensures.resets on p (told_anew (Unit {0}) (g.S.Shelf.tells shelf) old.seen x p told held))
-    (c.open_line-done.ensures.copied told)) in
+    (c.open_line-done.ensures.trees told)) in
     let current_part = subst (λ (b : Bool). IfOk (answer_of r) (λ found. IfSome found (λ answer. is_current b before.told.shelf before.current command answer ≡ true → AreCurrent (left_of (is_closing command r) y) new.seen))) (sym there.is_open)
     (open_current (g.S.Shelf.sizes shelf) (g.S.Shelf.world shelf) (g.S.Shelf.world c.open_line-done.new.shelf) before.told.shelf before.current command x y (subst (λ (o : Option OpenPool). IfSome o (IsOpen (g.S.Shelf.sizes shelf))) c.in-Some.is c.requires.fits.is_open) (g.S.Shelf.sound shelf told).sized
     ((g.S.Shelf.sound c.open_line-done.new.shelf behind).sized ∙ c.open_line-done.ensures.sizes) there.part (λ on. subst (λ (o : Option OpenPool). AreCurrent o old.seen) c.in-Some.is (stood.current on)) r c.open_line-done.ensures.done
