@@ -1,5 +1,5 @@
 -- What calls of a store in a row leave alone.
-use Rattle.std.proofs.Common.{◌≡◌, ℕ, ◌≤◌, ◌+◌, ◌/◌, ◌||◌, Bool, true, false, List, [], ◌∷◌, length, Option, Some, None, inl, inr, ◌<◌, refl, sym, ◌∙◌, ap, subst, arith}
+use Rattle.std.proofs.Common.{◌≡◌, ℕ, ◌≤◌, ◌+◌, ◌/◌, ◌||◌, Bool, true, false, List, [], ◌∷◌, ◌++◌, length, Option, Some, None, inl, inr, ◌<◌, refl, sym, ◌∙◌, ap, subst, arith}
 use Rattle.std.specs.Prelude.{if◌then◌else◌, IfSome}
 use Rattle.std.proofs.lemmas.Bool.Decides.{nat_tests}
 use Rattle.std.specs.Map.{remove_entry}
@@ -29,7 +29,7 @@ use Rattle.zr_rules.specs.Devices.{Devices}
 use Rattle.zr_rules.specs.Roles.{Role, is_free_role, is_held_role, is_deferred_role, freed, kept_of, dropped}
 use Rattle.zr_rules.specs.Roles.Role.{Free, FreshLive, Meta as MetaRole}
 use Rattle.zr_rules.specs.Space.{Space, role_at}
-use Rattle.zr_rules.specs.Frees.{IsSamePart, IsSameFrame, IsSameRoot, marks}
+use Rattle.zr_rules.specs.Frees.{Chain, IsSamePart, IsSameFrame, IsSameRoot, marks}
 use Rattle.zr_rules.specs.Resolve.{is_resolved}
 use Rattle.zr_rules.specs.Columns.{free_units, free_of}
 use Rattle.zr_rules.specs.Equation.{devices_in}
@@ -39,8 +39,10 @@ use Rattle.zr_cache.specs.declared.table.Cache.{Cache}
 use Rattle.zr_vdev.specs.declared.kind.Kind.{Kind}
 use Rattle.zr_vdev.specs.declared.kind.Kind.TheVariants as kinds
 use Rattle.zr_vdev.specs.Alike.{CopiesStand}
+use Rattle.zr_vdev.specs.Events.{Event, Happen, Happens}
+use Rattle.zr_vdev.specs.Events.Event.{Taken, Given}
 use Rattle.zr_vdev.specs.Puts.{Takes, GivesBack, MayTake, MayPut, IsWriteOf}
-use Rattle.zr_vdev.specs.Stores.{GivesBackLost, may_write, may_change, is_open_role, IsWriteInto, KeepsRows, KeepsMarks, KeepsHeld, KeepsOthers, Continues, GivesNothing, GoesOnReading}
+use Rattle.zr_vdev.specs.Stores.{GivesBackLost, IsInUse, may_write, may_change, is_current, is_open_role, IsWriteInto, KeepsRows, KeepsMarks, KeepsHeld, KeepsOthers, Continues, GivesNothing, GoesOnReading}
 use Rattle.zr_vdev.proofs.Taking.{takes_frame, takes_place}
 use Rattle.zr_vdev.proofs.Rooms.{room_taken, room_kept, is_short, no_room}
 use Rattle.zr_vdev.proofs.Alike.{copies_stay, given_no_copy, copies_put}
@@ -133,7 +135,7 @@ abbrev role_taken : Kind → Role
 role_taken kinds.Block = FreshLive
 role_taken kinds.Meta = MetaRole
 
-taken_role : (kind : Kind) (policy : Policy) (want : ℕ) (old new : Space) (at : Dva) → Takes kind policy want old new at → (d u : ℕ) → in_address at d u ≡ true → role_at new d u ≡ role_taken kind
+pub taken_role : (kind : Kind) (policy : Policy) (want : ℕ) (old new : Space) (at : Dva) → Takes kind policy want old new at → (d u : ℕ) → in_address at d u ≡ true → role_at new d u ≡ role_taken kind
 taken_role kinds.Block policy want old new at takes d u is = takes.roles d u ∙ if_yes (in_address at d u) FreshLive (role_at old d u) is
 taken_role kinds.Meta policy want old new at takes d u is = takes.roles d u ∙ if_yes (in_address at d u) MetaRole (role_at old d u) is
 
@@ -173,11 +175,20 @@ put_gives_nothing kind policy want start old mid new lost_start lost txg at so_f
     let same : mid ≡ old = subst (λ (l : Option Dva). GivesBackLost kind old mid l txg) before.0 gives in
     (refl, λ d u waits. before.1 d u (sym (ap (λ (s : Space). is_deferred_role (role_at s d u)) same) ∙ takes_waits kind policy want mid new at takes d u waits))
 
+-- events of one time after those of another
+pub chain_then : (kind : Kind) (xs ys : List Event) (a b c : Space) → Chain (Happens kind) xs a b → Chain (Happens kind) ys b c → Chain (Happens kind) (xs ++ ys) a c
+chain_then kind [] ys a b c first next = subst (λ (s : Space). Chain (Happens kind) ys s c) first next
+chain_then kind (x ∷ xs) ys a b c (mid, step, rest) next = (mid, step, chain_then kind xs ys mid b c rest next)
+
+pub happen_then : (kind : Kind) (a b c : Space) → Happen kind a b → Happen kind b c → Happen kind a c
+happen_then kind a b c p q = (p.0 ++ q.0, chain_then kind p.0 q.0 a b c p.1 q.1)
+
 pub others_itself : (kind : Kind) (s : Space) → KeepsOthers kind s s
-others_itself kind s = record { rows = rows_itself s; root = root_itself s; marks = marks_itself kind s; held = held_itself kind s; stays = λ d u may. refl; writable = λ d u may. may }
+others_itself kind s = record { happened = ([], refl); rows = rows_itself s; root = root_itself s; marks = marks_itself kind s; held = held_itself kind s; stays = λ d u may. refl; writable = λ d u may. may }
 
 pub others_more : (kind : Kind) (a b c : Space) → KeepsOthers kind a b → KeepsOthers kind b c → KeepsOthers kind a c
 others_more kind a b c p q = record {
+  happened = happen_then kind a b c p.happened q.happened;
   rows = rows_more a b c p.rows q.rows;
   root = root_more a b c p.root q.root;
   marks = marks_more kind a b c p.marks q.marks;
@@ -245,6 +256,7 @@ if_true false x y h = cc
 
 pub takes_others : (kind : Kind) (policy : Policy) (want : ℕ) (old new : Space) (at : Dva) → Takes kind policy want old new at → KeepsOthers kind old new
 takes_others kind policy want old new at takes = record {
+  happened = (Taken policy want at ∷ [], (new, takes, refl));
   rows = frame_rows old new (takes_frame kind policy want old new at takes);
   root = (takes_frame kind policy want old new at takes).root;
   marks = takes_marks kind policy want old new at takes;
@@ -263,8 +275,9 @@ give_rows : (kind : Kind) (old new : Space) (a : Dva) (birth : ℕ) → GivesBac
 give_rows kinds.Block old new a birth gives = frame_rows old new gives.frame
 give_rows kinds.Meta old new a birth gives = parts_rows old new gives.1
 
-pub gives_others : (kind : Kind) (old new : Space) (a : Dva) (birth : ℕ) → GivesBack kind old new a birth → KeepsOthers kind old new
-gives_others kind old new a birth gives = record {
+pub gives_others : (kind : Kind) (old new : Space) (a : Dva) (birth : ℕ) → IsInUse kind old a → GivesBack kind old new a birth → KeepsOthers kind old new
+gives_others kind old new a birth used gives = record {
+  happened = (Given a birth ∷ [], (new, record { used = used; gives = gives }, refl));
   rows = give_rows kind old new a birth gives;
   root = gives_root kind old new a birth gives;
   marks = gives_marks kind old new a birth gives;
@@ -272,6 +285,34 @@ gives_others kind old new a birth gives = record {
   stays = λ d u may. unchanged kind (role_at old d u) (role_at new d u) (given_roles kind old new a birth gives d u) may;
   writable = λ d u may. written_before kind (role_at old d u) (role_at new d u) (given_roles kind old new a birth gives d u) may;
 }
+
+-- ---- metadata, while blocks are put and given back
+
+freed_current : (r : Role) → is_current (freed r) ≡ is_current r
+freed_current r = grind (arith, nat_tests)
+
+kept_current : (r : Role) → is_current (kept_of r) ≡ is_current r
+kept_current r = grind (arith, nat_tests)
+
+given_current : (old new : Role) → IsGiven kinds.Block old new → is_current new ≡ is_current old
+given_current old new (inl same) = ap is_current same
+given_current old new (inr (inl is)) = ap is_current is ∙ freed_current old
+given_current old new (inr (inr is)) = ap is_current is ∙ kept_current old
+
+event_current : (e : Event) (old new : Space) → Happens kinds.Block e old new → (d u : ℕ) → is_current (role_at new d u) ≡ is_current (role_at old d u)
+event_current (Taken policy want at) old new takes d u = (elim (in_address at d u) as (λ (b : Bool). in_address at d u ≡ b → is_current (role_at new d u) ≡ is_current (role_at old d u)) [
+  | true ↦ λ is. ap is_current (taken_role kinds.Block policy want old new at takes d u is) ∙ sym (ap is_current (taken_was_free kinds.Block policy want old new at takes d u is))
+  | false ↦ λ is. ap is_current (take_keeps kinds.Block policy want old new at takes d u is)
+]) refl
+event_current (Given a birth) old new gave d u = given_current (role_at old d u) (role_at new d u) (given_roles kinds.Block old new a birth gave.gives d u)
+
+events_current : (events : List Event) (old new : Space) → Chain (Happens kinds.Block) events old new → (d u : ℕ) → is_current (role_at new d u) ≡ is_current (role_at old d u)
+events_current [] old new same d u = ap (λ (s : Space). is_current (role_at s d u)) same
+events_current (x ∷ xs) old new (mid, step, rest) d u = events_current xs mid new rest d u ∙ event_current x old mid step d u
+
+-- the same units are metadata of the current root
+pub blocks_current : (old new : Space) → KeepsOthers kinds.Block old new → (d u : ℕ) → is_current (role_at new d u) ≡ is_current (role_at old d u)
+blocks_current old new others d u = events_current others.happened.0 old new others.happened.1 d u
 
 -- ---- room
 
@@ -377,7 +418,7 @@ module _ (kind : Kind) (slots : List (Option ℕ)) (sizes : List ℕ) (counts : 
 
   pub lost_step : (s t : Space) (c : Cache) (lost : Option Dva) (txg : ℕ) → GivesBackLost kind s t lost txg → Continues kind slots sizes sizes counts counts told told world world s t c c
   lost_step s t c None txg same = space_step s t c c (subst (KeepsOthers kind s) (sym same) (others_itself kind s)) (λ disks r. subst (λ (x : Space). AreRead disks slots x c) (sym same) r) (λ disks stand. subst (λ (x : Space). CopiesStand disks slots x) (sym same) stand) refl
-  lost_step s t c (Some a) txg (inl (used, gives)) = space_step s t c c (gives_others kind s t a txg gives) (λ disks r. read_same disks slots s t c (give_devices kind s t a txg gives) r) (λ disks stand. copies_stay disks slots s t (given_no_copy kind s t a txg (gives_others kind s t a txg gives) gives) stand) refl
+  lost_step s t c (Some a) txg (inl (used, gives)) = space_step s t c c (gives_others kind s t a txg used gives) (λ disks r. read_same disks slots s t c (give_devices kind s t a txg gives) r) (λ disks stand. copies_stay disks slots s t (given_no_copy kind s t a txg (gives_others kind s t a txg used gives) gives) stand) refl
   lost_step s t c (Some a) txg (inr (not_used, same)) = space_step s t c c (subst (KeepsOthers kind s) (sym same) (others_itself kind s)) (λ disks r. subst (λ (x : Space). AreRead disks slots x c) (sym same) r) (λ disks stand. subst (λ (x : Space). CopiesStand disks slots x) (sym same) stand) refl
 
 pub lost_room : (kind : Kind) (s t : Space) (lost : Option Dva) (txg : ℕ) → GivesBackLost kind s t lost txg → free_units s ≤ free_units t

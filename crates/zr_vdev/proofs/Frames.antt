@@ -32,9 +32,9 @@ use Rattle.zr_vdev.proofs.Uses.{is_of, use_roles, use_along}
 use Rattle.zr_vdev.proofs.Back.{spends_same}
 use Rattle.zr_vdev.proofs.Held.{one_unit, address_same, true_is_false}
 use Rattle.zr_vdev.proofs.Moves.{held_again}
-use Rattle.zr_vdev.proofs.Follows.{rows_devices}
+use Rattle.zr_vdev.proofs.Follows.{blocks_current, rows_devices}
 use Rattle.zr_vdev.proofs.Alike.{held_stays, metadata_no_copy}
-use Rattle.zr_vdev.proofs.Whole.{all_same}
+use Rattle.zr_vdev.proofs.Whole.{all_same, meta_same}
 
 -- ---- devices
 
@@ -110,8 +110,8 @@ beside_live s t others d u = elim (cases_bool (is_held_role (role_at s d u))) [
 
 -- so they are still all
 beside_all : (kind : Kind) (s t : Space) → devices_in t ≡ devices_in s → KeepsOthers (other kind) s t → (list : List Dva) → IsAll kind s list → IsAll kind t list
-beside_all kinds.Block s t devices others list all = all_same kinds.Block s t list devices (beside_live s t others) (metadata_no_copy s t others) all
-beside_all kinds.Meta s t devices others list all = tt
+beside_all kinds.Block s t devices others list all = all_same s t list devices (beside_live s t others) (metadata_no_copy s t others) all
+beside_all kinds.Meta s t devices others list all = meta_same s t list devices (blocks_current s t others) all
 
 -- what is held of one kind is held still once a store of the other kind has done its calls
 pub held_beside : (kind : Kind) (slots : List (Option ℕ)) (n1 n2 : List ℕ) (c1 c2 : Counts) (t1 t2 : Type 0) (w1 w2 : World) (s t : Space) (lost : Option Dva) (k1 k2 : Cache) (st : Stored)

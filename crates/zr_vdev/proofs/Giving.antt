@@ -14,7 +14,7 @@ use Rattle.zr_vdev.specs.declared.kind.Kind.{Kind}
 use Rattle.zr_vdev.specs.Alike.{CopiesStand}
 use Rattle.zr_vdev.specs.Caches.{AreRead}
 use Rattle.zr_vdev.specs.Puts.{GivesBack}
-use Rattle.zr_vdev.specs.Stores.{KeepsOthers, Continues}
+use Rattle.zr_vdev.specs.Stores.{IsInUse, KeepsOthers, Continues}
 use Rattle.zr_vdev.proofs.Alike.{copies_stay, given_no_copy}
 use Rattle.zr_vdev.proofs.Held.{read_same}
 use Rattle.zr_vdev.proofs.Follows.{others_itself, gives_others, gives_room, give_devices, read_forgotten, space_step}
@@ -24,9 +24,9 @@ on_bool : {X : Type 0} (b : Bool) → (b ≡ true → X) → (b ≡ false → X)
 on_bool b at_true at_false = elim (cases_bool b) [ inl is ↦ at_true is | inr is ↦ at_false is ]
 
 -- the address goes and its place in the cache, if the answer is yes; else nothing changes
-module _ (kind : Kind) (s t : Space) (c d : Cache) (b : Bptr) (given : Bool) (none : given ≡ false → (t ≡ s) × (d ≡ c)) (gives : given ≡ true → GivesBack kind s t b.at b.birth) where
+module _ (kind : Kind) (s t : Space) (c d : Cache) (b : Bptr) (given : Bool) (none : given ≡ false → (t ≡ s) × (d ≡ c)) (gives : given ≡ true → GivesBack kind s t b.at b.birth) (used : given ≡ true → IsInUse kind s b.at) where
   pub given_others : KeepsOthers kind s t
-  given_others = on_bool given (λ is. gives_others kind s t b.at b.birth (gives is)) (λ is. subst (KeepsOthers kind s) (sym (none is).0) (others_itself kind s))
+  given_others = on_bool given (λ is. gives_others kind s t b.at b.birth (used is) (gives is)) (λ is. subst (KeepsOthers kind s) (sym (none is).0) (others_itself kind s))
 
   pub given_devices : devices_in t ≡ devices_in s
   given_devices = on_bool given (λ is. give_devices kind s t b.at b.birth (gives is)) (λ is. ap (λ (x : Space). devices_in x) (none is).0)
@@ -41,7 +41,7 @@ module _ (kind : Kind) (s t : Space) (c d : Cache) (b : Bptr) (given : Bool) (no
 
   pub given_copies : (disks : List (List ℕ)) (slots : List (Option ℕ)) → CopiesStand disks slots s → CopiesStand disks slots t
   given_copies disks slots stand = on_bool given
-      (λ is. copies_stay disks slots s t (given_no_copy kind s t b.at b.birth (gives_others kind s t b.at b.birth (gives is)) (gives is)) stand)
+      (λ is. copies_stay disks slots s t (given_no_copy kind s t b.at b.birth (gives_others kind s t b.at b.birth (used is) (gives is)) (gives is)) stand)
       (λ is. subst (λ (x : Space). CopiesStand disks slots x) (sym (none is).0) stand)
 
   pub given_step : (slots : List (Option ℕ)) (sizes : List ℕ) (counts : Counts) (told : Type 0) (world : World) → (given ≡ true → entries d ≡ remove_entry (is_key b) (entries c)) → capacity d ≡ capacity c

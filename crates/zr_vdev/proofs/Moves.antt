@@ -40,7 +40,7 @@ abbrev hits_in : List Bptr → ℕ → ℕ → ℕ
 hits_in ps d u = sum_by (λ (b : Bptr). one_if (in_address b.at d u)) ps
 
 -- a weight of addresses is one of pointers
-weight_of : (f : Dva → ℕ) (ps : List Bptr) → sum_by f (addresses_of ps) ≡ sum_by (λ (b : Bptr). f b.at) ps
+pub weight_of : (f : Dva → ℕ) (ps : List Bptr) → sum_by f (addresses_of ps) ≡ sum_by (λ (b : Bptr). f b.at) ps
 weight_of f [] = refl
 weight_of f (p ∷ ps) =
     let r = weight_of f ps in
@@ -348,7 +348,7 @@ free_held kind slots told disks old new lost c d b birth st devices gives read h
           let few = held.once e u in
           let same = ap (λ (ds : Devices). live_hits ds (addresses_of left) e u) devices in
           omega (arith, sum, few, same))
-          (all_freed kind old new b.at birth (addresses_of st.pointers) (addresses_of left) devices own.used gives parts held.all)
+          (all_freed kind old new b.at birth (addresses_of st.pointers) (addresses_of left) devices own.used gives parts held.once held.all)
           back;
       is = record {
         stored = λ weight. let f = fewer weight in omega (arith, f, sum_by-cons weight b []);

@@ -1,6 +1,7 @@
 pub mod Mounts
 pub mod Runs
 pub mod Puts
+pub mod Events
 pub mod Caches
 pub mod Alike
 pub mod Stores

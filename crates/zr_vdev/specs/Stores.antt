@@ -11,14 +11,12 @@ use Rattle.zr_chain.specs.declared.visit.Visited.TheVariants.{Piece}
 use Rattle.zr_rules.specs.Places.{Place, is_on, is_fresh, in_address, part_of, state_of_dev}
 use Rattle.zr_rules.specs.Devices.{Devices}
 use Rattle.zr_rules.specs.Roles.{Role, is_live_role, is_copy_role, is_meta_role, is_free_role, is_held_role, is_deferred_role}
-use Rattle.zr_rules.specs.Roles.Role.{Free, FreshLive, FreshCopy}
+use Rattle.zr_rules.specs.Roles.Role.{Free, FreshLive, FreshCopy, Meta as CurrentMeta}
 use Rattle.zr_rules.specs.Space.{Space, role_at, IsLawful}
 use Rattle.zr_rules.specs.Equation.{devices_in, live_hits, Spends}
 use Rattle.zr_rules.specs.Resolve.{is_resolved, leads_to}
 use Rattle.zr_rules.specs.Frees.{IsSamePart, IsSameRoot, MarksNothing}
-use Rattle.zr_space.specs.Live.{IsFreeable}
 use Rattle.zr_space.specs.Freeing.{is_shared}
-use Rattle.zr_space.specs.Drops.{IsMeta}
 use Rattle.zr_store.specs.Store.{Stored, IsOnce, hits}
 use Rattle.zr_view.specs.Views.{address_bytes}
 use Rattle.zr_cache.specs.declared.table.Cache.{Cache}
@@ -27,15 +25,12 @@ use Rattle.zr_vdev.specs.declared.kind.Kind.{Kind}
 use Rattle.zr_vdev.specs.declared.kind.Kind.TheVariants.{Block, Meta}
 use Rattle.zr_vdev.specs.Runs.{view_of}
 use Rattle.zr_vdev.specs.Puts.{IsWriteOf, GivesBack}
+pub use Rattle.zr_vdev.specs.Events.{IsInUse}
+use Rattle.zr_vdev.specs.Events.{Happen}
 use Rattle.zr_vdev.specs.Caches.{AreRead}
 use Rattle.zr_vdev.specs.Alike.{CopiesStand, IsCopyAt}
 
 -- ---- what is held
-
--- The address may be given back: its units lead to as many units in use by blocks, over removed devices or not, or it has metadata.
-abbrev pub IsInUse : Kind → Space → Dva → Type 0
-IsInUse Block s a = IsFreeable s a
-IsInUse Meta s a = IsMeta s a
 
 -- The addresses may be given back one after another: no block passes an obsolete unit, and no entry on the way has more obsolete and passed units than units. Metadata
 -- passes nothing.
@@ -70,16 +65,26 @@ GivesBackLost kind old new (Some at) txg = (IsInUse kind old at × GivesBack kin
 abbrev pub addresses_of : List Bptr → List Dva
 addresses_of pointers = map (λ (b : Bptr). b.at) pointers
 
--- Each unit in use by blocks is one to which some pointer leads, and each copy is one of a unit in use. Of metadata nothing is asked.
+-- Each unit in use by blocks is one to which some pointer leads, and each copy is one of a unit in use.
 pub record LeadsToAll (s : Space) (list : List Dva) : Type 0 where
   pub used : (d u : ℕ) → is_live_role (role_at s d u) ≡ true → 0 < live_hits (devices_in s) list d u
   pub copied : (d u : ℕ) (p : Place) → IsCopyAt s d u p → is_live_role (role_at s d u) ≡ true
 
+-- the unit has metadata of the current root
+abbrev pub is_current : Role → Bool
+is_current CurrentMeta = true
+is_current _ = false
+
+-- The addresses lead to each unit of the current root's metadata, and to no other.
+pub record LeadsToMeta (s : Space) (list : List Dva) : Type 0 where
+  pub used : (d u : ℕ) → is_current (role_at s d u) ≡ true → 0 < live_hits (devices_in s) list d u
+  pub current : (d u : ℕ) → 0 < live_hits (devices_in s) list d u → is_current (role_at s d u) ≡ true
+
 abbrev pub IsAll : Kind → Space → List Dva → Type 0
 IsAll Block s list = LeadsToAll s list
-IsAll Meta s list = Unit {0}
+IsAll Meta s list = LeadsToMeta s list
 
--- The pointers are those of blocks that are stored, no two of which lead to one unit, so no address comes twice. Each leads to units, and all may be given back one after another. Of blocks of objects they are
+-- The pointers are those of blocks that are stored, no two of which lead to one unit, so no address comes twice. Each leads to units, and all may be given back one after another. They are
 -- all: units in use to which none leads there are not, so none that a put took for nothing. A pointer has the bytes of its address, and none where no block is stored: what stands in free units is nothing.
 pub record HoldsBlocks (kind : Kind) (slots : List (Option ℕ)) (tells : Type 0) (disks : List (List ℕ)) (space : Space) (lost : Option Dva) (cache : Cache) (s : Stored) : Type 0 where
   pub told : tells
@@ -158,8 +163,10 @@ abbrev pub KeepsHeld : Kind → Space → Space → Type 0
 KeepsHeld Block old new = Unit {0}
 KeepsHeld Meta old new = (d u : ℕ) → is_held_role (role_at new d u) ≡ is_held_role (role_at old d u)
 
--- Roles that are none of the store's stay, and what the current root has. What it may write now it might write before, so what was written lies there.
+-- Units were taken where a policy places them, or were given back, one after another. Roles that are none of the store's stay, and what the current root has. What it may write now it might write before, so
+-- what was written lies there.
 pub record KeepsOthers (kind : Kind) (old new : Space) : Type 0 where
+  pub happened : Happen kind old new
   pub rows : KeepsRows old new
   pub root : IsSameRoot old new
   pub marks : KeepsMarks kind old new
