@@ -1,5 +1,5 @@
 -- Trees beside those that left a store and those that came.
-use Rattle.std.proofs.Common.{◌≡◌, ◌<◌, ℕ, List, [], ◌∷◌, ◌++◌, sym, ◌∙◌, ap, subst, arith}
+use Rattle.std.proofs.Common.{◌≡◌, ◌<◌, ◌≤◌, ℕ, List, [], ◌∷◌, ◌++◌, sym, ◌∙◌, ap, subst, arith}
 use Rattle.std.specs.Prelude.{All}
 use Rattle.std.specs.List.{sum_by}
 use Rattle.std.proofs.lemmas.List.{append-nil}
@@ -10,7 +10,7 @@ use Rattle.zr_store.specs.Store.{Stored, AreStored, IsOnce, Swaps, hits, one_at}
 use Rattle.zr_tree.specs.Trees.{tree_reach}
 use Rattle.zr_tree.proofs.Frames.{Agree}
 use Rattle.zr_root.specs.Streams.{HasBytes}
-use Rattle.zr_beside.specs.Beside.{Standing, StandBeside, Stands, blocks_of, of_tree}
+use Rattle.zr_beside.specs.Beside.{Standing, StandBeside, StandIn, Stands, blocks_of, of_tree}
 use Rattle.zr_beside.proofs.Staying.{all_front, all_back, blocks_two, weigh_two, weigh_first, blocks_stay, all_stay}
 
 -- ---- one of them
@@ -27,7 +27,7 @@ one_bytes s front back w h = All-head (Stands s) w back (all_back (Stands s) fro
 
 -- ---- the others
 
-module _ (s n : Stored) (front gone back : List Standing) (into : List Bptr) (h : StandBeside s (front ++ (gone ++ back))) (swaps : Swaps s n (blocks_of s gone) into) where
+module _ (s n : Stored) (front gone back : List Standing) (into : List Bptr) (h : StandIn s (front ++ (gone ++ back))) (swaps : Swaps s n (blocks_of s gone) into) where
   front_agrees : Agree s n (blocks_of s front)
   front_agrees = record {
     same = λ b met.
@@ -63,10 +63,26 @@ module _ (s n : Stored) (front gone back : List Standing) (into : List Bptr) (h 
   back_stands : All (Stands n) back
   back_stands = all_stay s n back back_agrees (all_back (Stands s) gone back (all_back (Stands s) front (gone ++ back) h.stand))
 
-module _ (s n : Stored) (front gone came back : List Standing) (h : StandBeside s (front ++ (gone ++ back))) (swaps : Swaps s n (blocks_of s gone) (blocks_of n came)) where
+-- all trees of a store are some
+pub in_it : (s : Stored) (all : List Standing) → StandBeside s all → StandIn s all
+in_it s all h = record { stored = h.stored; once = h.once; stand = h.stand }
+
+module _ (s n : Stored) (front gone came back : List Standing) (h : StandIn s (front ++ (gone ++ back))) (swaps : Swaps s n (blocks_of s gone) (blocks_of n came)) where
   all_stored : AreStored (blocks_of n (front ++ (came ++ back))) n
   all_stored weight =
       let held = h.stored weight in
+      let swapped = swaps.stored weight in
+      let x = weigh_two s front (gone ++ back) weight in
+      let y = weigh_two s gone back weight in
+      let u = weigh_two n front (came ++ back) weight in
+      let v = weigh_two n came back weight in
+      let f = ap (λ (bs : List Bptr). sum_by weight bs) (front_same s n front gone back (blocks_of n came) h swaps) in
+      let g = ap (λ (bs : List Bptr). sum_by weight bs) (back_same s n front gone back (blocks_of n came) h swaps) in
+      omega (arith, held, swapped, x, y, u, v, f, g)
+
+  all_whole : ((weight : Bptr → ℕ) → sum_by weight s.pointers ≤ sum_by weight (blocks_of s (front ++ (gone ++ back)))) → (weight : Bptr → ℕ) → sum_by weight n.pointers ≤ sum_by weight (blocks_of n (front ++ (came ++ back)))
+  all_whole whole weight =
+      let held = whole weight in
       let swapped = swaps.stored weight in
       let x = weigh_two s front (gone ++ back) weight in
       let y = weigh_two s gone back weight in
@@ -82,8 +98,20 @@ module _ (s n : Stored) (front gone came back : List Standing) (h : StandBeside 
       let last = back_stands s n front gone back (blocks_of n came) h swaps in
       All-append (Stands n) front (came ++ back) first (All-append (Stands n) came back stand last)
 
+  pub others_in : IsOnce n → All (Stands n) came → StandIn n (front ++ (came ++ back))
+  others_in once stand = record { stored = all_stored; once = once; stand = all_stand stand }
+
+module _ (s n : Stored) (front gone came back : List Standing) (h : StandBeside s (front ++ (gone ++ back))) (swaps : Swaps s n (blocks_of s gone) (blocks_of n came)) where
+  abbrev among : StandIn s (front ++ (gone ++ back))
+  among = in_it s (front ++ (gone ++ back)) h
+
   pub others : IsOnce n → All (Stands n) came → StandBeside n (front ++ (came ++ back))
-  others once stand = record { stored = all_stored; once = once; stand = all_stand stand }
+  others once stand = record {
+    stored = all_stored s n front gone came back among swaps;
+    whole = all_whole s n front gone came back among swaps h.whole;
+    once = once;
+    stand = all_stand s n front gone came back among swaps stand;
+  }
 
 -- ---- one tree in the place of another, or of none
 
@@ -102,6 +130,15 @@ replaced s n front back w t bytes h once swaps has =
 
 pub given_back : (s n : Stored) (front gone back : List Standing) → StandBeside s (front ++ (gone ++ back)) → IsOnce n → Swaps s n (blocks_of s gone) [] → StandBeside n (front ++ back)
 given_back s n front gone back h once swaps = others s n front gone [] back h swaps once (All-nil (Stands n))
+
+-- the same of some trees of a store
+pub given_back_in : (s n : Stored) (front gone back : List Standing) → StandIn s (front ++ (gone ++ back)) → IsOnce n → Swaps s n (blocks_of s gone) [] → StandIn n (front ++ back)
+given_back_in s n front gone back h once swaps = others_in s n front gone [] back h swaps once (All-nil (Stands n))
+
+pub comes_in : (s n : Stored) (front back : List Standing) (t : Tree) (bytes : List ℕ) → StandIn s (front ++ back) → IsOnce n → Swaps s n [] (tree_reach n t) → HasBytes n t bytes → StandIn n (front ++ of_tree t bytes ∷ back)
+comes_in s n front back t bytes h once swaps has =
+    let into = subst (λ (bs : List Bptr). Swaps s n [] bs) (blocks_of_one n (of_tree t bytes)) swaps in
+    others_in s n front [] (of_tree t bytes ∷ []) back h into once (stand_one n (of_tree t bytes) has)
 
 pub comes : (s n : Stored) (front back : List Standing) (t : Tree) (bytes : List ℕ) → StandBeside s (front ++ back) → IsOnce n → Swaps s n [] (tree_reach n t) → HasBytes n t bytes → StandBeside n (front ++ of_tree t bytes ∷ back)
 comes s n front back t bytes h once swaps has =
@@ -124,6 +161,11 @@ module _ (s n : Stored) (all : List Standing) (h : StandBeside s all) (bytes : (
         let a = ap (λ (bs : List Bptr). sum_by weight bs) all_same in
         let b = ap (λ (bs : List Bptr). sum_by weight bs) same in
         omega (arith, held, a, b);
+    whole = λ weight.
+        let held = h.whole weight in
+        let a = ap (λ (bs : List Bptr). sum_by weight bs) all_same in
+        let b = ap (λ (bs : List Bptr). sum_by weight bs) same in
+        omega (arith, held, a, b);
     once = λ at. let one = h.once at in let b = ap (λ (bs : List Bptr). hits bs at) same in omega (arith, one, b);
     stand = all_stay s n all agree h.stand;
   }
@@ -135,6 +177,15 @@ reordered s front a b back h =
     record {
       stored = λ weight.
           let held = h.stored weight in
+          let x = weigh_two s front (a ++ (b ++ back)) weight in
+          let y = weigh_two s a (b ++ back) weight in
+          let z = weigh_two s b back weight in
+          let u = weigh_two s front (b ++ (a ++ back)) weight in
+          let v = weigh_two s b (a ++ back) weight in
+          let w = weigh_two s a back weight in
+          omega (arith, held, x, y, z, u, v, w);
+      whole = λ weight.
+          let held = h.whole weight in
           let x = weigh_two s front (a ++ (b ++ back)) weight in
           let y = weigh_two s a (b ++ back) weight in
           let z = weigh_two s b back weight in

@@ -1,6 +1,6 @@
 -- Trees that stand beside each other in one store.
-use Rattle.std.specs.Prelude.{ℕ, zero, suc, List, [], ◌++◌, All}
-use Rattle.std.specs.List.{flat_map}
+use Rattle.std.specs.Prelude.{ℕ, zero, suc, ◌≤◌, List, [], ◌++◌, All}
+use Rattle.std.specs.List.{flat_map, sum_by}
 use Rattle.zr_base.specs.Words.{words}
 use Rattle.zr_bptr.specs.declared.Bptr.{Bptr}
 use Rattle.zr_bptr.specs.declared.Tree.{Tree}
@@ -30,9 +30,16 @@ Stands s w = HasBytes s w.tree w.bytes
 abbrev pub blocks_of : Stored → List Standing → List Bptr
 blocks_of s all = flat_map (λ w. tree_reach s w.tree) all
 
--- The blocks of all these trees are stored, none of them is one of two, and in each tree its bytes stand.
+-- The blocks of these trees are stored, none of them is one of two, and in each tree its bytes stand.
+pub record StandIn (s : Stored) (some : List Standing) : Type 0 where
+  pub stored : AreStored (blocks_of s some) s
+  pub once : IsOnce s
+  pub stand : All (Stands s) some
+
+-- So it is of all trees of a store: no other block is stored.
 pub record StandBeside (s : Stored) (all : List Standing) : Type 0 where
   pub stored : AreStored (blocks_of s all) s
+  pub whole : (weight : Bptr → ℕ) → sum_by weight s.pointers ≤ sum_by weight (blocks_of s all)
   pub once : IsOnce s
   pub stand : All (Stands s) all
 

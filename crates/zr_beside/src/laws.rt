@@ -7,7 +7,7 @@ ghost use Rattle.zr_tree.specs.Trees.{tree_reach};
 ghost use Rattle.zr_meta.specs.declared.Stream.{Stream};
 ghost use Rattle.zr_root.specs.Streams.{HasBytes, StoresBytes, StoresWords};
 ghost use Rattle.zr_commit.specs.Logs.{Rewrites};
-ghost use Rattle.zr_beside.specs.Beside.{Standing, StandBeside, Stands, blocks_of, of_stream, of_tree, rows_of};
+ghost use Rattle.zr_beside.specs.Beside.{Standing, StandBeside, StandIn, Stands, blocks_of, of_stream, of_tree, rows_of};
 
 /// Of trees beside each other the blocks of each one are stored, and its bytes stand in it.
 pub fn one_stands()
@@ -44,7 +44,7 @@ pub fn they_stay()
 /// The blocks of trees that stay are the same blocks, in the same order: beside trees whose blocks left the store, and where all
 /// bytes stay.
 pub fn their_blocks_stay()
-    ensures beside { (s n : Stored) (front gone back : List Standing) (into : List Bptr) → StandBeside s (front ++ (gone ++ back)) → Swaps s n (blocks_of s gone) into → blocks_of n (front ++ back) ≡ blocks_of s (front ++ back) }
+    ensures beside { (s n : Stored) (front gone back : List Standing) (into : List Bptr) → StandIn s (front ++ (gone ++ back)) → Swaps s n (blocks_of s gone) into → blocks_of n (front ++ back) ≡ blocks_of s (front ++ back) }
     ensures all { (s n : Stored) (all : List Standing) → StandBeside s all → ((b : Bptr) → 0 < hits s.pointers b.at → n.bytes b ≡ s.bytes b) → blocks_of n all ≡ blocks_of s all }
 {}
 
