@@ -136,7 +136,7 @@ module _ (own parts : SpaceParts) (meta saved : List Dva) (s t : Space) (same : 
   }
 
   pub all_beside : (list : List Dva) → LeadsToAll s list → LeadsToAll t list
-  all_beside list h = all_same Block s t list devices live_same no_new_copies h
+  all_beside list h = all_same s t list devices live_same no_new_copies h
 
   pub single_beside : HasSingleCopies t → HasSingleCopies s
   single_beside h d u = let same_hits = copies d u in let one = h d u in omega (arith, same_hits, one)
