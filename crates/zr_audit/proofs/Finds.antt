@@ -41,7 +41,7 @@ all_walked s live meta numbers is metadata = is ∙ map_same (found s live meta)
 leads_if_hit : (ds : Devices) (d u : ℕ) (a : Dva) → leads_to ds a d u ≡ nat_lt 0 (resolve_hits ds a d u)
 leads_if_hit ds d u a = any_some (λ (p : Option Place). is_at p d u) (λ (p : Option Place). one_if (is_at p d u)) (λ p. one_some (is_at p d u)) (resolved_units ds a)
 
-live_if_hit : (ds : Devices) (live : List Dva) (d u : ℕ) → is_live ds live d u ≡ nat_lt 0 (live_hits ds live d u)
+pub live_if_hit : (ds : Devices) (live : List Dva) (d u : ℕ) → is_live ds live d u ≡ nat_lt 0 (live_hits ds live d u)
 live_if_hit ds live d u = any_some (λ (a : Dva). leads_to ds a d u) (λ (a : Dva). resolve_hits ds a d u) (leads_if_hit ds d u) live
 
 adds_up : (s : Space) (live : List Dva) (saved : Option SavedRoot) (d : ℕ) → Adds s live saved → walked s live d ≡ allocated_units s d
