@@ -1,8 +1,9 @@
 -- The trees of a pool whose last root is saved: they are the saved root's, and the pool has streams of no words.
-use Rattle.std.proofs.Common.{◌≡◌, ◌∙◌, ℕ, zero, suc, ◌<◌, inl, inr, List, [], ◌∷◌, ◌++◌, length, refl, sym, ap, subst, arith}
+use Rattle.std.proofs.Common.{◌≡◌, ◌∙◌, ℕ, zero, suc, ◌<◌, inl, inr, List, [], ◌∷◌, ◌++◌, length, refl, sym, ap, subst, arith, false}
 use Rattle.std.specs.Prelude.{All, None}
 use Rattle.std.specs.List.{sum_by}
 use Rattle.std.proofs.lemmas.Bool.{cases_lt}
+use Rattle.std.proofs.lemmas.Bool.Decides.{nat_tests}
 use Rattle.std.proofs.lemmas.List.Elements.{All-nil, All-cons}
 use Rattle.std.proofs.Math.ListN.{get_or-eq_default}
 use Rattle.zr_base.specs.declared.space.Entry.{Entry}
@@ -11,10 +12,13 @@ use Rattle.zr_bptr.specs.declared.Bptr.{Bptr}
 use Rattle.zr_bptr.specs.declared.Tree.{Tree}
 use Rattle.zr_root.proofs.Words.{hole_bytes}
 use Rattle.zr_rules.specs.Places.{part_of}
+use Rattle.zr_rules.specs.Roles.{Role, saved}
+use Rattle.zr_rules.specs.Space.{role_at}
 use Rattle.zr_store.specs.Store.{Stored}
 use Rattle.zr_tree.specs.Trees.{tree_reach}
-use Rattle.zr_vdev.specs.declared.kind.Kind.TheVariants.{Meta}
-use Rattle.zr_vdev.proofs.Moves.{bytes_now}
+use Rattle.zr_vdev.specs.Stores.{IsStoredAt, is_current}
+use Rattle.zr_vdev.specs.declared.kind.Kind.TheVariants.{Meta as MetaKind}
+use Rattle.zr_vdev.proofs.Moves.{bytes_now, holds_all}
 use Rattle.zr_sync.specs.Checkpoints.{SavesRoot}
 use Rattle.zr_sync.specs.Empty.{no_stream, no_streams}
 use Rattle.zr_sync.specs.Heads.{IsSeen}
@@ -31,7 +35,6 @@ use Rattle.zr_sync.specs.declared.open.OpenPool.{OpenPool}
 use Rattle.zr_sync.specs.declared.open.Table.{Table}
 use Rattle.zr_sync.specs.declared.words.Log.TheVariants.{Held, Kept, Fresh}
 use Rattle.zr_sync.proofs.SavedRoots.{saves_seen}
-use Rattle.zr_sync.proofs.Standing.{empty_holds}
 
 -- ---- trees of no words
 
@@ -70,18 +73,27 @@ no_cond_count Counts t entries counts = ap (λ s. s.words) (sym counts)
 
 -- ---- a root that is saved
 
+saved_current : (r : Role) → is_current (saved r) ≡ false
+saved_current r = grind (arith, nat_tests)
+
 module _ (t : Type 0) (disks : List (List ℕ)) (x y : OpenPool) (saves : SavesRoot x y) (trees : HasTrees Recorded t disks x) where
   abbrev h : HoldsStreams (every Recorded) (one_stage Recorded) (head_tree x.head trees.0) t disks x
   h = trees.1
 
   abbrev nothing : Stored
-  nothing = record { pointers = []; bytes = bytes_now Meta y.table.slots disks y.space None }
+  nothing = record { pointers = []; bytes = bytes_now MetaKind y.table.slots disks y.space None }
+
+  -- all that was metadata of the current root is the saved one's
+  none_current : (d u : ℕ) → is_current (role_at y.space d u) ≡ false
+  none_current d u = ap is_current (saves.holds.roles d u) ∙ saved_current (role_at saves.given d u)
 
   seen : IsSeen t disks y
   seen = saves_seen x y saves t disks (record { told = h.held.told; read = h.held.read })
 
   held : HasMeta t disks y nothing
-  held = empty_holds y.table.slots t disks y.space y.cache seen.told seen.read
+  held =
+      holds_all MetaKind y.table.slots t disks y.space None y.cache [] seen.told seen.read refl (All-nil (λ (b : Bptr). IsStoredAt MetaKind y.space None b.at)) (λ d u. omega arith)
+      (record { used = λ d u is. absurd (let no = none_current d u in cc); current = λ d u some. absurd (omega (arith, some)) }) tt
 
   each : (dev : ℕ) → streams_at y dev ≡ no_streams
   each dev = elim (cases_lt dev (length y.streams.items)) [
@@ -109,6 +121,7 @@ module _ (t : Type 0) (disks : List (List ℕ)) (x y : OpenPool) (saves : SavesR
   beside : StandBeside nothing all
   beside = record {
     stored = λ weight. let no = ap (λ (bs : List Bptr). sum_by weight bs) (no_blocks nothing all all_none) in omega (arith, no);
+    whole = λ weight. omega arith;
     once = held.alone;
     stand = all_stand nothing all all_none;
   }

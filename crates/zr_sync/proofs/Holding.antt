@@ -130,7 +130,7 @@ live_holds t disks x y s stays table cache held =
     (λ a h. record { used = still_freeable x.space y.space a stays h.used; whole = tt })
     (λ a h. ap (λ (ds : Devices). address_bytes (record { disks = disks; slots = x.table.slots; devices = ds }) a) stays.devices)
     (λ d u. subst (λ (ds : Devices). live_hits ds (addresses_of s.pointers) d u ≤ 1) (sym stays.devices) (held.once d u))
-    (all_same Block x.space y.space (addresses_of s.pointers) stays.devices stays.live (live_no_copy x.space y.space stays) held.all)
+    (all_same x.space y.space (addresses_of s.pointers) stays.devices stays.live (live_no_copy x.space y.space stays) held.all)
     (spends_same x.space y.space (addresses_of s.pointers) stays.devices stays.counts stays.fresh held.back)
     held))
 

@@ -5,8 +5,8 @@ use Rattle.std.specs.List.{sum_by}
 use Rattle.std.proofs.lemmas.Bool.Decides.{nat_tests}
 use Rattle.std.proofs.lemmas.List.Elements.{All-nil, All-cons}
 use Rattle.std.proofs.lemmas.List.Sums.{sum_by-append}
-use Rattle.zr_beside.specs.Beside.{Standing, StandBeside, Stands, blocks_of, of_stream, rows_of}
-use Rattle.zr_beside.proofs.Beside.{comes, same_blocks}
+use Rattle.zr_beside.specs.Beside.{Standing, StandBeside, StandIn, Stands, blocks_of, of_stream, rows_of}
+use Rattle.zr_beside.proofs.Beside.{comes_in, same_blocks}
 use Rattle.zr_beside.proofs.Rows.{around}
 use Rattle.zr_beside.proofs.Staying.{weigh_two}
 use Rattle.zr_bptr.specs.declared.Bptr.{Bptr}
@@ -124,7 +124,7 @@ two_empty s a b first second no_first no_second =
 -- ---- two streams that came
 
 module _ (s mid n : Stored) (once : IsOnce n) (a b : Stream) (ns ms : List ℕ) (first : StoresWords s mid a ns) (second : StoresWords mid n b ms) where
-  first_beside : StandBeside mid (of_stream a ns ∷ [])
+  first_beside : StandIn mid (of_stream a ns ∷ [])
   first_beside = record {
     stored = λ weight.
         let came = first.came.stored weight in
@@ -137,8 +137,8 @@ module _ (s mid n : Stored) (once : IsOnce n) (a b : Stream) (ns ms : List ℕ) 
     stand = All-cons (Stands mid) (of_stream a ns) [] first.stands.bytes (All-nil (Stands mid));
   }
 
-  both_beside : StandBeside n (two_trees a b ns ms)
-  both_beside = comes mid n (of_stream a ns ∷ []) [] b.tree (words ms) first_beside once second.came second.stands.bytes
+  both_beside : StandIn n (two_trees a b ns ms)
+  both_beside = comes_in mid n (of_stream a ns ∷ []) [] b.tree (words ms) first_beside once second.came second.stands.bytes
 
   first_same : blocks_of n (of_stream a ns ∷ []) ≡ blocks_of mid (of_stream a ns ∷ [])
   first_same = same_blocks mid n (of_stream a ns ∷ []) [] [] (tree_reach n b.tree) first_beside second.came

@@ -10,6 +10,7 @@ pub mod Copies
 pub mod Rings
 pub mod Sizes
 pub mod Stays
+pub mod AllMeta
 pub mod Standing
 pub mod SavedRoots
 pub mod Streams
@@ -23,6 +24,7 @@ pub mod Leading
 pub mod Ending
 pub mod KeptSets
 pub mod TreeRows
+pub mod TreeMeta
 pub mod Stages
 pub mod Steps
 pub mod Progress

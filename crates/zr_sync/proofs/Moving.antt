@@ -17,7 +17,7 @@ use Rattle.zr_sync.proofs.Pools.{metadata_open}
 -- ---- on one device
 
 gives_run : (old new : Space) (dev : ℕ) → GivesMeta old new dev → KeepsOthers Meta old new
-gives_run old new dev g = gives_others Meta old new g.at 0 (g.drops, g.parts)
+gives_run old new dev g = gives_others Meta old new g.at 0 g.meta.is (g.drops, g.parts)
 
 pub leave_step : (first mid new : Space) (dev : ℕ) (b : Bool) → KeepsOthers Meta first mid → (b ≡ true → GivesMeta mid new dev) → (b ≡ false → (new ≡ mid) × HasNoMeta mid dev) → KeepsOthers Meta first new
 leave_step first mid new dev true others did left = others_more Meta first mid new others (gives_run mid new dev (did refl))

@@ -1,5 +1,5 @@
 -- What a commit's streams record once its group has ended, and while blocks of objects are written.
-use Rattle.std.proofs.Common.{◌≡◌, ◌∙◌, ℕ, ◌<◌, ◌≤◌, Bool, true, false, List, [], Option, None, refl, sym, ap, subst, arith, if◌then◌else◌}
+use Rattle.std.proofs.Common.{◌≡◌, ◌∙◌, ℕ, ◌<◌, ◌≤◌, Bool, true, false, List, [], Option, None, refl, sym, ap, subst, if◌then◌else◌, arith}
 use Rattle.std.specs.Prelude.{nat_lt}
 use Rattle.std.proofs.lemmas.Bool.Decides.{nat_tests}
 use Rattle.std.proofs.lemmas.List.{append-nil}
@@ -15,20 +15,22 @@ use Rattle.zr_rules.specs.Devices.{Devices}
 use Rattle.zr_rules.specs.Equation.{live_hits}
 use Rattle.zr_rules.specs.Logs.{IsLate, IsLog}
 use Rattle.zr_rules.specs.Places.{part_of}
-use Rattle.zr_rules.specs.Space.{Space, opened_of}
+use Rattle.zr_rules.specs.Roles.{Role, aged, cleared}
+use Rattle.zr_rules.specs.Space.{Space, opened_of, role_at}
 use Rattle.zr_rules.specs.Steps.{Commits}
 use Rattle.zr_shelf.specs.Counts.{Counts}
 use Rattle.zr_shelf.specs.Moments.{World}
 use Rattle.zr_space.specs.Drops.{IsMeta}
 use Rattle.zr_space.specs.Turning.{TurnsParts, waiting_runs}
-use Rattle.zr_store.specs.Store.{Stored, Now, Swaps}
+use Rattle.zr_store.specs.Store.{IsOnce, Stored, Now, Swaps}
 use Rattle.zr_view.specs.Views.{address_bytes}
 use Rattle.zr_vdev.specs.Runs.{view_of}
-use Rattle.zr_vdev.specs.Stores.{HoldsBlocks, KeepsOthers, addresses_of}
+use Rattle.zr_vdev.specs.Stores.{HoldsBlocks, KeepsOthers, addresses_of, is_current}
 use Rattle.zr_vdev.specs.declared.kind.Kind.TheVariants.{Block, Meta}
 use Rattle.zr_vdev.proofs.Frames.{held_beside}
 use Rattle.zr_vdev.proofs.Held.{read_same}
 use Rattle.zr_vdev.proofs.Moves.{held_again}
+use Rattle.zr_vdev.proofs.Whole.{meta_same}
 use Rattle.zr_sync.specs.Mappings.{IsSpelled, mapping_words, words_at}
 use Rattle.zr_sync.specs.Pools.{IsOpen}
 use Rattle.zr_sync.specs.Streams.{HasMeta}
@@ -52,23 +54,22 @@ use Rattle.zr_sync.proofs.Stages.{last_log_stays, mapping_stays, spelled_stays}
 -- ---- the same trees in another store of the same blocks
 
 -- where no block came or left
-still_beside : (s n : Stored) (all : List Standing) → StandBeside s all → Swaps s n [] [] → StandBeside n [] → StandBeside n all
-still_beside s n all h swaps none =
+still_beside : (s n : Stored) (all : List Standing) → StandBeside s all → Swaps s n [] [] → IsOnce n → StandBeside n all
+still_beside s n all h swaps once =
     subst (λ (xs : List Standing). StandBeside n xs) (append-nil all)
-    (others s n all [] [] [] (subst (λ (xs : List Standing). StandBeside s xs) (sym (append-nil all)) h) swaps none.once (All-nil (Stands n)))
+    (others s n all [] [] [] (subst (λ (xs : List Standing). StandBeside s xs) (sym (append-nil all)) h) swaps once (All-nil (Stands n)))
 
 -- the pool's trees stand as they stood, where its streams and its table do
 module _ (stage next : ℕ → Place → Stage) (cond cond_next : MappingStream → Stage) (more : List Standing) (t1 t2 : Type 0) (d1 d2 : List (List ℕ)) (x y : OpenPool) (h : HoldsStreams stage cond more t1 d1 x) (streams : y.streams ≡ x.streams) (conds : y.cond ≡ x.cond) (table : y.table ≡ x.table) (n : Stored) (held : HasMeta t2 d2 y n) (swaps : Swaps h.stored n [] [])
     (are : (e : ℕ) (p : Place) (ws : List ℕ) → e < x.table.count → IsAt (stage e p) x e p ws → IsAt (next e p) y e p ws) (are_cond : (which : MappingStream) (ws : List ℕ) → IsCondAt (cond which) x which ws → IsCondAt (cond_next which) y which ws) where
   pub stand_still : HoldsStreams next cond_next more t2 d2 y
   stand_still =
-      let empty : StandBeside n [] = record { stored = λ weight. omega arith; once = held.alone; stand = All-nil (Stands n) } in
       record {
         stored = n;
         held = held;
         words = h.words;
         cond = h.cond;
-        beside = rw streams rw conds rw table (still_beside h.stored n _ h.beside swaps empty);
+        beside = rw streams rw conds rw table (still_beside h.stored n _ h.beside swaps held.alone);
         counts = rw streams rw table h.counts;
         cond_counts = rw conds h.cond_counts;
         are = λ e p lt. let below = subst (λ (w : Table). e < w.count) table lt in are e p (h.words e p) below (h.are e p below);
@@ -153,6 +154,16 @@ at_end first false count x y version commits turns e SecondLate ws lt is =
     let late : IsLate x.version e ws (part_of x.space.parts.devs e).late1 = subst (λ (s : Stage). IsAt s x e SecondLate ws) (stage_of (nat_lt e count) Written Given (below_all e count lt)) is in
     subst (λ (runs : List LateRun). IsLate y.version e ws runs) (sym (turns.second e)) (rw version late)
 
+aged_current : (r : Role) → is_current (aged r) ≡ is_current r
+aged_current r = grind (arith, nat_tests)
+
+cleared_current : (r : Role) → is_current (cleared r) ≡ is_current r
+cleared_current r = grind (arith, nat_tests)
+
+end_current : (reset : Bool) (r : Role) → is_current (if reset then cleared r else aged r) ≡ is_current r
+end_current true r = cleared_current r
+end_current false r = aged_current r
+
 -- a group that ends leaves what the disks hold of metadata
 meta_ends : (reset : Bool) (t : Type 0) (disks : List (List ℕ)) (x y : OpenPool) (s : Stored) → y.table ≡ x.table → y.cache ≡ x.cache → Commits reset x.space y.space → ((a : Dva) → IsMeta x.space a → IsMeta y.space a) → HasMeta t disks x s → Now (HasMeta t disks y) (λ n. Swaps s n [] [])
 meta_ends reset t disks x y s table cache commits metas held =
@@ -163,7 +174,7 @@ meta_ends reset t disks x y s table cache commits metas held =
     (λ a h. record { used = metas a h.used; whole = tt })
     (λ a h. ap (λ (ds : Devices). address_bytes (record { disks = disks; slots = x.table.slots; devices = ds }) a) devices)
     (λ d u. subst (λ (ds : Devices). live_hits ds (addresses_of s.pointers) d u ≤ 1) (sym devices) (held.once d u))
-    tt
+    (meta_same x.space y.space (addresses_of s.pointers) devices (λ d u. ap is_current (commits.roles d u) ∙ end_current reset (role_at x.space d u)) held.all)
     tt
     held))
 

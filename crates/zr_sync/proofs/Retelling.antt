@@ -1,6 +1,7 @@
 -- The trees of a pool stand on its disks, by whatever these are told to read so, and of a pool of which little has changed.
 use Rattle.std.proofs.Common.{◌≡◌, ◌∙◌, ◌⊎◌, inl, inr, ℕ, ◌≤◌, ◌==◌, Bool, true, false, List, [], length, take, None, refl, sym, ap, subst, arith, if◌then◌else◌}
 use Rattle.std.specs.Prelude.{MatchBool, slice_index_or}
+use Rattle.std.proofs.lemmas.Bool.Decides.{nat_tests}
 use Rattle.zr_base.specs.declared.space.CkptPart.TheVariants.{Clear}
 use Rattle.zr_base.specs.declared.space.Dva.{Dva}
 use Rattle.zr_base.specs.declared.space.Entry.{Entry}
@@ -19,7 +20,8 @@ use Rattle.zr_space.specs.Drops.{HasRole, IsMeta}
 use Rattle.zr_store.specs.Store.{Now, Stored, Swaps}
 use Rattle.zr_vdev.proofs.Held.{read_same}
 use Rattle.zr_vdev.proofs.Moves.{held_again, read_held, retold}
-use Rattle.zr_vdev.specs.Stores.{HoldsBlocks, addresses_of}
+use Rattle.zr_vdev.proofs.Whole.{meta_same}
+use Rattle.zr_vdev.specs.Stores.{HoldsBlocks, addresses_of, is_current}
 use Rattle.zr_vdev.specs.declared.kind.Kind.TheVariants.{Meta as MetaKind}
 use Rattle.zr_view.specs.Views.{address_bytes}
 use Rattle.zr_sync.specs.Heads.{IsSeen}
@@ -139,9 +141,10 @@ cache_leaves t1 t2 disks x y rest seen =
 
 -- ---- what is kept is given back
 
--- The devices and their mappings stay, and what is metadata stays so.
+-- The devices and their mappings stay, and what is metadata stays so, of which no more comes.
 pub record StaysMeta (old new : Space) : Type 0 where
   pub devices : devices_in new ≡ devices_in old
+  pub current : (d u : ℕ) → is_current (role_at new d u) ≡ is_current (role_at old d u)
   pub meta : (d u : ℕ) → role_at old d u ≡ Meta → role_at new d u ≡ Meta
   pub saved : (d u : ℕ) → role_at old d u ≡ SavedMeta → role_at new d u ≡ SavedMeta
 
@@ -165,7 +168,7 @@ meta_again t1 t2 disks x y s told stays table cache held =
     (λ a h. record { used = still_meta x.space y.space a stays h.used; whole = tt })
     (λ a h. ap (λ (ds : Devices). address_bytes (record { disks = disks; slots = x.table.slots; devices = ds }) a) stays.devices)
     (λ d u. subst (λ (ds : Devices). live_hits ds (addresses_of s.pointers) d u ≤ 1) (sym stays.devices) (held.once d u))
-    tt
+    (meta_same x.space y.space (addresses_of s.pointers) stays.devices stays.current held.all)
     tt
     held))
 
@@ -174,13 +177,21 @@ still_role r q is false same = same
 still_role r q (inl is) true same = ap discarded (same ∙ is) ∙ sym is
 still_role r q (inr is) true same = ap discarded (same ∙ is) ∙ sym is
 
+discarded_role : (r : Role) → is_current (discarded r) ≡ is_current r
+discarded_role r = grind (arith, nat_tests)
+
+discarded_current : (b : Bool) (r : Role) → is_current (if b then discarded r else r) ≡ is_current r
+discarded_current true r = discarded_role r
+discarded_current false r = refl
+
 discards_meta : (old new : Space) (units : ℕ) → DiscardsSome old units new → StaysMeta old new
 discards_meta old new units d = by_cases (length (take 64 (kept_extents old)) == 0) d.1
   where
     by_cases : (b : Bool) → MatchBool b (new ≡ with_ckpt old Clear) (Discards old new (take 64 (kept_extents old))) → StaysMeta old new
-    by_cases true is = subst (StaysMeta old) (sym is) (record { devices = refl; meta = λ d u r. ckpt_role old Clear d u ∙ r; saved = λ d u r. ckpt_role old Clear d u ∙ r })
+    by_cases true is = subst (StaysMeta old) (sym is) (record { devices = refl; current = λ d u. ap is_current (ckpt_role old Clear d u); meta = λ d u r. ckpt_role old Clear d u ∙ r; saved = λ d u r. ckpt_role old Clear d u ∙ r })
     by_cases false g = record {
       devices = discards_devices old new (take 64 (kept_extents old)) g;
+      current = λ d u. ap is_current (g.roles d u) ∙ discarded_current (is_among (take 64 (kept_extents old)) d u) (role_at old d u);
       meta = λ d u r. g.roles d u ∙ still_role (role_at old d u) Meta (inl refl) (is_among (take 64 (kept_extents old)) d u) r;
       saved = λ d u r. g.roles d u ∙ still_role (role_at old d u) SavedMeta (inr refl) (is_among (take 64 (kept_extents old)) d u) r;
     }

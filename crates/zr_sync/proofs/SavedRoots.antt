@@ -77,7 +77,7 @@ none_left old new less none = let left : saved_left old ≡ 0 = ap (λ (list : L
 gives_run : (old new : Space) → GivesSaved old new → GivesSavedMeta old new
 gives_run old new g = record {
   roles = run_roles old new g;
-  others = gives_others Meta old new g.at 0 (g.drops, g.parts);
+  others = gives_others Meta old new g.at 0 g.saved.is (g.drops, g.parts);
   nothing = λ none. absurd (none_left old new g.less none);
 }
 

@@ -1,5 +1,5 @@
 -- The head that a commit writes, through the steps behind it.
-use Rattle.std.proofs.Common.{◌≡◌, ◌∙◌, ℕ, Bool, List, [], length, take, Option, None, refl, sym, ap, subst, arith}
+use Rattle.std.proofs.Common.{◌≡◌, ◌∙◌, ℕ, Bool, List, length, take, Option, refl, sym, ap, subst, arith}
 use Rattle.zr_base.specs.declared.space.DevRow.{DevRow}
 use Rattle.zr_base.specs.declared.space.Dva.{Dva}
 use Rattle.zr_bptr.specs.declared.Ptr.{Ptr}
@@ -22,9 +22,7 @@ use Rattle.zr_vdev.specs.Caches.{AreRead}
 use Rattle.zr_vdev.specs.Runs.{view_of}
 use Rattle.zr_vdev.specs.Stores.{HoldsBlocks, IsStoredAt}
 use Rattle.zr_vdev.specs.declared.kind.Kind.{Kind}
-use Rattle.zr_vdev.specs.declared.kind.Kind.TheVariants.{Meta}
 use Rattle.zr_vdev.proofs.Held.{read_same}
-use Rattle.zr_vdev.proofs.Moves.{holds_all, bytes_now}
 use Rattle.zr_view.specs.Views.{View, address_bytes}
 use Rattle.zr_sync.specs.Heads.{IsSeen, StandsHead, HasHead, head_of}
 use Rattle.zr_sync.specs.Writes.{WritesMetadata, WritesTrees}
@@ -46,12 +44,6 @@ head_stands kind slots tells disks space lost cache table s n h root len held w 
       (λ b met. let e = st.came.stored (one_at b.at) in sym (held.there b (at_each (IsStoredAt kind space lost) n.pointers b.at held.stored (omega (arith, e, met)))))
       (subst (HasBytes n t) w.spells.spelling st.stands);
 }
-
--- a store of metadata in which nothing is, to begin with
-pub empty_holds : (slots : List (Option ℕ)) (tells : Type 0) (disks : List (List ℕ)) (space : Space) (cache : Cache) → tells → AreRead disks slots space cache
-    → HoldsBlocks Meta slots tells disks space None cache (record { pointers = []; bytes = bytes_now Meta slots disks space None })
-empty_holds slots tells disks space cache told read =
-    holds_all Meta slots tells disks space None cache [] told read refl (λ i d lt. absurd (omega (arith, lt))) (λ d u. omega arith) tt tt
 
 -- ---- what is told through the steps
 

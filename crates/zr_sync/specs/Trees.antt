@@ -2,13 +2,15 @@
 use Rattle.std.specs.Prelude.{◌≡◌, ◌≢◌, ℕ, ◌<◌, ◌&&◌, Bool, true, false, nat_eq, nat_lt, List, [], ◌∷◌, ◌++◌, length, Some, if◌then◌else◌}
 use Rattle.zr_base.specs.declared.space.CondPart.{CondPart}
 use Rattle.zr_bptr.specs.declared.Tree.{Tree}
-use Rattle.zr_beside.specs.Beside.{Standing, StandBeside, of_stream, of_tree, rows_of}
+use Rattle.zr_beside.specs.Beside.{Standing, StandBeside, blocks_of, of_stream, of_tree, rows_of}
 use Rattle.zr_meta.specs.declared.Stream.{Stream}
 use Rattle.zr_rules.specs.Logs.{IsLate}
-use Rattle.zr_rules.specs.Places.{part_of}
-use Rattle.zr_rules.specs.Space.{nothing_opened, opened_of}
+use Rattle.zr_rules.specs.Equation.{devices_in, live_hits}
+use Rattle.zr_rules.specs.Places.{one_if, part_of}
+use Rattle.zr_rules.specs.Space.{nothing_opened, opened_of, role_at}
 use Rattle.zr_space.specs.Turning.{waiting_runs}
 use Rattle.zr_store.specs.Store.{Stored}
+use Rattle.zr_vdev.specs.Stores.{addresses_of, is_current}
 use Rattle.zr_sync.specs.Mappings.{HadFirst, HasFirst, IsSpelled, cond_stream, mapping_stream, mapping_words, with_mapping, words_at}
 use Rattle.zr_sync.specs.Streams.{HasMeta, log_stream, streams_at, with_log}
 use Rattle.zr_sync.specs.Words.{IsLastLog, IsLogNow}
@@ -171,6 +173,14 @@ head_tree t bytes = of_tree t bytes ∷ []
 -- The disks hold the trees of all streams of a pool and of its head beside each other, each stream at this stage.
 abbrev pub HasTrees : Stage → Type 0 → List (List ℕ) → OpenPool → Type 0
 HasTrees stage tells disks pool = (bytes : List ℕ) × HoldsStreams (every stage) (one_stage stage) (head_tree pool.head bytes) tells disks pool
+
+-- The blocks of the trees of an open pool's streams and of its head are all metadata of its current root: to each unit of that just one of them leads, and none to any other unit.
+pub record HasMetaUnits (disks : List (List ℕ)) (pool : OpenPool) : Type 0 where
+  pub bytes : List ℕ
+  pub streams : HoldsStreams (every Had) (one_stage Had) (head_tree pool.head bytes) (Unit {0}) disks pool
+  pub once : (d u : ℕ) →
+      live_hits (devices_in pool.space) (addresses_of (blocks_of streams.stored (rows_of (λ dev. device_trees (streams_at pool dev) (streams.words dev)) pool.table.count ++ (cond_trees pool.cond streams.cond ++ head_tree pool.head bytes)))) d u
+      ≡ one_if (is_current (role_at pool.space d u))
 
 -- They stand as the last root has them.
 abbrev pub HasLastTrees : List (List ℕ) → OpenPool → Type 0
