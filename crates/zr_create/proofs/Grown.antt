@@ -33,7 +33,7 @@ use Rattle.zr_store.proofs.Meeting.{at_each}
 use Rattle.zr_vdev.specs.Alike.{IsCopyAt}
 use Rattle.zr_vdev.specs.Caches.{AreRead}
 use Rattle.zr_vdev.specs.Runs.{view_of}
-use Rattle.zr_vdev.specs.Stores.{HoldsBlocks, IsAll, IsInUse, IsStoredAt, MayGoBack, addresses_of}
+use Rattle.zr_vdev.specs.Stores.{HoldsBlocks, IsAll, IsInUse, IsStoredAt, MayGoBack, addresses_of, is_current}
 use Rattle.zr_vdev.specs.declared.kind.Kind.{Kind}
 use Rattle.zr_vdev.specs.declared.kind.Kind.TheVariants.{Block, Meta}
 use Rattle.zr_vdev.proofs.Moves.{bytes_now, each_resolves, holds_all}
@@ -367,6 +367,13 @@ module _ (s t : Space) (units txg : ℕ) (adds : steps.AddsDevice s t units txg)
         copy = sym (ap is_copy_role (role_before p.0 p.1 (role_known is_copy_role refl refl p.0 p.1 c.copy))) ∙ c.copy;
       }
 
+  -- a unit of metadata is one of a device of before
+  meta_known : (d u : ℕ) → is_current (role_at s d u) ≡ true → d < length s.parts.devs
+  meta_known d u is = elim (cases_lt d (length s.parts.devs)) [
+    | inl lt ↦ lt
+    | inr le ↦ absurd (false_true (sym (ap is_current (absent s d u (grind (arith, nat_tests, le)))) ∙ is))
+  ]
+
   -- and where all were known before they are
   all_still : (kind : Kind) (list : List Dva) → All Leads list → IsAll kind s list → IsAll kind t list
   all_still Block list lead all = record {
@@ -378,7 +385,16 @@ module _ (s t : Space) (units txg : ℕ) (adds : steps.AddsDevice s t units txg)
         let before = copy_before d u p c in
         ap is_live_role (role_before d u (leaving_before d c.leaving)) ∙ all.copied d u p before;
   }
-  all_still Meta list lead all = tt
+  all_still Meta list lead all = record {
+    used = λ d u is.
+        let was = all.used d u (sym (ap is_current (role_before d u (role_known is_current refl refl d u is))) ∙ is) in
+        let same = live_hits_still list d u lead in
+        omega (arith, was, same);
+    current = λ d u some.
+        let same = live_hits_still list d u lead in
+        let was = all.current d u (omega (arith, some, same)) in
+        ap is_current (role_before d u (meta_known d u was)) ∙ was;
+  }
 
   -- ---- bytes
 

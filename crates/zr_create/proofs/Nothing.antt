@@ -52,7 +52,7 @@ module _ (n sizes : List ℕ) (txg : ℕ) (named : List ℕ) (x : OpenPool) (o :
 
 -- a space without devices has no unit in use, and none that leaves
 module _ (s : Space) (none : s.parts.devs ≡ []) where
-  absent_here : (d u : ℕ) → role_at s d u ≡ Absent
+  pub absent_here : (d u : ℕ) → role_at s d u ≡ Absent
   absent_here d u = let long : length s.parts.devs ≡ 0 = ap (λ (parts : List DevPart). length parts) none in absent s d u (grind (arith, nat_tests, long))
 
   none_serve : AreInService (devices_in s)

@@ -22,14 +22,14 @@ use Rattle.zr_held.specs.Steps.{no_tree}
 use Rattle.zr_root.specs.Streams.{HasBytes, HasSum, IsUnitAt}
 use Rattle.zr_rules.specs.Logs.{IsLog}
 use Rattle.zr_rules.specs.Places.{no_part, part_of}
-use Rattle.zr_rules.specs.Space.{OpenSets, Space, nothing_opened, opened_of}
+use Rattle.zr_rules.specs.Space.{OpenSets, Space, nothing_opened, opened_of, role_at}
 use Rattle.zr_rules.specs.Steps as steps
 use Rattle.zr_shelf.specs.Disks.{Stand}
 use Rattle.zr_shelf.specs.Moments.{World, IsStill}
 use Rattle.zr_store.specs.Store.{IsOnce, Stored, Swaps}
 use Rattle.zr_tree.specs.Trees.{IsAmong}
 use Rattle.zr_vdev.proofs.Moves.{bytes_now, holds_all}
-use Rattle.zr_vdev.specs.Stores.{IsStoredAt}
+use Rattle.zr_vdev.specs.Stores.{IsStoredAt, is_current}
 use Rattle.zr_vdev.specs.declared.kind.Kind.TheVariants.{Meta}
 use Rattle.zr_sync.proofs.Retelling.{trees_told}
 use Rattle.zr_sync.specs.Empty.{no_cond, no_stream, no_streams}
@@ -53,7 +53,7 @@ use Rattle.zr_create.specs.Devices.{new_row, with_device}
 use Rattle.zr_create.proofs.Beside.{KeepsOtherDisks}
 use Rattle.zr_create.proofs.Grown.{part_stays}
 use Rattle.zr_create.proofs.Keeping.{meta_stays}
-use Rattle.zr_create.proofs.Nothing.{nothing_cached}
+use Rattle.zr_create.proofs.Nothing.{absent_here, nothing_cached}
 use Rattle.zr_create.proofs.Taken.{IsFree, new_part}
 
 -- ---- disks that stay
@@ -299,9 +299,10 @@ no_cond_part c is = cc
 -- a pool without devices has no streams
 pub blank_trees : (tells : Type 0) (disks : List (List ℕ)) (pool : OpenPool) → tells → IsBlank pool → HasTrees Had tells disks pool
 blank_trees tells disks pool told blank =
+    let none_current : (d u : ℕ) → is_current (role_at pool.space d u) ≡ false = λ d u. ap is_current (absent_here pool.space (ap (λ (s : Space). s.parts.devs) blank.space) d u) in
     let none : Stored = record { pointers = []; bytes = bytes_now Meta pool.table.slots disks pool.space None } in
-    let held : HasMeta tells disks pool none = holds_all Meta pool.table.slots tells disks pool.space None pool.cache [] told (nothing_cached disks pool.table.slots pool.space pool.cache blank.cache) refl (All-nil (λ (b : Bptr). IsStoredAt Meta pool.space None b.at)) (λ d u. omega arith) tt tt in
-    let all : StandBeside none (rows_of (λ dev. device_trees (streams_at pool dev) nothing_at) 0 ++ (cond_trees no_cond nothing_in ++ head_tree no_tree [])) = record { stored = λ weight. (let least : 0 ≤ 0 = omega arith in least); once = held.alone; stand = holes_stand none 3 } in
+    let held : HasMeta tells disks pool none = holds_all Meta pool.table.slots tells disks pool.space None pool.cache [] told (nothing_cached disks pool.table.slots pool.space pool.cache blank.cache) refl (All-nil (λ (b : Bptr). IsStoredAt Meta pool.space None b.at)) (λ d u. omega arith) (record { used = λ d u is. absurd (let no = none_current d u in cc); current = λ d u some. absurd (omega (arith, some)) }) tt in
+    let all : StandBeside none (rows_of (λ dev. device_trees (streams_at pool dev) nothing_at) 0 ++ (cond_trees no_cond nothing_in ++ head_tree no_tree [])) = record { stored = λ weight. (let least : 0 ≤ 0 = omega arith in least); whole = λ weight. (let least : 0 ≤ 0 = omega arith in least); once = held.alone; stand = holes_stand none 3 } in
     let count = blank.count in (
       [],
       record {

@@ -35,7 +35,8 @@ use Rattle.zr_meta.specs.declared.Head.{Head}
 use Rattle.zr_meta.specs.declared.Stream.{Stream}
 use Rattle.zr_open.proofs.Opening.{head_lawful}
 use Rattle.zr_open.proofs.Parted.{StandEach, device_stands, devices_stand, devices_weight, each_stand, last_two, nothing, of_streams, of_trees, parts_each, reach_all, rows_stand, two_all, words_in, words_of}
-use Rattle.zr_open.proofs.Planted.{HasUnits, planted, reach_units, stand_planted, store}
+use Rattle.zr_open.proofs.Planted.{planted, reach_units, stand_planted, store}
+use Rattle.zr_sync.proofs.AllMeta.{HasUnits}
 use Rattle.zr_open.proofs.Serving.{address_same}
 use Rattle.zr_open.specs.Opened.{IsFresh}
 use Rattle.zr_open.specs.Roots.{HasParts}
@@ -222,7 +223,7 @@ module _ (tells : Type 0) (told : tells) (disks seen : List (List ℕ)) (sizes :
   abbrev all : List Standing
   all = side.rows_of (λ dev. device_trees (streams_at pool dev) (words dev)) pool.table.count ++ (cond_trees pool.cond cond ++ trees.head_tree pool.head (head_bytes r.head))
 
-  weighed : (weight : Bptr → ℕ) → sum_by weight (side.blocks_of image all) ≤ sum_by weight ps
+  weighed : (weight : Bptr → ℕ) → sum_by weight (side.blocks_of image all) ≡ sum_by weight ps
   weighed weight =
       let row : ℕ → List Standing = λ dev. device_trees (streams_at pool dev) (words dev) in
       let two = weigh_two image (side.rows_of row pool.table.count) (cond_trees pool.cond cond ++ trees.head_tree pool.head (head_bytes r.head)) weight in
