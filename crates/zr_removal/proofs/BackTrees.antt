@@ -19,7 +19,7 @@ use Rattle.zr_rules.specs.Space.{Space, role_at}
 use Rattle.zr_shelf.specs.Doings.{WritesOnly}
 use Rattle.zr_shelf.specs.Moments.{World}
 use Rattle.zr_space.specs.Drops.{HasRole, IsMeta}
-use Rattle.zr_store.specs.Store.{Now, Stored, Swaps}
+use Rattle.zr_store.specs.Store.{IsOnce, Now, Stored, Swaps}
 use Rattle.zr_sync.specs.Mappings.{HasFirst, IsSpelled, is_turned, turned_at}
 use Rattle.zr_sync.proofs.Stages.{IsSameFrame}
 use Rattle.zr_sync.specs.Streams.{HasMeta, streams_at}
@@ -36,7 +36,7 @@ use Rattle.zr_sync.specs.declared.words.Log.TheVariants.{Fresh, Held, Kept}
 use Rattle.zr_vdev.proofs.Moves.{held_again}
 use Rattle.zr_vdev.specs.Caches.{AreRead}
 use Rattle.zr_vdev.specs.Copies.{IsWriteIntoFree}
-use Rattle.zr_vdev.specs.Stores.{HoldsBlocks, KeepsOthers, addresses_of}
+use Rattle.zr_vdev.specs.Stores.{HoldsBlocks, KeepsOthers, addresses_of, is_current}
 use Rattle.zr_vdev.specs.declared.kind.Kind.TheVariants.{Meta}
 use Rattle.zr_view.specs.Views.{slot_of}
 use Rattle.zr_removal.specs.Trees.{ForgetsFresh, HasNoMapping, freeing, is_of_mapping}
@@ -49,7 +49,7 @@ use Rattle.zr_removal.proofs.Returning.{cancels_one}
 
 -- ---- the metadata of a pool of which one device turns
 
-module _ (s t : Space) (d : ℕ) (one : TurnsOne s t d) (roles : (e u : ℕ) (r : Role) → is_meta_role r ≡ true → role_at s e u ≡ r → role_at t e u ≡ r) where
+module _ (s t : Space) (d : ℕ) (one : TurnsOne s t d) (roles : (e u : ℕ) (r : Role) → is_meta_role r ≡ true → role_at s e u ≡ r → role_at t e u ≡ r) (current : (e u : ℕ) → is_current (role_at t e u) ≡ is_current (role_at s e u)) where
   still_used : (a : Dva) → HasRole s a MetaRole ⊎ HasRole s a SavedMeta → HasRole t a MetaRole ⊎ HasRole t a SavedMeta
   still_used a (inl has) = inl (λ u inside. roles a.dev u MetaRole refl (has u inside))
   still_used a (inr has) = inr (λ u inside. roles a.dev u SavedMeta refl (has u inside))
@@ -74,29 +74,36 @@ module _ (s t : Space) (d : ℕ) (one : TurnsOne s t d) (roles : (e u : ℕ) (r 
       (λ a is. record { used = still_meta a is.used; whole = tt })
       (λ a is. bytes_same es ds many left size maps disks slots a)
       (λ e u. (let most = held.once e u in let same = live_same es ds many left size maps (addresses_of st.pointers) e u in omega (arith, most, same)))
-      tt
+      (record {
+        used = λ e u is.
+            let was = held.all.used e u (sym (current e u) ∙ is) in
+            let same = live_same es ds many left size maps (addresses_of st.pointers) e u in
+            omega (arith, was, same);
+        current = λ e u some.
+            let same = live_same es ds many left size maps (addresses_of st.pointers) e u in
+            current e u ∙ held.all.current e u (omega (arith, some, same));
+      })
       tt
       held
 
 -- ---- the same trees in another store of the same blocks
 
-still_beside : (s n : Stored) (all : List Standing) → StandBeside s all → Swaps s n [] [] → StandBeside n [] → StandBeside n all
-still_beside s n all h swaps none =
+still_beside : (s n : Stored) (all : List Standing) → StandBeside s all → Swaps s n [] [] → IsOnce n → StandBeside n all
+still_beside s n all h swaps once =
     subst (λ (xs : List Standing). StandBeside n xs) (append-nil all)
-    (others s n all [] [] [] (subst (λ (xs : List Standing). StandBeside s xs) (sym (append-nil all)) h) swaps none.once (All-nil (Stands n)))
+    (others s n all [] [] [] (subst (λ (xs : List Standing). StandBeside s xs) (sym (append-nil all)) h) swaps once (All-nil (Stands n)))
 
 -- the pool's trees stand as they stood, where it has the same streams and as many devices
 module _ (stage next : ℕ → Place → Stage) (cond cond_next : MappingStream → Stage) (more : List Standing) (t1 t2 : Type 0) (d1 d2 : List (List ℕ)) (x y : OpenPool) (h : HoldsStreams stage cond more t1 d1 x) (streams : y.streams ≡ x.streams) (conds : y.cond ≡ x.cond) (table : y.table.count ≡ x.table.count) (n : Stored) (held : HasMeta t2 d2 y n) (swaps : Swaps h.stored n [] [])
     (are : (e : ℕ) (p : Place) (ws : List ℕ) → e < x.table.count → IsAt (stage e p) x e p ws → IsAt (next e p) y e p ws) (are_cond : (which : MappingStream) (ws : List ℕ) → IsCondAt (cond which) x which ws → IsCondAt (cond_next which) y which ws) where
   pub stand_on : HoldsStreams next cond_next more t2 d2 y
   stand_on =
-      let empty : StandBeside n [] = record { stored = λ weight. omega arith; once = held.alone; stand = All-nil (Stands n) } in
       record {
         stored = n;
         held = held;
         words = h.words;
         cond = h.cond;
-        beside = rw streams rw conds rw table (still_beside h.stored n _ h.beside swaps empty);
+        beside = rw streams rw conds rw table (still_beside h.stored n _ h.beside swaps held.alone);
         counts = rw streams rw table h.counts;
         cond_counts = rw conds h.cond_counts;
         are = λ e p lt. let below = subst (λ (k : ℕ). e < k) table lt in are e p (h.words e p) below (h.are e p below);
@@ -104,6 +111,9 @@ module _ (stage next : ℕ → Place → Stage) (cond cond_next : MappingStream 
       }
 
 -- ---- a device comes back
+
+given_current : (r : Role) → is_current (given_up r) ≡ is_current r
+given_current r = grind (arith, nat_tests)
 
 given_stays : (r : Role) → is_meta_role r ≡ true → given_up r ≡ r
 given_stays r is = grind (arith, nat_tests, is)
@@ -173,7 +183,7 @@ module _ (x y : OpenPool) (d : ℕ) (h : CancelsSpace x y d) (root : ForgetsFres
 
   pub streams_returned : is_leaving (state_of_dev x.space.parts.devs d) ≡ true → (more : List Standing) (told : Type 0) (disks : List (List ℕ)) → HoldsStreams (every Had) (one_stage Had) more told disks x → HoldsStreams (freeing is_of_mapping d) (one_stage Had) more told disks y
   streams_returned leaving more told disks holds =
-      let turned = meta_turned s t d (cancels_one s t d h.cancels leaving) (λ e u r meta is. h.cancels.roles e u ∙ (ap given_up is ∙ given_stays r meta)) x.table.slots told disks x.cache holds.stored holds.held in
+      let turned = meta_turned s t d (cancels_one s t d h.cancels leaving) (λ e u r meta is. h.cancels.roles e u ∙ (ap given_up is ∙ given_stays r meta)) (λ e u. ap is_current (h.cancels.roles e u) ∙ given_current (role_at s e u)) x.table.slots told disks x.cache holds.stored holds.held in
       let slots : y.table.slots ≡ x.table.slots = ap (λ (w : Table). w.slots) h.table in
       let cache : y.cache ≡ x.cache = ap (λ (p : OpenPool). p.cache) h.rest in
       let later = subst (λ (those : List (Option ℕ)). Now (HoldsBlocks Meta those told disks t None y.cache) (λ n. Swaps holds.stored n [] [])) (sym slots)
@@ -235,7 +245,7 @@ trees_tried x y t1 t2 before now apart wrote read rest told trees =
     let slots = x.table.slots in
     let tried : OpenPool = record x { cache = y.cache } in
     let again = held_again Meta slots t1 t2 before.now.seen now.now.seen x.space x.space None x.cache y.cache h.stored told (read h.held.read)
-    (λ a is. record { used = is.used; whole = tt }) (λ a is. meta_writes slots x.space before now a apart wrote is.used) h.held.once tt tt h.held in
+    (λ a is. record { used = is.used; whole = tt }) (λ a is. meta_writes slots x.space before now a apart wrote is.used) h.held.once h.held.all tt h.held in
     subst (λ (p : OpenPool). HasTrees Had t2 now.now.seen p) (sym rest)
     (trees.0, stand_on (every Had) (every Had) (one_stage Had) (one_stage Had) (head_tree x.head trees.0) t1 t2 before.now.seen now.now.seen x tried h refl refl refl again.stored again.held again.is (λ e p ws lt is. had_tried e p ws is) (λ which ws is. is))
   where

@@ -46,7 +46,7 @@ use Rattle.zr_vdev.proofs.Uses.{use_roles}
 use Rattle.zr_vdev.specs.Caches.{AreRead}
 use Rattle.zr_vdev.specs.Copies.{CopiesUnits, IsWriteIntoFree}
 use Rattle.zr_vdev.specs.Runs.{view_of}
-use Rattle.zr_vdev.specs.Stores.{HoldsBlocks, addresses_of, may_write}
+use Rattle.zr_vdev.specs.Stores.{HoldsBlocks, addresses_of, is_current, may_write}
 use Rattle.zr_vdev.specs.declared.kind.Kind.TheVariants.{Meta}
 use Rattle.zr_view.specs.Views.{address_bytes, slot_of}
 use Rattle.zr_removal.proofs.Alike.{bytes_same, live_same}
@@ -73,9 +73,17 @@ meta_else : (b : Bool) (r : Role) → is_meta_role r ≡ true → (b ≡ true �
 meta_else true r is free = absurd (let no_way : false ≡ true = sym (ap is_meta_role (free refl)) ∙ is in cc)
 meta_else false r is free = refl
 
+copy_current : (b : Bool) (r : Role) → (b ≡ true → r ≡ Free) → is_current (if b then FreshCopy else r) ≡ is_current r
+copy_current true r free = sym (ap is_current (free refl))
+copy_current false r free = refl
+
 module _ (s t : Space) (d : ℕ) (p : Plan) (plan : IsPlan s d p) (m : MakesCopy s t d p) where
   abbrev one : TurnsOne s t d
   one = copies_one s t d p plan m
+
+  -- the same units are metadata of the current root
+  current_same : (e u : ℕ) → is_current (role_at t e u) ≡ is_current (role_at s e u)
+  current_same e u = ap is_current (m.roles e u) ∙ copy_current (in_address p.to e u) (role_at s e u) (plan_free s d p plan e u)
 
   -- what is metadata stays so
   stays_as : (a : Dva) (r : Role) → is_meta_role r ≡ true → HasRole s a r → HasRole t a r
@@ -108,7 +116,15 @@ module _ (s t : Space) (d : ℕ) (p : Plan) (plan : IsPlan s d p) (m : MakesCopy
       (λ a is. record { used = still_meta a is.used; whole = tt })
       (λ a is. bytes_same es ds many gone size maps now.now.seen slots a ∙ meta_writes slots s before now a apart wrote is.used)
       (λ e u. (let most = held.once e u in let same = live_same es ds many gone size maps (addresses_of st.pointers) e u in omega (arith, most, same)))
-      tt
+      (record {
+        used = λ e u is.
+            let was = held.all.used e u (sym (current_same e u) ∙ is) in
+            let same = live_same es ds many gone size maps (addresses_of st.pointers) e u in
+            omega (arith, was, same);
+        current = λ e u some.
+            let same = live_same es ds many gone size maps (addresses_of st.pointers) e u in
+            current_same e u ∙ held.all.current e u (omega (arith, some, same));
+      })
       tt
       held
 

@@ -4,10 +4,10 @@ use Rattle.std.specs.Prelude.{All, ◌&&◌, if◌then◌else◌, nat_eq, slice_
 use Rattle.std.specs.List.{sum_by}
 use Rattle.std.proofs.lemmas.Bool.Decides.{nat_tests}
 use Rattle.std.proofs.lemmas.List.Elements.{All-cons, All-head, All-nil, All-tail, All-append}
-use Rattle.zr_beside.proofs.Beside.{given_back, same_blocks}
+use Rattle.zr_beside.proofs.Beside.{given_back_in, same_blocks}
 use Rattle.zr_beside.proofs.Rows.{around}
 use Rattle.zr_beside.proofs.Staying.{all_back, all_front, weigh_first, weigh_two}
-use Rattle.zr_beside.specs.Beside.{Standing, StandBeside, Stands, blocks_of, of_stream, rows_of}
+use Rattle.zr_beside.specs.Beside.{Standing, StandBeside, StandIn, Stands, blocks_of, of_stream, rows_of}
 use Rattle.zr_bptr.specs.declared.Bptr.{Bptr}
 use Rattle.zr_meta.specs.declared.Stream.{Stream}
 use Rattle.zr_root.proofs.Words.{hole_bytes}
@@ -100,9 +100,9 @@ stands_left n (m ∷ ms) all = by m.stream m.words (λ rest. stands_left n ms re
     by stream ws others true rest = All-cons (Stands n) (of_stream no_stream []) (left ms) (hole_bytes n) (others rest)
     by stream ws others false rest = All-cons (Stands n) (of_stream stream ws) (left ms) (All-head (Stands n) (of_stream stream ws) (staying ms) rest) (others (All-tail (Stands n) (of_stream stream ws) (staying ms) rest))
 
-module _ (s n : Stored) (ms : List Marked) (h : StandBeside s (stood ms)) (once : IsOnce n) (swaps : Swaps s n (blocks_of s (gone ms)) []) where
+module _ (s n : Stored) (ms : List Marked) (h : StandIn s (stood ms)) (once : IsOnce n) (swaps : Swaps s n (blocks_of s (gone ms)) []) where
   -- first those that go, and then those that stay
-  in_order : StandBeside s (gone ms ++ (staying ms ++ []))
+  in_order : StandIn s (gone ms ++ (staying ms ++ []))
   in_order = record {
     stored = λ weight.
         let all = h.stored weight in
@@ -118,7 +118,7 @@ module _ (s n : Stored) (ms : List Marked) (h : StandBeside s (stood ms)) (once 
   same_staying = same_blocks s n [] (gone ms) (staying ms ++ []) [] in_order swaps
 
   pub left_stand : All (Stands n) (left ms)
-  left_stand = stands_left n ms (all_front (Stands n) (staying ms) [] (given_back s n [] (gone ms) (staying ms ++ []) in_order once swaps).stand)
+  left_stand = stands_left n ms (all_front (Stands n) (staying ms) [] (given_back_in s n [] (gone ms) (staying ms ++ []) in_order once swaps).stand)
 
   pub left_swaps : Swaps s n (blocks_of s (stood ms)) (blocks_of n (left ms))
   left_swaps = record {
@@ -160,7 +160,7 @@ streams_left goes t = record {
 }
 
 -- a row of trees is stored, and each stands
-row_beside : (s : Stored) (f : ℕ → List Standing) (count d : ℕ) (rest : List Standing) → d < count → StandBeside s (rows_of f count ++ rest) → StandBeside s (f d)
+row_beside : (s : Stored) (f : ℕ → List Standing) (count d : ℕ) (rest : List Standing) → d < count → StandBeside s (rows_of f count ++ rest) → StandIn s (f d)
 row_beside s f count d rest lt h =
     let a = around f f count d lt (λ i other. refl) in
     let stand = subst (λ (ws : List Standing). All (Stands s) ws) a.old (all_front (Stands s) (rows_of f count) rest h.stand) in
@@ -192,7 +192,7 @@ module _ (goes : Place → Bool) (others : List Standing) (t1 : Type 0) (d1 : Li
   abbrev all_marked : List Marked
   all_marked = marked goes (streams_at x dev) (h.words dev)
 
-  row_stands : StandBeside h.stored (stood all_marked)
+  row_stands : StandIn h.stored (stood all_marked)
   row_stands = row_beside h.stored (λ e. device_trees (streams_at x e) (h.words e)) x.table.count dev (cond_trees x.cond h.cond ++ others) there h.beside
 
   pub places_stored : AreStored (blocks_of h.stored (gone all_marked)) h.stored

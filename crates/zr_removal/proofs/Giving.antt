@@ -43,10 +43,10 @@ run_roles old new at r meta drops has roles d u = (elim (in_address at d u) as (
 ]) refl
 
 gives_saved : (old new : Space) → GivesSaved old new → GivesMetadata old new
-gives_saved old new g = record { roles = run_roles old new g.at SavedMeta refl refl g.saved.saved g.drops.roles; others = gives_others kinds.Meta old new g.at 0 (g.drops, g.parts) }
+gives_saved old new g = record { roles = run_roles old new g.at SavedMeta refl refl g.saved.saved g.drops.roles; others = gives_others kinds.Meta old new g.at 0 g.saved.is (g.drops, g.parts) }
 
 gives_current : (old new : Space) (d : ℕ) → GivesMeta old new d → GivesMetadata old new
-gives_current old new d g = record { roles = run_roles old new g.at Meta refl refl g.meta.current g.drops.roles; others = gives_others kinds.Meta old new g.at 0 (g.drops, g.parts) }
+gives_current old new d g = record { roles = run_roles old new g.at Meta refl refl g.meta.current g.drops.roles; others = gives_others kinds.Meta old new g.at 0 g.meta.is (g.drops, g.parts) }
 
 pub gives_itself : (s : Space) → GivesMetadata s s
 gives_itself s = record { roles = λ d u. inl refl; others = others_itself kinds.Meta s }

@@ -79,7 +79,7 @@ blocks_given slots tells disks s t c k st others read held =
     (λ a is. record { used = use_along Block s t a devices (back (a ∷ [])) (λ d u led. others.stays d u (live_apart (role_at s d u) (is.used.used d u led))) is.used; whole = tt })
     (λ a is. ap (λ (ds : Devices). address_bytes (record { disks = disks; slots = slots; devices = ds }) a) devices)
     (λ d u. subst (λ (ds : Devices). live_hits ds (addresses_of st.pointers) d u ≤ 1) (sym devices) (held.once d u))
-    (all_same Block s t (addresses_of st.pointers) devices (live_given s t others) (metadata_no_copy s t others) held.all)
+    (all_same s t (addresses_of st.pointers) devices (live_given s t others) (metadata_no_copy s t others) held.all)
     (back (addresses_of st.pointers) held.back)
     held
 

@@ -41,7 +41,7 @@ use Rattle.zr_vdev.proofs.Moves.{held_again, retold}
 use Rattle.zr_vdev.proofs.Uses.{meta_stays}
 use Rattle.zr_vdev.specs.Caches.{AreRead}
 use Rattle.zr_vdev.specs.Runs.{view_of}
-use Rattle.zr_vdev.specs.Stores.{HoldsBlocks, IsStoredAt, KeepsOthers, addresses_of}
+use Rattle.zr_vdev.specs.Stores.{HoldsBlocks, IsStoredAt, KeepsOthers, addresses_of, is_current}
 use Rattle.zr_vdev.specs.declared.kind.Kind.TheVariants.{Meta}
 use Rattle.zr_view.specs.Views.{address_bytes, place_bytes}
 use Rattle.zr_removal.specs.Trees.{ForgetsSets, HasNoSets, freeing, is_of_sets}
@@ -70,7 +70,7 @@ meta_units s t a was is =
     ∙ sym (own_within (devices_in s) a.dev (meta_stays s a was) v (omega (arith, k1)) (omega (arith, w1, high))))
 
 -- metadata stays metadata, on the same disks
-module _ (s t : Space) (stays : (a : Dva) → IsMeta s a → IsMeta t a) where
+module _ (s t : Space) (stays : (a : Dva) → IsMeta s a → IsMeta t a) (current : (e u : ℕ) → is_current (role_at t e u) ≡ is_current (role_at s e u)) where
   bytes_stay : (disks : List (List ℕ)) (slots : List (Option ℕ)) (a : Dva) → IsMeta s a → address_bytes (view_of disks slots t) a ≡ address_bytes (view_of disks slots s) a
   bytes_stay disks slots a is =
       ap (λ (ps : List (Option UnitPlace)). flat_map (place_bytes (view_of disks slots t)) ps) (meta_units s t a is (stays a is))
@@ -99,7 +99,10 @@ module _ (s t : Space) (stays : (a : Dva) → IsMeta s a → IsMeta t a) where
       (λ a is. record { used = stays a is.used; whole = tt })
       (λ a is. bytes_stay disks slots a is.used)
       (λ e u. (let most = held.once e u in let same = hits_stay e u st.pointers held.stored in omega (arith, most, same)))
-      tt
+      (record {
+        used = λ e u is. (let was = held.all.used e u (sym (current e u) ∙ is) in let same = hits_stay e u st.pointers held.stored in omega (arith, was, same));
+        current = λ e u some. (let same = hits_stay e u st.pointers held.stored in current e u ∙ held.all.current e u (omega (arith, some, same)));
+      })
       tt
       held
 
@@ -114,6 +117,19 @@ taken_stays r is = grind (arith, nat_tests, is)
 other_role : (e d : ℕ) (r : Role) → e ≢ d → (if e == d then Absent else r) ≡ r
 other_role e d r ne = grind (arith, nat_tests, ne)
 
+same_device : (e d : ℕ) → (e == d) ≡ true → e ≡ d
+same_device e d is = grind (arith, nat_tests, is)
+
+taken_current : (r : Role) → is_current (taken_over r) ≡ is_current r
+taken_current r = grind (arith, nat_tests)
+
+not_current : (r : Role) → is_meta_role r ≡ false → is_current r ≡ false
+not_current r is = grind (arith, nat_tests, is)
+
+gone_current : (b : Bool) (r : Role) → (b ≡ true → is_meta_role r ≡ false) → is_current (if b then Absent else taken_over r) ≡ is_current r
+gone_current true r none = sym (not_current r (none refl))
+gone_current false r none = taken_current r
+
 module _ (s t : Space) (d txg : ℕ) (done : Finishes s t d txg) (clear : (u : ℕ) → is_meta_role (role_at s d u) ≡ false) where
   elsewhere : (a : Dva) (r : Role) → is_meta_role r ≡ true → 0 < a.len → HasRole s a r → a.dev ≢ d
   elsewhere a r meta some has here =
@@ -122,6 +138,10 @@ module _ (s t : Space) (d txg : ℕ) (done : Finishes s t d txg) (clear : (u : �
   role_stays : (a : Dva) (r : Role) → is_meta_role r ≡ true → a.dev ≢ d → HasRole s a r → HasRole t a r
   role_stays a r meta other has u inside =
       done.roles a.dev u ∙ (other_role a.dev d (taken_over (role_at s a.dev u)) other ∙ (ap taken_over (has u inside) ∙ taken_stays r meta))
+
+  -- the same units are metadata of the current root
+  pub current_goes_on : (e u : ℕ) → is_current (role_at t e u) ≡ is_current (role_at s e u)
+  current_goes_on e u = ap is_current (done.roles e u) ∙ gone_current (e == d) (role_at s e u) (λ here. ap (λ (k : ℕ). is_meta_role (role_at s k u)) (same_device e d here) ∙ clear u)
 
   pub meta_goes_on : (a : Dva) → IsMeta s a → IsMeta t a
   meta_goes_on a is = by is.used
@@ -193,7 +213,7 @@ module _ (x y : OpenPool) (d txg : ℕ) (done : Finishes x.space y.space d txg) 
   pub streams_vanished : ((u : ℕ) → is_meta_role (role_at x.space d u) ≡ false) → y.table.count ≡ x.table.count → y.table.slots ≡ x.table.slots → (more : List Standing) (told : Type 0) (disks : List (List ℕ)) → AreRead disks x.table.slots y.space y.cache
       → HoldsStreams (every Had) (one_stage Had) more told disks x → HoldsStreams (freeing is_of_sets d) (one_stage Had) more told disks y
   streams_vanished clear count slots more told disks read holds =
-      let turned = meta_kept s t (meta_goes_on s t d txg done clear) x.table.slots told disks x.cache y.cache holds.stored read holds.held in
+      let turned = meta_kept s t (meta_goes_on s t d txg done clear) (current_goes_on s t d txg done clear) x.table.slots told disks x.cache y.cache holds.stored read holds.held in
       let later = subst (λ (those : List (Option ℕ)). Now (HoldsBlocks Meta those told disks t None y.cache) (λ n. Swaps holds.stored n [] [])) (sym slots) turned in
       stand_on (every Had) (freeing is_of_sets d) (one_stage Had) (one_stage Had) more told told disks disks x y holds (ap (λ (p : OpenPool). p.streams) rest) (ap (λ (p : OpenPool). p.cond) rest) count
       later.stored later.held later.is (λ e p ws lt is. at_on e p ws is) (λ which ws is. cond_on which ws is)
