@@ -1,7 +1,8 @@
 -- A new object at the level of objects.
 use Rattle.std.proofs.Common.{◌≡◌, ◌<◌, ℕ, List, Option, Some, None, refl, sym, subst, ◌∙◌}
 use Rattle.std.specs.Prelude.{is_some, true, false}
-use Rattle.zr_base.specs.declared.refusal.Refusal.TheVariants.{ObjectExists}
+use Rattle.zr_base.specs.declared.refusal.Refusal.TheVariants.{Damaged, ObjectExists}
+use Rattle.zr_base.specs.declared.space.Dva.{Dva}
 use Rattle.zr_held.specs.Steps.{IsObjectOf}
 use Rattle.zr_lines.specs.Sought.{IsRecordIn}
 use Rattle.zr_lines.specs.Answers.{IsNoRoom}
@@ -47,3 +48,7 @@ none_there objects id (Some r) is record_is = absurd (cc)
 -- want of room is not that the object is there
 pub no_room_only : IsNoRoom ObjectExists → ⊥
 no_room_only r = let e = r.2 in cc
+
+-- nor that a block is damaged
+pub no_damage_only : (at : Dva) (expected found : List ℕ) → IsNoRoom (Damaged at expected found) → ⊥
+no_damage_only at expected found r = let e = r.2 in cc

@@ -24,6 +24,7 @@ use Rattle.zr_vdev.specs.declared.kind.Kind.{Kind}
 use Rattle.zr_vdev.specs.declared.kind.Kind.TheVariants.{Block}
 use Rattle.zr_lines.specs.Counts.{new_object}
 use Rattle.zr_lines.specs.Drops.{AreFoundIn, GivesUp}
+use Rattle.zr_lines.specs.Groups.{IsBehindCommit, IsReadyGroup}
 use Rattle.zr_lines.specs.Room.{LacksRoom}
 
 pub on_ok_map : {T E P Q : Type 0} (r : Result T E) → OnOk r P → (P → Q) → OnOk r Q
@@ -111,3 +112,8 @@ can_take n g = elim (leb_tells (block_count g.objects + 0) 64) [
   ]
   | inr more ↦ inr (λ both. let over = more.1 in let under = both.0 in omega (arith, over, under))
 ]
+
+-- a group that can take what the one before could not is the one behind its commit
+pub behind_full : (id : ℕ) (old new : Changes) → IsReadyGroup id old new → CanTake 0 (new_object new id) new → (CanTake 0 (new_object old id) old → ⊥) → IsBehindCommit id old new
+behind_full id old new (inl same) takes full = absurd (full (subst (λ (g : Changes). CanTake 0 (new_object g id) g) same takes))
+behind_full id old new (inr behind) takes full = behind

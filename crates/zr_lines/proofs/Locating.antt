@@ -1,20 +1,25 @@
 -- The pool that a line finds, and what is said of it.
 use Rattle.std.proofs.Common.{◌≡◌, ◌⊎◌, inl, inr, ℕ, ◌+◌, List, [], Option, Some, None, Result, Ok, Err, refl, sym, ◌∙◌, ap}
-use Rattle.zr_base.specs.declared.refusal.Refusal.TheVariants.{NoSuchObject, OutOfRange}
+use Rattle.zr_base.specs.declared.refusal.Refusal.TheVariants.{NoSuchObject, OutOfRange, Damaged}
+use Rattle.zr_base.specs.declared.space.Dva.{Dva}
+use Rattle.zr_bptr.specs.declared.ObjRec.{ObjRec}
 use Rattle.std.specs.Prelude.{OnOk}
 use Rattle.zr_change.specs.Plans.{IsChanged, olds_of}
 use Rattle.zr_change.specs.declared.ranges.Edit.{Edit}
 use Rattle.zr_sync.specs.Holds.{HasBlocks}
 use Rattle.zr_lookup.specs.Objects.{record_now}
+use Rattle.zr_model.specs.Objects.{Objects}
 use Rattle.zr_rules.specs.Space.{Space}
 use Rattle.zr_store.specs.Store.{AreStored, Now, Stored}
 use Rattle.zr_vdev.specs.declared.kind.Kind.TheVariants.{Block}
 use Rattle.zr_vdev.proofs.Moves.{retold}
+use Rattle.zr_sync.specs.Objects.{HoldsObjects}
 use Rattle.zr_sync.specs.Pools.{IsSamePool}
 use Rattle.zr_sync.specs.declared.open.OpenPool.{OpenPool}
 use Rattle.zr_txg.specs.Changes.{Changes}
 use Rattle.zr_lines.specs.Causes.{IsShort, IsLongRun, IsAbsent, IsTooFar}
 use Rattle.zr_lines.specs.Changes.{HasDone, IsDone}
+use Rattle.zr_lines.specs.Damage.{FindsDamage, IsDamageOf}
 use Rattle.zr_lines.specs.Intents.{Found, IsFull, IsBehindCommit, IsFor, IsIntent, IsOutside, IsPlanned, Means}
 use Rattle.zr_lines.specs.declared.intent.Intent.{Intent}
 use Rattle.zr_lines.specs.declared.range.Reach.{Reach}
@@ -52,6 +57,23 @@ module _ (told : Type 0) (reach : Reach) (id : ℕ) (e : Edit) (old : OpenPool) 
     pub means_behind : (i : Intent) → IsIntent x.group id i → IsFor reach e i → ((s : Stored) → HasBlocks later seen x s → IsPlanned s x.dir x.group id e i) → (g : Changes) → g ≡ x.group → (m : Means told reach id e old disks i) × (g ≡ m.found.pool.group)
     means_behind i intent fits planned g same = (record { found = record { pool = x; disks = seen }; is_found = inr behind; intent = intent; fits = fits; planned = λ s h. planned s (told_by tells seen x s h) }, same)
 
+-- ---- the damaged block
+
+module _ (told : Type 0) (IsSought : Found → Type 0) (id : ℕ) (Needs : ObjRec → ℕ → Type 0) (old : OpenPool) (disks : List (List ℕ)) (at : Dva) (expected found : List ℕ) where
+  pub damage_here : IsSought (record { pool = old; disks = disks }) → ((s : Stored) → HasBlocks told disks old s → IsDamageOf s old.dir old.group id Needs at expected found) → FindsDamage told IsSought id Needs old disks at expected found
+  damage_here is damage = record { sought = record { pool = old; disks = disks }; is_sought = is; keeps = λ objects held. held; damage = damage }
+
+  pub damage_behind : (later : Type 0) → (told → later) → (x : OpenPool) (seen : List (List ℕ)) → IsSought (record { pool = x; disks = seen }) → ((objects : Objects) → HoldsObjects told disks old objects → HoldsObjects later seen x objects)
+      → ((s : Stored) → HasBlocks later seen x s → IsDamageOf s x.dir x.group id Needs at expected found) → FindsDamage told IsSought id Needs old disks at expected found
+  damage_behind later tells x seen is keeps damage = record {
+    sought = record { pool = x; disks = seen };
+    is_sought = is;
+    keeps = λ objects before.
+        let after = keeps objects before in
+        record { stored = after.stored; held = told_by (λ _. before.held.told) seen x after.stored after.held; has = after.has };
+    damage = λ s h. damage s (told_by tells seen x s h);
+  }
+
 same_from : (old x y : OpenPool) → IsSamePool old x → IsSamePool old y → IsSamePool x y
 same_from old x y p q = record { name = q.name ∙ sym p.name; guid = q.guid ∙ sym p.guid; version = q.version ∙ sym p.version; table = q.table ∙ sym p.table; ckpt = q.ckpt ∙ sym p.ckpt }
 
@@ -86,3 +108,7 @@ not_absent reach s g id i (inr long) = let is = long.is in cc
 pub not_far : (reach : Reach) (s : Space) (g : Changes) (id : ℕ) (i : Intent) → IsShort reach s g id i OutOfRange ⊎ IsLongRun i OutOfRange → ⊥
 not_far reach s g id i (inl short) = let is = short.is in cc
 not_far reach s g id i (inr long) = let is = long.is in cc
+
+pub not_damaged : (reach : Reach) (s : Space) (g : Changes) (id : ℕ) (i : Intent) (at : Dva) (expected found : List ℕ) → IsShort reach s g id i (Damaged at expected found) ⊎ IsLongRun i (Damaged at expected found) → ⊥
+not_damaged reach s g id i at expected found (inl short) = let is = short.is in cc
+not_damaged reach s g id i at expected found (inr long) = let is = long.is in cc

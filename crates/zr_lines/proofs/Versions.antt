@@ -20,6 +20,7 @@ use Rattle.zr_sync.specs.Trees.Stage.{Had, Untold}
 use Rattle.zr_sync.specs.declared.open.OpenPool.{OpenPool}
 use Rattle.zr_sync.proofs.Holding.{StaysLive}
 use Rattle.zr_sync.proofs.Retelling.{StaysMeta, untold_trees}
+use Rattle.zr_vdev.specs.Stores.{is_current}
 use Rattle.zr_sync.proofs.SavedRoots.{live_objects}
 use Rattle.zr_lines.specs.Upgrades.{Upgrades, renewed}
 
@@ -121,7 +122,7 @@ upgrades_from sizes told now old mid new is root resets shown logs saved = recor
 -- ---- the trees of its streams
 
 version_meta : (s : Space) (v : ℕ) → StaysMeta s (with_version s v)
-version_meta s v = record { devices = refl; meta = λ d u r. version_role s v d u ∙ r; saved = λ d u r. version_role s v d u ∙ r }
+version_meta s v = record { devices = refl; current = λ d u. ap is_current (version_role s v d u); meta = λ d u r. version_role s v d u ∙ r; saved = λ d u r. version_role s v d u ∙ r }
 
 -- they stand, and what their words are is told no more, since the other version spells it otherwise
 pub renewed_trees : (t : Type 0) (disks : List (List ℕ)) (x : OpenPool) → HasTrees Had t disks x → HasTrees Untold t disks (renewed x)

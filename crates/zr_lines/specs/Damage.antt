@@ -4,10 +4,15 @@ use Rattle.zr_base.specs.declared.space.Dva.{Dva}
 use Rattle.zr_bptr.specs.declared.Bptr.{Bptr}
 use Rattle.zr_bptr.specs.declared.ObjRec.{ObjRec}
 use Rattle.zr_bptr.specs.declared.Tree.{Tree}
+use Rattle.zr_lines.specs.Intents.{Found}
 use Rattle.zr_lookup.specs.Errors.{IsOtherBlock}
 use Rattle.zr_lookup.specs.Objects.{record_now, pointer_now}
+use Rattle.zr_model.specs.Objects.{Objects}
 use Rattle.zr_objset.specs.Errors.{HasBadLeaf, IsNoLeaf}
 use Rattle.zr_store.specs.Store.{Stored, AreStored}
+use Rattle.zr_sync.specs.Holds.{HasBlocks}
+use Rattle.zr_sync.specs.Objects.{HoldsObjects}
+use Rattle.zr_sync.specs.declared.open.OpenPool.{OpenPool}
 use Rattle.zr_tree.specs.Trees.{own, tree_at, tree_blocks, tree_reach, HasBadBlock, HasDamagedBlock}
 use Rattle.zr_txg.specs.Changes.{Changes}
 
@@ -27,3 +32,10 @@ pub data IsDamageOf (s : Stored) (dir : Tree) (g : Changes) (id : ℕ) (Needs : 
   no_block : (r : ObjRec) (index : ℕ) → record_now s dir g id ≡ Some r → Needs r index → found ≡ expected → HasBadLeaf (IsOtherBlock s r.units) (own (pointer_now s g id r index)) at expected → IsDamageOf s dir g id Needs at expected found
   not_stored : (r : ObjRec) → record_now s dir g id ≡ Some r → found ≡ expected → (AreStored (tree_blocks s r.tree) s → ((index : ℕ) → Needs r index → AreStored (own (pointer_now s g id r index)) s) → ⊥)
       → IsDamageOf s dir g id Needs at expected found
+
+-- The damaged block is one that a line needs of the pool in which it looks, as the disks have it there. That is the pool that was open, or what a commit of its group left; it has the same objects.
+pub record FindsDamage (told : Type 0) (IsSought : Found → Type 0) (id : ℕ) (Needs : ObjRec → ℕ → Type 0) (old : OpenPool) (disks : List (List ℕ)) (at : Dva) (expected found : List ℕ) : Type 0 where
+  pub sought : Found
+  pub is_sought : IsSought sought
+  pub keeps : (objects : Objects) → HoldsObjects told disks old objects → HoldsObjects told sought.disks sought.pool objects
+  pub damage : (s : Stored) → HasBlocks told sought.disks sought.pool s → IsDamageOf s sought.pool.dir sought.pool.group id Needs at expected found

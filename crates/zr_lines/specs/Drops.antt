@@ -1,13 +1,16 @@
 -- The blocks that a drop gives back.
-use Rattle.std.specs.Prelude.{◌≡◌, ℕ, List, [], Some}
+use Rattle.std.specs.Prelude.{◌≡◌, ◌⊎◌, ℕ, List, [], Some}
 use Rattle.zr_bptr.specs.declared.Bptr.{Bptr}
 use Rattle.zr_bptr.specs.declared.ObjRec.{ObjRec}
 use Rattle.zr_bptr.specs.declared.Tree.{Tree}
+use Rattle.zr_lines.specs.Groups.{IsBehindCommit}
+use Rattle.zr_lines.specs.Intents.{Found}
 use Rattle.zr_lines.specs.Sought.{CanTake}
 use Rattle.zr_sync.specs.Holds.{HasBlocks}
 use Rattle.zr_lookup.specs.Objects.{record_now, AreObjectBlocks}
 use Rattle.zr_lines.specs.Counts.{new_object}
 use Rattle.zr_store.specs.Store.{Stored, AreStored, Now, Swaps}
+use Rattle.zr_sync.specs.Pools.{IsSamePool}
 use Rattle.zr_sync.specs.declared.open.OpenPool.{OpenPool}
 use Rattle.zr_txg.specs.Changes.{Changes}
 
@@ -24,3 +27,7 @@ AreFoundIn tells disks pool id blocks = CanTake 0 (new_object pool.group id) poo
 -- of what the disks held, these blocks went, and all others stay
 abbrev pub GivesUp : List Bptr → Type 0 → List (List ℕ) → OpenPool → Type 0 → List (List ℕ) → OpenPool → Type 0
 GivesUp blocks tells_old disks_old old tells_new disks_new new = (s : Stored) → HasBlocks tells_old disks_old old s → AreStored blocks s → Now (HasBlocks tells_new disks_new new) (λ n. Swaps s n blocks [])
+
+-- The pool in which a drop looks for its object: the one that was open, or what a commit of its group left, which could not take the object.
+abbrev pub IsFoundToDrop : ℕ → OpenPool → List (List ℕ) → Found → Type 0
+IsFoundToDrop id old disks f = ((f.pool ≡ old) × (f.disks ≡ disks)) ⊎ (IsSamePool old f.pool × IsBehindCommit id old.group f.pool.group)

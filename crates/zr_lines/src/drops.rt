@@ -5,7 +5,7 @@
 ghost use Rattle.std.specs.Prelude.{◌≡◌, ◌≤◌, ◌<◌, ◌+◌, ◌^◌, ◌↔◌, ◌⊎◌, ℕ, List, [], All, length, IsOk, IfErr, IfOk, IsErrOf, OnOk, Ok, Option, None};
 ghost use Rattle.zr_base.specs.Counts.{HasRisen};
 ghost use Rattle.zr_base.specs.declared.refusal.Refusal.{Refusal};
-ghost use Rattle.zr_base.specs.declared.refusal.Refusal.TheVariants.{NoRoom, NoSuchObject};
+ghost use Rattle.zr_base.specs.declared.refusal.Refusal.TheVariants.{Damaged, NoRoom, NoSuchObject};
 ghost use Rattle.zr_base.specs.declared.space.Dva.{Dva};
 ghost use Rattle.zr_bptr.specs.Spelling.{IsPointer, IsTree};
 ghost use Rattle.zr_bptr.specs.declared.Bptr.{Bptr};
@@ -33,7 +33,8 @@ ghost use Rattle.std.specs.FinMap as map;
 ghost use Rattle.zr_held.specs.Steps.{IsObjectOf};
 ghost use Rattle.zr_model.specs.Objects.{Objects};
 ghost use Rattle.zr_sync.specs.Objects.{HoldsObjects};
-ghost use Rattle.zr_lines.specs.Drops.{AreBlocksOf, AreFoundIn, GivesUp};
+ghost use Rattle.zr_lines.specs.Damage.{FindsDamage, IsDamageOf, IsRecordDamage};
+ghost use Rattle.zr_lines.specs.Drops.{AreBlocksOf, AreFoundIn, GivesUp, IsFoundToDrop};
 ghost use Rattle.zr_lines.specs.Groups.{IsReadyGroup, SetsInGroup};
 ghost use Rattle.zr_lines.specs.Room.{LacksRoom, room_to_drop};
 ghost use Rattle.zr_lines.specs.Stops.{StaysInGroup, StaysInOneGroup, WritesInOneGroup};
@@ -75,6 +76,7 @@ fn read_blocks<S: Shelf, P: Place>(
     ensures refused { (r : Refusal) → IsErrOf result (No r) → IsSumRefusal r }
     ensures held { (s : Stored) → HoldsBlocks mount.entry.kind mount.entry.slots.now (S.tells shelf.old) (S.world shelf.old).now.seen space.old None cache.old s → Now (HoldsBlocks mount.entry.kind mount.entry.slots.now (S.tells shelf.new) (S.world shelf.new).now.seen space.new None cache.new) (λ n. Swaps s n [] []) }
     ensures none { (s : Stored) → HoldsBlocks mount.entry.kind mount.entry.slots.now (S.tells shelf.old) (S.world shelf.old).now.seen space.old None cache.old s → IsErrOf result (No NoSuchObject) → record_now s dir.now group.now id ≡ None }
+    ensures damaged { (s : Stored) → HoldsBlocks mount.entry.kind mount.entry.slots.now (S.tells shelf.old) (S.world shelf.old).now.seen space.old None cache.old s → (at : Dva) (expected found : List ℕ) → IsErrOf result (No (Damaged at expected found)) → IsDamageOf s dir.now group.now id (λ r index. ⊥) at expected found }
     ensures lawful { IfOk result (λ blocks. All IsPointer blocks.items) }
     ensures count { IfOk result (λ blocks. length blocks.items ≤ 2 ^ 25 + 2 ^ 21) }
     ensures blocks { (s : Stored) → HoldsBlocks mount.entry.kind mount.entry.slots.now (S.tells shelf.old) (S.world shelf.old).now.seen space.old None cache.old s → IfOk result (λ blocks. AreBlocksOf s dir.now group.now id blocks.items) }
@@ -99,6 +101,7 @@ fn object_blocks<S: Shelf, P: Place>(
     ensures refused { (r : Refusal) → IsErrOf result (No r) → IsSumRefusal r }
     ensures held { (s : Stored) → HasBlocks (S.tells shelf.old) (S.world shelf.old).now.seen pool.old s → Now (HasBlocks (S.tells shelf.new) (S.world shelf.new).now.seen pool.new) (λ n. Swaps s n [] []) }
     ensures none { (s : Stored) → HasBlocks (S.tells shelf.old) (S.world shelf.old).now.seen pool.old s → IsErrOf result (No NoSuchObject) → record_now s pool.old.dir pool.old.group id ≡ None }
+    ensures damaged { (s : Stored) → HasBlocks (S.tells shelf.old) (S.world shelf.old).now.seen pool.old s → (at : Dva) (expected found : List ℕ) → IsErrOf result (No (Damaged at expected found)) → IsDamageOf s pool.old.dir pool.old.group id (λ r index. ⊥) at expected found }
     ensures lawful { IfOk result (λ blocks. All IsPointer blocks.items) }
     ensures count { IfOk result (λ blocks. length blocks.items ≤ 2 ^ 25 + 2 ^ 21) }
     ensures blocks { (s : Stored) → HasBlocks (S.tells shelf.old) (S.world shelf.old).now.seen pool.old s → IfOk result (λ blocks. AreBlocksOf s pool.old.dir pool.old.group id blocks.items) }
@@ -142,6 +145,7 @@ fn make_way_for<S: Shelf, P: Place>(
     ensures shown { S.tells shelf.old → IsAnswered result → KeepsLast (S.world shelf.old) (S.world shelf.new) pool.old pool.new }
     ensures refused { (r : Refusal) → IsErrOf result (No r) → IsSumRefusal r }
     ensures none { (s : Stored) → HasBlocks (S.tells shelf.old) (S.world shelf.old).now.seen pool.old s → IsErrOf result (No NoSuchObject) → record_now s pool.old.dir pool.old.group id ≡ None }
+    ensures damaged { (s : Stored) → HasBlocks (S.tells shelf.old) (S.world shelf.old).now.seen pool.old s → (at : Dva) (expected found : List ℕ) → IsErrOf result (No (Damaged at expected found)) → IsRecordDamage s pool.old.dir id at expected found }
     ensures group { IsAnswered result → IsReadyGroup id pool.old.group pool.new.group }
     ensures takes { OnOk result (CanTake 0 (new_object pool.new.group id) pool.new.group) }
     ensures stays { CanTake 0 (new_object pool.old.group id) pool.old.group → (result ≡ Ok tt) × (pool.new ≡ pool.old) × (shelf.new ≡ shelf.old) }
@@ -260,6 +264,7 @@ fn drop_ready<S: Shelf, P: Place>(
     ensures shown { S.tells shelf.old → KeepsLast (S.world shelf.old) (S.world shelf.new) pool.old pool.new }
     ensures refused { (r : Refusal) → IsErrOf result (No r) → IsDropRefusal r }
     ensures none { (s : Stored) → HasBlocks (S.tells shelf.old) (S.world shelf.old).now.seen pool.old s → IsErrOf result (No NoSuchObject) → record_now s pool.old.dir pool.old.group id ≡ None }
+    ensures damaged { (s : Stored) → HasBlocks (S.tells shelf.old) (S.world shelf.old).now.seen pool.old s → (at : Dva) (expected found : List ℕ) → IsErrOf result (No (Damaged at expected found)) → IsDamageOf s pool.old.dir pool.old.group id (λ r index. ⊥) at expected found }
     ensures lacks { (needed free : ℕ) → IsErrOf result (No (NoRoom needed free)) → (blocks : List Bptr) × AreFoundIn (S.tells shelf.old) (S.world shelf.old).now.seen pool.old id blocks × LacksRoom pool.new.space (room_to_drop pool.new.space pool.new.group id blocks) needed free }
     ensures dropped { OnOk result (SetsObject id None pool.old.group pool.new.group) }
     ensures given { OnOk result ((blocks : List Bptr) × (reached : S) × (found : OpenPool) × AreFoundIn (S.tells shelf.old) (S.world shelf.old).now.seen pool.old id blocks × (CanTake 0 (new_object pool.old.group id) pool.old.group → WritesBlocks (S.sizes shelf.old) (S.sizes reached) (S.counts shelf.old) (S.counts reached) (S.tells shelf.old) (S.tells reached) (S.world shelf.old) (S.world reached) pool.old found) × (room_to_drop found.space found.group id blocks ≤ free_units found.space) × GivesUp blocks (S.tells reached) (S.world reached).now.seen found (S.tells shelf.new) (S.world shelf.new).now.seen pool.new) }
@@ -294,6 +299,7 @@ pub fn drop<S: Shelf, P: Place>(
     ensures shown { S.tells shelf.old → IsAnswered result → KeepsLast (S.world shelf.old) (S.world shelf.new) pool.old pool.new }
     ensures refused { (r : Refusal) → IsErrOf result (No r) → IsDropRefusal r }
     ensures none { (s : Stored) → HasBlocks (S.tells shelf.old) (S.world shelf.old).now.seen pool.old s → IsErrOf result (No NoSuchObject) → (record_now s pool.old.dir pool.old.group id ≡ None) ⊎ (CanTake 0 (new_object pool.old.group id) pool.old.group → ⊥) }
+    ensures damaged { (at : Dva) (expected found : List ℕ) → IsErrOf result (No (Damaged at expected found)) → FindsDamage (S.tells shelf.old) (IsFoundToDrop id pool.old (S.world shelf.old).now.seen) id (λ r index. ⊥) pool.old (S.world shelf.old).now.seen at expected found }
     ensures lacks { (needed free : ℕ) → IsErrOf result (No (NoRoom needed free)) → (blocks : List Bptr) × AreFoundIn (S.tells shelf.old) (S.world shelf.old).now.seen pool.old id blocks × LacksRoom pool.new.space (room_to_drop pool.new.space pool.new.group id blocks) needed free }
     ensures dropped { OnOk result (SetsInGroup id None pool.old.group pool.new.group) }
     ensures given { OnOk result ((blocks : List Bptr) × (reached : S) × (found : OpenPool) × AreFoundIn (S.tells shelf.old) (S.world shelf.old).now.seen pool.old id blocks × (CanTake 0 (new_object pool.old.group id) pool.old.group → WritesBlocks (S.sizes shelf.old) (S.sizes reached) (S.counts shelf.old) (S.counts reached) (S.tells shelf.old) (S.tells reached) (S.world shelf.old) (S.world reached) pool.old found) × (room_to_drop found.space found.group id blocks ≤ free_units found.space) × GivesUp blocks (S.tells reached) (S.world reached).now.seen found (S.tells shelf.new) (S.world shelf.new).now.seen pool.new) }

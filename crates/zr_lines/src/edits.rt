@@ -3,8 +3,9 @@ ghost use Rattle.std.specs.FinMap as map;
 ghost use Rattle.std.specs.Prelude.{◌≡◌, ◌<◌, ◌≤◌, ◌⊎◌, ℕ, false, true, None, List, length, slice_index, OnOk, IfOk, IsErrOf};
 ghost use Rattle.zr_base.specs.Counts.{HasRisen};
 ghost use Rattle.zr_base.specs.declared.refusal.Refusal.{Refusal};
-ghost use Rattle.zr_base.specs.declared.refusal.Refusal.TheVariants.{NoSuchObject, OutOfRange};
-ghost use Rattle.zr_change.specs.Edits.{HasLength, byte_put};
+ghost use Rattle.zr_base.specs.declared.refusal.Refusal.TheVariants.{Damaged, NoSuchObject, OutOfRange};
+ghost use Rattle.zr_base.specs.declared.space.Dva.{Dva};
+ghost use Rattle.zr_change.specs.Edits.{HasLength, IsPart, byte_put};
 ghost use Rattle.zr_held.specs.Steps.{IsObjectOf};
 ghost use Rattle.zr_model.specs.Objects.{Objects, changes_lost, with_bytes};
 ghost use Rattle.zr_shelf.specs.Counts.{NoneFell};
@@ -16,7 +17,8 @@ ghost use Rattle.zr_sync.specs.declared.stop.Stop.TheVariants.{DiskFault};
 ghost use Rattle.zr_last.specs.Last.{KeepsLast};
 ghost use Rattle.zr_lines.specs.Causes.{IsLookRefusal, IsAbsent, IsTooFar, IsUndone};
 ghost use Rattle.zr_lines.specs.Changes.{IsDone};
-ghost use Rattle.zr_lines.specs.Intents.{IsBehindCommit, IsReadyFor, Means};
+ghost use Rattle.zr_lines.specs.Damage.{FindsDamage};
+ghost use Rattle.zr_lines.specs.Intents.{IsBehindCommit, IsFound, IsReadyFor, Means};
 ghost use Rattle.zr_lines.specs.Reaches.{is_in_reach};
 ghost use Rattle.zr_lines.specs.declared.range.Reach.TheVariants.{Write};
 ghost use Rattle.zr_lines.specs.Stops.{StaysInOneGroup, WritesInOneGroup};
@@ -57,6 +59,7 @@ fn mean<S: Shelf, P: Place>(
     ensures refused { (r : Refusal) → IsErrOf result (No r) → IsLookRefusal r }
     ensures absent { IsErrOf result (No NoSuchObject) → IsAbsent (S.tells shelf.old) reach id edit.now pool.old (S.world shelf.old).now.seen }
     ensures too_far { IsErrOf result (No OutOfRange) → IsTooFar (S.tells shelf.old) reach id edit.now pool.old (S.world shelf.old).now.seen }
+    ensures damaged { (at : Dva) (expected found : List ℕ) → IsErrOf result (No (Damaged at expected found)) → FindsDamage (S.tells shelf.old) (IsFound reach id edit.now pool.old (S.world shelf.old).now.seen) id (λ r. IsPart r.units edit.now) pool.old (S.world shelf.old).now.seen at expected found }
     ensures kept { (r : Refusal) → IsErrOf result (No r) → (pool.new.group ≡ pool.old.group) ⊎ IsBehindCommit reach id edit.now pool.old pool.new }
     ensures means { IfOk result (λ i. (m : Means (S.tells shelf.old) reach id edit.now pool.old (S.world shelf.old).now.seen i) × (pool.new.group ≡ m.found.pool.group)) }
     ensures stays_no { (objects : Objects) → HoldsObjects (S.tells shelf.old) (S.world shelf.old).now.seen pool.old objects → (r : Refusal) → IsErrOf result (No r) → HoldsObjects (S.tells shelf.new) (S.world shelf.new).now.seen pool.new objects }
@@ -107,6 +110,7 @@ pub fn change<S: Shelf, P: Place>(
     ensures refused { (r : Refusal) → IsErrOf result (No r) → IsLookRefusal r ⊎ IsUndone (S.tells shelf.old) reach id edit.now pool.old (S.world shelf.old).now.seen pool.new r }
     ensures absent { IsErrOf result (No NoSuchObject) → IsAbsent (S.tells shelf.old) reach id edit.now pool.old (S.world shelf.old).now.seen }
     ensures too_far { IsErrOf result (No OutOfRange) → IsTooFar (S.tells shelf.old) reach id edit.now pool.old (S.world shelf.old).now.seen }
+    ensures damaged { (at : Dva) (expected found : List ℕ) → IsErrOf result (No (Damaged at expected found)) → FindsDamage (S.tells shelf.old) (IsFound reach id edit.now pool.old (S.world shelf.old).now.seen) id (λ r. IsPart r.units edit.now) pool.old (S.world shelf.old).now.seen at expected found }
     ensures kept { (r : Refusal) → IsErrOf result (No r) → (pool.new.group ≡ pool.old.group) ⊎ IsBehindCommit reach id edit.now pool.old pool.new }
     ensures done { OnOk result (IsDone (S.tells shelf.old) reach id edit.now pool.old (S.world shelf.old).now.seen (S.tells shelf.new) (S.world shelf.new).now.seen pool.new) }
     ensures stays_no { (objects : Objects) → HoldsObjects (S.tells shelf.old) (S.world shelf.old).now.seen pool.old objects → (r : Refusal) → IsErrOf result (No r) → HoldsObjects (S.tells shelf.new) (S.world shelf.new).now.seen pool.new objects }

@@ -2,12 +2,13 @@
 //!
 //! A line looks at its object through one store, from its record to its blocks, so that all that it finds was held at one
 //! moment.
-ghost use Rattle.std.specs.Prelude.{◌≡◌, ◌≤◌, ◌<◌, IfOk, IfSome, OnOk, IsErrOf, None, []};
+ghost use Rattle.std.specs.Prelude.{◌≡◌, ◌≤◌, ◌<◌, ℕ, List, IfOk, IfSome, OnOk, IsErrOf, None, []};
 ghost use Rattle.zr_base.specs.Counts.{HasRisen};
 ghost use Rattle.zr_base.specs.declared.refusal.Refusal.{Refusal};
-ghost use Rattle.zr_base.specs.declared.refusal.Refusal.TheVariants.{NoSuchObject, OutOfRange};
+ghost use Rattle.zr_base.specs.declared.refusal.Refusal.TheVariants.{Damaged, NoSuchObject, OutOfRange};
+ghost use Rattle.zr_base.specs.declared.space.Dva.{Dva};
 ghost use Rattle.zr_bptr.specs.Spelling.{IsTree};
-ghost use Rattle.zr_change.specs.Edits.{HasLength};
+ghost use Rattle.zr_change.specs.Edits.{HasLength, IsPart};
 ghost use Rattle.zr_change.specs.Plans.{HasRecorded, IsChanged, puts_of, olds_of};
 ghost use Rattle.zr_lookup.specs.Groups.{IsLawfulGroup};
 ghost use Rattle.zr_lookup.specs.Objects.{record_now};
@@ -16,6 +17,7 @@ ghost use Rattle.zr_sync.specs.Pools.{IsInLimits};
 ghost use Rattle.zr_sync.specs.declared.fault.Fault.TheVariants.{No, Stops};
 ghost use Rattle.zr_sync.specs.declared.stop.Stop.TheVariants.{DiskFault};
 ghost use Rattle.zr_lines.specs.Causes.{IsLookRefusal, IsMissingRun};
+ghost use Rattle.zr_lines.specs.Damage.{IsDamageOf};
 ghost use Rattle.zr_lines.specs.Intents.{IsIntent, IsFor, IsPlanned, IsOutside, IsFull};
 
 use crate::range::{Reach, check_range};
@@ -57,6 +59,7 @@ pub(crate) fn look<B: Blocks>(
     ensures same { (s : Stored) → B.holds store.old s → B.holds store.new s }
     ensures none { (s : Stored) → B.holds store.old s → IsErrOf result (No NoSuchObject) → record_now s dir.now group.now id ≡ None }
     ensures outside { (s : Stored) → B.holds store.old s → IsErrOf result (No OutOfRange) → IsOutside s dir.now group.now id reach edit.now }
+    ensures damaged { (s : Stored) → B.holds store.old s → (at : Dva) (expected found : List ℕ) → IsErrOf result (No (Damaged at expected found)) → IsDamageOf s dir.now group.now id (λ r. IsPart r.units edit.now) at expected found }
     ensures full { IfOk result (λ i. i ≡ None → IsFull reach group.now id edit.now) }
     ensures intent { IfOk result (λ i. IfSome i (IsIntent group.now id)) }
     ensures fits { IfOk result (λ i. IfSome i (IsFor reach edit.now)) }

@@ -3,7 +3,8 @@ ghost use Rattle.std.specs.Prelude.{◌≡◌, ◌≤◌, ◌<◌, ◌↔◌, �
 ghost use Rattle.zr_base.specs.Blocks.{is_block_size};
 ghost use Rattle.zr_base.specs.Counts.{HasRisen};
 ghost use Rattle.zr_base.specs.declared.refusal.Refusal.{Refusal};
-ghost use Rattle.zr_base.specs.declared.refusal.Refusal.TheVariants.{NoRoom, ObjectExists, OutOfRange};
+ghost use Rattle.zr_base.specs.declared.refusal.Refusal.TheVariants.{Damaged, NoRoom, ObjectExists, OutOfRange};
+ghost use Rattle.zr_base.specs.declared.space.Dva.{Dva};
 ghost use Rattle.zr_bptr.specs.declared.ObjRec.{ObjRec};
 ghost use Rattle.zr_change.specs.Changes.{SetsObject};
 ghost use Rattle.zr_sync.specs.Holds.{HasBlocks};
@@ -23,6 +24,7 @@ ghost use Rattle.zr_model.specs.Objects.{Objects, blank as blank_object};
 ghost use Rattle.zr_sync.specs.Objects.{HoldsObjects};
 ghost use Rattle.zr_last.specs.Last.{KeepsLast};
 ghost use Rattle.zr_lines.specs.Answers.{IsAnswered, IsMakeRefusal, IsNoRoom};
+ghost use Rattle.zr_lines.specs.Damage.{IsRecordDamage};
 ghost use Rattle.zr_lines.specs.Groups.{IsReadyGroup, SetsInGroup, blank, can_make};
 ghost use Rattle.zr_lines.specs.Room.{LacksRoom, room_for_group, room_to_make};
 ghost use Rattle.zr_lines.specs.Stops.{StaysInOneGroup, WritesInOneGroup};
@@ -133,6 +135,7 @@ pub fn make<S: Shelf, P: Place>(
     ensures range { IsErrOf result (No OutOfRange) ↔ (can_make id units ≡ false) }
     ensures there { (s : Stored) → HasBlocks (S.tells shelf.old) (S.world shelf.old).now.seen pool.old s → IsErrOf result (No ObjectExists) → (object : ObjRec) × (record_now s pool.old.dir pool.old.group id ≡ Some object) }
     ensures absent { (s : Stored) → HasBlocks (S.tells shelf.old) (S.world shelf.old).now.seen pool.old s → OnOk result (record_now s pool.old.dir pool.old.group id ≡ None) }
+    ensures damaged { (s : Stored) → HasBlocks (S.tells shelf.old) (S.world shelf.old).now.seen pool.old s → (at : Dva) (expected found : List ℕ) → IsErrOf result (No (Damaged at expected found)) → IsRecordDamage s pool.old.dir id at expected found }
     ensures objects { (objects : Objects) → HoldsObjects (S.tells shelf.old) (S.world shelf.old).now.seen pool.old objects → (r : Refusal) → IsErrOf result (No r) → HoldsObjects (S.tells shelf.new) (S.world shelf.new).now.seen pool.new objects }
     ensures exists { (objects : Objects) → HoldsObjects (S.tells shelf.old) (S.world shelf.old).now.seen pool.old objects → IsErrOf result (No ObjectExists) → IsObjectOf objects id (λ o. Unit {0}) }
     ensures comes { (objects : Objects) → HoldsObjects (S.tells shelf.old) (S.world shelf.old).now.seen pool.old objects → OnOk result ((map.get objects id ≡ None) × HoldsObjects (S.tells shelf.new) (S.world shelf.new).now.seen pool.new (map.insert objects id (blank_object units))) }

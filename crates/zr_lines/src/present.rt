@@ -128,6 +128,7 @@ pub(crate) fn blocks_present<B: Blocks>(
     ensures fault { IsErrOf result (Stops DiskFault) → HasRisen (B.account store.old).faults (B.account store.new).faults }
     ensures refused { (r : Refusal) → IsErrOf result (No r) → IsSumRefusal r }
     ensures none { (s : Stored) → B.holds store.old s → IsErrOf result (No NoSuchObject) → record_now s dir.now group.now id ≡ None }
+    ensures damaged { (s : Stored) → B.holds store.old s → (at : Dva) (expected found : List ℕ) → IsErrOf result (No (Damaged at expected found)) → IsDamageOf s dir.now group.now id (λ r index. ⊥) at expected found }
     ensures lawful { IfOk result (λ blocks. All IsPointer blocks.items) }
     ensures count { IfOk result (λ blocks. length blocks.items ≤ 2 ^ 25 + 2 ^ 21) }
     ensures blocks { (s : Stored) → B.holds store.old s → IfOk result (λ blocks. AreBlocksOf s dir.now group.now id blocks.items) }

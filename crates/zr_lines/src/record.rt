@@ -1,8 +1,9 @@
 //! Objects of an open pool, as the open group has them.
-ghost use Rattle.std.specs.Prelude.{◌≡◌, ◌<◌, ◌≤◌, ◌⊎◌, IfOk, IfSome, IsErrOf, Option, Some, None, []};
+ghost use Rattle.std.specs.Prelude.{◌≡◌, ◌<◌, ◌≤◌, ◌⊎◌, ℕ, List, IfOk, IfSome, IsErrOf, Option, Some, None, []};
 ghost use Rattle.zr_base.specs.Counts.{HasRisen};
 ghost use Rattle.zr_base.specs.declared.refusal.Refusal.{Refusal};
-ghost use Rattle.zr_base.specs.declared.refusal.Refusal.TheVariants.{NoSuchObject};
+ghost use Rattle.zr_base.specs.declared.refusal.Refusal.TheVariants.{Damaged, NoSuchObject};
+ghost use Rattle.zr_base.specs.declared.space.Dva.{Dva};
 ghost use Rattle.zr_bptr.specs.Spelling.{IsObject, IsTree};
 ghost use Rattle.zr_bptr.specs.declared.ObjRec.{ObjRec};
 ghost use Rattle.zr_lookup.specs.Groups.{IsLawfulGroup};
@@ -20,6 +21,7 @@ ghost use Rattle.std.specs.FinMap as map;
 ghost use Rattle.zr_held.specs.Steps.{IsObjectOf};
 ghost use Rattle.zr_model.specs.Objects.{Objects};
 ghost use Rattle.zr_sync.specs.Objects.{HoldsObjects};
+ghost use Rattle.zr_lines.specs.Damage.{IsRecordDamage};
 ghost use Rattle.zr_lines.specs.Sought.{IsDamaged, IsRecordIn};
 ghost use Rattle.zr_sync.specs.Holds.{HasBlocks};
 
@@ -57,6 +59,7 @@ fn read_record<S: Shelf, P: Place>(
     ensures few { IfOk result (λ found. IfSome found (λ r. id < 65536)) }
     ensures changed { (r : Option ObjRec) → id < 65536 → object_in group.now id ≡ Some r → IfOk result (λ found. found ≡ r) }
     ensures held { (s : Stored) → HoldsBlocks mount.entry.kind mount.entry.slots.now (S.tells shelf.old) (S.world shelf.old).now.seen space.old None cache.old s → Now (HoldsBlocks mount.entry.kind mount.entry.slots.now (S.tells shelf.new) (S.world shelf.new).now.seen space.new None cache.new) (λ n. Swaps s n [] []) }
+    ensures damaged { (s : Stored) → HoldsBlocks mount.entry.kind mount.entry.slots.now (S.tells shelf.old) (S.world shelf.old).now.seen space.old None cache.old s → (at : Dva) (expected found : List ℕ) → IsErrOf result (No (Damaged at expected found)) → IsRecordDamage s dir.now id at expected found }
     ensures record { (s : Stored) → HoldsBlocks mount.entry.kind mount.entry.slots.now (S.tells shelf.old) (S.world shelf.old).now.seen space.old None cache.old s → IfOk result (λ r. r ≡ record_now s dir.now group.now id) }
 {
     let mut store = Vdev::new(space, shelf, cache, mount);
@@ -80,6 +83,7 @@ pub fn find<S: Shelf, P: Place>(
     ensures lawful { IfOk result (λ r. IfSome r IsObject) }
     ensures few { IfOk result (λ found. IfSome found (λ r. id < 65536)) }
     ensures changed { (r : Option ObjRec) → id < 65536 → object_in pool.old.group id ≡ Some r → IfOk result (λ found. found ≡ r) }
+    ensures damaged { (s : Stored) → HasBlocks (S.tells shelf.old) (S.world shelf.old).now.seen pool.old s → (at : Dva) (expected found : List ℕ) → IsErrOf result (No (Damaged at expected found)) → IsRecordDamage s pool.old.dir id at expected found }
     ensures record { (s : Stored) → HasBlocks (S.tells shelf.old) (S.world shelf.old).now.seen pool.old s → IfOk result (λ r. r ≡ record_now s pool.old.dir pool.old.group id) }
     ensures held { (s : Stored) → HasBlocks (S.tells shelf.old) (S.world shelf.old).now.seen pool.old s → Now (HasBlocks (S.tells shelf.new) (S.world shelf.new).now.seen pool.new) (λ n. Swaps s n [] []) }
     ensures stays { (objects : Objects) → HoldsObjects (S.tells shelf.old) (S.world shelf.old).now.seen pool.old objects → HoldsObjects (S.tells shelf.new) (S.world shelf.new).now.seen pool.new objects }
@@ -120,6 +124,7 @@ pub fn need<S: Shelf, P: Place>(
     ensures lawful { IfOk result IsObject }
     ensures few { IfOk result (λ r. id < 65536) }
     ensures changed { (r : ObjRec) → id < 65536 → object_in pool.old.group id ≡ Some (Some r) → IfOk result (λ found. found ≡ r) }
+    ensures damaged { (s : Stored) → HasBlocks (S.tells shelf.old) (S.world shelf.old).now.seen pool.old s → (at : Dva) (expected found : List ℕ) → IsErrOf result (No (Damaged at expected found)) → IsRecordDamage s pool.old.dir id at expected found }
     ensures record { (s : Stored) → HasBlocks (S.tells shelf.old) (S.world shelf.old).now.seen pool.old s → IfOk result (λ r. record_now s pool.old.dir pool.old.group id ≡ Some r) }
     ensures none { (s : Stored) → HasBlocks (S.tells shelf.old) (S.world shelf.old).now.seen pool.old s → IsErrOf result (No NoSuchObject) → record_now s pool.old.dir pool.old.group id ≡ None }
     ensures held { (s : Stored) → HasBlocks (S.tells shelf.old) (S.world shelf.old).now.seen pool.old s → Now (HasBlocks (S.tells shelf.new) (S.world shelf.new).now.seen pool.new) (λ n. Swaps s n [] []) }

@@ -1,10 +1,11 @@
 //! The steps of a change on an open pool.
 ghost use Rattle.std.specs.FinMap as map;
-ghost use Rattle.std.specs.Prelude.{◌≡◌, ◌⊎◌, [], false, None, IfOk, IfSome, OnOk, IsErrOf};
+ghost use Rattle.std.specs.Prelude.{◌≡◌, ◌⊎◌, ℕ, List, [], false, None, IfOk, IfSome, OnOk, IsErrOf};
 ghost use Rattle.zr_base.specs.Counts.{HasRisen};
 ghost use Rattle.zr_base.specs.declared.refusal.Refusal.{Refusal};
-ghost use Rattle.zr_base.specs.declared.refusal.Refusal.TheVariants.{NoSuchObject, OutOfRange};
-ghost use Rattle.zr_change.specs.Edits.{HasLength};
+ghost use Rattle.zr_base.specs.declared.refusal.Refusal.TheVariants.{Damaged, NoSuchObject, OutOfRange};
+ghost use Rattle.zr_base.specs.declared.space.Dva.{Dva};
+ghost use Rattle.zr_change.specs.Edits.{HasLength, IsPart};
 ghost use Rattle.zr_change.specs.Plans.{IsChanged, olds_of};
 ghost use Rattle.zr_held.specs.Steps.{IsObjectOf};
 ghost use Rattle.zr_model.specs.Objects.{Objects};
@@ -20,6 +21,7 @@ ghost use Rattle.zr_vdev.specs.Stores.{Continues};
 ghost use Rattle.zr_vdev.specs.declared.kind.Kind.TheVariants.{Block};
 ghost use Rattle.zr_lines.specs.Causes.{IsLookRefusal, IsShort, IsLongRun};
 ghost use Rattle.zr_lines.specs.Changes.{HasDone};
+ghost use Rattle.zr_lines.specs.Damage.{IsDamageOf};
 ghost use Rattle.zr_lines.specs.Intents.{IsIntent, IsFor, IsPlanned, IsOutside, IsFull, IsReadyFor};
 ghost use Rattle.zr_lines.specs.Reaches.{is_in_reach};
 
@@ -52,6 +54,7 @@ pub(crate) fn look_over<S: Shelf, P: Place>(
     ensures refused { (r : Refusal) → IsErrOf result (No r) → IsLookRefusal r }
     ensures none { (s : Stored) → HasBlocks (S.tells shelf.old) (S.world shelf.old).now.seen pool.old s → IsErrOf result (No NoSuchObject) → record_now s pool.old.dir pool.old.group id ≡ None }
     ensures outside { (s : Stored) → HasBlocks (S.tells shelf.old) (S.world shelf.old).now.seen pool.old s → IsErrOf result (No OutOfRange) → IsOutside s pool.old.dir pool.old.group id reach edit.now }
+    ensures damaged { (s : Stored) → HasBlocks (S.tells shelf.old) (S.world shelf.old).now.seen pool.old s → (at : Dva) (expected found : List ℕ) → IsErrOf result (No (Damaged at expected found)) → IsDamageOf s pool.old.dir pool.old.group id (λ r. IsPart r.units edit.now) at expected found }
     ensures full { IfOk result (λ i. i ≡ None → IsFull reach pool.old.group id edit.now) }
     ensures intent { IfOk result (λ i. IfSome i (IsIntent pool.old.group id)) }
     ensures fits { IfOk result (λ i. IfSome i (IsFor reach edit.now)) }

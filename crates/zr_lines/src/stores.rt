@@ -1,12 +1,13 @@
 //! The device calls of a change, each with a store of its own.
 //!
 //! A store borrows the space, the disks and the cache. With its end they go on, and what it left alone is said of them.
-ghost use Rattle.std.specs.Prelude.{◌≡◌, ◌≤◌, [], None, IfOk, IfSome, OnOk, IsErrOf};
+ghost use Rattle.std.specs.Prelude.{◌≡◌, ◌≤◌, ℕ, List, [], None, IfOk, IfSome, OnOk, IsErrOf};
 ghost use Rattle.zr_base.specs.Counts.{HasRisen};
 ghost use Rattle.zr_base.specs.declared.refusal.Refusal.{Refusal};
-ghost use Rattle.zr_base.specs.declared.refusal.Refusal.TheVariants.{NoSuchObject, OutOfRange};
+ghost use Rattle.zr_base.specs.declared.refusal.Refusal.TheVariants.{Damaged, NoSuchObject, OutOfRange};
+ghost use Rattle.zr_base.specs.declared.space.Dva.{Dva};
 ghost use Rattle.zr_bptr.specs.Spelling.{IsTree};
-ghost use Rattle.zr_change.specs.Edits.{HasLength};
+ghost use Rattle.zr_change.specs.Edits.{HasLength, IsPart};
 ghost use Rattle.zr_change.specs.Plans.{HasRecorded, IsChanged, olds_of, puts_of};
 ghost use Rattle.zr_lookup.specs.Groups.{IsLawfulGroup};
 ghost use Rattle.zr_lookup.specs.Objects.{record_now};
@@ -19,6 +20,7 @@ ghost use Rattle.zr_sync.specs.declared.stop.Stop.TheVariants.{DiskFault};
 ghost use Rattle.zr_vdev.specs.Mounts.{AreMounted};
 ghost use Rattle.zr_vdev.specs.Stores.{Continues, HoldsBlocks};
 ghost use Rattle.zr_lines.specs.Causes.{IsLookRefusal, IsMissingRun};
+ghost use Rattle.zr_lines.specs.Damage.{IsDamageOf};
 ghost use Rattle.zr_lines.specs.Intents.{IsIntent, IsFor, IsPlanned, IsOutside, IsFull};
 
 use crate::intent::{Intent, fulfil, look};
@@ -58,6 +60,7 @@ pub(crate) fn look_at<S: Shelf, P: Place>(
     ensures held { (s : Stored) → HoldsBlocks mount.entry.kind mount.entry.slots.now (S.tells shelf.old) (S.world shelf.old).now.seen space.old None cache.old s → Now (HoldsBlocks mount.entry.kind mount.entry.slots.now (S.tells shelf.new) (S.world shelf.new).now.seen space.new None cache.new) (λ n. Swaps s n [] []) }
     ensures none { (s : Stored) → HoldsBlocks mount.entry.kind mount.entry.slots.now (S.tells shelf.old) (S.world shelf.old).now.seen space.old None cache.old s → IsErrOf result (No NoSuchObject) → record_now s dir.now group.now id ≡ None }
     ensures outside { (s : Stored) → HoldsBlocks mount.entry.kind mount.entry.slots.now (S.tells shelf.old) (S.world shelf.old).now.seen space.old None cache.old s → IsErrOf result (No OutOfRange) → IsOutside s dir.now group.now id reach edit.now }
+    ensures damaged { (s : Stored) → HoldsBlocks mount.entry.kind mount.entry.slots.now (S.tells shelf.old) (S.world shelf.old).now.seen space.old None cache.old s → (at : Dva) (expected found : List ℕ) → IsErrOf result (No (Damaged at expected found)) → IsDamageOf s dir.now group.now id (λ r. IsPart r.units edit.now) at expected found }
     ensures full { IfOk result (λ i. i ≡ None → IsFull reach group.now id edit.now) }
     ensures intent { IfOk result (λ i. IfSome i (IsIntent group.now id)) }
     ensures fits { IfOk result (λ i. IfSome i (IsFor reach edit.now)) }

@@ -1,4 +1,4 @@
-use Rattle.std.proofs.Common.{◌∙◌, ◌≡◌, None, Result, inl, inr, sym, subst}
+use Rattle.std.proofs.Common.{◌∙◌, ◌≡◌, None, Result, inl, inr, refl, sym, subst}
 use Rattle.std.proofs.lemmas.Result.{err_from_is_err_and}
 use Rattle.zr_lookup.specs.Objects.{record_now}
 use Rattle.zr_sync.specs.Holds.{HasBlocks}
@@ -7,7 +7,10 @@ use Rattle.zr_sync.specs.declared.open.OpenPool.{OpenPool}
 use Rattle.zr_sync.proofs.Disks.{works_more}
 use Rattle.zr_lines.specs.Counts.{new_object}
 use Rattle.zr_lines.specs.Answers.{IsAnswered}
-use Rattle.zr_lines.proofs.Giving.{can_take, err_same, found_back, on_ok_map, wrote_back}
+use Rattle.zr_lines.specs.Damage.{IsDamageOf, in_directory}
+use Rattle.zr_lines.specs.Drops.{IsFoundToDrop}
+use Rattle.zr_lines.proofs.Locating.{damage_here, damage_behind}
+use Rattle.zr_lines.proofs.Giving.{behind_full, can_take, err_same, found_back, on_ok_map, wrote_back}
 use Rattle.zr_lines.proofs.Stopping.{in_group_itself, one_group_more, one_group_writes}
 use Rattle.zr_lines.proofs.drops.drop.Goals as goal
 
@@ -50,6 +53,36 @@ returns-clause-none g c = λ s h is.
           let then = subst (λ (p : OpenPool). HasBlocks (g.S.Shelf.tells next) (g.S.Shelf.world next).now.seen p s) (sym st.1) here in
           inl (subst (λ (p : OpenPool). record_now s p.dir p.group c.args.id ≡ None) st.1 (c.drop_ready.ensures.none s then is))
       | inr full ↦ inr full
+    ]
+
+-- ---- the damaged block
+
+pub returns-in_err-make_way_for-clause-damaged : goal.returns-in_err-make_way_for-clause-damaged
+returns-in_err-make_way_for-clause-damaged g c = λ at expected found is.
+    let e = c.in_err-make_way_for in
+    let was = err_from_is_err_and c.from_residual.result c.from_residual.ensures.1 in
+    let pool = c.args.pool.now in
+    let disks = (g.S.Shelf.world c.args.shelf.now).now.seen in
+    damage_here (g.S.Shelf.tells c.args.shelf.now) (IsFoundToDrop c.args.id pool disks) c.args.id (λ o index. ⊥) pool disks at expected found (inl (refl, refl)) (λ s h. in_directory (e.ensures.damaged s h at expected found cc))
+
+pub returns-clause-damaged : goal.returns-clause-damaged
+returns-clause-damaged g c = λ at expected found is.
+    let pool = c.args.pool.now in
+    let shelf = c.args.shelf.now in
+    let disks = (g.S.Shelf.world shelf).now.seen in
+    let x = c.make_way_for.new.pool in
+    let next = c.make_way_for.new.shelf in
+    let way = c.in_ok-make_way_for.ensures in
+    elim (can_take (new_object pool.group c.args.id) pool.group) [
+      | inl can ↦
+          let st = c.make_way_for.ensures.stays can in
+          damage_here (g.S.Shelf.tells shelf) (IsFoundToDrop c.args.id pool disks) c.args.id (λ o index. ⊥) pool disks at expected found (inl (refl, refl)) (λ s h.
+          let here = subst (λ x. HasBlocks (g.S.Shelf.tells x) (g.S.Shelf.world x).now.seen pool s) (sym st.2) h in
+          let then = subst (λ (p : OpenPool). HasBlocks (g.S.Shelf.tells next) (g.S.Shelf.world next).now.seen p s) (sym st.1) here in
+          subst (λ (p : OpenPool). IsDamageOf s p.dir p.group c.args.id (λ o index. ⊥) at expected found) st.1 (c.drop_ready.ensures.damaged s then at expected found is))
+      | inr full ↦
+          damage_behind (g.S.Shelf.tells shelf) (IsFoundToDrop c.args.id pool disks) c.args.id (λ o index. ⊥) pool disks at expected found (g.S.Shelf.tells next) c.make_way_for.ensures.told x (g.S.Shelf.world next).now.seen
+          (inr (way.same tt, behind_full c.args.id pool.group x.group (way.group tt) way.takes full)) (λ objects h. way.objects objects h tt) (λ s h. c.drop_ready.ensures.damaged s h at expected found is)
     ]
 
 -- ---- the last root

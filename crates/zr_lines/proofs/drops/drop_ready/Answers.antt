@@ -16,6 +16,12 @@ use Rattle.zr_lines.proofs.drops.drop_ready.Goals as goal
 pub returns-in_err-blocks-clause-disks : goal.returns-in_err-blocks-clause-disks
 returns-in_err-blocks-clause-disks g c = λ told. works_writes _ _ _ (c.object_blocks.ensures.wrote.goes.written told)
 
+pub returns-in_err-blocks-clause-damaged : goal.returns-in_err-blocks-clause-damaged
+returns-in_err-blocks-clause-damaged g c = λ s h at expected found is.
+    let e = c.in_err-blocks in
+    let was = err_from_is_err_and c.from_residual.result c.from_residual.ensures.1 in
+    e.ensures.damaged s h at expected found cc
+
 pub returns-in_err-demand_to_drop-clause-disks : goal.returns-in_err-demand_to_drop-clause-disks
 returns-in_err-demand_to_drop-clause-disks g c = λ told. works_writes _ _ _ (c.object_blocks.ensures.wrote.goes.written told)
 

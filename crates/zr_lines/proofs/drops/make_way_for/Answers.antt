@@ -1,11 +1,19 @@
 use Rattle.zr_sync.proofs.Disks.{works_more, works_writes}
 use Rattle.zr_last.proofs.Lasting.{blocks_last}
-use Rattle.std.proofs.Common.{inl}
+use Rattle.std.proofs.Common.{ℕ, inl, subst}
+use Rattle.std.proofs.lemmas.Result.{err_from_is_err_and}
 use Rattle.zr_lines.proofs.Stopping.{in_group_by, in_group_itself, one_group_before, writes_before}
+use Rattle.zr_lines.specs.Damage.{IsRecordDamage}
 use Rattle.zr_lines.proofs.drops.make_way_for.Goals as goal
 
 pub returns-in_err-need-clause-disks : goal.returns-in_err-need-clause-disks
 returns-in_err-need-clause-disks g c = λ told. works_writes _ _ _ (c.need.ensures.wrote.goes.written told)
+
+pub returns-in_err-need-clause-damaged : goal.returns-in_err-need-clause-damaged
+returns-in_err-need-clause-damaged g c = λ s h at expected found is.
+    let e = c.in_err-need in
+    let was = err_from_is_err_and c.from_residual.result c.from_residual.ensures.1 in
+    subst (λ (n : ℕ). IsRecordDamage s c.args.pool.now.dir n at expected found) c.from.ensures (e.ensures.damaged s h at expected found cc)
 
 pub returns-in_err-make_way-clause-disks : goal.returns-in_err-make_way-clause-disks
 returns-in_err-make_way-clause-disks g c = λ told.

@@ -1,12 +1,12 @@
 use Rattle.std.proofs.Common.{inr, ◌∙◌, ap, sym, subst}
 use Rattle.std.proofs.lemmas.Result.{err_from_is_err_and, on_ok_weaker}
-use Rattle.zr_base.specs.declared.refusal.Refusal.TheVariants.{NoSuchObject, OutOfRange}
+use Rattle.zr_base.specs.declared.refusal.Refusal.TheVariants.{Damaged, NoSuchObject, OutOfRange}
 use Rattle.zr_sync.proofs.Disks.{works_more, works_writes}
 use Rattle.zr_sync.specs.declared.open.OpenPool.{OpenPool}
 use Rattle.zr_txg.specs.Changes.{Changes}
 use Rattle.zr_lines.specs.Intents.{IsIntent}
 use Rattle.zr_lines.proofs.Edited.{held_when_ready, ready_stored, edited_ok}
-use Rattle.zr_lines.proofs.Locating.{kept_by, done_by, not_absent, not_far}
+use Rattle.zr_lines.proofs.Locating.{kept_by, done_by, not_absent, not_damaged, not_far}
 use Rattle.zr_lines.proofs.Pools.{same_by, same_more}
 use Rattle.zr_last.proofs.Lasting.{blocks_last}
 use Rattle.zr_lines.proofs.Stopping.{in_group_by, one_group_more, one_group_writes}
@@ -23,6 +23,12 @@ returns-in_err-intent-clause-too_far g c = λ is.
     let e = c.in_err-intent in
     let was = err_from_is_err_and c.from_residual.result c.from_residual.ensures.1 in
     e.ensures.too_far cc
+
+pub returns-in_err-intent-clause-damaged : goal.returns-in_err-intent-clause-damaged
+returns-in_err-intent-clause-damaged g c = λ at expected found is.
+    let e = c.in_err-intent in
+    let was = err_from_is_err_and c.from_residual.result c.from_residual.ensures.1 in
+    e.ensures.damaged at expected found cc
 
 pub returns-clause-disks : goal.returns-clause-disks
 returns-clause-disks g c = λ told.
@@ -48,6 +54,11 @@ pub returns-clause-too_far : goal.returns-clause-too_far
 returns-clause-too_far g c = λ is.
     let new = c.carry_out.new.pool in
     absurd (not_far c.args.reach new.space new.group c.args.id c.in_ok-intent.intent (c.carry_out.ensures.refused OutOfRange is))
+
+pub returns-clause-damaged : goal.returns-clause-damaged
+returns-clause-damaged g c = λ at expected found is.
+    let new = c.carry_out.new.pool in
+    absurd (not_damaged c.args.reach new.space new.group c.args.id c.in_ok-intent.intent at expected found (c.carry_out.ensures.refused (Damaged at expected found) is))
 
 pub returns-clause-kept : goal.returns-clause-kept
 returns-clause-kept g c = λ r is.

@@ -1,11 +1,12 @@
-use Rattle.std.proofs.Common.{Option, false, subst, inl, inr, ap, ◌∙◌}
+use Rattle.std.proofs.Common.{Option, false, subst, inl, inr, ap, refl, ◌∙◌}
 use Rattle.std.specs.Prelude.{IfSome}
 use Rattle.std.proofs.lemmas.Result.{err_from_is_err_and}
 use Rattle.zr_sync.proofs.Disks.{works_more}
-use Rattle.zr_lines.specs.Intents.{IsIntent, IsFor, IsPlanned, IsReadyFor}
+use Rattle.zr_change.specs.Edits.{IsPart}
+use Rattle.zr_lines.specs.Intents.{IsFound, IsIntent, IsFor, IsPlanned, IsReadyFor}
 use Rattle.zr_lines.specs.declared.intent.Intent.{Intent}
 use Rattle.zr_txg.specs.Changes.{Changes}
-use Rattle.zr_lines.proofs.Locating.{behind_commit, absent_here, far_here, means_here, absent_behind, far_behind, means_behind, none_by}
+use Rattle.zr_lines.proofs.Locating.{behind_commit, absent_here, far_here, means_here, absent_behind, far_behind, means_behind, none_by, damage_here, damage_behind}
 use Rattle.zr_lines.proofs.Places.{takes_all}
 use Rattle.zr_lines.proofs.Pools.{same_by, same_more, works_by}
 use Rattle.zr_last.proofs.Lasting.{blocks_last, commit_last}
@@ -29,6 +30,15 @@ returns-in_err-intent-clause-too_far g c = λ is.
     let e = c.in_err-intent in
     let was = err_from_is_err_and c.from_residual.result c.from_residual.ensures.1 in
     far_here (g.S.Shelf.tells c.args.shelf.now) c.args.reach c.args.id c.args.edit.now c.args.pool.now (g.S.Shelf.world c.args.shelf.now).now.seen (λ s h. e.ensures.outside s h cc)
+
+pub returns-in_err-intent-clause-damaged : goal.returns-in_err-intent-clause-damaged
+returns-in_err-intent-clause-damaged g c = λ at expected found is.
+    let e = c.in_err-intent in
+    let was = err_from_is_err_and c.from_residual.result c.from_residual.ensures.1 in
+    let edit = c.args.edit.now in
+    let p = c.args.pool.now in
+    let disks = (g.S.Shelf.world c.args.shelf.now).now.seen in
+    damage_here (g.S.Shelf.tells c.args.shelf.now) (IsFound c.args.reach c.args.id edit p disks) c.args.id (λ o. IsPart o.units edit) p disks at expected found (inl (refl, refl)) (λ s h. e.ensures.damaged s h at expected found cc)
 
 pub returns-in-Some-clause-disks : goal.returns-in-Some-clause-disks
 returns-in-Some-clause-disks g c = λ told. works_by c.look_over.ensures.wrote told
@@ -103,6 +113,20 @@ returns-in_err-intent-2-clause-too_far g c = λ is.
     let e = c.in_err-intent-2 in
     let was = err_from_is_err_and c.from_residual-in_err-intent-2.result c.from_residual-in_err-intent-2.ensures.1 in
     far_behind (g.S.Shelf.tells c.args.shelf.now) c.args.reach c.args.id c.args.edit.now p (g.S.Shelf.world c.args.shelf.now).now.seen (g.S.Shelf.tells c.commit.new.shelf) (λ told. c.commit.ensures.told (c.look_over.ensures.wrote.goes.told told)) c.commit.new.pool (g.S.Shelf.world c.commit.new.shelf).now.seen behind (λ s h. e.ensures.outside s h cc)
+
+pub returns-in_err-intent-2-clause-damaged : goal.returns-in_err-intent-2-clause-damaged
+returns-in_err-intent-2-clause-damaged g c = λ at expected found is.
+    let p = c.args.pool.now in
+    let x = c.commit.new.pool in
+    let edit = c.args.edit.now in
+    let disks = (g.S.Shelf.world c.args.shelf.now).now.seen in
+    let full = c.in_ok-intent.ensures.full (none_by c.in_ok-intent.field-0 c.in_default.not-Some) in
+    let done = c.in_ok-commit.ensures in
+    let behind = behind_commit c.args.reach c.args.id edit p c.look_over.new.pool x full (same_by c.look_over.ensures.wrote) c.look_over.ensures.group done.same done.empty done.txg in
+    let e = c.in_err-intent-2 in
+    let was = err_from_is_err_and c.from_residual-in_err-intent-2.result c.from_residual-in_err-intent-2.ensures.1 in
+    damage_behind (g.S.Shelf.tells c.args.shelf.now) (IsFound c.args.reach c.args.id edit p disks) c.args.id (λ o. IsPart o.units edit) p disks at expected found (g.S.Shelf.tells c.commit.new.shelf) (λ told. c.commit.ensures.told (c.look_over.ensures.wrote.goes.told told)) x (g.S.Shelf.world c.commit.new.shelf).now.seen
+    (inr behind) (λ objects h. c.in_ok-commit.ensures.stays objects (c.look_over.ensures.stays objects h)) (λ s h. e.ensures.damaged s h at expected found cc)
 
 pub unreachable-requires : goal.unreachable-requires
 unreachable-requires g c = takes_all c.args.reach c.commit.new.pool.group c.args.id c.args.edit.now c.in_ok-commit.ensures.empty c.requires.short (c.in_ok-intent-2.ensures.full c.in-None.is)

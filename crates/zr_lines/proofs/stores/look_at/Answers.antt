@@ -26,3 +26,8 @@ returns-clause-continues g c =
     let mount = f.3 ∙ v.mount in
     let goes = f.4 in
     search (rules, goes, v, mount)
+
+pub returns-clause-damaged : goal.returns-clause-damaged
+returns-clause-damaged g c = λ s h at expected found is.
+    let v = c.new-store.ensures in
+    c.look.ensures.damaged s (rw (v.space, v.shelf, v.cache, v.lost, v.mount) h) at expected found is
