@@ -3,3 +3,4 @@ pub mod Walking
 pub mod Staying
 pub mod Units
 pub mod Read
+pub mod MetMeta

@@ -1,5 +1,5 @@
 //! The units that a walk over an open pool finds, beside those that are counted.
-ghost use Rattle.std.specs.Prelude.{◌≡◌, ◌<◌, ◌≤◌, ◌++◌, ℕ, List, All, IfOk, IfSome, IsErrOf, length, map, false};
+ghost use Rattle.std.specs.Prelude.{◌≡◌, ◌<◌, ◌≤◌, ◌++◌, ℕ, List, All, IfOk, IfSome, IsErrOf, None, length, map, false};
 ghost use Rattle.zr_audit.specs.Found.{AreMeta, allocated_units};
 ghost use Rattle.zr_base.specs.Counts.{HasRisen};
 ghost use Rattle.zr_base.specs.declared.refusal.Refusal.{Refusal};
@@ -8,11 +8,15 @@ ghost use Rattle.zr_base.specs.declared.space.Dva.{Dva};
 ghost use Rattle.zr_bptr.specs.Spelling.{IsTree};
 ghost use Rattle.zr_lookup.specs.Groups.{IsLawfulGroup};
 ghost use Rattle.zr_rules.specs.Places.{is_gone, is_leaving, state_of_dev};
+ghost use Rattle.zr_rules.specs.Roles.Role.{SavedMeta};
+ghost use Rattle.zr_rules.specs.Space.{role_at};
 ghost use Rattle.zr_shelf.specs.Counts.{NoneFell};
 ghost use Rattle.zr_shelf.specs.Moments.{IsStill};
 ghost use Rattle.zr_store.specs.Causes.{Costs, HasCause};
 ghost use Rattle.zr_store.specs.Store.{Stored};
 ghost use Rattle.zr_sync.specs.Pools.{AreCondStreams, AreStreams, IsCheckpoint, IsOpen};
+ghost use Rattle.zr_sync.specs.Trees.{HasTrees};
+ghost use Rattle.zr_sync.specs.Trees.Stage.{Had};
 ghost use Rattle.zr_sync.specs.Writes.{WorksOnDisks};
 ghost use Rattle.zr_sync.specs.declared.fault.Fault.TheVariants.{No, Stops};
 ghost use Rattle.zr_sync.specs.declared.stop.Stop.TheVariants.{DiskFault};
@@ -157,6 +161,9 @@ pub fn audit<S: Shelf>(
 
     // So they are where the disks hold the pool's objects, no device is leaving, and the metadata is what is counted as such.
     ensures whole { (objects : Objects) → HoldsObjects (S.tells shelf.old) (S.world shelf.old).now.seen pool.old objects → ((d : ℕ) → is_leaving (state_of_dev pool.old.space.parts.devs d) ≡ false) → (s : Stored) → HoldsRead pool.old.table.slots (S.tells shelf.old) (S.world shelf.old).now.seen pool.old.space pool.old.cache s → AreMeta pool.old.space (metadata_of s pool.old) → IfOk result (λ lines. map (λ l. l.walked) lines ≡ map (λ l. l.allocated) lines) }
+
+    // It is, where the trees of the pool's streams stand there and no unit has metadata of a saved root.
+    ensures standing { (objects : Objects) → HoldsObjects (S.tells shelf.old) (S.world shelf.old).now.seen pool.old objects → ((d : ℕ) → is_leaving (state_of_dev pool.old.space.parts.devs d) ≡ false) → HasTrees Had (S.tells shelf.old) (S.world shelf.old).now.seen pool.old → pool.old.saved ≡ None → ((d u : ℕ) → role_at pool.old.space d u ≡ SavedMeta → ⊥) → (s : Stored) → HoldsRead pool.old.table.slots (S.tells shelf.old) (S.world shelf.old).now.seen pool.old.space pool.old.cache s → IfOk result (λ lines. map (λ l. l.walked) lines ≡ map (λ l. l.allocated) lines) }
 {
     let met = meet_all(alloc, pool, shelf)?;
     let counted = zr_audit::audit(alloc, &pool.space, met.live.as_slice(), met.meta.as_slice())?;

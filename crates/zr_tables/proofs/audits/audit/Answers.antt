@@ -9,6 +9,7 @@ use Rattle.zr_script.specs.declared.reply.AuditLine.{AuditLine}
 use Rattle.zr_sync.specs.declared.open.OpenPool.{OpenPool}
 use Rattle.zr_sync.proofs.Disks.{works_still}
 use Rattle.zr_tables.specs.Audits.{concrete, metadata_of}
+use Rattle.zr_tables.proofs.MetMeta.{meta_met}
 use Rattle.zr_tables.proofs.Read.{read_adds_up}
 use Rattle.zr_tables.proofs.Lines.{as_many, indices_are, walked_are, allocated_are, read_each}
 use Rattle.zr_tables.proofs.audits.audit.Goals as goal
@@ -75,6 +76,10 @@ returns-clause-equal g c = λ s holds sound.
 
 pub returns-clause-whole : goal.returns-clause-whole
 returns-clause-whole g c = λ objects h none s holds metadata. returns-clause-equal g c s holds (read_adds_up _ _ _ c.args.pool.now objects h s holds none metadata)
+
+pub returns-clause-standing : goal.returns-clause-standing
+returns-clause-standing g c = λ objects h none trees unsaved no_saved s holds.
+    returns-clause-whole g c objects h none s holds (meta_met _ _ _ c.args.pool.now trees s holds c.requires.pool.count unsaved no_saved)
 
 pub returns-in_err-met-clause-stays : goal.returns-in_err-met-clause-stays
 returns-in_err-met-clause-stays g c = λ objects h. reading_stays _ _ _ _ _ _ _ _ c.args.pool.now c.meet_all.new.pool objects c.meet_all.ensures.same c.meet_all.ensures.reads h
