@@ -20,7 +20,7 @@ use Rattle.zr_pool.specs.Behind.{begun_behind}
 use Rattle.zr_pool.specs.Ends.{answer_of, is_closing}
 use Rattle.zr_pool.specs.Plain.{shelf_of}
 use Rattle.zr_pool.specs.Pools.{AreCopied, AreCurrent, AreStanding, DeviceState, IsAsBegun, IsPartOf, StandsFor, Stands}
-use Rattle.zr_pool.specs.Turns.{on_devices, on_objects_told, IsAccountTurn, IsOpenAnswer, IsTurn, is_copied, is_current, is_found, is_shown, is_standing, sizes_of, stays_open}
+use Rattle.zr_pool.specs.Turns.{on_devices, on_objects_told, IsAccountTurn, IsOpenAnswer, SpaceTurn, IsTurn, is_copied, is_current, is_found, is_shown, is_standing, sizes_of, stays_open}
 use Rattle.zr_pool.proofs.Behind.{Behinds}
 use Rattle.zr_pool.proofs.Shown.{Lasts}
 use Rattle.zr_pool.proofs.Turning.{left_of}
@@ -63,22 +63,22 @@ module _ (old : Stand) (world : World) (before : DeviceState) (command : Command
   abbrev pub IsCopied : Reply → Type 0
   IsCopied answer = is_copied before.told.is_open before.told.shelf before.copies command answer pool ≡ true → AreCopied pool world.now.seen
 
-  with_account : (answer : Reply) → Tells old world.now before command pool answer → Accounts old world.now before command pool answer → Lasts old world.now before command pool answer → IsStanding answer → IsCurrent answer → IsCopied answer → ((part : ShelfPart) → IsHeld part → Behinds world before command part pool answer)
+  with_account : (answer : Reply) → Tells old world.now before command pool answer → Accounts old world.now before command pool answer → SpaceTurn before command pool → Lasts old world.now before command pool answer → IsStanding answer → IsCurrent answer → IsCopied answer → ((part : ShelfPart) → IsHeld part → Behinds world before command part pool answer)
       → IfSome (begun_behind before.begun answer) (IsAsBegun pool (disks_of world.now)) → Leads old world.now before command pool answer
-  with_account answer t a l standing current copied behinds begun =
+  with_account answer t a spaces l standing current copied behinds begun =
       let b = behinds t.after.shelf (part_held pool world.now.seen t.after t.stands_for) in
       record {
         after = record { told = t.after; account = pool; shown = is_shown before.told.is_open before.shown answer; trees = is_standing before.told.is_open before.told.shelf before.trees command answer; behind = b.behind; begun = begun_behind before.begun answer; current = is_current before.told.is_open before.told.shelf before.current command answer; found = is_found before.account before.trees before.current before.found command answer; copies = is_copied before.told.is_open before.told.shelf before.copies command answer pool };
         stands_for = record { told = t.stands_for; account = refl; shown = l.last t.after t.takes; trees = standing; behind = b.stands; begun = begun; current = current; found = b.found; copies = copied };
-        takes = record { objects = t.takes; account = a.turn; lawful = a.lawful; shown = refl; trees = refl; behind = b.turn; begun = refl; current = refl; found = refl; copies = refl; rejoined = l.rejoined t.after t.takes; found_again = l.found_again t.after t.takes };
+        takes = record { objects = t.takes; account = a.turn; spaces = spaces; lawful = a.lawful; shown = refl; trees = refl; behind = b.turn; begun = refl; current = refl; found = refl; copies = refl; rejoined = l.rejoined t.after t.takes; found_again = l.found_again t.after t.takes };
       }
 
-  pub each_with_account : (q : Result (Option Reply) model.Stop) → IfOk q (λ found. IfSome found (λ answer. Tells old world.now before command pool answer)) → IfOk q (λ found. IfSome found (λ answer. Accounts old world.now before command pool answer))
+  pub each_with_account : (q : Result (Option Reply) model.Stop) → IfOk q (λ found. IfSome found (λ answer. Tells old world.now before command pool answer)) → IfOk q (λ found. IfSome found (λ answer. Accounts old world.now before command pool answer)) → IfOk q (λ found. IfSome found (λ answer. SpaceTurn before command pool))
       → IfOk q (λ found. IfSome found (λ answer. Lasts old world.now before command pool answer)) → IfOk q (λ found. IfSome found IsStanding) → IfOk q (λ found. IfSome found IsCurrent) → IfOk q (λ found. IfSome found IsCopied) → ((part : ShelfPart) → IsHeld part → IfOk q (λ found. IfSome found (λ answer. Behinds world before command part pool answer)))
       → IfOk q (λ found. IfSome found (λ answer. IfSome (begun_behind before.begun answer) (IsAsBegun pool (disks_of world.now)))) → IfOk q (λ found. IfSome found (λ answer. Leads old world.now before command pool answer))
-  each_with_account (Ok None) t a l s current copied b begun = tt
-  each_with_account (Ok (Some answer)) t a l s current copied b begun = with_account answer t a l s current copied b begun
-  each_with_account (Err e) t a l s current copied b begun = tt
+  each_with_account (Ok None) t a spaces l s current copied b begun = tt
+  each_with_account (Ok (Some answer)) t a spaces l s current copied b begun = with_account answer t a spaces l s current copied b begun
+  each_with_account (Err e) t a spaces l s current copied b begun = tt
 
 -- ---- where a pool is open
 

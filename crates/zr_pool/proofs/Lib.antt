@@ -19,3 +19,4 @@ pub mod Founding
 pub mod Behind
 pub mod Accounting
 pub mod Copied
+pub mod Spaces

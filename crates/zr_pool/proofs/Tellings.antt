@@ -1,13 +1,18 @@
 -- What calls left of a shelf that is told, with nothing asked of the telling any more; and lines as turns of the account.
 use Rattle.std.proofs.Common.{◌≡◌, ◌⊎◌, inl, inr, ℕ, ◌==◌, Bool, true, false, if◌then◌else◌, List, None, Result, Err, refl, sym, ap}
 use Rattle.zr_base.specs.declared.refusal.Refusal.{Refusal}
+use Rattle.zr_base.specs.declared.refusal.Refusal.TheVariants as refusal
+use Rattle.zr_base.specs.declared.space.Dva.{Dva}
 use Rattle.zr_bptr.specs.declared.Bptr.{Bptr}
+use Rattle.zr_bptr.specs.declared.ObjRec.{ObjRec}
+use Rattle.zr_change.specs.Edits.{IsPart}
 use Rattle.zr_change.specs.declared.ranges.Edit.{Edit}
 use Rattle.zr_create.specs.Refusals.{ChecksNext}
 use Rattle.zr_lines.specs.Causes.{IsLookRefusal, IsUndone}
 use Rattle.zr_lines.specs.Changes.{IsDone}
+use Rattle.zr_lines.specs.Damage.{FindsDamage}
 use Rattle.zr_lines.specs.Drops.{AreFoundIn}
-use Rattle.zr_lines.specs.Intents.{IsBehindCommit}
+use Rattle.zr_lines.specs.Intents.{Found, IsBehindCommit, IsFound}
 use Rattle.zr_lines.specs.Upgrades.{Upgrades}
 use Rattle.zr_lines.specs.declared.range.Reach.{Reach}
 use Rattle.zr_script.specs.declared.command.Command.TheVariants as cmd
@@ -110,9 +115,30 @@ module _ (t : Type 0) (told : t) where
   still_undone reach id e old disks new r (inl looked) = inl looked
   still_undone reach id e old disks new r (inr h) = inr (undone_told reach id e old disks new r h)
 
+  -- the pool in which damage was found, and its objects
+  pub damage_told : (IsSought : Found → Type 0) (id : ℕ) (Needs : ObjRec → ℕ → Type 0) (old : OpenPool) (disks : List (List ℕ)) (at : Dva) (expected found : List ℕ)
+      → FindsDamage t IsSought id Needs old disks at expected found → FindsDamage (Unit {0}) IsSought id Needs old disks at expected found
+  damage_told IsSought id Needs old disks at expected found h = record {
+    sought = h.sought;
+    is_sought = h.is_sought;
+    keeps = λ objects before.
+        let after = h.keeps objects (record { stored = before.stored; held = blocks_told disks old before.stored before.held; has = before.has }) in
+        record { stored = after.stored; held = blocks_anew t (Unit {0}) h.sought.disks h.sought.pool after.stored tt after.held; has = after.has };
+    damage = λ s held. h.damage s (blocks_told h.sought.disks h.sought.pool s held);
+  }
+
   pub puts_none : (reach : Reach) (id off len : ℕ) (e : Edit) (disks : List (List ℕ)) (old : OpenPool) (r : Refusal) (new : OpenPool)
-      → IsOver off len e → IsLookRefusal r ⊎ IsUndone t reach id e old disks new r → (new.group ≡ old.group) ⊎ IsBehindCommit reach id e old new → IsSamePool old new → PutsNone reach id off len disks old r new
-  puts_none reach id off len e disks old r new over why kept same = (e, over, still_undone reach id e old disks new r why, kept, same)
+      → IsOver off len e → IsLookRefusal r ⊎ IsUndone t reach id e old disks new r
+      → ((at : Dva) (expected found : List ℕ) → r ≡ refusal.Damaged at expected found → FindsDamage t (IsFound reach id e old disks) id (λ o. IsPart o.units e) old disks at expected found)
+      → (new.group ≡ old.group) ⊎ IsBehindCommit reach id e old new → IsSamePool old new → PutsNone reach id off len disks old r new
+  puts_none reach id off len e disks old r new over why damage kept same = record {
+    edit = e;
+    over = over;
+    why = still_undone reach id e old disks new r why;
+    damage = λ at expected found is. damage_told (IsFound reach id e old disks) id (λ o. IsPart o.units e) old disks at expected found (damage at expected found is);
+    kept = kept;
+    same = same;
+  }
 
 -- ---- a step of discarding
 

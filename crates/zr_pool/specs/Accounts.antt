@@ -10,6 +10,7 @@ use Rattle.zr_base.specs.declared.space.Dva.{Dva}
 use Rattle.zr_base.specs.declared.space.Policy.{Policy}
 use Rattle.zr_bptr.specs.declared.Bptr.{Bptr}
 use Rattle.zr_bptr.specs.declared.ObjRec.{ObjRec}
+use Rattle.zr_change.specs.Edits.{IsPart}
 use Rattle.zr_change.specs.declared.ranges.Edit.{Edit}
 use Rattle.zr_create.specs.Blank.{IsNamed, IsResetAt, NothingWaits}
 use Rattle.zr_create.specs.Devices.{Grows, HasDevicesIn}
@@ -20,10 +21,10 @@ use Rattle.zr_label.specs.declared.root.Name.{Name}
 use Rattle.zr_last.specs.Last.{KeepsRoot}
 use Rattle.zr_lines.specs.Causes.{IsLookRefusal, IsUndone}
 use Rattle.zr_lines.specs.Changes.{IsDone}
-use Rattle.zr_lines.specs.Damage.{IsDamageOf}
-use Rattle.zr_lines.specs.Drops.{AreFoundIn}
+use Rattle.zr_lines.specs.Damage.{FindsDamage, IsDamageOf, IsRecordDamage}
+use Rattle.zr_lines.specs.Drops.{AreFoundIn, IsFoundToDrop}
 use Rattle.zr_lines.specs.Groups.{IsReadyGroup, SetsInGroup, blank}
-use Rattle.zr_lines.specs.Intents.{IsBehindCommit}
+use Rattle.zr_lines.specs.Intents.{IsBehindCommit, IsFound}
 use Rattle.zr_lines.specs.Refusals as kept
 use Rattle.zr_lines.specs.Room.{LacksRoom, room_for_group, room_to_drop, room_to_make}
 use Rattle.zr_lines.specs.Sought.{IsDamaged}
@@ -77,10 +78,14 @@ abbrev pub PutsBytes : Reach → ℕ → ℕ → ℕ → List (List ℕ) → Lis
 PutsBytes reach id off len disks after old new = (e : Edit) × IsOver off len e × IsDone (Unit {0}) reach id e old disks (Unit {0}) after new × IsSamePool old new
 
 -- None were, for the object, for its range or for a damaged block; or more units are needed for what is planned than are free, both as they are told; or no run is as long as a block. The group is
--- as it was, or what a commit left, where it was too full.
-abbrev pub PutsNone : Reach → ℕ → ℕ → ℕ → List (List ℕ) → OpenPool → Refusal → OpenPool → Type 0
-PutsNone reach id off len disks old r new =
-    (e : Edit) × IsOver off len e × (IsLookRefusal r ⊎ IsUndone (Unit {0}) reach id e old disks new r) × ((new.group ≡ old.group) ⊎ IsBehindCommit reach id e old new) × IsSamePool old new
+-- as it was, or what a commit left, where it was too full. A damaged block is one of the directory, of the object's tree, or of those that the line changes in part.
+pub record PutsNone (reach : Reach) (id off len : ℕ) (disks : List (List ℕ)) (old : OpenPool) (r : Refusal) (new : OpenPool) : Type 0 where
+  pub edit : Edit
+  pub over : IsOver off len edit
+  pub why : IsLookRefusal r ⊎ IsUndone (Unit {0}) reach id edit old disks new r
+  pub damage : (at : Dva) (expected found : List ℕ) → r ≡ refusal.Damaged at expected found → FindsDamage (Unit {0}) (IsFound reach id edit old disks) id (λ o. IsPart o.units edit) old disks at expected found
+  pub kept : (new.group ≡ old.group) ⊎ IsBehindCommit reach id edit old new
+  pub same : IsSamePool old new
 
 -- the group has an object more, which has no block yet, and there is room for the group
 pub record MakesObject (id units : ℕ) (old new : OpenPool) : Type 0 where
@@ -89,9 +94,10 @@ pub record MakesObject (id units : ℕ) (old new : OpenPool) : Type 0 where
   pub room : room_for_group new.space new.group ≤ free_units new.space
   pub same : IsSamePool old new
 
--- none was made; for want of room only where what it needs is more than is free, both as they are told
-pub record MakesNone (id : ℕ) (old : OpenPool) (r : Refusal) (new : OpenPool) : Type 0 where
+-- none was made; for want of room only where what it needs is more than is free, both as they are told; for damage only where a block of the directory has it, as the disks have that
+pub record MakesNone (id : ℕ) (disks : List (List ℕ)) (old : OpenPool) (r : Refusal) (new : OpenPool) : Type 0 where
   pub lacks : (needed free : ℕ) → r ≡ refusal.NoRoom needed free → LacksRoom new.space (room_to_make new.space new.group id) needed free
+  pub damage : (at : Dva) (expected found : List ℕ) → r ≡ refusal.Damaged at expected found → (s : Stored) → HasBlocks (Unit {0}) disks old s → IsRecordDamage s old.dir id at expected found
   pub ready : IsReadyGroup id old.group new.group
   pub same : IsSamePool old new
 
@@ -100,10 +106,11 @@ pub record DropsObject (id : ℕ) (old new : OpenPool) : Type 0 where
   pub sets : SetsInGroup id None old.group new.group
   pub same : IsSamePool old new
 
--- none was dropped; for want of room only where what a free of its blocks needs is more than is free
+-- none was dropped; for want of room only where what a free of its blocks needs is more than is free; for damage only where a block of the directory or of the object's tree has it
 pub record DropsNone (id : ℕ) (disks : List (List ℕ)) (old : OpenPool) (r : Refusal) (new : OpenPool) : Type 0 where
   pub lacks : (needed free : ℕ) → r ≡ refusal.NoRoom needed free
       → (found : List Bptr) × AreFoundIn (Unit {0}) disks old id found × LacksRoom new.space (room_to_drop new.space new.group id found) needed free
+  pub damage : (at : Dva) (expected found : List ℕ) → r ≡ refusal.Damaged at expected found → FindsDamage (Unit {0}) (IsFoundToDrop id old disks) id (λ o index. ⊥) old disks at expected found
   pub ready : IsReadyGroup id old.group new.group
   pub same : IsSamePool old new
 
@@ -233,7 +240,7 @@ pub record Condenses (outcome : Condensed) (old new : OpenPool) : Type 0 where
 
 -- what a line that is refused leaves, and why it is: all is as before but the group and the cache of a line on objects
 abbrev pub Refuses : List (List ℕ) → List ℕ → List (List ℕ) → OpenPool → Command → Refusal → OpenPool → Type 0
-Refuses paths sizes disks old (cmd.Make id units) r new = MakesNone id old r new
+Refuses paths sizes disks old (cmd.Make id units) r new = MakesNone id disks old r new
 Refuses paths sizes disks old (cmd.Drop id) r new = DropsNone id disks old r new
 Refuses paths sizes disks old (cmd.Write id off bytes) r new = PutsNone reach.Write id off (length bytes) disks old r new
 Refuses paths sizes disks old (cmd.Fill id off len byte) r new = PutsNone reach.Fill id off len disks old r new

@@ -16,6 +16,7 @@ use Rattle.zr_open.specs.Going.{GoesBackInPart, RewindsInPart}
 use Rattle.zr_open.specs.Shown.{Shows, ShowsGroup}
 use Rattle.zr_rules.specs.Columns.{uncopied_units}
 use Rattle.zr_rules.specs.Places.{is_gone}
+use Rattle.zr_rules.specs.Space.{Space}
 use Rattle.zr_script.specs.declared.command.Command.{Command}
 use Rattle.zr_script.specs.declared.command.Command.TheVariants as cmd
 use Rattle.zr_script.specs.declared.reply.Reply.{Reply}
@@ -24,12 +25,15 @@ use Rattle.zr_shelf.specs.Disks.{IsAtRest, Stand}
 use Rattle.zr_shelf.specs.Moments.{IsStill, World}
 use Rattle.zr_stops.specs.Behind.{ShowsOnly}
 use Rattle.zr_stops.specs.Either.{ShowsEither}
+use Rattle.zr_sync.specs.Commits.{EndsGroup}
 use Rattle.zr_sync.specs.Copies.{KeepsCopies}
 use Rattle.zr_sync.specs.Moves.{TellsMoves}
 use Rattle.zr_sync.specs.Objects.{HoldsObjects}
 use Rattle.zr_sync.specs.Trees.{HasLastTrees, HasTrees}
 use Rattle.zr_sync.specs.Trees.Stage.{Had}
 use Rattle.zr_sync.specs.declared.open.OpenPool.{OpenPool}
+use Rattle.zr_vdev.specs.Stores.{KeepsOthers}
+use Rattle.zr_vdev.specs.declared.kind.Kind.TheVariants.{Block}
 use Rattle.zr_pool.specs.Plain.{is_background, is_copy}
 use Rattle.zr_pool.specs.Pools.{DeviceState, is_evacuating, settled, stand_of}
 
@@ -185,6 +189,10 @@ may_stop account trees command = is_silent command || may_commit account trees c
 -- The line stayed in one group: it wrote units of the group that is open, or of the next one behind a commit of that, or is a step of discarding, which did nothing to the disks. The trees of the streams and the copies stand.
 abbrev pub StaysTold : List ℕ → Objects → Command → OpenPool → OpenPool → World → World → Type 0
 StaysTold sizes objects command old new before now = StaysInOneGroup sizes objects old new before now ⊎ ((command ≡ cmd.StepDiscard) × (IsStill before now × (OpensNoUnit old new × (KeepsTrees old new before now × KeepsCopies before now old new))))
+
+-- How the space of an open pool went through a line on an object: units were taken where a policy places them, or were given back, one after another; where the group was too full, behind its commit.
+abbrev pub GoesThrough : Space → Space → Type 0
+GoesThrough old new = KeepsOthers Block old new ⊎ ((mid : Space) × EndsGroup false old mid × KeepsOthers Block mid new)
 
 -- whatever an honest crash leaves of these disks shows these objects, if it shows a pool
 abbrev pub LeavesOnly : Objects → Disks → Type 0

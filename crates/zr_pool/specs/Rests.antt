@@ -11,11 +11,13 @@ use Rattle.zr_recorded.specs.Crashes.{ShowsPool}
 use Rattle.zr_recorded.specs.Service.{IsWhole}
 use Rattle.zr_shelf.specs.Disks.{Stand}
 use Rattle.zr_stops.proofs.Behind.{behind_shows}
+use Rattle.zr_sync.proofs.TreeMeta.{meta_units}
 use Rattle.zr_sync.specs.Objects.{account_of}
+use Rattle.zr_sync.specs.Trees.{HasMetaUnits}
 use Rattle.zr_sync.specs.declared.open.OpenPool.{OpenPool}
 use Rattle.zr_tables.proofs.Units.{led_once}
 use Rattle.zr_pool.specs.Behind.{LeavesOnly}
-use Rattle.zr_pool.specs.Pools.{DeviceState, IsAsBegun, IsBehind, IsFoundBehind, HasLiveUnits, IsPartOf, Stands, StandsFor, stand_of}
+use Rattle.zr_pool.specs.Pools.{DeviceState, IsAsBegun, IsBehind, IsFoundBehind, HasLiveUnits, AreStanding, IsPartOf, Stands, StandsFor, stand_of}
 use Rattle.zr_pool.specs.Turns.{RestsOn}
 
 behind_leaves : (pool : Option OpenPool) (stand : Stand) (objects : Objects) → IsBehind pool (disks_of stand) objects → LeavesOnly objects (disks_of stand)
@@ -41,6 +43,11 @@ has_units (Some x) disks state stands = λ q is.
       once = led_once x.space h.stored.pointers h.held.stored h.held.once h.held.all;
     }
 
+-- the metadata of a pool of which the trees of the streams are told to stand
+has_metadata : (pool : Option OpenPool) (disks : List (List ℕ)) → AreStanding pool disks → IfSome pool (HasMetaUnits disks)
+has_metadata None disks stands = tt
+has_metadata (Some x) disks stands = meta_units disks x stands
+
 pub stands_rest : (pool : Option OpenPool) (stand : Stand) (state : DeviceState) → Stands pool (disks_of stand) state → RestsOn (point stand state) (disks_of stand)
 stands_rest pool stand state stands = record {
   reads = refl;
@@ -48,4 +55,5 @@ stands_rest pool stand state stands = record {
   unwritten = λ first is. (subst (λ (o : Option Disks). IfSome o (IsAsBegun pool (disks_of stand))) is stands.begun).1;
   finds = λ is. subst (λ (o : Option OpenPool). IfSome o (λ x. IsWhole x → x.saved ≡ None → (objects : Objects) → state.behind ≡ Some objects → (paths : List (List ℕ)) → ShowsPool paths objects (stand_of (disks_of stand)))) (sym stands.account) (finds_pool pool stand state stands is);
   units = subst (λ (o : Option OpenPool). IfSome o (λ x. (q : PoolState) → state.told.shelf ≡ Is q → HasLiveUnits stand.seen x)) (sym stands.account) (has_units pool stand.seen state.told stands.told);
+  metadata = λ is. subst (λ (o : Option OpenPool). IfSome o (HasMetaUnits stand.seen)) (sym stands.account) (has_metadata pool stand.seen (stands.trees is));
 }

@@ -16,9 +16,10 @@ use Rattle.zr_model.specs.declared.actor.Actor.TheVariants.{Evac, Discard, Conde
 use Rattle.zr_command.specs.Meanings.{Disks, Meaning}
 use Rattle.zr_model.specs.Runs.{Point, Shelf, Turn}
 use Rattle.zr_sync.specs.Pools.{IsOpen}
+use Rattle.zr_sync.specs.Trees.{HasMetaUnits}
 use Rattle.zr_sync.specs.declared.open.OpenPool.{OpenPool}
 use Rattle.zr_pool.specs.Accounts.{Turns, Begins, BeginsNone}
-use Rattle.zr_pool.specs.Behind.{IsBehindTurn, LeavesBegun, LeavesEither, LeavesOnly, LeavesOpened, begun_behind, is_commit, is_in_group, leaves_trees, may_stop}
+use Rattle.zr_pool.specs.Behind.{GoesThrough, IsBehindTurn, LeavesBegun, LeavesEither, LeavesOnly, LeavesOpened, begun_behind, is_commit, is_in_group, leaves_trees, may_stop}
 use Rattle.zr_pool.specs.Plain.{IsFoundAgain, IsObjectsTurn, IsRejoined, is_background, is_of_removal}
 use Rattle.zr_pool.specs.Pools.{DeviceState, IsUnwritten, is_evacuating, no_device_state, stand_of, HasLiveUnits}
 use Rattle.zr_recorded.specs.Crashes.{ShowsPool}
@@ -292,11 +293,16 @@ told_point p = record { shelf = p.shelf; state = p.state.told }
 abbrev pub told_turn : Turn DeviceState → Turn State
 told_turn t = record { command = t.command; answer = t.answer; point = told_point t.point }
 
+-- Where the objects of an open pool are told, a line on one of them takes its space through placements and frees alone, and a commit between where the group was too full.
+abbrev pub SpaceTurn : DeviceState → Command → Option OpenPool → Type 0
+SpaceTurn before command after = (x : OpenPool) (q : PoolState) → before.account ≡ Some x → before.told.shelf ≡ Is q → is_on_objects command ≡ true → IfSome after (λ y. GoesThrough x.space y.space)
+
 -- One line to the pool on devices: what it makes of the objects and of the account, which is that of a lawful pool on these disks, whether the disks are told to show it and to have the trees of its streams, which objects
 -- are told to be committed last, whether nothing was written yet, whether the slots show its root and an import finds what was committed last, and whether copies have the bytes of their units. An import finds the objects that were left there, where no device is removed, or the trees of the streams were told to stand.
 pub record IsDeviceTurn (p : Point DeviceState) (t : Turn DeviceState) : Type 0 where
   pub objects : (on_objects_told p.state.copies).takes (told_point p) (told_turn t)
   pub account : IsAccountTurn p.shelf p.state.account t.command t.answer t.point.shelf t.point.state.account
+  pub spaces : SpaceTurn p.state t.command t.point.state.account
   pub lawful : IfSome t.point.state.account (IsOpen (sizes_of t.point.shelf.disks))
   pub shown : t.point.state.shown ≡ is_shown p.state.told.is_open p.state.shown t.answer
   pub trees : t.point.state.trees ≡ is_standing p.state.told.is_open p.state.told.shelf p.state.trees t.command t.answer
@@ -310,13 +316,14 @@ pub record IsDeviceTurn (p : Point DeviceState) (t : Turn DeviceState) : Type 0 
 
 -- How the disks may stand between two lines: they read as behind the last, whatever an honest crash shows are the objects that were committed last, and where nothing was written yet they stand as at the beginning.
 -- Where an import is told to find what was committed last, each device is in service and no root is saved, whatever a crash leaves shows a pool with these objects. Where the objects of the open pool are told, its live units
--- are those to which their blocks and the directory's lead, each once.
+-- are those to which their blocks and the directory's lead, each once; where the trees of its streams are, the metadata of its current root is theirs.
 pub record RestsOn (p : Point DeviceState) (disks : Disks) : Type 0 where
   pub reads : disks.seen ≡ p.shelf.disks
   pub shows : (objects : Objects) → p.state.behind ≡ Some objects → LeavesOnly objects disks
   pub unwritten : (first : Disks) → p.state.begun ≡ Some first → IsUnwritten first disks
   pub finds : p.state.found ≡ true → IfSome p.state.account (λ x. IsWhole x → x.saved ≡ None → (objects : Objects) → p.state.behind ≡ Some objects → (paths : List (List ℕ)) → ShowsPool paths objects (stand_of disks))
   pub units : IfSome p.state.account (λ x. (q : PoolState) → p.state.told.shelf ≡ Is q → HasLiveUnits disks.seen x)
+  pub metadata : p.state.trees ≡ true → IfSome p.state.account (HasMetaUnits disks.seen)
 
 -- How the disks may stand at a moment of a line: while one tells how an open pool stands, they read as before it. Whatever an honest crash shows are the objects that were committed last, or those from before
 -- the line, which it commits. Where no pool is open they are the former, or those that the line opens to; and where nothing was written yet, it is what a crash would have left at the beginning, or what is shown has the objects that were shown before the line, or those that it opens to.

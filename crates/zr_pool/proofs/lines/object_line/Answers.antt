@@ -7,6 +7,7 @@ use Rattle.zr_model.specs.State.{with_objects}
 use Rattle.std.specs.Prelude.{slice_index}
 use Rattle.std.proofs.lemmas.List.{get_or-replicate, length-replicate}
 use Rattle.zr_change.specs.Edits.{byte_put}
+use Rattle.zr_lines.specs.Drops.{IsFoundToDrop}
 use Rattle.zr_lines.specs.Reaches.{is_in_reach}
 use Rattle.zr_lines.specs.declared.range.Reach.TheVariants.{Write, Fill, Punch}
 use Rattle.std.proofs.lemmas.Result.{err_from_is_err_and}
@@ -20,7 +21,7 @@ use Rattle.zr_pool.specs.Turns.{IsOpenRefusal}
 use Rattle.zr_pool.proofs.Refused.{fault_same, change_refusal, answered_no, answered_ok}
 use Rattle.zr_last.proofs.Lasting.{blocks_last}
 use Rattle.zr_pool.proofs.Staying.{same_state, edited_state}
-use Rattle.zr_pool.proofs.Tellings.{found_told, blocks_told, puts_bytes, puts_none}
+use Rattle.zr_pool.proofs.Tellings.{found_told, blocks_told, damage_told, puts_bytes, puts_none}
 use Rattle.zr_pool.proofs.lines.object_line.Goals as goal
 
 pub returns-in_err-make-in-Make-clause-refused : goal.returns-in_err-make-in-Make-clause-refused
@@ -196,7 +197,12 @@ returns-in_err-make-in-Make-clause-account_no g c = λ told paths r is.
     let e = fault_same c.in_err-make-in-Make.field-0.0 q.0 r c.from_residual.result q.1 q.2 is in
     let was = c.in_err-make-in-Make.was ∙ ap Err e in
     subst (λ (command : Command). Refuses paths (g.S.Shelf.sizes c.args.shelf.now) (g.S.Shelf.world c.args.shelf.now).now.seen c.args.pool.now command r c.make.new.pool) (sym c.in-Make.is)
-    (record { lacks = λ needed free room. c.make.ensures.lacks needed free (was ∙ ap (λ y. Err (No y)) room); ready = c.make.ensures.group r was; same = c.make.ensures.same (answered_no c.make.result r was) })
+    (record {
+      lacks = λ needed free room. c.make.ensures.lacks needed free (was ∙ ap (λ y. Err (No y)) room);
+      damage = λ at expected found damaged s held. c.make.ensures.damaged s (blocks_told (g.S.Shelf.tells c.args.shelf.now) told (g.S.Shelf.world c.args.shelf.now).now.seen c.args.pool.now s held) at expected found (was ∙ ap (λ y. Err (No y)) damaged);
+      ready = c.make.ensures.group r was;
+      same = c.make.ensures.same (answered_no c.make.result r was);
+    })
 
 pub returns-in_ok-drop-in-Drop-clause-account : goal.returns-in_ok-drop-in-Drop-clause-account
 returns-in_ok-drop-in-Drop-clause-account g c = λ told paths.
@@ -214,6 +220,8 @@ returns-in_err-drop-in-Drop-clause-account_no g c = λ told paths r is.
       lacks = λ needed free room.
           let found = c.drop.ensures.lacks needed free (was ∙ ap (λ y. Err (No y)) room) in
           (found.0, found_told (g.S.Shelf.tells c.args.shelf.now) told disks c.args.pool.now c.in-Drop.id found.0 found.1, found.2);
+      damage = λ at expected found damaged.
+          damage_told (g.S.Shelf.tells c.args.shelf.now) told (IsFoundToDrop c.in-Drop.id c.args.pool.now disks) c.in-Drop.id (λ o index. ⊥) c.args.pool.now disks at expected found (c.drop.ensures.damaged at expected found (was ∙ ap (λ y. Err (No y)) damaged));
       ready = c.drop.ensures.group r was;
       same = c.drop.ensures.same (answered_no c.drop.result r was);
     })
@@ -234,7 +242,7 @@ returns-in_err-change-in-Write-clause-account_no g c = λ told paths r is.
     let disks = (g.S.Shelf.world c.args.shelf.now).now.seen in
     subst (λ (command : Command). Refuses paths (g.S.Shelf.sizes c.args.shelf.now) disks c.args.pool.now command r c.change.new.pool) (sym c.in-Write.is)
     (puts_none (g.S.Shelf.tells c.args.shelf.now) told Write c.in-Write.id c.in-Write.off (length c.in-Write.bytes) c.given-edit.result disks c.args.pool.now r c.change.new.pool
-    (c.given-edit.ensures.off, c.given-edit.ensures.len ∙ ap length c.as_slice.ensures) (c.change.ensures.refused r was) (c.change.ensures.kept r was) (c.change.ensures.same_no r was))
+    (c.given-edit.ensures.off, c.given-edit.ensures.len ∙ ap length c.as_slice.ensures) (c.change.ensures.refused r was) (λ at expected found damaged. c.change.ensures.damaged at expected found (was ∙ ap (λ y. Err (No y)) damaged)) (c.change.ensures.kept r was) (c.change.ensures.same_no r was))
 
 pub returns-in_ok-change-in-Fill-clause-account : goal.returns-in_ok-change-in-Fill-clause-account
 returns-in_ok-change-in-Fill-clause-account g c = λ told paths.
@@ -252,7 +260,7 @@ returns-in_err-change-in-Fill-clause-account_no g c = λ told paths r is.
     let disks = (g.S.Shelf.world c.args.shelf.now).now.seen in
     subst (λ (command : Command). Refuses paths (g.S.Shelf.sizes c.args.shelf.now) disks c.args.pool.now command r c.change-in-Fill.new.pool) (sym c.in-Fill.is)
     (puts_none (g.S.Shelf.tells c.args.shelf.now) told Fill c.in-Fill.id c.in-Fill.off c.in-Fill.len c.filled-edit.result disks c.args.pool.now r c.change-in-Fill.new.pool
-    (c.filled-edit.ensures.off, c.filled-edit.ensures.len) (c.change-in-Fill.ensures.refused r was) (c.change-in-Fill.ensures.kept r was) (c.change-in-Fill.ensures.same_no r was))
+    (c.filled-edit.ensures.off, c.filled-edit.ensures.len) (c.change-in-Fill.ensures.refused r was) (λ at expected found damaged. c.change-in-Fill.ensures.damaged at expected found (was ∙ ap (λ y. Err (No y)) damaged)) (c.change-in-Fill.ensures.kept r was) (c.change-in-Fill.ensures.same_no r was))
 
 pub returns-in_ok-change-in-Punch-clause-account : goal.returns-in_ok-change-in-Punch-clause-account
 returns-in_ok-change-in-Punch-clause-account g c = λ told paths.
@@ -270,7 +278,7 @@ returns-in_err-change-in-Punch-clause-account_no g c = λ told paths r is.
     let disks = (g.S.Shelf.world c.args.shelf.now).now.seen in
     subst (λ (command : Command). Refuses paths (g.S.Shelf.sizes c.args.shelf.now) disks c.args.pool.now command r c.change-in-Punch.new.pool) (sym c.in-Punch.is)
     (puts_none (g.S.Shelf.tells c.args.shelf.now) told Punch c.in-Punch.id c.in-Punch.off c.in-Punch.len c.filled-edit-in-Punch.result disks c.args.pool.now r c.change-in-Punch.new.pool
-    (c.filled-edit-in-Punch.ensures.off, c.filled-edit-in-Punch.ensures.len) (c.change-in-Punch.ensures.refused r was) (c.change-in-Punch.ensures.kept r was) (c.change-in-Punch.ensures.same_no r was))
+    (c.filled-edit-in-Punch.ensures.off, c.filled-edit-in-Punch.ensures.len) (c.change-in-Punch.ensures.refused r was) (λ at expected found damaged. c.change-in-Punch.ensures.damaged at expected found (was ∙ ap (λ y. Err (No y)) damaged)) (c.change-in-Punch.ensures.kept r was) (c.change-in-Punch.ensures.same_no r was))
 
 pub returns-in_ok-bytes-in-Read-clause-account : goal.returns-in_ok-bytes-in-Read-clause-account
 returns-in_ok-bytes-in-Read-clause-account g c = λ told paths.

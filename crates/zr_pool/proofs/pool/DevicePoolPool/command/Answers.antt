@@ -16,6 +16,7 @@ use Rattle.zr_pool.specs.Replies.{TellsFault}
 use Rattle.zr_pool.proofs.Accounting.{Leads, closed_accounts, each_with_account, open_accounts}
 use Rattle.zr_pool.proofs.Beginning.{closed_begun, open_begun}
 use Rattle.zr_pool.proofs.Copied.{closed_copied, open_copied}
+use Rattle.zr_pool.proofs.Spaces.{closed_spaces, open_spaces}
 use Rattle.zr_pool.proofs.Founding.{closed_current, open_current}
 use Rattle.zr_pool.proofs.Resets.{ends_or_returns}
 use Rattle.zr_pool.proofs.Blaming.{blamed_answer, blamed_closed}
@@ -65,7 +66,7 @@ returns-in_default-clause-step g c = λ told paths before stood.
     let copied_part = subst (λ (b : Bool). IfOk (answer_of r) (λ found. IfSome found (λ answer. is_copied b before.told.shelf before.copies c.args.command.now answer pool ≡ true → AreCopied pool new.seen))) (sym closed)
     (closed_copied (g.S.Shelf.world c.closed_line.new.shelf) before.told.shelf before.copies c.args.command.now pool r) in
     subst (λ q. IfOk q (λ found. IfSome found (λ answer. Leads old new before c.args.command.now pool answer))) (sym c.answer_of.ensures)
-    (each_with_account old (g.S.Shelf.world c.closed_line.new.shelf) before c.args.command.now pool (answer_of r) told_part account_part last_part standing_part current_part copied_part
+    (each_with_account old (g.S.Shelf.world c.closed_line.new.shelf) before c.args.command.now pool (answer_of r) told_part account_part (closed_spaces before c.args.command.now pool (stood.account ∙ c.in_default.is) r) last_part standing_part current_part copied_part
     (λ part held. closed_behinds (g.S.Shelf.world shelf) (g.S.Shelf.world c.closed_line.new.shelf) before c.args.command.now (stood.account ∙ c.in_default.is) (subst (λ (o : Option OpenPool). IfSome before.behind (IsBehind o (disks_of old))) c.in_default.is stood.behind) (subst (λ (o : Option OpenPool). IfSome before.begun (IsAsBegun o (disks_of old))) c.in_default.is stood.begun) part (g.S.Shelf.sizes c.closed_line.new.shelf) pool c.closed_line.ensures.pool (c.closed_line.ensures.ends told) (c.closed_line.ensures.leaves told) (c.closed_line.ensures.last told) (g.S.Shelf.sound c.closed_line.new.shelf behind).sized held r (c.closed_line.ensures.unwritten told) c.closed_line.ensures.turn c.closed_line.ensures.done c.closed_line.ensures.closed)
     (closed_begun (g.S.Shelf.world shelf) (g.S.Shelf.world c.closed_line.new.shelf) before pool (subst (λ (o : Option OpenPool). IfSome before.begun (IsAsBegun o (disks_of old))) c.in_default.is stood.begun) r c.closed_line.ensures.done (c.closed_line.ensures.unwritten told) c.closed_line.ensures.closed))
 
@@ -118,9 +119,12 @@ returns-clause-step g c = λ told paths before stood.
     (λ group p held. c.open_line-done.ensures.one_group group p (told_anew (Unit {0}) (g.S.Shelf.tells shelf) old.seen x p told held))
     (λ p held. c.open_line-done.ensures.one_group_no p (told_anew (Unit {0}) (g.S.Shelf.tells shelf) old.seen x p told held))
     (c.open_line-done.ensures.copies told)) in
+    let spaces_part = open_spaces (g.S.Shelf.sizes shelf) (g.S.Shelf.world shelf) (g.S.Shelf.world c.open_line-done.new.shelf) before command x y (stood.account ∙ c.in-Some.is) there.part r
+    (λ group p held. c.open_line-done.ensures.one_group group p (told_anew (Unit {0}) (g.S.Shelf.tells shelf) old.seen x p told held))
+    (λ p held. c.open_line-done.ensures.one_group_no p (told_anew (Unit {0}) (g.S.Shelf.tells shelf) old.seen x p told held)) in
     subst (λ (o : Option OpenPool). IfOk c.answer_of-2.result (λ found. IfSome found (λ answer. Leads old new before command o answer))) (sym left)
     (subst (λ q. IfOk q (λ found. IfSome found (λ answer. Leads old new before command (left_of (is_closing command r) y) answer))) (sym c.answer_of-2.ensures)
-    (each_with_account old (g.S.Shelf.world c.open_line-done.new.shelf) before command (left_of (is_closing command r) y) (answer_of r) told_part account_part last_part standing_part current_part copied_part (λ part held. behind_part part)
+    (each_with_account old (g.S.Shelf.world c.open_line-done.new.shelf) before command (left_of (is_closing command r) y) (answer_of r) told_part account_part spaces_part last_part standing_part current_part copied_part (λ part held. behind_part part)
     (open_begun (g.S.Shelf.world shelf) (g.S.Shelf.world c.open_line-done.new.shelf) before x (left_of (is_closing command r) y) (subst (λ (o : Option OpenPool). IfSome before.begun (IsAsBegun o (disks_of old))) c.in-Some.is stood.begun) r)))
 
 -- ---- what tells of a fault
